@@ -1,6 +1,6 @@
--- What the definitions of ends, faults, lines, names and sessions over stages say of cases, so that
--- none of them says less, or asks more, than it should. The call `laws::cases` has them as its
--- contract.
+-- Examples for the definitions of ends, faults, lines, names and sessions over stages, so that none
+-- of them says less, or requires more, than it should. They are the contract of the call
+-- `laws::cases`.
 use Rattle.std.specs.Prelude.{◌≡◌, ℕ, Bool, true, false, List, [], ◌∷◌, map, replicate}
 use Rattle.std.specs.Prelude.{codes, Some, None, Ok, Err}
 use Rattle.std.specs.Borrow.{Bor}
@@ -51,7 +51,7 @@ use Rattle.tape_tool.specs.Telling.{fault_line}
 
 -- how runs end
 pub record CasesOfEnds : Type 0 where
-  -- 0 done, 1 a fault, 2 a wrong command line, 3 something lacks or is still wanted
+  -- 0 success, 1 an error, 2 a usage error, 3 something is missing
   pub statuses : (fault : ToolFault)
       → map exit_status (Done ∷ Faulted fault ∷ WrongWords ∷ Incomplete ∷ []) ≡ 0 ∷ 1 ∷ 2 ∷ 3 ∷ []
   -- a command is done, or ends by its fault
@@ -62,19 +62,20 @@ pub record CasesOfEnds : Type 0 where
       × (check_end (Ok false) ≡ Incomplete)
       × (check_end (Err (engine.Run fault)) ≡ Faulted (Run fault))
       × (check_end (Err engine.WriteFailed) ≡ Faulted (File WriteFailed))
-  -- `extract` wants nothing more, or something, or ends by the fault of its engine
+  -- `extract` needs nothing more, or something, or ends by the fault of the library
   pub extracts : (want : Want) (fault : RunFault) → (extract_end (Ok None) ≡ Done)
       × (extract_end (Ok (Some want)) ≡ Incomplete)
       × (extract_end (Err (engine.Run fault)) ≡ Faulted (Run fault))
       × (extract_end (Err engine.WriteFailed) ≡ Faulted (File WriteFailed))
-  -- help is a success where it was printed, and so is the version
+  -- help is a success if it was printed, and so is the version
   pub help : (help_end true ≡ Done) × (help_end false ≡ Faulted (File WriteFailed))
   pub printed : map (λ kind. words_end kind true) (kinds.DisplayHelp ∷ kinds.DisplayVersion ∷ [])
       ≡ Done ∷ Done ∷ []
   pub not_printed : map (λ kind. words_end kind false)
       (kinds.DisplayHelp ∷ kinds.DisplayVersion ∷ [])
       ≡ replicate 2 (Faulted (File WriteFailed))
-  -- want of memory for the words is a fault, and all else that can be wrong with them wrong words
+  -- out of memory for the arguments is a fault, and all else that can be wrong with them a usage
+  -- error
   pub no_memory : (printed : Bool)
       → (words_end kinds.OutOfMemory printed ≡ Faulted (Run runs.OutOfMemory))
       × (no_words_end io_kinds.OutOfMemory ≡ Faulted (Run runs.OutOfMemory))
@@ -87,7 +88,8 @@ pub record CasesOfEnds : Type 0 where
   -- words that are no text, or that could not be had
   pub no_words : map no_words_end (io_kinds.InvalidData ∷ io_kinds.InvalidInput ∷ io_kinds.Other
       ∷ []) ≡ replicate 3 WrongWords
-  -- what is not begun ends by its fault, or as wrong words: never as done, or as incomplete
+  -- a command that is not started ends by its fault, or as a usage error: never as done, or as
+  -- incomplete
   pub not_begun : (fault : ToolFault) (end : End) → IsUnfitEnd (unfits.Faulted fault) end
       → end ≡ Faulted fault
   pub lost : (text : Bor (List ℕ)) → IsUnfitEnd (unfits.Words text) WrongWords
@@ -98,17 +100,18 @@ pub record CasesOfEnds : Type 0 where
 
 -- the names in a list
 pub record CasesOfNames : Type 0 where
-  -- nothing of a text is left out, and nothing stands in it twice
+  -- no part of a text is left out, and none comes twice
   pub joined : (null : Bool) (text : List ℕ)
       → join_with_byte (end_byte null) (pieces_of null text) ≡ text
-  -- spaces are in a name, an empty line is none, and the last line counts without an end too
+  -- spaces are part of a name, an empty line is not a name, and the last line counts without a line
+  -- feed too
   pub lines : names_in false (codes "a b\n\nc") ≡ codes "a b" ∷ codes "c" ∷ []
   pub ended : names_in false (codes "a b\nc\n") ≡ codes "a b" ∷ codes "c" ∷ []
   -- what ends with a NUL may hold line feeds
   pub nulls : names_in true (97 ∷ 10 ∷ 98 ∷ 0 ∷ 0 ∷ 99 ∷ []) ≡ codes "a\nb" ∷ codes "c" ∷ []
   pub none : (null : Bool) → names_in null [] ≡ []
 
--- the numbers of faults, and what the faults of engines are told as
+-- the numbers of faults, and how the faults of libraries are reported
 pub record CasesOfFaults : Type 0 where
   -- the numbers of files, in the order of their list
   pub of_files : map file_number (Exists ∷ NotOpened ∷ ReadFailed ∷ WriteFailed ∷ [])
@@ -129,7 +132,7 @@ pub record CasesOfFaults : Type 0 where
 
 -- the lines on standard error, and those that `write` prints
 pub record CasesOfLines : Type 0 where
-  -- one of each kind of fault; of images alone there is a place
+  -- one of each kind of fault; only those of images have an offset
   pub image : fault_line (Image (record { place = 1884; cause = causes.Truncated }))
       ≡ codes "tape: image fault 1 at 1884\n"
   pub label : fault_line (Label (labels.NotACharacter 2)) ≡ codes "tape: label fault 6\n"
@@ -137,7 +140,7 @@ pub record CasesOfLines : Type 0 where
   pub file : fault_line (File WriteFailed) ≡ codes "tape: file fault 4\n"
   pub run : fault_line (Run runs.OtherFile) ≡ codes "tape: run fault 5\n"
   pub stage : fault_line (OfStage (stages.BadFrame 300)) ≡ codes "tape: stage fault 2\n"
-  -- behind those of a stage itself, which are 1 to 6
+  -- after those of a stage itself, which are 1 to 6
   pub in_use : fault_line StageInUse ≡ codes "tape: stage fault 7\n"
   -- no memory for the words of the command line
   pub no_memory : fault_line no_memory ≡ codes "tape: run fault 4\n"
@@ -162,15 +165,15 @@ pub record CasesOfStaging {D : Type 0} (disk : Ghosts D) : Type 0 where
   pub own : (point : Point) → IsOfFile point.set_id point.file point
   pub other_set : IsOfFile (codes "ABC001") 3 (first_point (codes "XYZ001") 3) → ⊥
   pub other_file : IsOfFile (codes "ABC001") 3 (first_point (codes "ABC001") 4) → ⊥
-  -- a session that stands at a checkpoint is there, and has noted nothing yet,
+  -- a session at a checkpoint has the checkpoint's position, and no checkpoint of its own yet,
   pub stands : (point : Point) (parts : List Portion) (session : Story (Stage D disk))
       → StandsAt point parts session
       → (rest_of session.core ≡ place_of point) × (session.notes ≡ [])
-  -- its stage holds just these parts,
+  -- its stage contains exactly these parts,
   pub holds : (point : Point) (parts : List Portion) (session : Story (Stage D disk))
       → StandsAt point parts session
       → Holding session.sink.weight parts (disk.seen session.sink.disk)
-  -- whatever a crash leaves of it now stands for something,
+  -- whatever a crash leaves of it now represents something,
   pub survives : (point : Point) (parts : List Portion) (session : Story (Stage D disk))
       (bytes : List ℕ) → StandsAt point parts session → disk.may_leave session.sink.disk bytes
       → (back : Point) × (there : List Portion) × Returns session.sink back there
@@ -178,7 +181,7 @@ pub record CasesOfStaging {D : Type 0} (disk : Ghosts D) : Type 0 where
   pub only : (point back : Point) (parts there : List Portion) (session : Story (Stage D disk))
       → StandsAt point parts session → Returns session.sink back there
       → (back ≡ point) × (there ≡ parts)
-  -- the same of what a crash leaves from this moment on
+  -- the same for what a crash leaves from this moment on
   pub survived : (point : Point) (parts : List Portion) (session : Story (Stage D disk))
       (bytes : List ℕ) → StandsAt point parts session
       → disk.left_since session.sink.disk (disk.moment session.sink.disk) bytes
@@ -188,19 +191,19 @@ pub record CasesOfStaging {D : Type 0} (disk : Ghosts D) : Type 0 where
       → StandsAt point parts session
       → Returned session.sink (disk.moment session.sink.disk) back there
       → (back ≡ point) × (there ≡ parts)
-  -- a session that goes on stands at the checkpoint that the bytes stand for, which is of its file
+  -- a session that continues is at the checkpoint that the bytes represent, which is of its file
   pub goes_on : (set_id read : List ℕ) (file : ℕ) (session : Story (Stage D disk))
       (g : GoesOn set_id file read session) → Staged read g.generation g.point g.parts
       × (g.point.set_id ≡ set_id) × (g.point.file ≡ file) × StandsAt g.point g.parts session
-  -- of what is no stage nothing is staged
+  -- nothing is staged in bytes that are not a stage
   pub none_staged : (set_id read : List ℕ) (file : ℕ)
       → (Says set_id file read (staging.Stage stages.NoPoint) → HoldsNone read)
       × (Says set_id file read (staging.Stage (stages.BadFrame 300)) → HoldsNone read)
-  -- a stage of another file stands for no checkpoint of this one
+  -- a stage of another file does not represent a checkpoint of this one
   pub of_another : (set_id read : List ℕ) (file n : ℕ) (point : Point) (parts : List Portion)
       → Says set_id file read staging.OtherFile → Staged read n point parts
       → point.set_id ≡ set_id → point.file ≡ file → ⊥
-  -- and it stands for one: what is no stage is never told to be another file's
+  -- but it represents one: bytes without a stage are never reported as those of another file
   pub none_of_another : (set_id read : List ℕ) (file : ℕ) → HoldsNone read
       → Says set_id file read staging.OtherFile → ⊥
   -- each stage of another set is one, and each of another file
@@ -210,13 +213,13 @@ pub record CasesOfStaging {D : Type 0} (disk : Ghosts D) : Type 0 where
   pub of_another_file : (set_id read : List ℕ) (file n : ℕ) (point : Point) (parts : List Portion)
       → Staged read n point parts → (point.file ≡ file → ⊥)
       → Says set_id file read staging.OtherFile
-  -- what is no stage, and one for which there was no memory, was not opened
+  -- what is not a stage, or had no memory, was not opened
   pub unopened : IsUnopened (staging.Stage stages.NoPoint)
       × IsUnopened (staging.Stage (stages.BadFrame 300))
       × IsUnopened (staging.Stage stages.OutOfMemory)
   -- one whose disk failed may have been, and one of another file was
   pub opened : (IsUnopened (staging.Stage stages.Device) → ⊥) × (IsUnopened staging.OtherFile → ⊥)
-  -- of no stage tell NoPoint and BadFrame, and no other fault
+  -- NoPoint and BadFrame mean that it is not a stage, and no other fault does
   pub none_told : SaysNoStage (staging.Stage stages.NoPoint)
       × SaysNoStage (staging.Stage (stages.BadFrame 300))
   pub not_told : (SaysNoStage (staging.Stage stages.Device) → ⊥)

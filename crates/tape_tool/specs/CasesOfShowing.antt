@@ -1,4 +1,4 @@
--- What the definitions of `stage` say of cases, so that none of them says less than it should.
+-- Examples for the definitions of `stage`, so that none of them says less than it should.
 use Rattle.std.specs.Prelude.{◌≡◌, ◌≢◌, ◌⊎◌, ℕ, false, List, length}
 use Rattle.std.specs.Prelude.{Option, Some, None, Ok, Err}
 use Rattle.std.specs.Prelude.{codes}
@@ -45,9 +45,9 @@ point_at position = record {
   staged = 0;
 }
 
--- what a fault says: no stage was opened and nothing written, and that there is none is told only
--- where there is none; or a front of what is staged in these bytes was written, and a write that
--- failed is told, or a device
+-- what a fault means: no stage was opened and nothing written, and NoPoint is reported only if
+-- there is none; or a prefix of what is staged in these bytes was written, and the fault is a
+-- failed write or the device
 abbrev pub StopSays : List ℕ → Form → Option (List ℕ) → Option (List ℕ) → Option (List ℕ)
     → Option (List ℕ) → ToolFault → Type 0
 StopSays read form out written said says fault = StopsShowing read form out written said says fault
@@ -58,9 +58,9 @@ StopSays read form out written said says fault = StopsShowing read form out writ
     × AppendsFront said says (told_of point None (length (join parts).records))
     × ((fault ≡ File WriteFailed) ⊎ (fault ≡ Stage Device)))
 
--- what a fault says of a stage that may break off: nothing was opened, and that nothing remains is
--- told only where nothing does, and by no frame; or a front of what remains was written, and a
--- write that failed is told, or a device
+-- what a fault of a stage that may be damaged means: nothing was opened, and NoPoint is reported
+-- only if nothing remains, and BadFrame never; or a prefix of what remains was written, and the
+-- fault is a failed write or the device
 abbrev pub SalvageSays : List ℕ → Form → Option (List ℕ) → Option (List ℕ) → Option (List ℕ)
     → Option (List ℕ) → ToolFault → Type 0
 SalvageSays read form out written said says fault =
@@ -73,21 +73,21 @@ SalvageSays read form out written said says fault =
     × AppendsFront said says (told_of point broken (length (join parts).records))
     × ((fault ≡ File WriteFailed) ⊎ (fault ≡ Stage Device)))
 
--- Which faults can stop it: never is a stage told to be full, or to have failed before; for want of
--- memory nothing was written; a file's fault is a write that failed, and a run's is none.
+-- Which faults can stop it: a stage is never reported as full, or as failed before; after
+-- OutOfMemory nothing was written; a file's fault is a failed write, and none is a run's.
 abbrev pub StoppedOnlyBy : (ToolFault → Type 0) → Type 0 → Type 0
 StoppedOnlyBy stops untouched = (stops (Stage Full) → ⊥) × (stops (Stage Failed) → ⊥)
     × (stops (Stage OutOfMemory) → untouched)
     × ((fault : FileFault) → stops (File fault) → fault ≡ WriteFailed)
     × ((fault : RunFault) → stops (Run fault) → ⊥)
 
--- what `stage` says
+-- the lines of `stage`
 pub record CasesOfShowing : Type 0 where
-  -- where something is wanted, and where the file is complete
+  -- if something is missing, and if the file is complete
   pub awaits : told_of (point_at (Awaits 1 2 0)) None 20
       ≡ codes "STAGE ABC001 1 20\nAWAITS 1 1 2\n"
   pub complete : told_of (point_at Finished) None 25 ≡ codes "STAGE ABC001 1 25\nCOMPLETE 25\n"
-  -- and where the frames break off, though the checkpoint tells that the file is complete
+  -- and if the frames are damaged, although the checkpoint says that the file is complete
   pub breaks : told_of (point_at Finished) (Some 1276) 12
       ≡ codes "STAGE ABC001 1 12\nTRUNCATED AT 1276\n"
   -- how a run ends
@@ -98,29 +98,29 @@ pub record CasesOfShowing : Type 0 where
       → (damaged_end (Ok (Whole None)) ≡ Done) × (damaged_end (Ok (Whole (Some want))) ≡ Incomplete)
       × (damaged_end (Ok (Broken place)) ≡ Incomplete)
       × (damaged_end (Err fault) ≡ Faulted fault)
-  -- what was shown is what is staged: all records of its parts, and how many there are
+  -- what was shown is what is staged: all records of its parts, and their number
   pub shown : (read : List ℕ) (form : Form) (out written said says : Option (List ℕ))
       (want : Option Want) (s : Shows read form out written said says want)
       → Staged read s.generation s.point s.parts
       × Appends out written (output_of form s.parts)
       × Appends said says (told_of s.point None (length (join s.parts).records))
-  -- and of a stage that breaks off what remains
+  -- and what remains of a damaged stage
   pub salvaged : (read : List ℕ) (form : Form) (out written said says : Option (List ℕ))
       (ending : StageEnding) (s : ShowsDamaged read form out written said says ending)
       → Remains read s.generation s.point s.broken s.parts
       × (ending ≡ ending_of s.point s.broken)
       × Appends out written (output_of form s.parts)
       × Appends said says (told_with s.point ending (length (join s.parts).records))
-  -- a fault leaves nothing, or a front of that
+  -- after a fault nothing of that was written, or a prefix
   pub stopped : (read : List ℕ) (form : Form) (out written said says : Option (List ℕ))
       (fault : ToolFault) → StopSays read form out written said says fault
   pub salvage_stopped : (read : List ℕ) (form : Form) (out written said says : Option (List ℕ))
       (fault : ToolFault) → SalvageSays read form out written said says fault
-  -- a good stage is never told to be none
+  -- an intact stage is never reported as not being one
   pub good : (read : List ℕ) (form : Form) (out written said says : Option (List ℕ)) (g : ℕ)
       (point : Point) (parts : List Portion) (cause : StageFault) → Staged read g point parts
       → SaysNone cause → StopsShowing read form out written said says (Stage cause) → ⊥
-  -- nor is one of which something remains, and no frame is told of any
+  -- nor one of which something remains, and BadFrame is not reported
   pub remaining : (read : List ℕ) (form : Form) (out written said says : Option (List ℕ)) (g : ℕ)
       (point : Point) (broken : Option ℕ) (parts : List Portion) (cause : StageFault)
       → Remains read g point broken parts → SaysNone cause

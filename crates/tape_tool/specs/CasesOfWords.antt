@@ -1,4 +1,4 @@
--- What the definitions of the words of a command line say of cases.
+-- Examples for the definitions of the arguments of a command line.
 use Rattle.std.specs.Prelude.{◌≡◌, ◌<◌, ◌^◌, ℕ, Bool, true, false, List, [], ◌∷◌, map, decimal}
 use Rattle.std.specs.Prelude.{codes, replicate, Option, Some, None, option_map}
 use Rattle.clap.specs.Words.{Row, kind_of, one_of}
@@ -27,7 +27,7 @@ use Rattle.tape_tool.specs.Words.{IsNoOrderOf, IsNoSet, IsNoUnpack, IsNoWrite, I
 use Rattle.tape_tool.specs.Words.{IsOrderOf, IsSomeNumber, NamesImages, RefusedFor}
 use Rattle.tape_tool.specs.Words.{padded_set, text_in, texts_in}
 
--- what the parser found of a word or an option
+-- what the parser found of an argument or an option
 abbrev pub word : List ℕ → List (List ℕ) → Row
 word id texts = record {
   id = id;
@@ -47,16 +47,16 @@ file_of list = option_map (λ (l : ListFile). option_map (λ p. p.now) l.file) l
 
 -- single words
 pub record CasesOfWords : Type 0 where
-  -- a text is that of its own word, and nothing where the word is not there
+  -- a text is that of its own argument, and there is none without the argument
   pub text : text_in (word (codes "PRE") (codes "ABC" ∷ [])
       ∷ word (codes "DIR") (codes "out" ∷ []) ∷ []) (codes "DIR") ≡ codes "out"
   pub none : (text_in [] (codes "DIR") ≡ []) × (texts_in [] (codes "IMAGE") ≡ [])
   -- texts come in their order
   pub texts : texts_in shelf (codes "IMAGE") ≡ codes "a.tap" ∷ codes "b.tap" ∷ []
-  -- a number is that of its own word, and has to fit
+  -- a number is that of its own argument, and must be in range
   pub number : IsNumber 16 (word (codes "FILE") (codes "12" ∷ []) ∷ []) (codes "FILE") 12
   pub fits : (rows : List Row) → IsNumber 16 rows (codes "FILE") 65536 → ⊥
-  -- it is the value of its digits, behind a plus sign or zeros too, and no other
+  -- it is the value of its digits, after a plus sign or zeros too, and no other
   pub plus : IsNumber 32 (word (codes "record") (codes "+80" ∷ []) ∷ []) (codes "record") 80
   pub plus_alone : (n : ℕ)
       → IsNumber 32 (word (codes "record") (codes "+80" ∷ []) ∷ []) (codes "record") n → n ≡ 80
@@ -65,7 +65,7 @@ pub record CasesOfWords : Type 0 where
   -- and each is one in its plain digits
   pub plain : (bits n : ℕ) (rows : List Row) (word : List ℕ) → n < 2 ^ bits → n < 2 ^ 64
       → one_of word rows ≡ Some (decimal n) → IsNumber bits rows word n
-  -- an option by itself is given, or is not
+  -- an option without a value is present, or is not
   pub given : (is_given : Bool) → IsFlag shelf (codes "null") is_given → is_given ≡ true
   pub left_out : (is_given : Bool)
       → IsFlag (word (codes "null") (codes "false" ∷ []) ∷ []) (codes "null") is_given
@@ -76,9 +76,9 @@ pub record CasesOfWords : Type 0 where
       → form ≡ Raw
   pub form_lines : (form : Form) → IsForm (word (codes "form") (codes "lines" ∷ []) ∷ []) form
       → form ≡ Lines
-  -- and raw is none that was not named
+  -- and raw is not a form if it was not named
   pub form_default : IsForm [] Raw → ⊥
-  -- a number is there in its digits, also behind a plus sign; no other text is one
+  -- a number is present in its digits, also after a plus sign; no other text is one
   pub has_number : IsSomeNumber 8 (word (codes "offset") (codes "4" ∷ []) ∷ []) (codes "offset")
       × IsSomeNumber 8 (word (codes "offset") (codes "+04" ∷ []) ∷ []) (codes "offset")
   pub no_number : (IsSomeNumber 8 [] (codes "offset") → ⊥)
@@ -87,15 +87,15 @@ pub record CasesOfWords : Type 0 where
   -- each word of a file needs an equals sign
   pub paths : HavePaths (codes "A=a" ∷ codes "=b=" ∷ [])
   pub no_path : HavePaths (codes "A=a" ∷ codes "b" ∷ []) → ⊥
-  -- one name is no mistake, and neither is none; a stream is one, and so are two names
+  -- one name is correct, and so is none; a stream is a usage error, and so are two names
   pub one : (IsDashOrMore [] → ⊥) × (IsDashOrMore (codes "a.tap" ∷ []) → ⊥)
   pub dash : IsDashOrMore (codes "-" ∷ [])
   pub two : IsDashOrMore (codes "a.tap" ∷ codes "b.tap" ∷ [])
-  -- a set's identifier has 1 to 6 bytes, and spaces behind them
+  -- a set's identifier has 1 to 6 bytes, padded with spaces
   pub set : padded_set (codes "ABC1") ≡ codes "ABC1  "
   pub sets : (IsNoSet (codes "ABC001") → ⊥) × (IsNoSet (codes "A") → ⊥)
   pub no_sets : IsNoSet [] × IsNoSet (codes "ABC0001")
-  -- what is refused is so for want of memory, or as a mistake in words and for its reason
+  -- what is refused is so for lack of memory, or as a usage error with its own message
   pub refused : (error : Error) → RefusedFor ⊥ error → kind_of error ≡ OutOfMemory
   pub wrong : (error : Error) → kind_of error ≡ ValueValidation → RefusedFor ⊥ error → ⊥
 
@@ -105,14 +105,14 @@ pub record CasesOfOrders : Type 0 where
   pub images : (named : Named) → NamesImages shelf named
       → (map (λ w. w.now) named.words.items ≡ codes "a.tap" ∷ codes "b.tap" ∷ [])
       × (file_of named.list ≡ Some (Some (codes "names")))
-  -- of a list that is named its NULs are told
+  -- NULs are reported in a list that is named
   pub nulls : (named : Named) (list : ListFile) → NamesImages shelf named
       → named.list ≡ Some list → list.null ≡ true
   -- a list on standard input has no file, and without the option there is no list
   pub input : (named : Named) → NamesImages (word (codes "files-from") (codes "-" ∷ []) ∷ []) named
       → file_of named.list ≡ Some None
   pub no_list : (named : Named) → NamesImages [] named → file_of named.list ≡ None
-  -- 257 words are too many
+  -- 257 arguments are too many
   pub few : (named : Named)
       → NamesImages (word (codes "IMAGE") (replicate 257 (codes "a")) ∷ []) named → ⊥
   -- `list` lists the image that is named, or standard input, and its offsets if it is asked to
@@ -123,13 +123,13 @@ pub record CasesOfOrders : Type 0 where
       → (option_map (λ i. i.now) order.image ≡ None) × (order.offsets ≡ false)
   pub list_dash : (order : Listing)
       → AsksToList (word (codes "IMAGE") (codes "-" ∷ []) ∷ []) order → ⊥
-  -- `survey` tells rows where it is asked to
+  -- `survey` prints rows if it is asked to
   pub survey : (order : Survey) → AsksToSurvey (word (codes "tsv") (codes "true" ∷ []) ∷ shelf)
       order → (order.wording ≡ wordings.Rows)
       × (map (λ w. w.now) order.images.words.items ≡ codes "a.tap" ∷ codes "b.tap" ∷ [])
   pub survey_words : (order : Survey) → AsksToSurvey shelf order
       → order.wording ≡ wordings.Words
-  -- `extract` gets the file of the set that is named, to its output, over its stage
+  -- `extract` recovers the file of the set that is named, to its output, over its stage
   pub extract : (order : Extract) → AsksToExtract (word (codes "SET") (codes "ABC001" ∷ [])
       ∷ word (codes "FILE") (codes "2" ∷ []) ∷ word (codes "OUT") (codes "out" ∷ [])
       ∷ word (codes "form") (codes "raw" ∷ []) ∷ word (codes "stage") (codes "kept" ∷ [])
@@ -152,7 +152,7 @@ pub record CasesOfOrders : Type 0 where
       × (map (λ w. w.now) order.images.words.items ≡ codes "a.tap" ∷ codes "b.tap" ∷ [])
   pub no_unpack : (order : Unpack) (rows : List Row) → AsksToUnpack rows order
       → IsNoUnpack rows → ⊥
-  -- `stage` tells of the stage that is named, and its records go to the output
+  -- `stage` shows the stage that is named, and its records go to the output
   pub stage : (order : StageOrder) → AsksForStage (word (codes "OUT") (codes "out" ∷ [])
       ∷ word (codes "PATH") (codes "kept" ∷ []) ∷ word (codes "form") (codes "raw" ∷ [])
       ∷ word (codes "damaged") (codes "true" ∷ []) ∷ []) order
@@ -180,13 +180,13 @@ pub record CasesOfOrders : Type 0 where
       × (map (λ w. w.now) order.files.items ≡ codes "A=a" ∷ codes "B=b" ∷ [])
       × (order.format ≡ Counted) × (order.block ≡ 2048) × (order.«record» ≡ Some 80)
       × (order.offset ≡ 4) × (order.pad_full ≡ true) × (order.form ≡ Lines)
-  -- and takes a number behind a plus sign or zeros as it is
+  -- and accepts a number after a plus sign or zeros
   pub write_numbers : (order : WriteOrder) → AsksToWrite (word (codes "record") (codes "+80" ∷ [])
       ∷ word (codes "offset") (codes "05" ∷ []) ∷ []) order
       → (order.«record» ≡ Some 80) × (order.offset ≡ 5)
   pub no_write : (order : WriteOrder) (rows : List Row) → AsksToWrite rows order
       → IsNoWrite rows → ⊥
-  -- a command's name gives its order, and no other
+  -- a command's name selects its order, and no other
   pub names : (rows : List Row) (order : Listing) → IsOrderOf (codes "check") rows
       (orders.List order) → ⊥
   pub check : (rows : List Row) (order : Order) → IsOrderIn (Some (codes "check", rows)) order
@@ -203,13 +203,13 @@ abbrev pub with_format : List ℕ → List ℕ → List ℕ → List Row
 with_format format option text = word (codes "format") (format ∷ [])
     ∷ word option (text ∷ []) ∷ []
 
--- these options of `write` are refused, though all else is as it should be
+-- these options of `write` are refused, although all else is right
 abbrev pub AreRefused : List Row → Type 0
 AreRefused options = IsNoWrite (to_write (codes "ABC") (codes "out") (codes "A=a") options)
 
 -- why commands are refused
 pub record CasesOfWrongWords : Type 0 where
-  -- `write` takes F with a record length, S without one, raw or not, and D with one or without,
+  -- `write` accepts F with a record length, S without one, raw or not, and D with one or without,
   -- but not raw
   pub fixed : AreRefused (with_format (codes "F") (codes "record") (codes "80")) → ⊥
   pub spanned : AreRefused (with_format (codes "S") (codes "form") (codes "raw")) → ⊥
@@ -218,16 +218,16 @@ pub record CasesOfWrongWords : Type 0 where
   pub no_length : AreRefused (with_format (codes "F") (codes "form") (codes "lines"))
   pub a_length : AreRefused (with_format (codes "S") (codes "record") (codes "80"))
   pub raw : AreRefused (with_format (codes "D") (codes "form") (codes "raw"))
-  -- and neither what is no prefix, nor a word without a path, nor a folder without a name
+  -- and neither a wrong prefix, nor an argument without a path, nor a directory without a name
   pub prefix : IsNoWrite (to_write (codes "abc") (codes "out") (codes "A=a")
       (with_format (codes "S") (codes "form") (codes "lines")))
   pub path : IsNoWrite (to_write (codes "ABC") (codes "out") (codes "a")
       (with_format (codes "S") (codes "form") (codes "lines")))
   pub folder : IsNoWrite (to_write (codes "ABC") [] (codes "A=a")
       (with_format (codes "S") (codes "form") (codes "lines")))
-  -- a name that no command has is refused, whatever stands behind it
+  -- a name that no command has is refused, whatever follows it
   pub unknown : (rows : List Row) → IsNoOrderOf (codes "lost") rows
-  -- and that of a command for a mistake in its own words alone
+  -- and that of a command only for a usage error in its own arguments
   pub list : IsNoOrderOf (codes "list") (word (codes "OUT") (codes "-" ∷ []) ∷ []) → ⊥
   pub check : IsNoOrderOf (codes "check") (word (codes "IMAGE") (codes "-" ∷ []) ∷ []) → ⊥
   pub survey : IsNoOrderOf (codes "survey") (word (codes "IMAGE") (codes "-" ∷ []) ∷ []) → ⊥
@@ -240,6 +240,6 @@ pub record CasesOfWrongWords : Type 0 where
   pub write : IsNoOrderOf (codes "write") (to_write (codes "ABC") (codes "out") (codes "A=a")
       (with_format (codes "S") (codes "form") (codes "raw"))) → ⊥
   pub met : IsNoOrderIn (Some (codes "list", [])) → ⊥
-  -- what is asked for is never refused
+  -- a valid request is never refused
   pub never_both : (met : Option (List ℕ × List Row)) (order : Order) → IsOrderIn met order
       → IsNoOrderIn met → ⊥

@@ -1,4 +1,4 @@
--- What the definitions of the words of `write` say of cases.
+-- Examples for the definitions of the arguments of `write`.
 use Rattle.std.specs.Prelude.{ℕ, suc, Bool, true, false}
 use Rattle.tape_label.specs.declared.values.Format.TheVariants.{Fixed, Counted, Spanned}
 use Rattle.tape_tool.specs.Writing.{IsNoShape}
@@ -7,7 +7,7 @@ use Rattle.tape_tool.specs.Writing.{IsNoShape}
 pub record CasesOfWriting : Type 0 where
   -- blocks of D may be filled up or not
   pub counted : (n : ℕ) (pad_full : Bool) → IsNoShape Counted n pad_full → ⊥
-  -- those of F and S may be written as they are, of F where a record has a byte
+  -- those of F and S may be written as they are, of F if a record has a byte
   pub fixed : (n : ℕ) → IsNoShape Fixed (suc n) false → ⊥
   pub spanned : (n : ℕ) → IsNoShape Spanned n false → ⊥
   -- and are not filled up

@@ -35,26 +35,26 @@ check_end (Ok true) = Done
 check_end (Ok false) = Incomplete
 check_end (Err fault) = Faulted (of_engine fault)
 
--- how `extract` ends: what is still wanted of the file is no success
+-- how `extract` ends: if something of the file is missing, without success
 abbrev pub extract_end : Result (Option Want) EngineFault → End
 extract_end (Ok None) = Done
 extract_end (Ok (Some want)) = Incomplete
 extract_end (Err fault) = Faulted (of_engine fault)
 
--- how `stage` ends: that something of the file is wanted is no success
+-- how `stage` ends: if something of the file is missing, without success
 abbrev pub stage_end : Result (Option Want) ToolFault → End
 stage_end (Ok None) = Done
 stage_end (Ok (Some want)) = Incomplete
 stage_end (Err fault) = Faulted fault
 
--- how `stage --damaged` ends: a success only where the file is complete, and the stage whole
+-- how `stage --damaged` ends: with success only if the file is complete and the stage intact
 abbrev pub damaged_end : Result StageEnding ToolFault → End
 damaged_end (Ok (Whole None)) = Done
 damaged_end (Ok (Whole (Some want))) = Incomplete
 damaged_end (Ok (Broken place)) = Incomplete
 damaged_end (Err fault) = Faulted fault
 
--- help is a success where it was printed
+-- help is a success if it was printed
 abbrev pub help_end : Bool → End
 help_end true = Done
 help_end false = Faulted (File WriteFailed)
@@ -66,16 +66,16 @@ words_end kinds.DisplayHelp printed = help_end printed
 words_end kinds.DisplayVersion printed = help_end printed
 words_end _ printed = WrongWords
 
--- how a run ends that was given no words, for this reason
+-- how a run ends without its arguments, for this reason
 abbrev pub no_words_end : io_error.ErrorKind → End
 no_words_end io_kinds.OutOfMemory = Faulted no_memory
 no_words_end _ = WrongWords
 
--- the words are wrong, or there is no memory for the text that says so
+-- a usage error, or out of memory for its message
 abbrev pub IsWrongWords : End → Type 0
 IsWrongWords end = (end ≡ WrongWords) ⊎ (end ≡ Faulted no_memory)
 
--- how a command ends that is not begun, for this reason
+-- how a command ends that is not started, for this reason
 abbrev pub IsUnfitEnd : Unfit → End → Type 0
 IsUnfitEnd (unfits.Words _) end = IsWrongWords end
 IsUnfitEnd (unfits.NoText _ _) end = IsWrongWords end

@@ -1,4 +1,4 @@
--- The fixed numbers of faults, and how those of the libraries are told.
+-- The fixed numbers of faults, and how those of the libraries are reported.
 use Rattle.std.specs.Prelude.{ℕ}
 use Rattle.tape_writer.specs.declared.fault.WriteFault.{WriteFault}
 use Rattle.tape_writer.specs.declared.fault.WriteFault.TheVariants as writes
@@ -38,21 +38,21 @@ write_number writes.OutOfMemory = 10
 write_number writes.Failed = 11
 write_number writes.Finished = 12
 
--- no memory, for the words of the command line too: the fourth fault of a run
+-- out of memory, for the arguments of the command line too: the fourth fault of a run
 abbrev pub no_memory : ToolFault
 no_memory = Run OutOfMemory
 
--- what ends a command where a set was not written
+-- how a command ends if a set was not written
 abbrev pub of_system : SystemFault → ToolFault
 of_system (system.Write fault) = Write fault
 of_system (system.File fault) = File fault
 
--- the fault of an engine, as one of a command
+-- the fault of a library, as one of a command
 abbrev pub of_engine : EngineFault → ToolFault
 of_engine (engine.Run fault) = Run fault
 of_engine engine.WriteFailed = File WriteFailed
 
--- what ends a command where an image was not listed
+-- how a command ends if an image was not listed
 abbrev pub of_list : ListFault → ToolFault
 of_list (list.Image fault) = Image fault
 of_list list.WriteFailed = File WriteFailed

@@ -2,12 +2,12 @@
 use Rattle.std.specs.Prelude.{ℕ, ◌==◌, Bool, true, false, not, List, length}
 use Rattle.std.specs.List.{slice_split, filter}
 
--- what each name in a list ends with: a NUL, or a line feed
+-- the terminator of each name in a list: a NUL, or a line feed
 abbrev pub end_byte : Bool → ℕ
 end_byte true = 0
 end_byte false = 10
 
--- what stands between the ends in the text of a list, and behind the last one
+-- the pieces between the terminators in the text of a list, and after the last one
 abbrev pub pieces_of : Bool → List ℕ → List (List ℕ)
 pieces_of null text = slice_split (λ b. b == end_byte null) text
 
@@ -15,6 +15,6 @@ pieces_of null text = slice_split (λ b. b == end_byte null) text
 abbrev pub is_name : List ℕ → Bool
 is_name name = not (length name == 0)
 
--- The names in the text of a list: what stands between its ends, and is not empty.
+-- The names in the text of a list: the pieces between its terminators that are not empty.
 abbrev pub names_in : Bool → List ℕ → List (List ℕ)
 names_in null text = filter is_name (pieces_of null text)

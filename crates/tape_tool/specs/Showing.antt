@@ -1,4 +1,4 @@
--- What `stage` tells of a stage, and the records that it writes.
+-- The lines of `stage`, and the records that it writes.
 use Rattle.std.specs.Prelude.{◌≡◌, ◌≢◌, ◌⊎◌, ℕ, List, ◌++◌, length, Option, Some, None, codes}
 use Rattle.std.specs.Prelude.{decimal}
 use Rattle.std.specs.Io.KnownBytes.{Appends, Keeps}
@@ -29,11 +29,11 @@ stage_line point records =
     codes "STAGE " ++ identifier_text point.set_id ++ codes " " ++ decimal point.file ++ codes " "
     ++ decimal records ++ codes "\n"
 
--- where the frames of a stage break off
+-- where the frames of a stage are damaged
 abbrev pub break_line : ℕ → List ℕ
 break_line place = codes "TRUNCATED AT " ++ decimal place ++ codes "\n"
 
--- what follows the parts: the last line that `extract` would give, or where the frames break off
+-- what follows the parts: the last line that `extract` would print, or where the frames are damaged
 abbrev pub ending_line : StageEnding → ℕ → List ℕ
 ending_line (Whole want) records = last_line want records
 ending_line (Broken place) records = break_line place
@@ -42,25 +42,25 @@ ending_line (Broken place) records = break_line place
 abbrev pub told_with : Point → StageEnding → ℕ → List ℕ
 told_with point ending records = stage_line point records ++ ending_line ending records
 
--- what follows the parts of a stage: what this checkpoint wants, where all of them are there
+-- what follows the parts of a stage: what is missing at this checkpoint, if all of them are intact
 abbrev pub ending_of : Point → Option ℕ → StageEnding
 ending_of point None = Whole (want_at point.file point.position)
 ending_of point (Some place) = Broken place
 
--- The records that the parts join to were written, all of them and whole, and both lines.
+-- The records that the parts join to were written, all of them and complete, and both lines.
 pub record Gives (point : Point) (ending : StageEnding) (form : Form)
     (out written said says : Option (List ℕ)) (parts : List Portion) : Type 0 where
   pub wrote : Appends out written (output_of form parts)
   pub told : Appends said says (told_with point ending (length (join parts).records))
 
--- A front of them was, and of the lines.
+-- A prefix of them was, and of the lines.
 pub record GivesFront (point : Point) (ending : StageEnding) (form : Form)
     (out written said says : Option (List ℕ)) (parts : List Portion) : Type 0 where
   pub wrote : AppendsFront out written (output_of form parts)
   pub told : AppendsFront said says (told_with point ending (length (join parts).records))
 
--- The bytes that were read stand for a checkpoint and its parts. What the checkpoint wants of its
--- file is told, and the records of the parts were written.
+-- The bytes that were read represent a checkpoint and its parts. What is missing of its file is
+-- printed, and the records of the parts were written.
 pub record Shows (read : List ℕ) (form : Form) (out written said says : Option (List ℕ))
     (want : Option Want) : Type 0 where
   pub generation : ℕ
@@ -70,14 +70,14 @@ pub record Shows (read : List ℕ) (form : Form) (out written said says : Option
   pub wanted : want ≡ want_at point.file point.position
   pub gives : Gives point (ending_of point None) form out written said says parts
 
--- what is told where a stage was opened: a write that failed, or its device, as the parts are read
+-- what is reported if a stage was opened: a failed write, or its device, since the parts are read
 -- again
 abbrev pub EndsInPart : ToolFault → Type 0
 EndsInPart fault = (fault ≡ File WriteFailed) ⊎ (fault ≡ Stage Device)
 
--- A fault ended it. No stage was opened, and nothing was written; that there is none is told only
--- where there is none, and never that one is full or failed before. Or a front of what was to be
--- written was, and a write that failed is told, or a device.
+-- A fault ended it. Either no stage was opened and nothing was written; NoPoint is reported only if
+-- there is no stage, and Full and Failed never. Or a prefix of what was to be written was, and the
+-- fault is a failed write or the device.
 pub data StopsShowing (read : List ℕ) (form : Form) (out written said says : Option (List ℕ))
     (fault : ToolFault) : Type 0 where
   unopened : (cause : StageFault) → fault ≡ Stage cause → (SaysNone cause → HoldsNone read)
@@ -89,8 +89,8 @@ pub data StopsShowing (read : List ℕ) (form : Form) (out written said says : O
       → EndsInPart fault
       → StopsShowing read form out written said says fault
 
--- This remains of the bytes that were read: a checkpoint, and its parts up to where the frames
--- break off, if they do. The records of these parts were written, and what follows them told.
+-- This remains of the bytes that were read: a checkpoint, and its parts up to the damage, if there
+-- is any. The records of these parts were written, and what follows them was printed.
 pub record ShowsDamaged (read : List ℕ) (form : Form) (out written said says : Option (List ℕ))
     (ending : StageEnding) : Type 0 where
   pub generation : ℕ
@@ -101,9 +101,9 @@ pub record ShowsDamaged (read : List ℕ) (form : Form) (out written said says :
   pub ends : ending ≡ ending_of point broken
   pub gives : Gives point ending form out written said says parts
 
--- A fault ended it. Nothing was opened and nothing written, and that nothing remains is told only
--- where nothing does, and never by a frame; nor that the stage is full or failed before. Or a front
--- of what was to be written was, and a write that failed is told, or a device.
+-- A fault ended it. Either nothing was opened and nothing written; NoPoint is reported only if
+-- nothing remains, and BadFrame, Full and Failed never. Or a prefix of what was to be written was,
+-- and the fault is a failed write or the device.
 pub data StopsSalvaging (read : List ℕ) (form : Form) (out written said says : Option (List ℕ))
     (fault : ToolFault) : Type 0 where
   nothing : (cause : StageFault) → fault ≡ Stage cause → (SaysNone cause → RemainsNone read)

@@ -1,4 +1,4 @@
--- What a session over a stage is.
+-- Sessions over a stage.
 use Rattle.std.specs.Prelude.{◌≡◌, ℕ, List}
 use Rattle.tape_blocks.specs.Block.{Portion}
 use Rattle.tape_core.specs.Crash.{OnlyThis}
@@ -16,7 +16,7 @@ use Rattle.tape_stage.specs.declared.stage.Stage.{Stage}
 use Rattle.tape_tool.specs.declared.staging.StagingFault.{StagingFault}
 use Rattle.tape_tool.specs.declared.staging.StagingFault.TheVariants as faults
 
--- the checkpoint is one of this file, of a set of this identifier
+-- the checkpoint is one of this file, of a set with this identifier
 abbrev pub IsOfFile : List ℕ → ℕ → Point → Type 0
 IsOfFile set_id file point = (point.set_id ≡ set_id) × (point.file ≡ file)
 
@@ -24,7 +24,7 @@ IsOfFile set_id file point = (point.set_id ≡ set_id) × (point.file ≡ file)
 abbrev pub first_point : List ℕ → ℕ → Point
 first_point set_id file = saved (reader_of set_id file) 0
 
--- a stage as a sink, as it is where parts are put into it
+-- a stage as a sink, which parts are put into
 abbrev pub as_sink : {D : Type 0} {disk : Ghosts D} → sinks.Ghosts (Stage D disk)
 as_sink = record {
   holds = Holds;
@@ -33,8 +33,8 @@ as_sink = record {
   crashes = λ s. crashes_of s;
 }
 
--- The session stands at the checkpoint. Its stage holds these parts and no others, and whatever a
--- crash leaves of it, now or from this moment on, stands for this checkpoint and these parts.
+-- The session is at the checkpoint. Its stage contains exactly these parts, and whatever a crash
+-- leaves of it, now or from this moment on, represents this checkpoint and these parts.
 pub record StandsAt {D : Type 0} {disk : Ghosts D} (point : Point) (parts : List Portion)
     (session : Story (Stage D disk)) : Type 0 where
   pub resumed : IsResumed point parts (seen as_sink session parts)
@@ -45,7 +45,7 @@ pub record StandsAt {D : Type 0} {disk : Ghosts D} (point : Point) (parts : List
       (λ back there. Returned session.sink (disk.moment session.sink.disk) back there)
   pub survived : Survived session.sink (disk.moment session.sink.disk)
 
--- The session stands at the checkpoint that was read, with its parts, and this is one of the file.
+-- The session is at the checkpoint that was read, with its parts, and this is one of the file.
 pub record GoesOn {D : Type 0} {disk : Ghosts D} (set_id : List ℕ) (file : ℕ) (read : List ℕ)
     (session : Story (Stage D disk)) : Type 0 where
   pub generation : ℕ
@@ -55,8 +55,8 @@ pub record GoesOn {D : Type 0} {disk : Ghosts D} (set_id : List ℕ) (file : ℕ
   pub of_file : IsOfFile set_id file point
   pub stands : StandsAt point parts session
 
--- What the fault says of the bytes that were read: that they stand for nothing, or that they stand
--- for a checkpoint of another file or set.
+-- What the fault says of the bytes that were read: that they represent nothing, or that they
+-- represent a checkpoint of another file or set.
 abbrev pub Says : List ℕ → ℕ → List ℕ → StagingFault → Type 0
 Says set_id file read (faults.Stage fault) = SaysNone fault → HoldsNone read
 Says set_id file read faults.OtherFile = (generation : ℕ) × (point : Point)
@@ -68,7 +68,7 @@ abbrev pub IsUnopened : StagingFault → Type 0
 IsUnopened (faults.Stage fault) = IsNotDevice fault
 IsUnopened faults.OtherFile = ⊥
 
--- The fault says that the bytes are those of no stage.
+-- The fault says that the bytes are not a stage.
 abbrev pub SaysNoStage : StagingFault → Type 0
 SaysNoStage (faults.Stage fault) = SaysNone fault
 SaysNoStage faults.OtherFile = ⊥

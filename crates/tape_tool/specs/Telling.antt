@@ -1,4 +1,4 @@
--- The line that tells a fault.
+-- The line that reports a fault.
 use Rattle.std.specs.Prelude.{ℕ, List, ◌++◌, codes, decimal}
 use Rattle.tape_image.specs.declared.item.ImageFault.{ImageFault}
 use Rattle.tape_image.specs.Fault.{number_of}

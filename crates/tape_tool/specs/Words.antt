@@ -1,5 +1,5 @@
--- What the words of a command line ask for, by what the parser found of them: a row for each word
--- and each option of a command, which has the texts that stand there.
+-- What the arguments of a command line ask for, by what the parser found: a row for each argument
+-- and each option of a command, with its texts.
 use Rattle.std.specs.Prelude.{◌≡◌, ◌≢◌, ◌⊎◌, ◌<◌, ◌≤◌, ◌^◌, ℕ, Bool, true, false, codes}
 use Rattle.std.specs.Prelude.{List, [], ◌∷◌, ◌++◌, map, length, replicate, if◌then◌else◌}
 use Rattle.std.specs.Prelude.{◌-◌, ⊤, Option, Some, None, IfSome, option_map, unwrap_or}
@@ -36,7 +36,7 @@ use Rattle.tape_tool.specs.declared.merge.words.Merge.{Merge}
 
 -- ---- a word
 
--- the first text of a word, and nothing where it was not given
+-- the first text of an argument, and none if it is not present
 abbrev pub text_in : List Row → List ℕ → List ℕ
 text_in rows word = unwrap_or (first_of word rows) []
 
@@ -44,18 +44,18 @@ text_in rows word = unwrap_or (first_of word rows) []
 abbrev pub texts_in : List Row → List ℕ → List (List ℕ)
 texts_in rows word = unwrap_or (all_of word rows) []
 
--- This number of so many bits stands there: it is the value of decimal digits, with or without a
--- plus sign before them.
+-- This number of so many bits is there: it is the value of decimal digits, with or without a plus
+-- sign before them.
 abbrev pub IsNumber : ℕ → List Row → List ℕ → ℕ → Type 0
 IsNumber bits rows word n = (text : List ℕ) × (one_of word rows ≡ Some text)
     × IsNumeral 10 (without_leading_plus text)
     × (digits_value 10 (without_leading_plus text) ≡ n) × (n < 2 ^ bits)
 
--- some number of so many bits stands there
+-- some number of so many bits is there
 abbrev pub IsSomeNumber : ℕ → List Row → List ℕ → Type 0
 IsSomeNumber bits rows word = (n : ℕ) × IsNumber bits rows word n
 
--- an option by itself is given, or is not
+-- an option without a value is present, or is not
 pub record IsFlag (rows : List Row) (word : List ℕ) (is_given : Bool) : Type 0 where
   pub given : one_of word rows ≡ Some (codes "true") → is_given ≡ true
   pub left_out : one_of word rows ≡ Some (codes "false") → is_given ≡ false
@@ -67,12 +67,12 @@ pub record IsForm (rows : List Row) (form : Form) : Type 0 where
   pub lines : first_of (codes "form") rows ≡ Some (codes "lines") → form ≡ Lines
   pub only_raw : form ≡ Raw → first_of (codes "form") rows ≡ Some (codes "raw")
 
--- the texts of a word of which there is one at most
+-- the texts of an argument that may occur once
 abbrev pub texts_of_one : Option (Bor (List ℕ)) → List (List ℕ)
 texts_of_one None = []
 texts_of_one (Some text) = text.now ∷ []
 
--- there are more, or the one stands for a stream
+-- it occurs more often, or its text means a stream
 abbrev pub IsDashOrMore : List (List ℕ) → Type 0
 IsDashOrMore texts = (texts ≡ codes "-" ∷ []) ⊎ (2 ≤ length texts)
 
@@ -83,7 +83,7 @@ RefusedFor reason error =
 
 -- ---- images
 
--- the file of a list, where it is not on standard input
+-- the file of a list, unless it is standard input
 abbrev pub list_file : List ℕ → Option (List ℕ)
 list_file path = if bytes_eq path (codes "-") then None else Some path
 
@@ -93,8 +93,7 @@ pub record IsListIn (rows : List Row) (list : Option ListFile) : Type 0 where
       ≡ option_map list_file (first_of (codes "files-from") rows)
   pub null : IfSome list (λ (l : ListFile). IsFlag rows (codes "null") l.null)
 
--- The images of a run: those of the words, in their order, of which there are 256 at most, and
--- those of a list.
+-- The images of a run: those of the arguments, in their order, at most 256, and those of a list.
 pub record NamesImages (rows : List Row) (named : Named) : Type 0 where
   pub words : map (λ w. w.now) named.words.items ≡ texts_in rows (codes "IMAGE")
   pub few : length (texts_in rows (codes "IMAGE")) ≤ 256
@@ -106,13 +105,13 @@ AreTooMany rows = 256 < length (texts_in rows (codes "IMAGE"))
 
 -- ---- commands
 
--- what `list` is asked for: an image, or standard input where none is named
+-- what `list` is asked for: an image, or standard input if none is named
 pub record AsksToList (rows : List Row) (order : Listing) : Type 0 where
   pub image : texts_in rows (codes "IMAGE") ≡ texts_of_one order.image
   pub named : IfSome order.image (λ (i : Bor (List ℕ)). i.now ≢ codes "-")
   pub offsets : IsFlag rows (codes "offsets") order.offsets
 
--- whether a survey is told in rows
+-- whether a survey is printed in rows
 abbrev pub is_in_rows : Wording → Bool
 is_in_rows wordings.Rows = true
 is_in_rows wordings.Words = false
@@ -122,7 +121,7 @@ pub record AsksToSurvey (rows : List Row) (order : Survey) : Type 0 where
   pub images : NamesImages rows order.images
   pub wording : IsFlag rows (codes "tsv") (is_in_rows order.wording)
 
--- a set's identifier, with spaces behind it (32)
+-- a set's identifier, padded with spaces (32)
 abbrev pub padded_set : List ℕ → List ℕ
 padded_set text = text ++ replicate (6 - length text) 32
 
@@ -130,7 +129,7 @@ padded_set text = text ++ replicate (6 - length text) 32
 abbrev pub IsNoSet : List ℕ → Type 0
 IsNoSet text = (length text ≡ 0) ⊎ (6 < length text)
 
--- the file of which set is to be got back, and how
+-- which file of which set is to be recovered, and how
 pub record AsksForFile (rows : List Row) (task : Task) : Type 0 where
   pub set_id : task.set_id ≡ padded_set (text_in rows (codes "SET"))
   pub set : IsNoSet (text_in rows (codes "SET")) → ⊥
@@ -198,12 +197,12 @@ abbrev pub IsNoInit : List Row → Type 0
 IsNoInit rows =
     (text_in rows (codes "DIR") ≡ []) ⊎ (IsPrefix (text_in rows (codes "PRE")) → ⊥)
 
--- in each word of a file there is an equals sign (61), behind which its path stands
+-- each argument for a file contains an equals sign (61), after which its path follows
 abbrev pub HavePaths : List (List ℕ) → Type 0
 HavePaths = All (λ word. Contains word 61)
 
--- Words of `write` that don't go together. Format F needs a record length, and S takes none. Any
--- other format is D, whose records cannot be joined.
+-- Options of `write` that exclude each other. Format F needs a record length, and S accepts none.
+-- Any other format is D, whose records cannot be joined.
 abbrev pub AreAtOdds : List Row → Type 0
 AreAtOdds rows =
     ((text_in rows (codes "format") ≡ codes "F") × (IsSomeNumber 32 rows (codes "record") → ⊥))
@@ -211,7 +210,7 @@ AreAtOdds rows =
     ⊎ ((text_in rows (codes "format") ≢ codes "F") × (text_in rows (codes "format") ≢ codes "S")
     × (first_of (codes "form") rows ≡ Some (codes "raw")))
 
--- the same of the order that they give
+-- the same for the order that they make
 abbrev pub IsAtOdds : WriteOrder → Type 0
 IsAtOdds order = ((order.format ≡ Fixed) × (order.«record» ≡ None))
     ⊎ ((order.format ≡ Spanned) × (order.«record» ≢ None))
@@ -223,7 +222,7 @@ IsNoWrite rows = (IsPrefix (text_in rows (codes "PRE")) → ⊥)
     ⊎ (HavePaths (texts_in rows (codes "ID=PATH")) → ⊥)
     ⊎ (text_in rows (codes "DIR") ≡ []) ⊎ AreAtOdds rows
 
--- What `write` is asked for: each part by the word of its own.
+-- What `write` is asked for: each part by its own argument.
 pub record AsksToWrite (rows : List Row) (order : WriteOrder) : Type 0 where
   pub folder : order.folder.now ≡ text_in rows (codes "DIR")
   pub prefix : order.prefix.characters ≡ text_in rows (codes "PRE")
@@ -280,7 +279,7 @@ IsOrderOf name rows (orders.Write order) = (name ≡ codes "write") × AsksToWri
 IsOrderOf name rows (orders.Merge order) = (name ≡ codes "merge") × AsksToMerge rows order
 IsOrderOf name rows (orders.Compare named) = (name ≡ codes "compare") × NamesImages rows named
 
--- what is to be done by the command that the parser met, if it met one
+-- what is to be done by the command that the parser found, if it found one
 abbrev pub IsOrderIn : Option (List ℕ × List Row) → Order → Type 0
 IsOrderIn None order = ⊥
 IsOrderIn (Some met) order = IsOrderOf met.0 met.1 order
@@ -299,12 +298,13 @@ IsNoOrder verbs.Write rows = IsNoWrite rows
 IsNoOrder verbs.Merge rows = IsNoMerge rows
 IsNoOrder verbs.Compare rows = AreTooMany rows
 
--- and why a command line is: no command has the name that the parser met, or it refuses its rows
+-- and why a command line is refused: no command has the name that the parser found, or the command
+-- refuses its rows
 abbrev pub IsNoOrderOf : List ℕ → List Row → Type 0
 IsNoOrderOf name rows = ((verb : Verb) → name ≢ name_of verb)
     ⊎ ((verb : Verb) × (name ≡ name_of verb) × IsNoOrder verb rows)
 
--- the same, where the parser may have met no command
+-- the same, if the parser may have found no command
 abbrev pub IsNoOrderIn : Option (List ℕ × List Row) → Type 0
 IsNoOrderIn None = ⊤
 IsNoOrderIn (Some met) = IsNoOrderOf met.0 met.1

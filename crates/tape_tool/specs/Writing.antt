@@ -1,24 +1,24 @@
--- What `write` makes of its words: the shape of all files, each file's head, and where it is.
+-- What `write` makes of its arguments: the shape of all files, each file's head, and its path.
 use Rattle.std.specs.Prelude.{◌≡◌, ◌≢◌, ◌⊎◌, ℕ, ◌-◌, min, Bool, true, List, codes, replicate}
 use Rattle.std.specs.Prelude.{Option, Some, None}
 use Rattle.tape_label.specs.declared.values.Format.{Format}
 use Rattle.tape_label.specs.declared.values.Format.TheVariants.{Fixed, Counted, Spanned}
 use Rattle.tape_label.specs.declared.values.Head1.{Head1}
 
--- The record length: the number that was given. Where none was it is with D the greatest that has
--- room in a block, at most 9,999, and else 0.
+-- The record length: the number that was specified. Without one it is, with D, the greatest that
+-- fits into a block, at most 9,999, and otherwise 0.
 abbrev pub record_length : Format → Option ℕ → ℕ → ℕ → ℕ
 record_length format (Some length) block offset = length
 record_length Fixed None block offset = 0
 record_length Counted None block offset = min (block - offset) 9999
 record_length Spanned None block offset = 0
 
--- There is no such shape: blocks of D alone are filled up, and a record of format F has a byte.
+-- There is no such shape: only blocks of D are padded, and a record of format F has a byte.
 abbrev pub IsNoShape : Format → ℕ → Bool → Type 0
 IsNoShape format length pad_full =
     ((pad_full ≡ true) × (format ≢ Counted)) ⊎ ((format ≡ Fixed) × (length ≡ 0))
 
--- A file's head before the writer puts in the set and the numbers: its identifier, generation 1 in
+-- A file's head before the writer fills in the set and the numbers: its identifier, generation 1 in
 -- its first version, no dates, free for all. 32 is the space.
 abbrev pub plain_head : List ℕ → Head1
 plain_head file_id = record {

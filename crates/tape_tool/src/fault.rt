@@ -1,4 +1,4 @@
-//! What can go wrong, and how it is told.
+//! Errors of the program, and their numbers.
 ghost use Rattle.std.specs.Prelude.{◌≡◌};
 ghost use Rattle.tape_writer.specs.declared.system.fault.FileFault.TheVariants as files;
 ghost use Rattle.tape_tool.specs.Fault.{file_number, write_number, of_system, of_engine, of_list};
@@ -12,7 +12,7 @@ use tape_writer::WriteFault;
 pub use tape_writer::system::FileFault;
 use tape_writer::system::SystemFault;
 
-/// The number of a file's fault, as the program prints it.
+/// Returns the number of a file's fault, as the program prints it.
 pub fn number_of_file(fault: FileFault) -> u8
     ensures { result ≡ file_number fault }
 {
@@ -24,7 +24,7 @@ pub fn number_of_file(fault: FileFault) -> u8
     }
 }
 
-/// The number of a fault of the writer, as the program prints it.
+/// Returns the number of a fault of the writer, as the program prints it.
 pub fn number_of_write(fault: WriteFault) -> u8
     ensures { result ≡ write_number fault }
 {
@@ -44,7 +44,7 @@ pub fn number_of_write(fault: WriteFault) -> u8
     }
 }
 
-/// What ends the program with status 1, and is told in one line.
+/// An error that ends the program with status 1, and is reported on one line.
 #[derive(Clone, Copy, Debug, PartialEq, Eq)]
 pub enum ToolFault {
     /// An image could not be read on.
@@ -55,15 +55,15 @@ pub enum ToolFault {
     Write(WriteFault),
     /// A file or a stream failed.
     File(FileFault),
-    /// A session or a catalogue could not go on.
+    /// A session or a catalogue could not continue.
     Run(RunFault),
-    /// A stage could not be opened or made.
+    /// A stage could not be opened or created.
     Stage(StageFault),
     /// Another run has the stage open.
     StageInUse,
 }
 
-/// No memory, for the words of the command line too.
+/// Out of memory, for the arguments of the command line too.
 pub const OUT_OF_MEMORY: ToolFault = ToolFault::Run(RunFault::OutOfMemory);
 
 impl From<ImageFault> for ToolFault {

@@ -1,2 +1,2 @@
-//! What the program asks of the system that it runs on.
+//! What the program needs of its operating system.
 pub use tape_writer::system::Host;

@@ -26,20 +26,20 @@ pub struct Named<'a> {
 /// A list of names.
 #[derive(Clone, Copy)]
 pub struct List<'a> {
-    /// Its file, where it is not on standard input.
+    /// Its file, unless it is standard input.
     pub file: Option<&'a str>,
     /// Whether each name ends with a NUL, and not with a line feed.
     pub null: bool,
 }
 
-/// The names of all images: those of the words, and behind them those of the list, whose text is
-/// kept for them. Nothing else is opened. At a fault the site is the list.
+/// Returns the names of all images: those of the arguments, followed by those of the list, whose
+/// text is kept for them. Nothing else is opened. On error, the site is the list.
 ///
 /// # Errors
 ///
-/// `Faulted` with `NotOpened` or `ReadFailed` where the list could not be read to its end, or with
-/// `OutOfMemory`. `NoText` where it is not UTF-8 text; `Words` where lines of it hold a NUL, and
-/// where no image is named.
+/// Returns `Faulted` with `NotOpened` or `ReadFailed` if the list could not be read to its end, or
+/// with `OutOfMemory`; `NoText` if it is not UTF-8; `Words` if a line contains a NUL, and if no
+/// image is named.
 pub fn names_of<'t, 'a: 't, R: Runtime + AllocGlobal>(
     rt: &R,
     named: &Named<'a>,
@@ -94,7 +94,7 @@ fn bytes_of<R: Runtime + AllocGlobal>(rt: &R, list: List<'_>) -> Result<Vec<u8>,
     }
 }
 
-/// All that a reader has left.
+/// Reads all that is left of a reader.
 fn read_all<D: Read>(alloc: Global, device: &mut D) -> Result<Vec<u8>, Unfit>
     ensures { IfOk result (λ bytes.
         IfSome (D.remaining device.old) (λ left. bytes.items ≡ left)) }
@@ -119,7 +119,7 @@ fn number_at(list: &[u8], null: bool, place: usize) -> usize {
     number
 }
 
-/// The names of the words, and behind them those in the text of a list.
+/// Returns the names in the arguments, followed by those in the text of a list.
 pub fn all_names<'a>(
     alloc: Global,
     words: &[&'a str],
@@ -137,7 +137,7 @@ pub fn all_names<'a>(
     Ok(names)
 }
 
-/// Puts a piece behind the names, where it is one.
+/// Appends a piece to the names, if it is not empty.
 fn push_name<'a>(names: &mut Vec<&'a str>, piece: &'a str) -> Result<(), AllocError>
     ensures name { is_name piece.now ≡ true
         → OnOk result (names.new.items ≡ names.old.items ++ piece.entry ∷ []) }
@@ -151,14 +151,14 @@ fn push_name<'a>(names: &mut Vec<&'a str>, piece: &'a str) -> Result<(), AllocEr
     Ok(())
 }
 
-/// What stands between the ends in the text of a list.
+/// The pieces between the terminators in the text of a list.
 fn pieces_of(alloc: Global, text: &str, null: bool) -> Result<Vec<&str>, AllocError>
     ensures { IfOk result (λ pieces. map (λ p. p.now) pieces.items ≡ cut null text.now) }
 {
     text.split(end_of(null)).collect(alloc)
 }
 
-/// What each name in a list ends with.
+/// The terminator of each name in a list.
 fn end_of(null: bool) -> char
     ensures { result ≡ end_byte null }
 {
@@ -200,7 +200,7 @@ pub fn in_reading_order<'n>(
     Ok(order)
 }
 
-/// Adds the name with this number, unless it was taken.
+/// Adds the name with this number, unless it was added before.
 fn take_name<'n>(
     order: &mut Vec<&'n str>,
     taken: &mut Vec<bool>,
@@ -222,10 +222,10 @@ const LAST_SECTION: u16 = 9_999;
 /// How many bytes of an image are read ahead, at most.
 pub const READ_AHEAD: usize = 32_768;
 
-/// An image that is open, behind a buffer.
+/// An open image, with a read buffer.
 pub type Image<R> = BufReader<<R as Files>::File>;
 
-/// The images of a run, by their names: each is opened when it is mounted, behind a buffer.
+/// The images of a run, by their names: each is opened, with a read buffer, when it is mounted.
 #[derive(Drop)]
 pub struct Images<'a, R> {
     rt: &'a R,
@@ -233,7 +233,7 @@ pub struct Images<'a, R> {
 }
 
 impl<'a, R: Runtime + AllocGlobal> Images<'a, R> {
-    /// The images of these names. None is opened yet.
+    /// Creates the images with these names. None is opened yet.
     pub fn new(rt: &'a R, names: &'a [&'a str]) -> Images<'a, R> {
         Images { rt, names }
     }

@@ -1,4 +1,4 @@
-//! What the definitions say of cases, as the contract of a call that does nothing.
+//! Examples for the definitions, proved as the contract of a call that does nothing.
 
 ghost use Rattle.tape_tool.specs.Cases.{CasesOfEnds, CasesOfFaults, CasesOfLines, CasesOfNames};
 ghost use Rattle.tape_tool.specs.Cases.{CasesOfStaging};
@@ -8,9 +8,9 @@ ghost use Rattle.tape_tool.specs.CasesOfWords.{CasesOfWords, CasesOfOrders, Case
 
 use tape_stage::Disk;
 
-/// What the definitions of the program say of cases: how runs end, the numbers of faults, the lines
-/// that are printed, the names in a list, what a session over a stage is, what is shown of one,
-/// which shapes are refused, what words ask for, and why they are refused.
+/// Examples for the definitions of the program: how runs end, the numbers of faults, the lines that
+/// are printed, the names in a list, sessions over a stage, what is shown of one, which shapes are
+/// refused, what arguments ask for, and why they are refused.
 pub fn cases<D: Disk>()
     ensures ends { CasesOfEnds }
     ensures faults { CasesOfFaults }

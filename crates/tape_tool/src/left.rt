@@ -1,4 +1,4 @@
-//! Files of this program that are removed, or named on standard error where they can't be.
+//! Files of this program that are removed, or named on standard error if they cannot be.
 use crate::host::Host;
 use std::fmt;
 use std::io::ErrorKind;
@@ -13,7 +13,7 @@ impl fmt::Display for Left<'_> {
     }
 }
 
-/// Removes a file of this program, if it is there, or says that it is left.
+/// Removes a file of this program, if it exists, or reports that it remains.
 pub fn remove<R: Host>(rt: &R, path: &str) {
     match rt.remove_file(path) {
         Err(error) if error.kind() != ErrorKind::NotFound => {

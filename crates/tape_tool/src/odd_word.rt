@@ -27,7 +27,7 @@ impl fmt::Display for OddWord<'_> {
 /// Room for a word.
 pub type Room = [u8; 4096];
 
-/// Finds the first word that is not UTF-8 text. None where it is longer than the room is.
+/// Finds the first argument that is not UTF-8. Returns `None` if it is longer than the buffer.
 pub fn odd_word<'a, R: Env>(env: &R, room: &'a mut Room) -> Option<OddWord<'a>> {
     for number in 1..usize::MAX {
         match env.arg(number, room) {

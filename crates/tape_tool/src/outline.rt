@@ -1,4 +1,4 @@
-//! Commands and what stands behind them on a command line, as tables.
+//! Commands and their arguments, as tables.
 ghost use Rattle.std.specs.Prelude.{◌≡◌, ⊤, IfOk};
 ghost use Rattle.clap.specs.Words.{kind_of};
 ghost use Rattle.tape_tool.specs.Words.{RefusedFor};
@@ -8,7 +8,7 @@ use clap::error::ErrorKind;
 use clap::{Arg, ArgAction, Command, Error};
 use std::alloc::{AllocError, Global};
 
-/// A command: its texts, and what stands behind it.
+/// A command: its texts, and its arguments.
 pub struct Outline {
     pub name: &'static str,
     /// As usage names it.
@@ -16,36 +16,36 @@ pub struct Outline {
     pub about: &'static str,
     /// What the long help says after the arguments.
     pub after_help: &'static str,
-    /// The usage, where it is not that of the words.
+    /// The usage line, if it is not derived from the arguments.
     pub usage: Option<&'static str>,
     pub words: &'static [Word],
 }
 
-/// A word or an option that a command takes: its name, what is given for it, and its help.
+/// An argument or an option of a command: its name, its value, and its help.
 pub struct Word(pub &'static str, pub Kind, pub &'static str);
 
-/// What is given for a word or an option.
+/// The value of an argument or an option.
 #[derive(Clone, Copy)]
 pub enum Kind {
-    /// A text, which has to be there.
+    /// A text, which is required.
     Text,
-    /// A number in a range, which has to be there.
+    /// A number in a range, which is required.
     Number(u64, u64),
-    /// Texts, of which one at least has to be there.
+    /// One or more texts.
     Texts,
-    /// Texts, of which one at least has to be there, or this option.
+    /// One or more texts, unless this option is present.
     TextsOr(&'static str),
     /// Any number of texts.
     AnyTexts,
     /// An option by itself.
     Flag,
-    /// An option by itself, which goes with this one alone.
+    /// An option with a text, whose value help shows under this name.
     FlagOf(&'static str),
     /// An option with a text, which help calls so.
     TextOption(&'static str),
-    /// An option with a number, up to this one, and what stands for it where it is left out.
+    /// An option with a number, up to this one, and its default.
     NumberOption(u64, &'static [&'static str]),
-    /// An option that help calls so, with one of these names, and the same.
+    /// An option whose value help shows under this name, with one of these values, and its default.
     NameOption(&'static str, &'static [&'static str], &'static [&'static str]),
 }
 
@@ -85,7 +85,7 @@ fn argument<'a>(alloc: Global, word: &Word) -> Result<Arg<'a>, AllocError> {
     }
 }
 
-/// Whether a value is given behind a name.
+/// Whether a value follows a name.
 fn is_option(kind: Kind) -> bool {
     matches!(
         kind,
@@ -107,7 +107,7 @@ fn option_argument<'a>(long: Arg<'a>, kind: Kind) -> Arg<'a> {
         .default_values(defaults_of(kind))
 }
 
-/// How many values a word takes.
+/// How many values an argument accepts.
 fn count_of(kind: Kind) -> ValueRange {
     match kind {
         Kind::Texts => ValueRange::from(1..),
@@ -116,7 +116,7 @@ fn count_of(kind: Kind) -> ValueRange {
     }
 }
 
-/// What a value has to be.
+/// Which values are accepted.
 fn parser_of(kind: Kind) -> ValueParser<'static> {
     match kind {
         Kind::Number(least, most) => ValueParser::Unsigned(least, most),
@@ -142,7 +142,7 @@ fn defaults_of(kind: Kind) -> &'static [&'static str] {
     }
 }
 
-/// A mistake in the words of a command, with its usage behind the text; or want of memory for it.
+/// A usage error of a command, with its usage line after the text; or out of memory for it.
 pub fn mistake(alloc: Global, outline: &Outline, text: &str) -> Error
     ensures { RefusedFor ⊤ result }
 {
@@ -152,7 +152,7 @@ pub fn mistake(alloc: Global, outline: &Outline, text: &str) -> Error
     }
 }
 
-/// The same, where there is memory for it.
+/// The same, if there is memory for it.
 fn told(alloc: Global, outline: &Outline, text: &str) -> Result<Error, AllocError>
     ensures { IfOk result (λ error. kind_of error ≡ ErrorKind.ValueValidation) }
 {

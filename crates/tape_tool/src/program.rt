@@ -38,11 +38,11 @@ use tape_set::Want;
 pub enum End {
     /// It did what it was asked for, or printed help.
     Done,
-    /// A fault, which is told in one line.
+    /// An error, which is reported on one line.
     Faulted(ToolFault),
     /// The command line asks for nothing that there is.
     WrongWords,
-    /// It did what it was asked for, and something is missing or still wanted.
+    /// It did what it was asked for, and something is missing.
     Incomplete,
 }
 
@@ -81,7 +81,7 @@ pub fn check_end(checked: Result<bool, EngineFault>) -> End
     }
 }
 
-/// How `extract` ends that answered this: what is wanted of the file, if something is.
+/// How `extract` ends with this result: what is still missing of the file, if anything.
 pub fn extract_end(answer: Result<Option<Want>, EngineFault>) -> End
     ensures { result ≡ extract_end answer }
 {
@@ -92,7 +92,7 @@ pub fn extract_end(answer: Result<Option<Want>, EngineFault>) -> End
     }
 }
 
-/// How `stage` ends that answered this: what is wanted of the file, if something is.
+/// How `stage` ends with this result: what is still missing of the file, if anything.
 pub fn stage_end(answer: Result<Option<Want>, ToolFault>) -> End
     ensures { result ≡ stage_end answer }
 {
@@ -103,7 +103,7 @@ pub fn stage_end(answer: Result<Option<Want>, ToolFault>) -> End
     }
 }
 
-/// How `stage --damaged` ends that answered this: with success only where all is there.
+/// How `stage --damaged` ends with this result: with success only if nothing is missing or damaged.
 pub fn damaged_end(answer: Result<StageEnding, ToolFault>) -> End
     ensures { result ≡ damaged_end answer }
 {
@@ -125,7 +125,7 @@ pub fn words_end(kind: ErrorKind, printed: bool) -> End
     }
 }
 
-/// How a call for help ends: with success where it was printed.
+/// How a call for help ends: with success if it was printed.
 fn help_end(printed: bool) -> End
     ensures { result ≡ help_end printed }
 {
@@ -136,7 +136,8 @@ fn help_end(printed: bool) -> End
     }
 }
 
-/// How a run ends that was given no words, for this reason: no memory, or words that are no text.
+/// How a run ends without its arguments, for this reason: out of memory, or arguments that are not
+/// text.
 pub fn no_words_end(kind: io::ErrorKind) -> End
     ensures { result ≡ no_words_end kind }
 {
@@ -146,18 +147,18 @@ pub fn no_words_end(kind: io::ErrorKind) -> End
     }
 }
 
-/// Tells a fault on standard error, and gives the exit status.
+/// Reports a fault on standard error, and returns the exit status.
 pub fn finish<R: Eprint>(rt: &R, end: End) -> u8
     ensures { result ≡ exit_status end }
 {
     if let End::Faulted(fault) = end {
-        // Where standard error is closed there is no one left to tell.
+        // If standard error is closed, nobody can be informed.
         let _ = rt.eprint(FaultLine(fault));
     }
     end.status()
 }
 
-/// Runs the program, tells a fault, and gives the exit status.
+/// Runs the program, reports a fault, and returns the exit status.
 pub fn run<R: Host>(rt: &R) -> u8 {
     // Kept open to the end of the run.
     let _kept = match keep_numbers(rt) {
@@ -189,7 +190,7 @@ fn words_of<R: Host>(rt: &R) -> Result<Vec<String>, End>
     }
 }
 
-/// These words, for which there was memory; or how a run ends for which there was none.
+/// Returns the arguments, or how a run ends for which there was no memory.
 fn kept(words: Result<Vec<String>, AllocError>) -> Result<Vec<String>, End>
     ensures { IfErr result (λ end. end ≡ End.Faulted no_memory) }
 {
@@ -203,7 +204,7 @@ fn kept(words: Result<Vec<String>, AllocError>) -> Result<Vec<String>, End>
 #[derive(Clone, Copy)]
 pub struct Outcome<'a> {
     pub end: End,
-    /// What the program was at, where a fault is to be told in words.
+    /// What the program was doing, for `--explain`.
     pub explained: Option<Site<'a>>,
 }
 
@@ -234,7 +235,7 @@ pub fn without_words<R: Eprint>(rt: &R, kind: io::ErrorKind) -> End
     end
 }
 
-/// Does what the words ask for, the program's own name first.
+/// Executes a command line, whose first argument is the program's name.
 pub fn perform<'a, R: Host>(rt: &R, words: &'a [String]) -> Outcome<'a> {
     match call_of(rt.alloc(), words) {
         Ok(mut call) => {
@@ -256,7 +257,7 @@ fn is_asked<R: Host>(rt: &R) -> bool {
     }
 }
 
-/// Does what the call asks for.
+/// Executes a parsed command line.
 fn follow<'a, R: Host>(rt: &R, call: &Call<'a>) -> Outcome<'a>
     ensures plain { call.now.explained ≡ false → result.explained ≡ None }
     ensures explained { call.now.explained ≡ true → IsSome result.explained }
@@ -269,7 +270,7 @@ fn follow<'a, R: Host>(rt: &R, call: &Call<'a>) -> Outcome<'a>
     }
 }
 
-/// Does what is to be done. At a fault the site is where it came.
+/// Executes a command. On error, the site says where it occurred.
 fn obey<'a, R: Host>(rt: &R, order: &Order<'a>, site: &mut Site<'a>) -> End {
     match order {
         Order::List(order) => list(rt, *order, site),
@@ -286,18 +287,18 @@ fn obey<'a, R: Host>(rt: &R, order: &Order<'a>, site: &mut Site<'a>) -> End {
     }
 }
 
-/// Prints what the parser of words has to say: help to standard output, a mistake to standard
+/// Prints the text of the argument parser: help to standard output, a usage error to standard
 /// error.
 pub fn refuse<R: Print + Eprint>(rt: &R, error: &clap::Error) -> End
     ensures { (printed : Bool) × (result ≡ words_end (kind_of error.now) printed) }
 {
     let kind = error.kind();
-    // That memory was refused is a fault, and told by the one line of a fault.
+    // Out of memory is a fault, and is reported by the one line of a fault.
     let printed = kind != ErrorKind::OutOfMemory && error.print(rt).is_ok();
     words_end(kind, printed)
 }
 
-/// Ends a command that is not begun, for this reason.
+/// Ends a command that is not started, for this reason.
 pub fn refuse_unfit<R>(rt: &R, outline: &Outline, unfit: Unfit) -> End
 where
     R: Print + Eprint + AllocGlobal,
@@ -316,7 +317,7 @@ where
     }
 }
 
-/// Tells a mistake in words that was found behind them.
+/// Reports a usage error that was found after parsing.
 fn refuse_words<R: Print + Eprint + AllocGlobal>(rt: &R, outline: &Outline, text: &str) -> End
     ensures { IsWrongWords result }
 {

@@ -1,4 +1,4 @@
-//! `salvage`: what is readable of a file of which no image has all.
+//! `salvage`: recovers what is readable of a file that no image has completely.
 
 mod run;
 pub mod words;

@@ -1,4 +1,4 @@
-//! `stage`: what a stage holds, and the records of it.
+//! `stage`: shows what a stage contains, and writes its records.
 mod ending;
 mod read_only;
 mod run;

@@ -26,31 +26,32 @@ use tape_writer::system::{LockFault, locked, sync_folder_of};
 /// Why there is no session over a stage.
 #[derive(Clone, Copy, PartialEq, Eq)]
 pub enum StagingFault {
-    /// The stage could not be opened or made.
+    /// The stage could not be opened or created.
     Stage(StageFault),
-    /// What is staged is a file of another number or of another set; or the number is that of no
-    /// file.
+    /// The staged data belong to a file with another number or to another set; or no file has the
+    /// number.
     OtherFile,
 }
 
-/// A session for this file over the stage that the disk holds: it goes on where the stage's
-/// checkpoint stands, with the parts before it. On an empty disk a stage is made, and the session
-/// stands at the file's start.
+/// Opens a session for this file over the stage on a disk: it continues at the stage's checkpoint,
+/// with the parts before it. On an empty disk it creates a stage, and the session begins at the
+/// file's start.
 ///
 /// # Errors
 ///
-/// `Stage`, with the fault of opening or making it; `OtherFile`, where the checkpoint belongs to
-/// another file or set, and where the number is not 1 to 9,999. Each hands the disk back.
+/// Returns `Stage` with the fault of opening or creating it; `OtherFile` if the checkpoint belongs
+/// to another file or set, or the number is not 1 to 9,999. Each returns the disk.
 pub fn open_session<D: Disk + Drop>(
     alloc: Global,
     disk: D,
     set_id: Field<6>,
     file: u16,
 ) -> Result<Session<Stage<D>>, Refused<D, StagingFault>>
-    // Where something is staged the session stands at the checkpoint that was read, with its parts.
+    // If something is staged, the session's position is the checkpoint that was read, with its
+    // parts.
     ensures goes_on { D.is_honest disk → (D.length_of disk ≡ 0 → ⊥)
         → IfOk result (GoesOn set_id file (D.seen disk)) }
-    // Where the disk is empty it stands at the file's start, with none.
+    // If the disk is empty, it is the file's start, without parts.
     ensures begins { D.is_honest disk → D.length_of disk ≡ 0
         → IfOk result (StandsAt (first_point set_id file) []) }
     ensures start { D.length_of disk ≡ 0
@@ -58,29 +59,29 @@ pub fn open_session<D: Disk + Drop>(
     // On any disk it is a session of this file.
     ensures file { IfOk result (λ session.
         (session.core.set_id ≡ set_id) × (session.core.file ≡ file)) }
-    // What is said of the bytes by a fault holds of them.
+    // What a fault says of the bytes is true.
     ensures says { D.is_honest disk → (D.length_of disk ≡ 0 → ⊥)
         → IfErr result (λ refused. Says set_id file (D.seen disk) refused.fault) }
     ensures number { D.length_of disk ≡ 0 → IfErr result
         (λ refused. refused.fault ≡ StagingFault.OtherFile → IsFileNumber file → ⊥) }
-    // An empty disk is never told to hold no stage: one is made.
+    // An empty disk is never reported as one without a stage: a stage is created.
     ensures not_none { D.length_of disk ≡ 0 → IfErr result
         (λ refused. SaysNoStage refused.fault → ⊥) }
-    // At any moment of it, where the disk has bytes.
+    // At any moment of the call, if the disk is not empty.
     ensures any_moment { D.is_honest disk → (D.length_of disk ≡ 0 → ⊥)
         → IfOk result (λ session. OpensOver D.Disk disk session.sink.disk) }
     ensures any_moment_err { D.is_honest disk → (D.length_of disk ≡ 0 → ⊥)
         → IfErr result (λ refused. OpensOver D.Disk disk refused.disk) }
-    // A disk that has bytes and holds no stage is left as it was, even where it failed.
+    // A disk that is not empty and has no stage is unchanged, even if it failed.
     ensures foreign { D.is_honest disk → (D.length_of disk ≡ 0 → ⊥) → HoldsNone (D.seen disk)
         → IfErr result (λ refused. Untouched D.Disk disk refused.disk) }
-    // What is staged stands where it stood, and at most what follows it was cut.
+    // What is staged is unchanged, and at most what follows it was cut.
     ensures kept { D.is_honest disk → (D.length_of disk ≡ 0 → ⊥)
         → IfErr result (λ refused. KeepsStaged (D.seen disk) (D.seen refused.disk)) }
-    // On any disk, one that can't be believed too.
+    // On any disk, even a dishonest one.
     ensures same_length { (D.length_of disk ≡ 0 → ⊥) → IfErr result (λ refused.
         IsUnopened refused.fault → D.length_of refused.disk ≡ D.length_of disk) }
-    // A stage that is opened or made is neither full nor one that failed before.
+    // A stage that is opened or created is neither full nor one that failed before.
     ensures not_full { IfErr result
         (λ refused. refused.fault ≡ StagingFault.Stage StageFault.Full → ⊥) }
     ensures not_failed { IfErr result
@@ -128,7 +129,7 @@ fn begin<D: Disk + Drop>(
     };
     match Stage::create(alloc, disk, &core.save(0)) {
         Ok(stage) => {
-            // The number is that of a file, since the reader could be made.
+            // A file can have this number, since the reader was created.
             let Ok(session) = Session::new(alloc, set_id, file, stage) else {
                 unreachable!()
             };
@@ -141,7 +142,7 @@ fn begin<D: Disk + Drop>(
     }
 }
 
-/// A session at the checkpoint of the stage that the disk holds.
+/// Returns a session at the checkpoint of the stage on the disk.
 fn resume<D: Disk>(
     alloc: Global,
     disk: D,
@@ -187,8 +188,8 @@ fn resume<D: Disk>(
     }
 }
 
-/// A session as `open_session` gives it. What holds no stage, but begins as one of this file that
-/// was not made whole, as on a full disk, is made anew.
+/// Opens a session as `open_session` does. A disk without a stage that begins like an unfinished
+/// new stage of this file, for example after the disk was full, gets a new stage.
 fn open_or_make(
     alloc: Global,
     disk: HeldFile<File>,
@@ -206,9 +207,8 @@ fn open_or_make(
     Err(Refused { disk, fault })
 }
 
-/// Whether each byte that the disk holds is zero, or the one that stands there in a new stage of
-/// this file before its first gate is opened. A file has zeros where its system lost what was
-/// written.
+/// Whether each byte on the disk is zero, or the byte at this offset of a new stage of this file
+/// before its first gate is opened. A file has zeros where its system lost what was written.
 fn is_unmade<D: Disk>(alloc: Global, disk: &mut D, set_id: Field<6>, file: u16) -> bool {
     let Ok(core) = ReaderCore::new(set_id, file) else {
         return false;
@@ -229,7 +229,7 @@ fn is_unmade<D: Disk>(alloc: Global, disk: &mut D, set_id: Field<6>, file: u16) 
     matches!(bytes[0], 0 | b'C') && body.all(|(byte, due)| *byte == 0 || byte == due)
 }
 
-/// Whether the checkpoint is one of this file, of a set of this identifier.
+/// Whether the checkpoint is one of this file, of a set with this identifier.
 pub fn same_file(point: &Checkpoint, set_id: Field<6>, file: u16) -> bool
     ensures { IsTrue result ↔ IsOfFile set_id file point.now }
 {
@@ -239,15 +239,15 @@ pub fn same_file(point: &Checkpoint, set_id: Field<6>, file: u16) -> bool
 /// A session over the stage in a file.
 type FileSession = Session<Stage<HeldFile<File>>>;
 
-/// The session of the stage in the file at this path. Where no file is there, or an empty one, a
-/// stage is made.
+/// Opens a session over the stage in the file at this path. If the file does not exist or is empty,
+/// a stage is created.
 ///
 /// The file is locked before anything is read of it, for as long as it is open.
 ///
 /// # Errors
 ///
-/// `StageInUse` where another run has the stage; `NotOpened` where there can be no such file; else
-/// that of opening or making the stage.
+/// Returns `StageInUse` if another run uses the stage; `NotOpened` if the file cannot be opened or
+/// created; otherwise the fault of opening or creating the stage.
 pub fn session_in<R: Host>(
     rt: &R,
     path: &str,
@@ -259,13 +259,13 @@ pub fn session_in<R: Host>(
         Ok(disk) => disk,
         Err(fault) => return Err(ToolFault::Stage(fault)),
     };
-    // A stage that is made here is nothing without its name.
+    // A new stage is useless without its name, so the directory is synced.
     if sync_folder_of(rt, path).is_err() {
         return Err(ToolFault::Stage(StageFault::Device));
     }
     match open_or_make(rt.alloc(), disk, set_id, file) {
         Ok(mut session) => {
-            // The stage stands here, and behind a reel that counted wrong it does so again.
+            // Checkpoint of the opened stage, to return to after a reel with a wrong count.
             if let Err(fault) = session.note() {
                 return Err(ToolFault::Run(fault));
             }
@@ -275,7 +275,7 @@ pub fn session_in<R: Host>(
     }
 }
 
-/// The file at this path, made where none is there, and locked.
+/// Opens the file at this path, creates it if it does not exist, and locks it.
 fn locked_file<R: Host>(rt: &R, path: &str) -> Result<File, ToolFault> {
     let mut options = OpenOptions::new();
     options.read(true).write(true).create(true);
@@ -286,8 +286,8 @@ fn locked_file<R: Host>(rt: &R, path: &str) -> Result<File, ToolFault> {
     Ok(file)
 }
 
-/// Whether a run may go on with a stage that it tried to lock. On a file system without locks
-/// nobody is kept out.
+/// Whether a run may continue with a stage that it tried to lock. On a file system without locks
+/// nobody is excluded.
 pub fn locked_stage(attempt: Result<(), TryLockError>) -> Result<(), ToolFault>
     ensures { result ≡ locked_stage attempt }
 {
@@ -298,7 +298,7 @@ pub fn locked_stage(attempt: Result<(), TryLockError>) -> Result<(), ToolFault>
     }
 }
 
-/// The fault as the program tells it.
+/// The fault as the program reports it.
 fn tool_fault(fault: StagingFault) -> ToolFault {
     match fault {
         StagingFault::Stage(fault) => ToolFault::Stage(fault),

@@ -11,10 +11,10 @@ const LAST: i32 = 2;
 /// The number of the error of a process that has as many files open as it may.
 const EMFILE: i32 = 24;
 
-/// Keeps files open under the numbers of those standard streams that are closed. Otherwise the next
-/// file that is opened gets such a number, and what is printed goes into it.
+/// Keeps files open under the numbers of closed standard streams. Otherwise the next file that is
+/// opened would get such a number, and would receive what is printed.
 ///
-/// Reading from these files fails, and so does writing to them, as on a closed stream.
+/// Reads from these files fail, and so do writes, as on a closed stream.
 ///
 /// # Errors
 ///
@@ -37,8 +37,8 @@ pub fn keep_numbers<R: Host>(rt: &R) -> Result<Vec<File>, ToolFault> {
     Ok(kept)
 }
 
-/// Opens a folder, for reading: of a folder no bytes can be read. Where the root may not be read it
-/// is a device that takes nothing and has nothing.
+/// Opens a directory for reading: a directory has no bytes to read. If the root directory may not
+/// be read, it is a device that accepts and yields nothing.
 fn neither_read_nor_written<R: Host>(rt: &R) -> io::Result<File> {
     match File::open(rt, "/") {
         Ok(folder) => Ok(folder),

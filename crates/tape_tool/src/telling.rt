@@ -1,4 +1,4 @@
-//! The one line on standard error that tells a fault.
+//! The line on standard error that reports a fault.
 
 ghost use Rattle.std.specs.Prelude.{Some};
 ghost use Rattle.tape_tool.specs.Telling.{fault_line};
@@ -6,7 +6,7 @@ ghost use Rattle.tape_tool.specs.Telling.{fault_line};
 use crate::fault::{ToolFault, number_of_file, number_of_write};
 use std::fmt;
 
-/// The line that tells a fault: its kind, its number, and the place of an image's.
+/// The line of a fault: its kind, its number, and for an image the byte offset.
 #[derive(Clone, Copy)]
 pub struct FaultLine(pub ToolFault);
 

@@ -1,5 +1,5 @@
-//! Why a command is not begun: its words name files that would be lost by it, or no files. What is
-//! found under their names.
+//! Reasons for refusing to start a command: its arguments name files that it would destroy, or that
+//! do not exist. Also what is found under their names.
 ghost use Rattle.std.specs.Prelude.{◌≡◌, ◌⊎◌, None, Some, Ok, Err, IfErr, IsOk};
 
 use crate::fault::{FileFault, ToolFault};
@@ -15,7 +15,7 @@ pub enum Unfit {
     Words(&'static str),
     /// The name with this number, from 1, in a list is no text. It ends with a NUL, or is a line.
     NoText(bool, usize),
-    /// What stands there is of no use, or can't be looked at.
+    /// What has this name is unusable, or cannot be looked at.
     Faulted(ToolFault),
 }
 
@@ -42,7 +42,7 @@ pub fn same_file(one: &Metadata, other: &Metadata) -> bool {
     one.ino() != 0 && one.dev() == other.dev() && one.ino() == other.ino()
 }
 
-/// What tells a file from others, and a plain file from itself with other bytes in it.
+/// Identifies a file, and for a plain file also its contents, by length and time.
 #[derive(Clone, Copy, PartialEq, Eq)]
 pub struct FileId {
     device: u64,
@@ -53,7 +53,7 @@ pub struct FileId {
 }
 
 impl FileId {
-    /// The file of which this was found.
+    /// Identifies the file with this metadata.
     pub fn of(found: &Metadata) -> FileId {
         let (length, written) = if found.is_file() {
             (found.len(), (found.mtime(), found.mtime_nsec()))
@@ -73,7 +73,7 @@ impl FileId {
         self.device == other.device && self.number == other.number
     }
 
-    /// Whether nothing in it can be lost: it has no bytes, or keeps none.
+    /// Whether it contains nothing that could be lost: it is empty, or no plain file.
     pub fn is_empty(&self) -> bool {
         self.length == 0
     }
@@ -88,8 +88,8 @@ pub enum Taking {
     Over,
 }
 
-/// Returns how a new file takes a name under which the first was found before the run, and the
-/// second now. What was not there before is never replaced.
+/// Returns how a new file takes a name, by what was found under the name before the run and what is
+/// found now. What did not exist before is never replaced.
 ///
 /// # Errors
 ///

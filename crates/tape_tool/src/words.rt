@@ -1,4 +1,4 @@
-//! Which command is run, and what the words of several commands ask for.
+//! Which command is run, and the arguments that several commands share.
 
 ghost use Rattle.std.specs.Prelude.{◌≡◌, ◌≢◌, codes, IfOk, IfErr, IfSome, IfNone, ◌<◌, ℕ, map};
 ghost use Rattle.std.specs.Prelude.{length, None, ◌↔◌, IsTrue, option_map};
@@ -27,20 +27,20 @@ use clap::{Arg, ArgAction, ArgMatches, Command, Error};
 use std::alloc::{AllocError, Global};
 use tape_blocks::Form;
 
-/// How many images a run takes from its words, at most.
+/// The maximum number of images in the arguments of a run.
 const MOST_IMAGES: usize = 256;
 
 /// The names of forms.
 pub const FORMS: &[&str] = &["lines", "raw"];
 
-/// The text of the word with this name. The parser has seen to it that it is there.
+/// Returns the value of the argument with this name, which the parser guarantees to be present.
 pub fn text_of<'a>(matches: &ArgMatches<'a>, name: &str) -> &'a str
     ensures { result.now ≡ text_in (rows_of (found_of matches.now)) name.now }
 {
     matches.get_str(name).unwrap_or("")
 }
 
-/// The text of the option with this name, where it is given.
+/// Returns the value of the option with this name, if it is present.
 pub fn option_of<'a>(matches: &ArgMatches<'a>, name: &str) -> Option<&'a str>
     ensures { option_map (λ t. t.now) result
         ≡ first_of name.now (rows_of (found_of matches.now)) }
@@ -48,14 +48,15 @@ pub fn option_of<'a>(matches: &ArgMatches<'a>, name: &str) -> Option<&'a str>
     matches.get_str(name)
 }
 
-/// The number of the word with this name. The parser has seen to it that it is there, and fits.
+/// Returns the number of the argument with this name, which the parser guarantees to be present and
+/// in range.
 pub fn number_of(matches: &ArgMatches<'_>, name: &str) -> u16
     ensures { (n : ℕ) → IsNumber 16 (rows_of (found_of matches.now)) name.now n → result ≡ n }
 {
     matches.get_one::<u16>(name).unwrap_or(0)
 }
 
-/// Whether the option with this name is given.
+/// Returns whether the option with this name is present.
 pub fn flag_of(matches: &ArgMatches<'_>, name: &str) -> bool
     ensures { IsFlag (rows_of (found_of matches.now)) name.now result }
 {
@@ -72,7 +73,7 @@ pub fn form_of(matches: &ArgMatches<'_>) -> Form
     }
 }
 
-/// Whether the word stands for a stream.
+/// Whether the argument means a stream.
 pub fn is_dash(word: &str) -> bool
     ensures value { result ≡ bytes_eq word.now (codes "-") }
     ensures is { IsTrue result ↔ (word.now ≡ codes "-") }
@@ -80,8 +81,8 @@ pub fn is_dash(word: &str) -> bool
     word == "-"
 }
 
-/// The one of these texts, if there is one. More are a mistake, and so is a stream: each has its
-/// text.
+/// Returns the one text, if there is one. Several are a usage error, and so is a stream; each has
+/// its message.
 pub fn at_most_one<'a>(
     texts: &[&'a str],
     dash: &'static str,
@@ -99,7 +100,8 @@ pub fn at_most_one<'a>(
     }
 }
 
-/// What names the images: some, or a list. Where too many words do, this text is told.
+/// Returns the source of image names: arguments, or a list. If there are too many arguments, this
+/// message is printed.
 pub fn named<'a>(
     alloc: Global,
     matches: &ArgMatches<'a>,
@@ -133,7 +135,7 @@ fn list_of<'a>(matches: &ArgMatches<'a>) -> Option<List<'a>>
     }
 }
 
-/// The file of a list, where it is not on standard input.
+/// Returns the file of a list, unless it is standard input.
 fn file_of<'a>(path: &'a str) -> Option<&'a str>
     ensures { option_map (λ p. p.now) result ≡ list_file path.now }
 {
@@ -148,7 +150,7 @@ pub struct Call<'a> {
     pub explained: bool,
 }
 
-/// What is to be done.
+/// The command, with its arguments.
 #[derive(Drop)]
 pub enum Order<'a> {
     /// List the image at this path, or that on standard input.
@@ -167,7 +169,7 @@ pub enum Order<'a> {
     Unpack(Unpack<'a>),
     /// Recover what is readable of a file.
     Salvage(SalvageOrder<'a>),
-    /// Tell what a stage holds.
+    /// Show a stage.
     Stage(StageOrder<'a>),
     /// Merge readings of one tape.
     Merge(Merge<'a>),
@@ -201,7 +203,7 @@ const TAPE: Outline = Outline {
     words: &[],
 };
 
-/// What the words ask for, the program's own name first.
+/// Returns what the arguments ask for, the first of which is the program's name.
 ///
 /// # Errors
 ///
@@ -211,7 +213,7 @@ pub fn call_of<'a>(alloc: Global, words: &'a [String]) -> Result<Call<'a>, Error
     call_in(alloc, &matches)
 }
 
-/// What the words ask for that were found.
+/// Returns what the parsed arguments ask for.
 fn call_in<'a>(alloc: Global, matches: &ArgMatches<'a>) -> Result<Call<'a>, Error>
     ensures order { IfOk result (λ call. IsOrderIn (subcommand_rows_of matches.now) call.order) }
     ensures explained { IfOk result (λ call.
@@ -224,7 +226,8 @@ fn call_in<'a>(alloc: Global, matches: &ArgMatches<'a>) -> Result<Call<'a>, Erro
     })
 }
 
-/// What the words of the command ask for, of which the parser has seen to it that there is one.
+/// Returns what the arguments of the command ask for. The parser guarantees that there is a
+/// command.
 fn order_of<'a>(alloc: Global, matches: &ArgMatches<'a>) -> Result<Order<'a>, Error>
     ensures ok { IfOk result (IsOrderIn (subcommand_rows_of matches.now)) }
     ensures err { IfErr result (RefusedFor (IsNoOrderIn (subcommand_rows_of matches.now))) }
@@ -246,7 +249,7 @@ fn order_by<'a>(alloc: Global, name: &str, words: &ArgMatches<'a>) -> Result<Ord
     }
 }
 
-/// What these words of this command ask for.
+/// Returns what these arguments of this command ask for.
 fn order_with<'a>(alloc: Global, verb: Verb, words: &ArgMatches<'a>) -> Result<Order<'a>, Error>
     ensures ok { IfOk result (IsOrderOf (name_of verb) (rows_of (found_of words.now))) }
     ensures err { IfErr result (RefusedFor (IsNoOrder verb (rows_of (found_of words.now)))) }

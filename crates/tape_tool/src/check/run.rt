@@ -9,7 +9,7 @@ use std::io::BufWriter;
 use std::rt::Runtime;
 use tape_run::{EngineFault, RunFault, check_to};
 
-/// Reports what is on the images that are named. At a fault the site is where it came.
+/// Reports what is on the images named in the arguments. On error, the site says where it occurred.
 pub fn check<'a, R: Runtime + AllocGlobal>(rt: &R, named: &Named<'a>, site: &mut Site<'a>) -> End {
     let mut text = String::new(rt.alloc());
     match names_of(rt, named, &mut text, site) {
@@ -21,7 +21,7 @@ pub fn check<'a, R: Runtime + AllocGlobal>(rt: &R, named: &Named<'a>, site: &mut
     }
 }
 
-/// Reports what is on the images of these names, and answers whether all was found.
+/// Reports what is on the images with these names, and returns whether all sections were found.
 fn check_files<R: Runtime + AllocGlobal>(rt: &R, names: &[&str]) -> Result<bool, EngineFault> {
     let Ok(mut report) = BufWriter::new(rt.alloc(), io::writer(rt)) else {
         return Err(EngineFault::Run(RunFault::OutOfMemory));

@@ -1,4 +1,4 @@
-//! What the words behind `check` ask for.
+//! The arguments of `check`.
 ghost use Rattle.std.specs.Prelude.{IfOk, IfErr};
 ghost use Rattle.clap.specs.Words.{found_of, rows_of};
 ghost use Rattle.tape_tool.specs.Words.{AreTooMany, NamesImages, RefusedFor};
@@ -24,7 +24,7 @@ pub const CHECK: Outline = Outline {
     ],
 };
 
-/// What the words behind `check` ask for.
+/// Returns what the arguments of `check` ask for.
 pub fn check_order<'a>(alloc: Global, matches: &ArgMatches<'a>) -> Result<Named<'a>, Error>
     ensures ok { IfOk result (NamesImages (rows_of (found_of matches.now))) }
     ensures err { IfErr result (RefusedFor (AreTooMany (rows_of (found_of matches.now)))) }

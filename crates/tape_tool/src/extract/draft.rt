@@ -1,4 +1,4 @@
-//! The draft of an output: a new file, which takes the output's name when it is complete.
+//! The draft of an output: a new file, which is given the output's name when it is complete.
 
 ghost use Rattle.std.specs.Prelude.{◌≡◌, None, Bool};
 ghost use Rattle.tape_tool.specs.Guards.{is_written_in_place};
@@ -16,8 +16,9 @@ use std::{fs, io};
 use tape_run::{Place, WriteFailed};
 use tape_writer::system::{LockFault, found, locked, sync_folder_of};
 
-/// Whether an output for which no draft could be made, for this reason, may be written in place: in
-/// a folder that takes no new file. In a folder that is not there nothing can be lost.
+/// Whether the output may be written in place although no draft could be created, for this reason:
+/// in a directory that accepts no new file. In a directory that does not exist, nothing can be
+/// lost.
 pub fn is_written_in_place(kind: ErrorKind, there: bool) -> bool
     ensures { result ≡ is_written_in_place kind there }
 {
@@ -28,7 +29,7 @@ pub fn is_written_in_place(kind: ErrorKind, there: bool) -> bool
     }
 }
 
-/// A new file. What is written to it is passed on; of what is in it nothing is claimed.
+/// A new file. Writes are passed on; the contract makes no claim about the file's contents.
 #[derive(Drop)]
 pub struct DraftFile {
     file: File,
@@ -44,7 +45,7 @@ impl Write for DraftFile {
     }
 }
 
-/// The name of an output, and that of the draft that is to take it.
+/// The name of an output, and that of its draft.
 #[derive(Drop)]
 pub struct OutName<'a, R: Host> {
     rt: &'a R,
@@ -79,8 +80,9 @@ impl<'a, R: Host> OutName<'a, R> {
         }
     }
 
-    /// Gives a draft the owner and the permissions of the file that it is to replace, as far as this
-    /// user may. What is run with the rights of its owner is not made of other bytes.
+    /// Gives a draft the owner and the permissions of the file that it will replace, as far as this
+    /// user may. Set-user-ID and set-group-ID permissions are not copied to a file with other
+    /// contents.
     fn keep_rights(&self, draft: &File) -> io::Result<()> {
         let there = fs::metadata(self.rt, self.name)?;
         let _ = fchown(draft, Some(there.uid()), Some(there.gid()));
@@ -88,7 +90,7 @@ impl<'a, R: Host> OutName<'a, R> {
         Ok(())
     }
 
-    /// Has the draft stand under the output's name, on the disk. Then the name is the disk's too.
+    /// Gives the draft the output's name, and syncs the directory.
     fn take(&mut self, file: &File) -> io::Result<()> {
         file.sync_all()?;
         match way_to_take(self.before, self.now()) {
@@ -105,7 +107,7 @@ impl<'a, R: Host> OutName<'a, R> {
         sync_folder_of(self.rt, self.name)
     }
 
-    /// What has the output's name now, if anything.
+    /// Returns what has the output's name now, if anything.
     fn now(&self) -> Result<Option<FileId>, FileFault> {
         match found(fs::symlink_metadata(self.rt, self.name))? {
             Some(there) => Ok(Some(FileId::of(&there))),
@@ -113,8 +115,8 @@ impl<'a, R: Host> OutName<'a, R> {
         }
     }
 
-    /// Takes a name that nothing has: a second name is given to the draft, and its own removed. On
-    /// a file system without second names an empty file takes the name first.
+    /// Takes a name that nothing has: the draft gets it as a second name, and loses its own. On a
+    /// file system without second names, an empty file takes the name first.
     fn take_new(&mut self) -> io::Result<()> {
         match self.rt.hard_link(self.draft.as_str(), self.name) {
             Ok(()) => {
@@ -139,7 +141,7 @@ impl<'a, R: Host> OutName<'a, R> {
         Ok(())
     }
 
-    /// Removes the draft, where it did not take the name.
+    /// Removes the draft, if it did not take the name.
     fn clear(&mut self) {
         if self.is_draft {
             remove(self.rt, self.draft.as_str());
@@ -147,8 +149,8 @@ impl<'a, R: Host> OutName<'a, R> {
         }
     }
 
-    /// Ends a run that came to this end: removes the draft, and says whether it was another file
-    /// that kept it from its name.
+    /// Ends a run with this result: removes the draft, and reports whether another file prevented
+    /// it from taking its name.
     pub fn ended(&mut self, end: End) -> End {
         self.clear();
         if self.is_taken {
@@ -180,12 +182,12 @@ pub struct Draft<'a, R: Host> {
 const MOST_DRAFTS: u16 = 9_999;
 
 impl<'a, R: Host> Draft<'a, R> {
-    /// Makes a draft in the output's folder, with the owner and the permissions of the file that it
-    /// is to replace. None where the output may be written in place.
+    /// Creates a draft in the output's directory, with the owner and the permissions of the file
+    /// that it will replace. Returns `None` if the output may be written in place.
     ///
     /// # Errors
     ///
-    /// `File` with `NotOpened` where none can be made, `OUT_OF_MEMORY`.
+    /// Returns `File` with `NotOpened` if none can be created, or `OUT_OF_MEMORY`.
     pub fn make(
         alloc: Global,
         rt: &'a R,
@@ -232,8 +234,8 @@ impl<R: Host> Write for Draft<'_, R> {
     }
 }
 
-/// The name of the draft with this number: short, since that of the output may be as long as names
-/// are, and of this program alone.
+/// Returns the name of the draft with this number. It is short, since the output's name may be as
+/// long as the system permits, and only this program uses such names.
 fn draft_name(alloc: Global, name: &str, number: u16) -> Result<String, AllocError> {
     let folder = match name.rfind('/') {
         Some(end) => &name[..end + 1],
@@ -242,8 +244,8 @@ fn draft_name(alloc: Global, name: &str, number: u16) -> Result<String, AllocErr
     format!(in alloc; "{folder}.tape-{number}.part")
 }
 
-/// Makes a file of this name and locks it, for as long as the draft is open. None where another run
-/// has a file of this name. One that a run left which was killed has no lock, and is removed.
+/// Creates a file with this name and locks it for as long as the draft is open. Returns `None` if
+/// another run has a file of this name. A file that a killed run left has no lock, and is removed.
 fn make_new<R: Host>(rt: &R, path: &str) -> Result<Option<File>, ErrorKind> {
     if let Err(error) = fs::symlink_metadata(rt, path) {
         if error.kind() != ErrorKind::NotFound {
@@ -259,8 +261,8 @@ fn make_new<R: Host>(rt: &R, path: &str) -> Result<Option<File>, ErrorKind> {
     }
 }
 
-/// Locks a file that was made now. None where another run took it for one that was left, which it
-/// then removes.
+/// Locks a file that was just created. Returns `None` if another run took it for a leftover, which
+/// it then removes.
 fn lock_new<R: Host>(rt: &R, path: &str, file: File) -> Result<Option<File>, ErrorKind> {
     match locked(file.try_lock()) {
         Ok(()) if has_name(rt, &file, path) => Ok(Some(file)),
@@ -272,7 +274,7 @@ fn lock_new<R: Host>(rt: &R, path: &str, file: File) -> Result<Option<File>, Err
     }
 }
 
-/// Removes a plain file of this name that no run has locked, and says whether it did.
+/// Removes a plain file with this name that no run has locked, and returns whether it did.
 fn remove_left<R: Host>(rt: &R, path: &str) -> bool {
     let mut options = OpenOptions::new();
     options.read(true).write(true);

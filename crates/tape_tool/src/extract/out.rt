@@ -12,8 +12,8 @@ use std::rt::Runtime;
 use tape_image::{Ending, ImageCause, ImageFault, ImageReader, fill};
 use tape_writer::system::{folder_of, found, name_in_folder};
 
-/// How the front of a file is told that may keep a tape although it is no image: the place and the
-/// bytes that stand there. The last two are the checkpoints in the slots of a stage.
+/// How to recognise a file that might be a tape although it is not an image: an offset, and the
+/// bytes there. The last two are the checkpoints in the slots of a stage.
 const FRONTS: &[(usize, &[u8])] = &[
     // gzip, compress, bzip2, xz, Zstandard, zip.
     (0, b"\x1f\x8b"),
@@ -26,17 +26,17 @@ const FRONTS: &[(usize, &[u8])] = &[
     (144, b"TPCK"),
 ];
 
-/// How many bytes the fronts take, at most.
+/// The number of bytes that these tests need, at most.
 const FRONT: usize = 148;
 
-/// How an output is to be written, and what was found under its name before that.
+/// How an output is to be written, and what was found under its name before.
 #[derive(Clone, Copy)]
 pub enum Way {
-    /// A new file takes its name once it is complete.
+    /// To a new file, which takes the name once it is complete.
     Renamed(Option<FileId>),
-    /// The same, where nothing stands under the name: it is never written in place.
+    /// The same, for a name that does not exist: it is never written in place.
     New,
-    /// What stands there is no plain file, as a pipe, a device or a link: it is written to.
+    /// The name is not a plain file, but a pipe, a device or a link: it is written to.
     InPlace(Option<FileId>),
 }
 
@@ -50,11 +50,12 @@ impl Way {
     }
 }
 
-/// How the output of this order is to be written, over images of these names, see `way_to_out`.
+/// Returns how the output is to be written, with images of these names; see `way_to_out`.
 ///
 /// # Errors
 ///
-/// Those of `way_to_out`, and `Words` where the output is the list, also one on standard input.
+/// The errors are those of `way_to_out`, and `Words` if the output is the list, also if the list is
+/// standard input.
 pub fn way_of<R: Runtime + AllocGlobal>(
     rt: &R,
     order: &Extract<'_>,
@@ -71,19 +72,18 @@ pub fn way_of<R: Runtime + AllocGlobal>(
     way_to_out(rt, order.task.out, order.task.stage, images)
 }
 
-/// Where the file on standard input is found.
+/// What standard input is, as a file.
 const STANDARD_INPUT: &str = "/dev/stdin";
 
-/// How an output of what the stage and the images hold is to be written. Nothing is made or
-/// changed.
+/// Returns how an output recovered from the stage and the images is to be written. Nothing is
+/// created or changed.
 ///
 /// # Errors
 ///
-/// `Words` where the output is the stage, also one that is not made yet, or one of the images: the
-/// file itself, whatever name or link leads there. `Faulted` with `Exists` where it may keep a
-/// tape: it holds something, and is named `.tap`, begins as an image does, or is compressed, an
-/// archive or a stage. With `NotOpened` or `ReadFailed` where that can't be seen, and where one of
-/// these files can't be looked at.
+/// Returns `Words` if the output is the stage, also if that does not exist yet, or one of the
+/// images: the same file, whatever name or link leads to it. Returns `Faulted` with `Exists` if it
+/// might be a tape: it is not empty, and is named `.tap`, begins like an image, or is compressed,
+/// an archive or a stage; with `NotOpened` or `ReadFailed` if that cannot be determined.
 pub fn way_to_out<R: Runtime + AllocGlobal>(
     rt: &R,
     out: &str,
@@ -105,7 +105,8 @@ pub fn way_to_out<R: Runtime + AllocGlobal>(
     way_to(rt, out, Some(FileId::of(&there)))
 }
 
-/// How to write to what is not there, or leads nowhere. A stage is made before the output is.
+/// How to write to a name that does not exist or leads nowhere. A stage is created before the
+/// output is.
 fn way_to_new<R: Runtime>(rt: &R, out: &str, stage: Option<&str>) -> Result<Way, Unfit> {
     if let Some(stage) = stage {
         if is_one_name(rt, out, stage)? {
@@ -129,7 +130,7 @@ fn is_one_name<R: Runtime>(rt: &R, one: &str, other: &str) -> Result<bool, Unfit
     }
 }
 
-/// How to write to what has this name. What is missing can be made, and a link is followed.
+/// How to write to what has this name. A missing file can be created, and a link is followed.
 fn way_to<R: Runtime>(rt: &R, path: &str, before: Option<FileId>) -> Result<Way, Unfit> {
     match found(fs::symlink_metadata(rt, path)) {
         Ok(Some(there)) if !there.is_file() => Ok(Way::InPlace(before)),
@@ -138,7 +139,7 @@ fn way_to<R: Runtime>(rt: &R, path: &str, before: Option<FileId>) -> Result<Way,
     }
 }
 
-/// Refuses with this text where the path leads to the file that was found.
+/// Refuses with this text if the path leads to the file that was found.
 fn differs<R: Runtime>(
     rt: &R,
     there: &Metadata,
@@ -173,7 +174,7 @@ fn is_named_image(path: &str) -> bool {
     name[end..].eq_ignore_ascii_case(b".tap")
 }
 
-/// Whether one of the fronts stands here.
+/// Whether one of the tests succeeds.
 fn begins_as_kept(front: &[u8]) -> bool {
     FRONTS.iter().any(|(place, bytes)| front
         .get(*place..)
@@ -193,7 +194,7 @@ fn holds_no_image<R: Runtime + AllocGlobal>(rt: &R, path: &str) -> Result<(), Un
     }
 }
 
-/// Whether the first item of an image, or its end word, stands there whole.
+/// Whether the first item of an image, or its end-of-medium marker, is complete.
 ///
 /// # Errors
 ///
@@ -211,7 +212,7 @@ fn begins_as_image<R: Read>(alloc: Global, device: &mut R) -> Result<bool, Image
     }
 }
 
-/// A fault at a file's front: it is no image, or it could not be read.
+/// An error at a file's beginning: it is not an image, or it could not be read.
 fn unseen(fault: ImageFault) -> Result<bool, ImageCause> {
     match fault.cause {
         ImageCause::Device | ImageCause::OutOfMemory => Err(fault.cause),

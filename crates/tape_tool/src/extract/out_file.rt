@@ -6,7 +6,7 @@ use std::fs::{File, OpenOptions};
 use std::io::{Error, ErrorKind, Result, Write};
 use tape_writer::system::is_unable;
 
-/// A file that is made, or made empty, when something is first written to it or it is flushed.
+/// A file that is created, or truncated, when something is first written to it or it is flushed.
 #[derive(Drop)]
 pub struct OutFile<'a, R: Host> {
     rt: &'a R,
@@ -18,7 +18,7 @@ pub struct OutFile<'a, R: Host> {
 }
 
 impl<'a, R: Host> OutFile<'a, R> {
-    /// The file at this path, of which nothing is done yet.
+    /// Returns the file at this path, which is not touched yet.
     pub fn new(rt: &'a R, path: &'a str, before: Option<FileId>) -> OutFile<'a, R> {
         OutFile {
             rt,
@@ -29,13 +29,13 @@ impl<'a, R: Host> OutFile<'a, R> {
         }
     }
 
-    /// Why it could not be made, where it could not.
+    /// Returns why it could not be created, if it could not.
     pub fn refused(&self) -> Option<FileFault> {
         self.refused
     }
 
-    /// Makes it, where that was not done yet. What could not be made is not tried again: a buffer
-    /// that is dropped passes on what it holds once more.
+    /// Creates it, unless that was done. A failed attempt is not repeated: a buffer that is dropped
+    /// flushes its contents once more.
     fn make(&mut self) -> Result<()> {
         if self.refused.is_some() {
             return Err(Error::from(ErrorKind::Other));
@@ -55,8 +55,8 @@ impl<'a, R: Host> OutFile<'a, R> {
         }
     }
 
-    /// Opens the file that was found, or makes one, and makes it empty. Another file that came to be
-    /// there stays as it is.
+    /// Opens the file that was found, or creates one, and truncates it. Another file that appeared
+    /// meanwhile is unchanged.
     fn open(&self) -> std::result::Result<File, FileFault> {
         let mut options = OpenOptions::new();
         options.write(true).create(self.before.is_none());
@@ -90,7 +90,7 @@ impl<R: Host> Write for OutFile<'_, R> {
         }
     }
 
-    /// Has the disk keep what was written. What is no file on a disk has no such call.
+    /// Syncs what was written. A file that is not on a disk has no such call.
     fn flush(&mut self) -> Result<()> {
         self.make()?;
         match &self.file {

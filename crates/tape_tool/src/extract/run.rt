@@ -20,10 +20,10 @@ use tape_run::{
 };
 use tape_set::Want;
 
-/// How many bytes of the output are held before they are written, at most.
+/// The maximum number of output bytes that are buffered.
 pub const HELD: usize = 65_536;
 
-/// Gets the file back that the words name. At a fault the site is where it came.
+/// Recovers the file that the arguments name. On error, the site says where it occurred.
 pub fn extract<'a, R: Host>(rt: &R, order: &Extract<'a>, site: &mut Site<'a>) -> End {
     let mut text = String::new(rt.alloc());
     match names_of(rt, &order.images, &mut text, site) {
@@ -35,7 +35,7 @@ pub fn extract<'a, R: Host>(rt: &R, order: &Extract<'a>, site: &mut Site<'a>) ->
     }
 }
 
-/// Gets the file back from the images of these names.
+/// Recovers the file from the images with these names.
 fn extract_from<'a, R: Host>(
     rt: &R,
     order: &Extract<'a>,
@@ -54,8 +54,8 @@ fn extract_from<'a, R: Host>(
     extract_file(rt, &order.task, images, way, &mut io::writer(rt), site)
 }
 
-/// The names in the order in which the images are read. If they are to be read again, and each is a
-/// file, they are surveyed before, and those on which a section of the file begins come first.
+/// Returns the names in the order in which the images are read. If they may be read again, and each
+/// is a file, they are surveyed first, and those on which a section of the file begins come first.
 fn names_to_read<'n, R: Host>(
     rt: &'n R,
     task: &Task<'_>,
@@ -73,7 +73,7 @@ fn names_to_read<'n, R: Host>(
     }
 }
 
-/// Whether each of these is a plain file, or is not there: only these can be read twice.
+/// Whether each of these is a plain file, or does not exist: only these can be read twice.
 fn are_files<R: Host>(rt: &R, names: &[&str]) -> bool {
     for name in names {
         if let Ok(found) = fs::metadata(rt, *name) {
@@ -85,7 +85,7 @@ fn are_files<R: Host>(rt: &R, names: &[&str]) -> bool {
     true
 }
 
-/// Gets a file back. At a fault the site is where it came.
+/// Recovers a file. On error, the site says where it occurred.
 pub fn extract_file<'a, R: Host, P: Write>(
     rt: &R,
     task: &Task<'a>,
@@ -124,8 +124,8 @@ fn on_stage<'a, R: Host, P: Write>(
     end
 }
 
-/// A draft of the output, where it is written so and its folder takes new files. None where the
-/// output is written in place.
+/// A draft of the output, if it is written that way and its directory accepts new files. `None` if
+/// the output is written in place.
 pub fn draft_of<'a, R: Host>(
     rt: &'a R,
     out: &'a str,
@@ -143,8 +143,8 @@ pub fn draft_of<'a, R: Host>(
     }
 }
 
-/// Gets the file back without a stage: it is gathered in memory, where what a reel in doubt gave
-/// can be taken back, since the session has a note where it begins.
+/// Recovers the file without a stage: the data is held in memory, where what a suspect reel yielded
+/// can be dropped again, since the session has a checkpoint of its start.
 fn in_memory<'a, R: Host, P: Write>(
     rt: &'a R,
     task: &Task<'a>,
@@ -162,8 +162,8 @@ fn in_memory<'a, R: Host, P: Write>(
     }
 }
 
-/// Gets the file back without a stage: its records are written as they come where there is a draft,
-/// and else gathered in memory.
+/// Recovers the file without a stage: its records are written as they come if there is a draft, and
+/// otherwise held in memory.
 fn at_once<'a, R: Host, P: Write>(
     rt: &'a R,
     task: &Task<'a>,
@@ -226,7 +226,7 @@ fn session_into<F: Write + Drop>(
     }
 }
 
-/// How it ends: a part that could not be kept was a record that could not be written.
+/// The result: a part that could not be kept was a record that could not be written.
 fn end_as_written(answer: Result<Option<Want>, EngineFault>) -> End {
     match answer {
         Err(EngineFault::Run(RunFault::Sink(SinkFault::Device))) => {
@@ -236,7 +236,7 @@ fn end_as_written(answer: Result<Option<Want>, EngineFault>) -> End {
     }
 }
 
-/// Reads the images into the session, and writes the file where it is complete.
+/// Reads the images into the session, and writes the file if it is complete.
 fn gather<'a, R: Host, S: PartWalk + Drop, P: Write>(
     rt: &'a R,
     task: &Task<'a>,
@@ -252,7 +252,7 @@ fn gather<'a, R: Host, S: PartWalk + Drop, P: Write>(
     }
 }
 
-/// Reads the images into the session, and writes the file to the draft where it is complete.
+/// Reads the images into the session, and writes the file to the draft if it is complete.
 fn drafted<R: Host, S: PartWalk + Drop, P: Write>(
     rt: &R,
     task: &Task<'_>,
@@ -269,7 +269,7 @@ fn drafted<R: Host, S: PartWalk + Drop, P: Write>(
     draft.name.ended(end)
 }
 
-/// Reads the images into the session, and writes the file in place where it is complete.
+/// Reads the images into the session, and writes the file in place if it is complete.
 fn in_place<R: Host, S: PartWalk + Drop, P: Write>(
     rt: &R,
     task: &Task<'_>,
@@ -289,7 +289,7 @@ fn in_place<R: Host, S: PartWalk + Drop, P: Write>(
     }
 }
 
-/// Reads the images into the session, and writes the file to the writer where it is complete.
+/// Reads the images into the session, and writes the file to the writer if it is complete.
 fn written_to<R: Host, S: PartWalk + Drop, W: Write, P: Write>(
     task: &Task<'_>,
     images: &mut Images<'_, R>,
@@ -305,8 +305,8 @@ fn written_to<R: Host, S: PartWalk + Drop, W: Write, P: Write>(
     extract_end(answer)
 }
 
-/// Gets a file back from the images on which its sections are, and reports the last line if it is
-/// complete. An image that stays mounted is read on.
+/// Recovers a file from the images that have its sections, and prints the last line if it is
+/// complete. The last image stays open and is read on.
 pub fn extract_whole<'a, R: Host, P: Write>(
     rt: &'a R,
     task: &Task<'a>,
@@ -336,7 +336,7 @@ pub fn extract_whole<'a, R: Host, P: Write>(
     name.ended(end)
 }
 
-/// How it ends where the file is complete.
+/// The result if the file is complete.
 fn end_reported(reported: Result<(), WriteFailed>) -> End {
     match reported {
         Ok(()) => End::Done,

@@ -1,4 +1,4 @@
-//! What the words behind `extract` ask for.
+//! The arguments of `extract`.
 
 ghost use Rattle.std.specs.Prelude.{◌≡◌, IfOk, IfErr, IfSome, IfNone, IsSome};
 ghost use Rattle.clap.specs.Words.{found_of, rows_of};
@@ -14,21 +14,21 @@ use std::alloc::Global;
 use tape_blocks::Form;
 use tape_label::Field;
 
-/// What `extract` gets back, and from what: a file of a set, from images in their order.
+/// What `extract` recovers, and from what: a file of a set, from images in their order.
 #[derive(Drop)]
 pub struct Extract<'a> {
     pub task: Task<'a>,
     pub images: Named<'a>,
 }
 
-/// A file of a set to be got back, and how.
+/// A file of a set to recover, and how.
 #[derive(Clone, Copy)]
 pub struct Task<'a> {
     pub set_id: Field<6>,
     pub file: u16,
     pub out: &'a str,
     pub form: Form,
-    /// Where what was gathered is kept.
+    /// Where recovered data is saved.
     pub stage: Option<&'a str>,
     /// Whether the images are read round by round.
     pub again: bool,
@@ -58,7 +58,8 @@ pub const EXTRACT: Outline = Outline {
     ],
 };
 
-/// What the words behind `extract` ask for. The parser has seen to it that all of them are there.
+/// Returns what the arguments of `extract` ask for. The parser has checked that all required ones
+/// are present.
 pub fn extract_order<'a>(alloc: Global, matches: &ArgMatches<'a>) -> Result<Extract<'a>, Error>
     ensures ok { IfOk result (AsksToExtract (rows_of (found_of matches.now))) }
     ensures err { IfErr result (RefusedFor (IsNoExtract (rows_of (found_of matches.now)))) }
@@ -68,7 +69,7 @@ pub fn extract_order<'a>(alloc: Global, matches: &ArgMatches<'a>) -> Result<Extr
     Ok(Extract { task, images })
 }
 
-/// The file of which set is to be got back, and how.
+/// Returns which file of which set is to be recovered, and how.
 fn task_of<'a>(alloc: Global, matches: &ArgMatches<'a>) -> Result<Task<'a>, Error>
     ensures ok { IfOk result (AsksForFile (rows_of (found_of matches.now))) }
     ensures err { IfErr result (RefusedFor (IsNoTask (rows_of (found_of matches.now)))) }
@@ -92,7 +93,7 @@ fn task_of<'a>(alloc: Global, matches: &ArgMatches<'a>) -> Result<Task<'a>, Erro
     })
 }
 
-/// A set's identifier: 1 to 6 bytes, with spaces behind them.
+/// Returns a set's identifier, padded with spaces; it has 1 to 6 bytes.
 pub fn set_id_of(text: &str) -> Option<Field<6>>
     ensures some { IfSome result (λ id. id ≡ padded_set text.now) }
     ensures given { IsSome result → IsNoSet text.now → ⊥ }

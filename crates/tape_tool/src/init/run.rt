@@ -1,4 +1,4 @@
-//! `init` as the program runs it: images of volumes, as files of a folder.
+//! `init` as the program runs it: images of volumes, as files in a directory.
 use super::words::Init;
 use crate::explain::Site;
 use crate::fault::{OUT_OF_MEMORY, ToolFault};
@@ -9,7 +9,7 @@ use std::io::Write;
 use tape_run::{WriteFailed, flush, write_text};
 use tape_writer::system::{image_path, make_image};
 
-/// Makes the images, and says how many. At a fault the site is where it came.
+/// Creates the images, and prints their number. On error, the site says where it occurred.
 pub fn init<'a, R: Host>(rt: &R, order: &Init<'a>, site: &mut Site<'a>) -> End {
     for number in 1..=order.count {
         *site = Site::Volume(order.folder, order.prefix, number);
@@ -32,7 +32,7 @@ fn make<R: Host>(rt: &R, order: &Init<'_>, number: u16) -> Result<(), ToolFault>
     }
 }
 
-/// Tells how many volumes were made.
+/// Prints how many volumes were created.
 fn tell<R: Print + AllocGlobal>(rt: &R, count: u16) -> End {
     let Ok(line) = format!(in rt.alloc(); "INIT {count}\n") else {
         return End::Faulted(OUT_OF_MEMORY);

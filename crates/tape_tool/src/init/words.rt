@@ -1,4 +1,4 @@
-//! What the words behind `init` ask for.
+//! The arguments of `init`.
 ghost use Rattle.std.specs.Prelude.{IfOk, IfErr};
 ghost use Rattle.clap.specs.Words.{found_of, rows_of};
 ghost use Rattle.tape_tool.specs.Words.{AsksToInit, IsNoInit, RefusedFor};
@@ -32,7 +32,7 @@ pub const INIT: Outline = Outline {
     ],
 };
 
-/// What the words behind `init` ask for. The parser has seen to it that all three are there.
+/// Returns what the arguments of `init` ask for. The parser has checked that all three are present.
 pub fn init_order<'a>(alloc: Global, matches: &ArgMatches<'a>) -> Result<Init<'a>, Error>
     ensures ok { IfOk result (AsksToInit (rows_of (found_of matches.now))) }
     ensures err { IfErr result (RefusedFor (IsNoInit (rows_of (found_of matches.now)))) }

@@ -50,7 +50,7 @@ fn list_input<R: Print + AllocGlobal, I: Read + Drop>(
     list_from(rt, &mut reader, offsets)
 }
 
-/// Lists what this reader has left.
+/// Lists the rest of this reader.
 fn list_from<R: Print + AllocGlobal, I: Read>(
     rt: &R,
     reader: &mut I,

@@ -1,4 +1,4 @@
-//! What the words behind `list` ask for.
+//! The arguments of `list`.
 ghost use Rattle.std.specs.Prelude.{codes, IfOk, IfErr};
 ghost use Rattle.clap.specs.Words.{found_of, rows_of};
 ghost use Rattle.tape_tool.specs.Words.{AsksToList, IsDashOrMore, RefusedFor, texts_in};
@@ -13,11 +13,11 @@ use std::alloc::Global;
 #[derive(Clone, Copy)]
 pub struct Listing<'a> {
     pub image: Option<&'a str>,
-    /// Whether the place and the size of each item are told.
+    /// Whether the offset and the size of each item are printed.
     pub offsets: bool,
 }
 
-/// `list`. It takes any number of images, so that a second one is answered with a loop.
+/// `list`. It accepts any number of images, so that the error for a second one can suggest a loop.
 pub const LIST: Outline = Outline {
     name: "list",
     called: "tape list",
@@ -30,7 +30,7 @@ pub const LIST: Outline = Outline {
     ],
 };
 
-/// What the words behind `list` ask for.
+/// Returns what the arguments of `list` ask for.
 pub fn list_order<'a>(alloc: Global, matches: &ArgMatches<'a>) -> Result<Listing<'a>, Error>
     ensures ok { IfOk result (AsksToList (rows_of (found_of matches.now))) }
     ensures err { IfErr result (RefusedFor (IsDashOrMore

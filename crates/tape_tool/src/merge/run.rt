@@ -15,7 +15,8 @@ use tape_image::{ImageCause, ImageFault};
 use tape_run::{MergeEnd, MergeStop, Place, WriteFailed, merge_now};
 use tape_writer::system::found;
 
-/// Merges the readings that are named, into a new image. At a fault the site is where it came.
+/// Merges the readings named in the arguments into a new image. On error, the site says where it
+/// occurred.
 pub fn merge<'a, R: Host>(rt: &R, order: &Merge<'a>, site: &mut Site<'a>) -> End {
     let mut text = String::new(rt.alloc());
     let names = match readings_of(rt, &order.images, &mut text, site) {
@@ -37,13 +38,13 @@ pub fn merge<'a, R: Host>(rt: &R, order: &Merge<'a>, site: &mut Site<'a>) -> End
             };
             name.ended(end)
         }
-        // What is new is never written in place.
+        // A new file is never written in place.
         Ok(None) => End::Faulted(ToolFault::File(FileFault::NotOpened)),
         Err(end) => end,
     }
 }
 
-/// Compares the readings that are named. At a fault the site is where it came.
+/// Compares the readings named in the arguments. On error, the site says where it occurred.
 pub fn compare<'a, R: Host>(rt: &R, named: &Named<'a>, site: &mut Site<'a>) -> End {
     let mut text = String::new(rt.alloc());
     match readings_of(rt, named, &mut text, site) {
@@ -55,7 +56,7 @@ pub fn compare<'a, R: Host>(rt: &R, named: &Named<'a>, site: &mut Site<'a>) -> E
     }
 }
 
-/// Where the merged image of `compare` goes.
+/// The destination of the merged image of `compare`.
 #[derive(Drop)]
 struct Nowhere;
 
@@ -69,7 +70,7 @@ impl Place<Sink> for Nowhere {
     }
 }
 
-/// The names of the readings, of which there are two at least.
+/// The names of the readings, at least two.
 fn readings_of<'t, 'a: 't, R: Host>(
     rt: &R,
     named: &Named<'a>,
@@ -82,7 +83,7 @@ fn readings_of<'t, 'a: 't, R: Host>(
     }
 }
 
-/// Merges the images of these names. At a fault of one of them the site is that image.
+/// Merges the images with these names. If the error is in one of them, the site is that image.
 fn merge_files<'a, R: Host, W: Write + Drop, O: Place<W>>(
     rt: &R,
     named: &Named<'a>,

@@ -13,7 +13,8 @@ use std::{fs, io};
 use tape_run::salvage_to;
 use tape_writer::system::found;
 
-/// Recovers what is readable of the file that the words name. At a fault the site is where it came.
+/// Recovers what is readable of the file that the arguments name. On error, the site says where it
+/// occurred.
 pub fn salvage<'a, R: Host>(rt: &R, order: &SalvageOrder<'a>, site: &mut Site<'a>) -> End {
     let mut text = String::new(rt.alloc());
     match names_of(rt, &order.images, &mut text, site) {
@@ -25,8 +26,8 @@ pub fn salvage<'a, R: Host>(rt: &R, order: &SalvageOrder<'a>, site: &mut Site<'a
     }
 }
 
-/// Recovers it from the images of these names. An existing file is never written over: it may have
-/// more of the file than there is now.
+/// Recovers it from the images with these names. An existing file is never overwritten: it may
+/// contain more of the file than can be read now.
 fn salvage_images<R: Host>(rt: &R, order: &SalvageOrder<'_>, names: &[&str]) -> End {
     match found(fs::symlink_metadata(rt, order.out)) {
         Ok(None) => {}
@@ -35,7 +36,7 @@ fn salvage_images<R: Host>(rt: &R, order: &SalvageOrder<'_>, names: &[&str]) -> 
     }
     let draft = match draft_of(rt, order.out, Way::New) {
         Ok(Some(draft)) => draft,
-        // What is new is never written in place.
+        // A new file is never written in place.
         Ok(None) => return End::Faulted(ToolFault::File(FileFault::NotOpened)),
         Err(end) => return end,
     };

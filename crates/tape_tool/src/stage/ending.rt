@@ -4,7 +4,7 @@ use tape_set::Want;
 /// What follows the parts of a stage that was shown.
 #[derive(Clone, Copy, Debug, PartialEq, Eq)]
 pub enum StageEnding {
-    /// All frames stand; this is wanted of the file, if something is.
+    /// All frames are intact; this is missing of the file, if anything.
     Whole(Option<Want>),
     /// The frames break off at this place of the stage.
     Broken(u64),

@@ -3,9 +3,8 @@ use std::fs::{Metadata, OpenFile};
 use std::io;
 use std::io::{Error, ErrorKind, Read, Seek, SeekFrom, Write};
 
-/// A file of which nothing is changed. A cut of it and a sync do nothing and are told as done, so
-/// that a stage in it can be opened as one that may be written: what that cuts is cut from view
-/// alone. A write fails.
+/// A file that is never changed. Cuts and syncs do nothing and report success, so that a stage in
+/// it can be opened like a writable one: a cut only hides the bytes from later reads. Writes fail.
 #[derive(Drop)]
 pub struct ReadOnly<F> {
     pub file: F,

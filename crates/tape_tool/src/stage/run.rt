@@ -18,7 +18,7 @@ use tape_stage::{HeldFile, held_file};
 /// The file of a stage, which is only read.
 type StageDisk = HeldFile<ReadOnly<File>>;
 
-/// Tells what the stage that the words name holds. At a fault the site is where it came.
+/// Shows the stage that the arguments name. On error, the site says where it occurred.
 pub fn stage<'a, R: Host>(rt: &R, order: &StageOrder<'a>, site: &mut Site<'a>) -> End {
     let place = match order.out {
         None => Site::Lines,
@@ -42,7 +42,7 @@ pub fn stage<'a, R: Host>(rt: &R, order: &StageOrder<'a>, site: &mut Site<'a>) -
     end
 }
 
-/// How the output is to be written, where there is one.
+/// How the output is to be written, if there is one.
 fn way_of<R: Host>(rt: &R, order: &StageOrder<'_>) -> Result<Option<Way>, Unfit> {
     match order.out {
         None => Ok(None),
@@ -50,8 +50,8 @@ fn way_of<R: Host>(rt: &R, order: &StageOrder<'_>) -> Result<Option<Way>, Unfit>
     }
 }
 
-/// The file of the stage at this path, opened for reading alone. While another run writes to it, it
-/// is not read; where the file system has no locks nobody is kept out.
+/// Opens the file of the stage at this path for reading only. It is not read while another run
+/// writes to it; on a file system without locks nobody is excluded.
 fn disk_of<R: Host>(rt: &R, path: &str) -> Result<StageDisk, ToolFault> {
     let Ok(file) = File::open(rt, path) else {
         return Err(ToolFault::File(FileFault::NotOpened));
@@ -63,7 +63,7 @@ fn disk_of<R: Host>(rt: &R, path: &str) -> Result<StageDisk, ToolFault> {
     }
 }
 
-/// Tells what the disk holds, and writes the records where there is an output.
+/// Shows the stage on a disk, and writes the records if there is an output.
 fn show_disk<'a, R: Host>(
     rt: &'a R,
     order: &StageOrder<'a>,
@@ -95,7 +95,7 @@ fn show_drafted<R: Host>(
     draft.name.ended(end)
 }
 
-/// The same, with the records written to what stands under the output's name.
+/// The same, with the records written to the file with the output's name.
 fn show_in_place<R: Host>(
     rt: &R,
     order: &StageOrder<'_>,
@@ -114,7 +114,7 @@ fn show_in_place<R: Host>(
     }
 }
 
-/// Tells what the disk holds, with the records written to this writer.
+/// Shows the stage on a disk, with the records written to this writer.
 fn show_to<R: Host, W: Write>(rt: &R, order: &StageOrder<'_>, disk: StageDisk, out: &mut W) -> End {
     let mut report = io::writer(rt);
     if order.damaged {

@@ -1,4 +1,4 @@
-//! What a stage holds, and the records of it.
+//! The contents of a stage, and its records.
 ghost use Rattle.std.specs.Prelude.{◌≡◌, ◌≤◌, ◌++◌, List};
 ghost use Rattle.std.specs.Prelude.{IfOk, IfErr, OnOk, OnErr, None};
 ghost use Rattle.std.specs.Io.KnownBytes.{Appends};
@@ -24,18 +24,18 @@ use tape_run::{EngineFault, WriteFailed, flush, last_line, write_file, write_tex
 use tape_set::Want;
 use tape_stage::{Disk, Salvage, Stage, StageFault};
 
-/// Tells what the stage on this disk holds: its file and how many whole records, and then the last
-/// line that `extract` would give. The records, which are the first ones of the file, are written
-/// to `out` and passed on before anything is told. The answer is what is wanted of the file.
+/// Prints the file of the stage on this disk, its number of complete records, and the last line
+/// that `extract` would print. The records, from the beginning of the file, are written to `out`
+/// and flushed before anything is printed. Returns what is missing of the file.
 ///
-/// Opening a stage cuts what follows its staged end and syncs: where the stage is to stay as it is
-/// the disk has to be one that only seems to.
+/// Opening a stage cuts what follows its staged end and syncs: to leave the stage unchanged, pass a
+/// disk that only simulates that.
 ///
 /// # Errors
 ///
-/// `Stage` with the fault of opening the stage, and then nothing was written, or with `Device`
-/// where its parts could not be read again; `File` with `WriteFailed` where `out` or the report
-/// failed. That there is no stage is told only where there is none.
+/// Returns `Stage` with the fault of opening the stage, after which nothing was written, or with
+/// `Device` if its parts could not be read again; `File` with `WriteFailed` if `out` or the report
+/// failed. `NoPoint` is returned only if there is no stage.
 pub fn show_stage<D: Disk + Drop, W: Write, P: Write>(
     alloc: Global,
     disk: D,
@@ -54,7 +54,8 @@ pub fn show_stage<D: Disk + Drop, W: Write, P: Write>(
     }
 }
 
-/// Tells what a sink holds that was kept up to this point, and writes its records.
+/// Prints the file and the parts of a sink that was saved up to this checkpoint, and writes its
+/// records.
 fn show_opened<S: PartWalk + Drop, W: Write, P: Write>(
     sink: S,
     point: &Checkpoint,
@@ -84,13 +85,13 @@ fn show_opened<S: PartWalk + Drop, W: Write, P: Write>(
     Ok(want)
 }
 
-/// Tells the same of a stage whose frames break off: its whole records before the break, and the
-/// place of that in place of what is wanted. Of a stage that is whole it tells what `show_stage`
-/// does. The disk is only read.
+/// Does the same for a damaged stage: it prints and writes its complete records before the damage,
+/// and prints the offset of the damage in place of what is missing. For an intact stage it does the
+/// same as `show_stage`. The disk is only read.
 ///
 /// # Errors
 ///
-/// Those of `show_stage`; `BadFrame` is none.
+/// The errors are those of `show_stage`, except `BadFrame`.
 pub fn show_damaged<D: Disk + Drop, W: Write, P: Write>(
     alloc: Global,
     disk: D,
@@ -109,7 +110,7 @@ pub fn show_damaged<D: Disk + Drop, W: Write, P: Write>(
     }
 }
 
-/// Tells what remains that was kept up to this point, and writes its records.
+/// Prints the file and what remains of the parts up to this checkpoint, and writes its records.
 fn show_rest<D: Disk + Drop, W: Write, P: Write>(
     salvage: Salvage<D>,
     point: &Checkpoint,
@@ -132,7 +133,7 @@ fn show_rest<D: Disk + Drop, W: Write, P: Write>(
     Ok(ending)
 }
 
-/// What follows the parts of a stage that breaks off there, or does not.
+/// What follows the parts of a stage that is damaged there, or intact.
 fn ending_at(point: &Checkpoint, broken: Option<u64>) -> StageEnding
     ensures { result ≡ ending_of point.now broken }
 {
@@ -142,7 +143,7 @@ fn ending_at(point: &Checkpoint, broken: Option<u64>) -> StageEnding
     }
 }
 
-/// Writes the records of the parts, and tells both lines.
+/// Writes the records of the parts, and prints both lines.
 fn show_parts<S: PartWalk, W: Write, P: Write>(
     sink: &mut S,
     point: &Checkpoint,
@@ -176,7 +177,7 @@ fn as_read(fault: EngineFault) -> ToolFault
     }
 }
 
-/// Tells the file of a stage, so many records, and what follows.
+/// Prints the file of a stage, its number of records, and what follows.
 fn tell<P: Write>(
     report: &mut P,
     point: &Checkpoint,
@@ -195,7 +196,7 @@ fn tell<P: Write>(
 /// Room for both lines.
 type Lines = ArrayVec<u8, 512>;
 
-/// The line of the stage, and the one of what follows its parts.
+/// The line of the stage, and that of what follows its parts.
 fn lines_of(point: &Checkpoint, ending: StageEnding, records: u64) -> Lines
     ensures { result.items ≡ told_with point.now ending records }
 {
@@ -205,7 +206,7 @@ fn lines_of(point: &Checkpoint, ending: StageEnding, records: u64) -> Lines
     lines
 }
 
-/// What is wanted, or that the file is complete; or where the frames break off.
+/// What is missing, or that the file is complete; or where the frames are damaged.
 fn put_ending(lines: &mut Lines, ending: StageEnding, records: u64)
     requires { array_vec_len lines.old ≤ 200 }
     ensures { lines.new.items ≡ lines.old.items ++ ending_line ending records }
@@ -226,7 +227,7 @@ fn put_break(lines: &mut Lines, place: u64)
     put(lines, b"\n");
 }
 
-/// The line of a stage: set, file, and how many whole records are there.
+/// The line of a stage: set, file, and number of complete records.
 fn put_stage(lines: &mut Lines, point: &Checkpoint, records: u64)
     requires { array_vec_len lines.old ≡ 0 }
     ensures items { lines.new.items ≡ lines.old.items ++ stage_line point.now records }

@@ -1,4 +1,4 @@
-//! What the words behind `stage` ask for.
+//! The arguments of `stage`.
 ghost use Rattle.std.specs.Prelude.{codes, IfOk, IfErr};
 ghost use Rattle.clap.specs.Words.{found_of, rows_of};
 ghost use Rattle.tape_tool.specs.Words.{AsksForStage, IsDashOrMore, RefusedFor, texts_in};
@@ -10,7 +10,7 @@ use clap::{ArgMatches, Error};
 use std::alloc::Global;
 use tape_blocks::Form;
 
-/// What `stage` tells of, and where the records go that are there.
+/// The stage that `stage` shows, and the output of its records.
 #[derive(Clone, Copy)]
 pub struct StageOrder<'a> {
     pub stage: &'a str,
@@ -20,7 +20,8 @@ pub struct StageOrder<'a> {
     pub damaged: bool,
 }
 
-/// `stage`. It takes any number of outputs, so that a second one is answered in words.
+/// `stage`. It accepts any number of outputs, so that the error for a second one has a text of its
+/// own.
 pub const STAGE: Outline = Outline {
     name: "stage",
     called: "tape stage",
@@ -39,7 +40,7 @@ pub const STAGE: Outline = Outline {
     ],
 };
 
-/// What the words behind `stage` ask for. The parser has seen to it that a stage is named.
+/// Returns what the arguments of `stage` ask for. The parser has checked that a stage is named.
 pub fn stage_order<'a>(alloc: Global, matches: &ArgMatches<'a>) -> Result<StageOrder<'a>, Error>
     ensures ok { IfOk result (AsksForStage (rows_of (found_of matches.now))) }
     ensures err { IfErr result (RefusedFor (IsDashOrMore

@@ -9,7 +9,7 @@ use std::io::BufWriter;
 use std::rt::Runtime;
 use tape_run::{EngineFault, RunFault, Wording, survey_to};
 
-/// Tells what the images are that are named. At a fault the site is where it came.
+/// Describes the images named in the arguments. On error, the site says where it occurred.
 pub fn survey<'a, R>(rt: &R, order: &Survey<'a>, site: &mut Site<'a>) -> End
 where
     R: Runtime + AllocGlobal,
@@ -24,7 +24,8 @@ where
     }
 }
 
-/// The same of these names, and whether nothing lacks and nothing is left over.
+/// Describes the images with these names, and returns whether nothing is missing and every image
+/// was read completely.
 fn survey_files<R: Runtime + AllocGlobal>(
     rt: &R,
     names: &[&str],

@@ -1,4 +1,4 @@
-//! What the words behind `survey` ask for.
+//! The arguments of `survey`.
 ghost use Rattle.std.specs.Prelude.{codes, IfOk, IfErr};
 ghost use Rattle.clap.specs.Words.{found_of, rows_of};
 ghost use Rattle.tape_tool.specs.Words.{AreTooMany, AsksToSurvey, IsFlag, RefusedFor, is_in_rows};
@@ -11,7 +11,7 @@ use clap::{ArgMatches, Error};
 use std::alloc::Global;
 use tape_run::Wording;
 
-/// What `survey` tells of, and how.
+/// What `survey` describes, and how.
 #[derive(Drop)]
 pub struct Survey<'a> {
     pub images: Named<'a>,
@@ -33,7 +33,7 @@ pub const SURVEY: Outline = Outline {
     ],
 };
 
-/// What the words behind `survey` ask for.
+/// Returns what the arguments of `survey` ask for.
 pub fn survey_order<'a>(alloc: Global, matches: &ArgMatches<'a>) -> Result<Survey<'a>, Error>
     ensures ok { IfOk result (AsksToSurvey (rows_of (found_of matches.now))) }
     ensures err { IfErr result (RefusedFor (AreTooMany (rows_of (found_of matches.now)))) }
@@ -44,7 +44,7 @@ pub fn survey_order<'a>(alloc: Global, matches: &ArgMatches<'a>) -> Result<Surve
     })
 }
 
-/// How a survey is to be told.
+/// How a survey is printed.
 fn wording_of(matches: &ArgMatches<'_>) -> Wording
     ensures { IsFlag (rows_of (found_of matches.now)) (codes "tsv") (is_in_rows result) }
 {

@@ -3,7 +3,8 @@ use super::calls::{Step, take_all};
 use crate::program::End;
 use std::test::Fail;
 
-/// Two copies that mend each other, each named once, and one that counts wrong before a good one.
+/// Two copies that complete each other, each named once, and one with a wrong count before a good
+/// one.
 const AGAIN: &[Step<'_>] = &[
     Step::PutDamaged("first_bad.tap", 1),
     Step::PutDamaged("second_bad.tap", 2),
@@ -30,7 +31,7 @@ const AGAIN: &[Step<'_>] = &[
     ),
     Step::HasLength("out.txt", 2000),
     Step::HasLength("a.stage", 2381),
-    // Taken back without a stage too.
+    // What it yielded is dropped without a stage too.
     Step::PutLost("miscounted.tap"),
     Step::PutWorked("counted.tap", 2484),
     Step::Ends(

@@ -1,5 +1,5 @@
-//! The program as it is called: how a line ends, and the files around it. The tests share a folder:
-//! each file has a name of its own.
+//! The program as it is called: how a line ends, and the files around it. The tests share a
+//! directory: each file has a name of its own.
 
 use super::image::payroll;
 use super::volumes::{damaged, lost, worked};
@@ -35,7 +35,7 @@ fn fails<H: Host + Abort>(rt: &H, line: &str, fault: ToolFault) -> Result<(), Fa
     ends(rt, line, End::Faulted(fault))
 }
 
-/// Each line ends as stands beside it.
+/// Each line ends as the table says.
 pub fn each_ends<H: Host + Abort>(rt: &H, cases: &[(&str, End)]) -> Result<(), Fail> {
     for (line, wanted) in cases {
         ends(rt, line, *wanted)?;
@@ -51,7 +51,7 @@ pub fn each_fails<H: Host + Abort>(rt: &H, cases: &[(&str, ToolFault)]) -> Resul
     Ok(())
 }
 
-/// None of these lines asks for anything that there is.
+/// None of these lines names anything that exists.
 pub fn each_is_wrong<H: Host + Abort>(rt: &H, lines: &[&str]) -> Result<(), Fail> {
     for line in lines {
         ends(rt, line, End::WrongWords)?;
@@ -59,36 +59,36 @@ pub fn each_is_wrong<H: Host + Abort>(rt: &H, lines: &[&str]) -> Result<(), Fail
     Ok(())
 }
 
-/// A step of a test: what is done, and what is to come of it.
+/// A step of a test: an action and its expected result.
 #[derive(Clone, Copy)]
 pub enum Step<'a> {
     /// The program is called by this line, and ends so.
     Ends(&'a str, End),
     /// The program is called by this line, and ends with this fault.
     Fails(&'a str, ToolFault),
-    /// A folder is made.
+    /// Creates a directory.
     Folder(&'a str),
-    /// A file of these bytes is made.
+    /// Creates a file with these bytes.
     Put(&'a str, &'a [u8]),
-    /// A file is made of the worked image, or of so many of its first bytes.
+    /// Creates a file with the worked image, or with its first bytes.
     PutWorked(&'a str, usize),
-    /// A file is made of a volume of which this block cannot be read.
+    /// Creates a file with a volume of which this block is unreadable.
     PutDamaged(&'a str, usize),
-    /// A file is made of the worked volume without its second block.
+    /// Creates a file with the worked volume without its second block.
     PutLost(&'a str),
-    /// A file is made of the records of the worked volume.
+    /// Creates a file with the records of the worked volume.
     PutRecords(&'a str),
-    /// A link of this name is made, which leads to that path.
+    /// Creates a link with this name to that path.
     Link(&'a str, &'a str),
-    /// A file gets this name, besides the one that it has.
+    /// Gives a file this name, in addition to its own.
     Name(&'a str, &'a str),
-    /// The file is removed, if it is there.
+    /// Removes the file, if it exists.
     Remove(&'a str),
     /// The file has these bytes.
     Holds(&'a str, &'a [u8]),
     /// The file is the worked image.
     IsWorked(&'a str),
-    /// The file has so many bytes.
+    /// The file has this many bytes.
     HasLength(&'a str, usize),
     /// The file has this text at this place.
     HasText(&'a str, usize, &'a [u8]),
@@ -100,7 +100,7 @@ pub enum Step<'a> {
     IsAllowed(&'a str, u32),
 }
 
-/// Takes these steps, one behind the other: each comes to what it is to come to.
+/// Takes these steps, one after another: each has its expected result.
 pub fn take_all<H: Host + Abort>(rt: &H, steps: &[Step<'_>]) -> Result<(), Fail> {
     for (number, step) in steps.iter().enumerate() {
         assert!(rt; take(rt, step)?, "the step behind {number} others");
@@ -118,7 +118,7 @@ pub fn follow_all<H: Host + Abort>(rt: &H, scripts: &[(&str, &[Step<'_>])]) -> R
     Ok(())
 }
 
-/// Takes a step, and tells whether it came to what it was to come to.
+/// Takes a step, and returns whether it had its expected result.
 fn take<H: Host>(rt: &H, step: &Step<'_>) -> Result<bool, Fail> {
     match *step {
         Step::Ends(line, wanted) => Ok(end_of(rt, line)? == wanted),
@@ -146,7 +146,7 @@ fn take<H: Host>(rt: &H, step: &Step<'_>) -> Result<bool, Fail> {
     }
 }
 
-/// Makes a file of these bytes.
+/// Creates a file with these bytes.
 pub fn put<H: Runtime>(rt: &H, path: &str, bytes: &[u8]) -> Result<bool, Fail> {
     let mut file = File::create(rt, path)?;
     file.write_all(bytes)?;
@@ -184,7 +184,7 @@ fn is_worked<H: Runtime + AllocGlobal>(rt: &H, path: &str) -> Result<bool, Fail>
     holds(rt, path, image.bytes.as_slice())
 }
 
-/// Whether the file has so many bytes.
+/// Whether the file has this many bytes.
 fn has_length<H: Runtime + AllocGlobal>(rt: &H, path: &str, length: usize) -> Result<bool, Fail> {
     let found = fs::read(rt, path)?;
     Ok(found.len() == length)
@@ -201,7 +201,7 @@ fn has_text<H: Runtime + AllocGlobal>(
     Ok(stands(found.as_slice(), place, text))
 }
 
-/// Whether the text stands at this place.
+/// Whether the text is at this offset.
 pub fn stands(bytes: &[u8], place: usize, text: &[u8]) -> bool {
     match bytes.get(place..) {
         Some(rest) => rest.starts_with(text),
@@ -214,7 +214,7 @@ fn is_missing<H: Runtime + AllocGlobal>(rt: &H, path: &str) -> bool {
     fs::read(rt, path).is_err()
 }
 
-/// The line with so many names of images behind it, none of which is there.
+/// The line followed by this many names of images that do not exist.
 pub fn with_images(alloc: Global, line: &str, count: u16) -> Result<String, AllocError> {
     let mut line = line.to_string(alloc)?;
     for _ in 0..count {

@@ -23,7 +23,7 @@ const LINES: &[(&str, End)] = &[
     ("survey --help", End::Done),
 ];
 
-/// A list's last line counts without an end, and an empty line is passed over.
+/// A list's last line counts without a line feed, and an empty line is ignored.
 const LISTS: &[Step<'_>] = &[
     Step::Put("check.names", b"check1.tap\n\ncheck2.tap"),
     Step::Put("check.nulls", b"check2.tap\0"),

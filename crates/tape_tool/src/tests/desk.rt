@@ -1,5 +1,5 @@
-//! The program on a desk of its own: it is given its words and standard input, what it prints,
-//! tells and opens is noted, and for its files and memory the system serves.
+//! The program in a fake system: it gets its arguments and standard input, and its output and the
+//! files that it opens are recorded; files and memory are the system's.
 use super::words::words_of;
 use crate::program::run;
 use std::alloc::{Allocator, Global};
@@ -13,17 +13,17 @@ use std::rt::Runtime;
 use std::test::Fail;
 use std::time::{Clock, Duration};
 
-/// What stands on standard input: an image of one mark.
+/// The contents of standard input: an image of one mark.
 const STANDARD_INPUT: &[u8] = b"\0\0\0\0\xff\xff\xff\xff";
 
-/// The end of the path of an image that takes no byte.
+/// The end of the path of an image that accepts no byte.
 const FULL: &str = "/FUL001.tap";
 
-/// What the system refuses, or does besides.
+/// What the system refuses, or does in addition.
 #[derive(Clone, Copy)]
 pub enum Odd<'a> {
     Nothing,
-    /// Looks at what has this name fail, in this way.
+    /// Looking up this name fails in this way.
     Look(&'a str, ErrorKind),
     /// What has this name is not opened, for this reason.
     Open(&'a str, ErrorKind),
@@ -33,30 +33,30 @@ pub enum Odd<'a> {
     Rename,
     /// No file is removed.
     Remove,
-    /// As what has the first name is opened a file comes to be under the second.
+    /// When the first name is opened, a file appears under the second.
     Comes(&'a str, &'a str),
 }
 
-/// The system, with words and streams of its own.
+/// The system, with arguments and streams of its own.
 #[derive(Clone, Copy)]
 struct Desk<'a> {
     rt: HostRuntime,
     words: &'a [String],
-    /// Whether standard output takes anything.
+    /// Whether standard output accepts anything.
     takes: bool,
     odd: Odd<'a>,
     out: &'a RefCell<String>,
     told: &'a RefCell<String>,
-    /// The paths that were opened, each with a space behind it, or a question mark and a space
-    /// where it could not be.
+    /// The paths that were opened, each followed by a space, or by a question mark and a space if
+    /// opening failed.
     opened: &'a RefCell<String>,
 }
 
-/// What files that come to be have in them.
+/// The contents of files that appear.
 pub const MINE: &[u8] = b"mine";
 
 impl Desk<'_> {
-    /// Fails a look at this path where it is to fail.
+    /// Makes looking up this path fail, if the test says so.
     fn look(&self, path: &str) -> io::Result<()> {
         match self.odd {
             Odd::Look(name, kind) if path == name => Err(io::Error::from(kind)),
@@ -64,7 +64,7 @@ impl Desk<'_> {
         }
     }
 
-    /// Does what is done as this path is opened.
+    /// Does what the test says when this path is opened.
     fn open(&self, path: &str) -> io::Result<()> {
         match self.odd {
             Odd::Open(name, kind) if path == name => Err(io::Error::from(kind)),
@@ -77,7 +77,7 @@ impl Desk<'_> {
     }
 }
 
-/// Writes a value behind what stands on a page.
+/// Appends a value to a page.
 fn note<D: Display + Drop>(page: &RefCell<String>, value: D) -> io::Result<()> {
     match page.try_borrow_mut() {
         Ok(mut page) => Ok(write!(page, "{value}")?),
@@ -246,7 +246,7 @@ impl Alloc for Desk<'_> {
 
 impl Runtime for Desk<'_> {}
 
-/// What a call came to.
+/// The result of a call.
 #[derive(Drop)]
 pub struct Seen {
     pub status: u8,
@@ -256,7 +256,7 @@ pub struct Seen {
 }
 
 impl Seen {
-    /// Whether it came to this, where what was opened is looked at or is not.
+    /// Whether this was the result; what was opened is compared or not.
     pub fn comes_to(&self, status: u8, out: &str, told: &str, opened: Option<&str>) -> bool {
         let is_opened = match opened {
             Some(paths) => self.opened.as_str() == paths,
@@ -266,7 +266,7 @@ impl Seen {
     }
 }
 
-/// Calls the program by a line, where standard output takes what is printed, or takes nothing.
+/// Calls the program with a line; standard output accepts what is printed, or nothing.
 pub fn called(rt: &HostRuntime, line: &str, takes: bool) -> Result<Seen, Fail> {
     called_oddly(rt, line, takes, Odd::Nothing)
 }

@@ -37,7 +37,7 @@ const NOT_COMPLETE: &[Step<'_>] = &[
     Step::Ends("extract ABC001 1 missing/no.txt part.tap", End::Incomplete),
 ];
 
-/// While something is wanted what is there stays, and nothing is made.
+/// While something is missing, the existing file is unchanged, and none is created.
 #[test]
 fn a_file_that_is_not_complete(rt: HostRuntime) -> Result<(), Fail> {
     take_all(&rt, NOT_COMPLETE)
@@ -56,8 +56,8 @@ fn a_file_that_cannot_be_made(rt: HostRuntime) -> Result<(), Fail> {
     take_all(&rt, NOT_MADE)
 }
 
-/// What would be lost by a slip, and stays: the stage, the images by whatever name, and an image
-/// that is not named as one.
+/// Files that a slip would destroy are unchanged: the stage, the images by whatever name, and an
+/// image that is not named like one.
 const NEVER_OUT: &[Step<'_>] = &[
     Step::PutWorked("only.tap", 2484),
     Step::PutWorked("other.tap", 2484),
@@ -73,7 +73,7 @@ const NEVER_OUT: &[Step<'_>] = &[
     Step::Ends("extract ABC001 1 linked.tap only.tap", End::WrongWords),
     Step::Ends("extract ABC001 1 only.tap linked.tap", End::WrongWords),
     Step::Ends("extract ABC001 1 named.tap only.tap", End::WrongWords),
-    // The same where a list names it, and the list itself.
+    // The same if a list names it, and the list itself.
     Step::Put("only.names", b"other.tap\nonly.tap"),
     Step::Ends(
         "extract ABC001 1 linked.tap --files-from only.names",
@@ -95,7 +95,7 @@ const NEVER_OUT: &[Step<'_>] = &[
     ),
     Step::IsWorked("only.tap"),
     Step::IsWorked("other.tap"),
-    // No front of a compressed file, but named as an image; and a name that only looks like one.
+    // A name like that of an image, but contents that are not; and a name that only looks like one.
     Step::Put("damaged.tap", b"\x01"),
     Step::Put("damaged.TAP", b"\x01"),
     Step::Fails(
@@ -176,14 +176,14 @@ fn what_may_keep_a_tape_is_never_the_output(rt: HostRuntime) -> Result<(), Fail>
 
 const HELD: &str = "extract ABC001 1 kept.bin held.tap";
 
-/// The new file beside the output: it takes the output's name, or goes, and costs no other file.
+/// The new file beside the output takes the output's name or is removed, and affects no other file.
 const DRAFTS: &[Step<'_>] = &[
     Step::PutWorked("whole.tap", 2484),
     Step::PutWorked("front.tap", 2288),
     // One of a run that was killed goes.
     Step::Put(".tape-1.part", b"another"),
     Step::Put("kept.txt", b"kept"),
-    // Its permissions stay, but not that it runs with the rights of its owner.
+    // The permissions are kept, except set-user-ID.
     Step::Allow("kept.txt", 0o4640),
     Step::Ends("extract ABC001 1 kept.txt front.tap", End::Incomplete),
     Step::Holds("kept.txt", b"kept"),
@@ -192,14 +192,14 @@ const DRAFTS: &[Step<'_>] = &[
     Step::HasLength("kept.txt", 2025),
     Step::IsAllowed("kept.txt", 0o640),
     Step::IsMissing(".tape-1.part"),
-    // Through a link the file behind it is written.
+    // Through a link its target is written.
     Step::Put("behind.txt", b"kept"),
     Step::Remove("before.txt"),
     Step::Link("before.txt", "behind.txt"),
     Step::Ends("extract ABC001 1 before.txt whole.tap", End::Done),
     Step::HasLength("behind.txt", 2025),
     Step::IsMissing(".tape-1.part"),
-    // A device takes nothing.
+    // A device that accepts nothing.
     Step::Fails(
         "extract ABC001 1 /dev/full whole.tap",
         ToolFault::File(FileFault::WriteFailed),
@@ -255,7 +255,7 @@ fn at_most_256_images(rt: HostRuntime) -> Result<(), Fail> {
     Ok(())
 }
 
-/// The wanted position at the start of file 1.
+/// The missing position at the start of file 1.
 const START: Want = Want {
     file: 1,
     sect: 1,
@@ -263,7 +263,7 @@ const START: Want = Want {
     part: 0,
 };
 
-/// What the engine answers, and how `extract` ends then.
+/// What the library returns, and how `extract` ends then.
 const ANSWERS: &[(Result<Option<Want>, EngineFault>, End)] = &[
     (Ok(Some(START)), End::Incomplete),
     (Ok(None), End::Done),

@@ -1,4 +1,4 @@
-//! How a fault is told.
+//! The lines of faults.
 use crate::fault::{FileFault, ToolFault};
 use crate::host::Host;
 use crate::program::{End, end_of};
@@ -13,7 +13,7 @@ fn fault_at(place: u64, cause: ImageCause) -> ToolFault {
     ToolFault::Image(ImageFault { place, cause })
 }
 
-/// Faults of an image, and how each is told.
+/// Faults of an image, and their lines.
 const IMAGE_FAULTS: &[(u64, ImageCause, &str)] = &[
     (1884, ImageCause::Truncated, "tape: image fault 1 at 1884\n"),
     (
@@ -35,7 +35,7 @@ const IMAGE_FAULTS: &[(u64, ImageCause, &str)] = &[
     (0, ImageCause::OutOfMemory, "tape: image fault 6 at 0\n"),
 ];
 
-/// Faults of a file, and how each is told.
+/// Faults of a file, and their lines.
 const FILE_FAULTS: &[(FileFault, &str)] = &[
     (FileFault::Exists, "tape: file fault 1\n"),
     (FileFault::NotOpened, "tape: file fault 2\n"),
@@ -43,7 +43,7 @@ const FILE_FAULTS: &[(FileFault, &str)] = &[
     (FileFault::WriteFailed, "tape: file fault 4\n"),
 ];
 
-/// Faults of sessions and stages, and how each is told.
+/// Faults of sessions and stages, and their lines.
 const OTHER_FAULTS: &[(ToolFault, &str)] = &[
     (
         ToolFault::Run(RunFault::Sink(SinkFault::OutOfMemory)),

@@ -1,5 +1,5 @@
-//! What the program does where the system refuses something, or changes files under way. Nothing
-//! that was there before is lost.
+//! The program if the system refuses something, or files change during a run. No existing data is
+//! lost.
 
 use super::calls::{Step, holds, take_all};
 use super::desk::{MINE, Odd, called_oddly};
@@ -7,8 +7,7 @@ use crate::program::End;
 use std::io::ErrorKind;
 use std::test::Fail;
 
-/// What goes wrong, a line, the exit status, what is printed and told, and a file with what it has
-/// then.
+/// What goes wrong, a line, the exit status, the output, and a file with its contents afterwards.
 type Row<'a> = (Odd<'a>, &'a str, u8, &'a str, &'a str, &'a str, &'a [u8]);
 
 const KEPT: &[u8] = b"kept";
@@ -34,7 +33,7 @@ const LOST: ErrorKind = ErrorKind::StaleNetworkFileHandle;
 const COMPLETE: &str = "REEL 1 COMPLETE\nCOMPLETE 25\n";
 
 const ROWS: &[Row<'_>] = &[
-    // A look that fails says nothing of what is there.
+    // A lookup that fails says nothing about what exists.
     (
         Odd::Look("guard.txt", LOST),
         "extract ABC001 1 guard.txt guard.tap",
@@ -101,7 +100,7 @@ const ROWS: &[Row<'_>] = &[
         "guard/GRD001.2.TWO",
         b"F\n",
     ),
-    // Only a folder that takes no new file has its output written in place.
+    // Output is written in place only in a directory that accepts no new file.
     (
         Odd::Open(".tape-1.part", ErrorKind::StorageFull),
         "extract ABC001 1 guard.txt guard.tap",
@@ -129,7 +128,7 @@ const ROWS: &[Row<'_>] = &[
         "guard.txt",
         KEPT,
     ),
-    // A file that comes to be under way is not replaced.
+    // A file that appears during the run is not replaced.
     (
         Odd::Comes("guard.tap", "guard_comes.txt"),
         "extract ABC001 1 guard_comes.txt guard.tap",
@@ -157,7 +156,7 @@ const ROWS: &[Row<'_>] = &[
         "guard/ABC001.1.PAYROLL",
         MINE,
     ),
-    // What is unpacked is never written in place.
+    // An unpacked file is never written in place.
     (
         Odd::Open("guard_new/.tape-1.part", ErrorKind::PermissionDenied),
         "unpack guard_new guard.tap",
@@ -167,7 +166,7 @@ const ROWS: &[Row<'_>] = &[
         "guard.names",
         b"guard.tap\n",
     ),
-    // Where a file gets no second name its name is taken by an empty one first.
+    // If a file gets no second name, an empty file takes the name first.
     (
         Odd::Link(ErrorKind::AlreadyExists),
         "extract ABC001 1 guard_lost.txt guard.tap",
@@ -186,7 +185,7 @@ const ROWS: &[Row<'_>] = &[
         "guard_second.txt",
         b"F\n",
     ),
-    // What could not be removed is told.
+    // What could not be removed is reported.
     (
         Odd::Remove,
         "extract GRD001 1 guard_third.txt GRD001.tap",

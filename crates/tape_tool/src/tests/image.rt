@@ -7,7 +7,7 @@ pub const MARK: [u8; 4] = [0, 0, 0, 0];
 
 pub const END: [u8; 4] = [0xFF, 0xFF, 0xFF, 0xFF];
 
-/// What stands on a tape, as the bytes of its image.
+/// The items of a tape, as the bytes of its image.
 #[derive(Drop)]
 pub struct Image {
     pub bytes: Vec<u8>,
@@ -20,7 +20,7 @@ impl Image {
         }
     }
 
-    /// The first bytes of this image, so many.
+    /// The first bytes of this image.
     pub fn cut(mut self, length: usize) -> Image {
         self.bytes.truncate(length);
         self
@@ -30,7 +30,7 @@ impl Image {
         self.bytes.extend_from_slice(word)
     }
 
-    /// A block, with the high byte of its words, and a pad byte where its length is odd.
+    /// A block, with the high byte of its length words, and a pad byte if its length is odd.
     pub fn block(&mut self, content: &[u8], high: u8) -> Result<(), AllocError> {
         let count = content.len();
         let word = [
@@ -47,7 +47,7 @@ impl Image {
         self.bytes.extend_from_slice(&word)
     }
 
-    /// A block of 80 characters: the text, and spaces behind it.
+    /// A block of 80 characters: the text, padded with spaces.
     pub fn label(&mut self, text: &str) -> Result<(), AllocError> {
         let mut label = [b' '; 80];
         for (slot, byte) in label.iter_mut().zip(text.as_bytes()) {
@@ -71,8 +71,8 @@ impl Image {
     }
 }
 
-/// The 25 records of the worked volume, each with these bytes behind it. Record i is i in four
-/// digits and 76 spaces.
+/// The 25 records of the worked volume, each followed by these bytes. Record i is i in four digits
+/// and 76 spaces.
 pub fn payroll(alloc: Global, behind: &[u8]) -> Result<Vec<u8>, AllocError> {
     let mut bytes = Vec::new(alloc);
     for number in 1..26u8 {

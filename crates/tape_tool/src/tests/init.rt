@@ -17,7 +17,7 @@ const TWO: &[Step<'_>] = &[
     Step::Ends("list ABC002.tap", End::Done),
 ];
 
-/// Nothing that is there is changed, and what was made before stays.
+/// No existing file is changed, and volumes created before the error remain.
 const OLD: &[Step<'_>] = &[
     Step::Put("OLD002.tap", b"kept"),
     Step::Fails("init . OLD 3", ToolFault::File(FileFault::Exists)),

@@ -1,4 +1,4 @@
-//! The program's exits, and what it tells on standard error. A test runs in an empty folder.
+//! The program's exits, and its standard error. A test runs in an empty directory.
 
 use super::calls::{Step, each_ends, take_all};
 use super::words::words_of;
@@ -35,7 +35,7 @@ const LAST: End = End::Faulted(ToolFault::Image(ImageFault {
     cause: ImageCause::OutOfMemory,
 }));
 
-/// Keeps what is printed, or fails at it.
+/// Stores what is printed, or fails.
 #[derive(Drop)]
 struct Streams {
     told: RefCell<String>,
@@ -50,7 +50,7 @@ impl Streams {
         }
     }
 
-    /// Whether just this was printed.
+    /// Whether exactly this was printed.
     fn has_told(self, text: &str) -> bool {
         self.told.into_inner().as_str() == text
     }
@@ -116,7 +116,7 @@ fn a_file_is_listed(rt: HostRuntime) -> Result<(), Fail> {
     take_all(&rt, LISTED)
 }
 
-/// Each end, its status and what is told of it.
+/// Each end, its status and its message.
 const STATUSES: &[(End, u8, &str)] = &[
     (End::Done, 0, ""),
     (End::WrongWords, 2, ""),
@@ -132,7 +132,7 @@ const STATUSES: &[(End, u8, &str)] = &[
     (End::Faulted(OUT_OF_MEMORY), 1, "tape: run fault 4\n"),
 ];
 
-/// The end has this status, and is told so where standard error is open.
+/// The end has this status, and this message if standard error is open.
 fn is_told<H: Abort + AllocGlobal>(rt: &H, end: End, status: u8, text: &str) {
     let open = Streams::new(rt.alloc(), true);
     let closed = Streams::new(rt.alloc(), false);
@@ -148,7 +148,7 @@ fn statuses_and_fault_lines(rt: HostRuntime) {
     }
 }
 
-/// Words that could not be had for this reason end so, and this is told of it.
+/// Without arguments for this reason a run ends like this, with this message.
 fn is_without_words<H: Abort + AllocGlobal>(rt: &H, kind: ErrorKind, wanted: End, text: &str) {
     let streams = Streams::new(rt.alloc(), true);
     let end = without_words(&streams, kind);
@@ -165,7 +165,7 @@ and rename it, or use 'tape list < NAME'\n";
     is_without_words(&rt, ErrorKind::OutOfMemory, no_memory, "");
 }
 
-/// A line that asks for nothing ends so, where what is printed is told or is not.
+/// A line that asks for nothing ends like this, with or without a message.
 fn is_refused<H: Abort + AllocGlobal>(
     rt: &H,
     line: &str,
@@ -185,7 +185,7 @@ fn is_refused<H: Abort + AllocGlobal>(
     Ok(())
 }
 
-/// Lines, whether what is printed is told, and their ends.
+/// Lines, whether output succeeds, and their ends.
 const REFUSED: &[(&str, bool, End)] = &[
     ("list --help", true, End::Done),
     ("list --help", false, NOT_WRITTEN),
@@ -194,7 +194,8 @@ const REFUSED: &[(&str, bool, End)] = &[
     ("lost", false, End::WrongWords),
 ];
 
-/// Help that could not be written is a fault, a mistake is none even where it could not be told.
+/// Help that could not be written is an error; a usage error stays one even if its message could
+/// not be written.
 #[test]
 fn help_not_written(rt: HostRuntime) -> Result<(), Fail> {
     for (line, open, wanted) in REFUSED {
@@ -203,7 +204,7 @@ fn help_not_written(rt: HostRuntime) -> Result<(), Fail> {
     Ok(())
 }
 
-/// Memory refused to the parser of words is told by the line of the fault alone.
+/// If the argument parser runs out of memory, the only message is the line of the fault.
 #[test]
 fn no_memory_for_words(rt: HostRuntime) {
     let streams = Streams::new(rt.alloc(), true);

@@ -1,11 +1,11 @@
-//! What a caller sees of whole calls: exit status, both streams, and which files are opened.
+//! Whole calls as a caller sees them: exit status, both streams, and which files are opened.
 use super::calls::{Step, put, take_all, with_images};
 use super::desk::{Seen, called};
 use super::volumes::{first_of_two, second_of_two};
 use std::test::Fail;
 
-/// A line, the exit status, what stands on standard output and on standard error, and, where it is
-/// looked at, what is opened: each path, with a question mark where it could not be.
+/// A line, the exit status, standard output and standard error, and, if compared, what is opened:
+/// each path, with a question mark if that failed.
 type Row<'a> = (&'a str, u8, &'a str, &'a str, Option<&'a str>);
 
 const MADE: &[Step<'_>] = &[
@@ -39,7 +39,7 @@ const ROWS: &[Row<'_>] = &[
             Usage: tape [OPTIONS] <COMMAND>\n\nFor more information, try '--help'.\n",
         Some(""),
     ),
-    // Each image once, in the order of the words.
+    // Each image once, in the order of the arguments.
     (
         "check seen2.tap lost.tap seen1.tap",
         0,
@@ -66,7 +66,7 @@ const ROWS: &[Row<'_>] = &[
         "",
         Some("lost.tap? seen1.tap "),
     ),
-    // Behind the image that completes the file none is opened. The folder is, to be synced.
+    // After the image that completes the file none is opened. The directory is, to be synced.
     (
         "extract ABC001 1 seen.txt lost.tap seen1.tap seen2.tap seen1.tap",
         0,
@@ -74,7 +74,7 @@ const ROWS: &[Row<'_>] = &[
         "",
         Some(".tape-1.part lost.tap? seen1.tap seen2.tap . "),
     ),
-    // An output that cannot be made is tried as a new file, in place, and no second time.
+    // If an output cannot be created, a new file and then writing in place are tried, each once.
     (
         "extract ABC001 1 missing/a.txt seen1.tap seen2.tap",
         1,
@@ -106,7 +106,7 @@ const ROWS: &[Row<'_>] = &[
         "",
         None,
     ),
-    // Blocks that are longer than what is held, on one volume of more than 100,000 bytes.
+    // Blocks that are longer than the buffer, on one volume of more than 100,000 bytes.
     (
         "write . SEL 150000 LONG=seen_long.bin --format S --block 9999 --form raw",
         0,
@@ -121,7 +121,7 @@ const ROWS: &[Row<'_>] = &[
         "",
         None,
     ),
-    // An image that takes nothing, and an output through a link of a file without records.
+    // An image that accepts nothing, and an output through a link for a file without records.
     (
         "write . FUL 100000 ONE=seen_one.txt",
         1,
@@ -145,11 +145,11 @@ const ROWS: &[Row<'_>] = &[
     ),
     ("init . SEI 11", 0, "INIT 11\n", "", None),
     ("init . SEI 1", 1, "", "tape: file fault 1\n", None),
-    // An image that takes nothing is not told as made.
+    // An image that accepts nothing is not reported as created.
     ("init . FUL 1", 1, "", "tape: file fault 4\n", None),
 ];
 
-/// What stands in files then.
+/// The contents of files afterwards.
 const LEFT: &[Step<'_>] = &[
     Step::HasLength("seen.txt", 2025),
     Step::HasLength("seen_again.bin", 120_000),
@@ -183,8 +183,8 @@ fn whole_calls(rt: HostRuntime) -> Result<(), Fail> {
     take_all(&rt, LEFT)
 }
 
-/// Calls that read images: what is opened before them, and how what is printed ends where there are
-/// 300 of them, none of which is there.
+/// Calls that read images: what is opened before them, and the end of the output for 300 of them
+/// that do not exist.
 const READERS: &[(&str, &str, &str)] = &[
     ("check", "many.names ", "\nIMAGE 300 0 NOT OPENED\n"),
     ("survey", "many.names ", "\nlost.tap: not opened\n"),
@@ -196,14 +196,14 @@ const READERS: &[(&str, &str, &str)] = &[
     ("unpack many", "many.names ", ""),
 ];
 
-/// Whether 300 images were looked for, behind what was opened first, and this is printed last.
+/// Whether 300 images were tried, after what was opened first, and this is printed last.
 fn looks_for_all(seen: &Seen, first: &str, last: &str) -> bool {
     let (opened, out) = (seen.opened.as_str(), seen.out.as_str());
     let looked_for = opened.len() == first.len() + 300 * "lost.tap? ".len();
     seen.status == 3 && opened.starts_with(first) && looked_for && out.ends_with(last)
 }
 
-/// A call by this line, with 256 images behind it and those of a list.
+/// A call with this line, 256 further images and those of a list.
 fn called_with_all(rt: &HostRuntime, line: &str) -> Result<Seen, Fail> {
     let mut line = with_images(rt.alloc(), line, 256)?;
     line.push_str(" --files-from many.names")?;

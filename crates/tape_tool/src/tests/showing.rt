@@ -1,4 +1,4 @@
-//! `stage`: what a stage holds.
+//! `stage`: what a stage contains.
 use super::calls::{Step, take_all};
 use super::volumes::damaged;
 use crate::fault::{FileFault, ToolFault};
@@ -13,7 +13,7 @@ use tape_blocks::Form;
 use tape_label::Field;
 use tape_stage::{MemoryDisk, StageFault};
 
-/// The stage of a volume of which this block of five records cannot be read; of 9 all can.
+/// The stage of a volume on which this block of five records is unreadable; with 9 none is.
 fn staged(alloc: Global, bad: usize) -> Result<Option<MemoryDisk>, AllocError> {
     let image = damaged(alloc, bad)?;
     let disk = MemoryDisk::new(alloc);
@@ -27,14 +27,14 @@ fn staged(alloc: Global, bad: usize) -> Result<Option<MemoryDisk>, AllocError> {
     Ok(Some(session.into_sink().into_disk()))
 }
 
-/// The block that is bad, what is told of the stage, and how many bytes its records have.
+/// The unreadable block, the lines about the stage, and how many bytes its records have.
 const TOLD: &[(usize, &str, usize)] = &[
     (3, "STAGE ABC001 1 15\nAWAITS 1 1 3\n", 1215),
     (0, "STAGE ABC001 1 0\nAWAITS 1 1 0\n", 0),
     (9, "STAGE ABC001 1 25\nCOMPLETE 25\n", 2025),
 ];
 
-/// The stage is told so, and its records are the first ones.
+/// These are the lines about the stage, and its records are the first ones.
 fn is_told<H: Abort + AllocGlobal>(
     rt: &H,
     bad: usize,
@@ -60,7 +60,7 @@ fn records_before_what_is_wanted(rt: HostRuntime) -> Result<(), Fail> {
     Ok(())
 }
 
-/// How many bytes stand of a stage of 25 records of 80 bytes, what is told of it, and how many
+/// How many bytes remain of a stage of 25 records of 80 bytes, the lines about it, and how many
 /// bytes its records have.
 const TORN: &[(usize, &str, usize)] = &[
     (2381, "STAGE ABC001 1 25\nCOMPLETE 25\n", 2025),
@@ -70,7 +70,7 @@ const TORN: &[(usize, &str, usize)] = &[
     (256, "STAGE ABC001 1 0\nTRUNCATED AT 256\n", 0),
 ];
 
-/// What stands of the stage is told so, and its records are the first ones.
+/// These are the lines about what remains of the stage, and its records are the first ones.
 fn is_told_torn<H: Abort + AllocGlobal>(
     rt: &H,
     bytes: &[u8],
@@ -115,9 +115,9 @@ const MADE: &[Step<'_>] = &[
         End::Incomplete,
     ),
     Step::HasLength("shown_raw.txt", 1200),
-    // One that is whole is told as without the word.
+    // For an intact stage the lines are the same without the option.
     Step::Ends("stage shown.stage --damaged", End::Incomplete),
-    // The stage stays, and what may keep a tape is never written over.
+    // The stage is unchanged, and what might be a tape is never overwritten.
     Step::HasLength("shown.stage", 1531),
     Step::Ends("stage shown.stage shown.stage", End::WrongWords),
     Step::Ends("stage shown.stage one.txt two.txt", End::WrongWords),

@@ -17,7 +17,7 @@ const FIRST: &[Step<'_>] = &[
 ];
 
 const ALONE: &[Step<'_>] = &[
-    // What the other run has was left alone.
+    // The files of the other run are unchanged.
     Step::HasLength("first.stage", 0),
     Step::IsMissing("second.txt"),
     Step::Ends(SECOND, End::Done),
@@ -28,7 +28,7 @@ const ALONE: &[Step<'_>] = &[
 fn two_runs_on_one_stage(rt: HostRuntime) -> Result<(), Fail> {
     take_all(&rt, FIRST)?;
     let first = File::open(&rt, "first.stage")?;
-    // A run that only shows the stage keeps others out too.
+    // A run that only shows the stage excludes others too.
     first.lock_shared()?;
     each_fails(&rt, &[(SECOND, ToolFault::StageInUse)])?;
     first.lock()?;
@@ -62,7 +62,7 @@ const DAYS: &[Step<'_>] = &[
     Step::HasLength("days_again.txt", 2025),
 ];
 
-/// A reel that lost a block, before a good one and alone: the stage keeps nothing of it.
+/// A reel that lost a block, before a good one and alone: nothing of it is kept in the stage.
 const IN_DOUBT: &[Step<'_>] = &[
     Step::PutLost("doubt.tap"),
     Step::PutWorked("sure.tap", 2484),
@@ -82,7 +82,7 @@ const IN_DOUBT: &[Step<'_>] = &[
     Step::HasText("doubt.txt", 810, b"0011  "),
 ];
 
-/// A stage of file 1 of the set ABC001, and what is no stage and stays.
+/// A stage of file 1 of the set ABC001, and what is not a stage and is unchanged.
 const REFUSED: &[Step<'_>] = &[
     Step::PutDamaged("refused.tap", 3),
     Step::Remove("refused.stage"),
@@ -137,7 +137,8 @@ const REFUSED: &[Step<'_>] = &[
 
 const UNMADE: &str = "extract ABC001 1 unmade.txt unmade.tap --stage unmade.stage";
 
-/// What is left where a stage was not made whole, as on a full disk, and what may be a user's.
+/// The remains of an unfinished new stage, for example after the disk was full, and what might be a
+/// user's file.
 const NOT_MADE: &[Step<'_>] = &[
     Step::PutWorked("unmade.tap", 2484),
     Step::Put("unmade.stage", b"C"),

@@ -15,8 +15,8 @@ use tape_stage::{HeldFile, MemoryDisk, Refused, Stage, StageFault, held_file};
 /// A session over the stage in a file.
 type FileSession = Session<Stage<HeldFile<File>>>;
 
-/// One day: the session is opened, reads the reel of which a block cannot be read, and is saved.
-/// What is left is the disk, and what is wanted next.
+/// One day: the session is opened, reads the reel with an unreadable block, and is saved. The
+/// result is the disk, and what is missing next.
 fn read(
     alloc: Global,
     disk: MemoryDisk,
@@ -34,7 +34,7 @@ fn read(
     Ok(Some((session.into_sink().into_disk(), want)))
 }
 
-/// The disk after a day: this is wanted next, and it has so many bytes.
+/// The disk after a day: this is missing next, and it has this many bytes.
 fn day<H: Abort + AllocGlobal>(
     rt: &H,
     disk: MemoryDisk,
@@ -90,8 +90,8 @@ fn fault_of(
     }
 }
 
-/// Sets and files that are asked for one behind the other over a disk that is empty at first, the
-/// fault, and how many bytes are there then.
+/// Sets and files that are requested one after another on a disk that is empty at first, the fault,
+/// and the length of the disk then.
 const ASKED: &[(&[u8; 6], u16, Option<StagingFault>, usize)] = &[
     (b"ABC001", 0, Some(StagingFault::OtherFile), 0),
     (b"ABC001", 10_000, Some(StagingFault::OtherFile), 0),
@@ -164,7 +164,7 @@ const DONE: &[Step<'_>] = &[
     Step::HasLength(PATH, 2381),
     Step::HasText(PATH, 0, b"O000000000000001TPCK2ABC001"),
     Step::HasText(PATH, 128, b"O000000000000002TPCK2ABC001"),
-    // Done, and behind it the record length and the format.
+    // Done, followed by the record length and the format.
     Step::HasText(PATH, 178, b"D01F00080"),
 ];
 
@@ -175,7 +175,7 @@ fn reads_worked(alloc: Global, session: &mut FileSession) -> Result<bool, AllocE
     Ok(session.reel(&mut reader).is_ok() && session.save().is_ok())
 }
 
-/// Whether the session wants nothing, and reads nothing.
+/// Whether the session needs nothing, and reads nothing.
 fn reads_nothing(session: &mut FileSession) -> bool {
     let mut reader = b"no image".as_slice();
     session.want().is_none() && session.reel(&mut reader).is_ok() && reader.len() == 8

@@ -10,7 +10,7 @@ use std::io::Write;
 use std::test::Fail;
 use tape_stage::StageFault;
 
-/// All that is there, and again: what is there already stays.
+/// All files, twice: existing files are unchanged.
 const AT_ONCE: &[Step<'_>] = &[
     Step::Folder("unpacked"),
     Step::PutWorked("unpack1.tap", 2484),
@@ -25,7 +25,7 @@ const AT_ONCE: &[Step<'_>] = &[
     Step::Holds("unpacked/ABC001.1.PAYROLL", b"kept"),
 ];
 
-/// Damaged copies, one a day: the last one alone has not what the others gave.
+/// Damaged copies, one a day: the last one alone lacks what the others contributed.
 const DAY_BY_DAY: &[Step<'_>] = &[
     Step::Folder("days"),
     Step::PutDamaged("day1.tap", 1),
@@ -42,7 +42,8 @@ const DAY_BY_DAY: &[Step<'_>] = &[
     Step::HasText("days/ABC001.1.PAYROLL", 1944, b"0025  "),
 ];
 
-/// What is no stage stays, and a link in its place is not followed. The other files are unpacked.
+/// A file that is not a stage is unchanged, and a link in its place is not followed. The other
+/// files are unpacked.
 const FAILED: &[Step<'_>] = &[
     Step::Folder("failed"),
     Step::PutDamaged("failed1.tap", 1),
@@ -61,7 +62,7 @@ const FAILED: &[Step<'_>] = &[
         ToolFault::File(FileFault::NotOpened),
     ),
     Step::HasLength("failed2.txt", 0),
-    // A link that leads nowhere is something that is there.
+    // A link that leads nowhere is something that exists.
     Step::Link("failed/ABC001.1.PAYROLL", "lost.txt"),
     Step::Ends("unpack failed failed1.tap", End::Done),
     Step::IsMissing("failed/ABC001.1.PAYROLL"),
@@ -143,7 +144,7 @@ fn a_file_that_was_not_met(rt: HostRuntime) -> Result<(), Fail> {
     take_all(&rt, SECOND)
 }
 
-/// The line that is kept is not cut.
+/// The remembered line is not truncated.
 #[test]
 fn the_last_line_is_whole(rt: HostRuntime) -> Result<(), Fail> {
     let mut last = LastLine::new();

@@ -26,7 +26,7 @@ pub const EOF2: &str = "EOF2F0080000080                                   00";
 
 const EOF2_400: &str = "EOF2F0040000080                                   00";
 
-/// Labels, and a tape mark behind them.
+/// Labels, followed by a tape mark.
 pub fn labels(image: &mut Image, texts: &[&str]) -> Result<(), AllocError> {
     for text in texts {
         image.label(text)?;
@@ -40,7 +40,7 @@ fn end(image: &mut Image) -> Result<(), AllocError> {
     image.word(&END)
 }
 
-/// The mark behind the data, trailer labels, and the volume's end.
+/// The mark after the data, trailer labels, and the volume's end.
 fn close(image: &mut Image, texts: &[&str]) -> Result<(), AllocError> {
     image.word(&MARK)?;
     labels(image, texts)?;
@@ -91,7 +91,7 @@ pub fn second_of_two(alloc: Global) -> Result<Image, AllocError> {
     reel(alloc, &[VOL2, HDR1_NEXT, FIXED], &[], &[trailer, EOF2])
 }
 
-/// The worked volume without its second block, of which its trailer knows.
+/// The worked volume without its second block, which its trailer still counts.
 pub fn lost(alloc: Global) -> Result<Image, AllocError> {
     let mut image = Image::new(alloc);
     image.headers()?;
@@ -110,7 +110,7 @@ fn lost_blocks(image: &mut Image, records: &[u8]) -> Result<(), AllocError> {
     Ok(())
 }
 
-/// A volume of the 25 worked records in blocks of 400, of which one cannot be read.
+/// A volume of the 25 worked records in blocks of 400, one of which is unreadable.
 pub fn damaged(alloc: Global, bad: usize) -> Result<Image, AllocError> {
     let mut image = Image::new(alloc);
     labels(&mut image, &[VOL1, HDR1, FIXED_400])?;
@@ -119,7 +119,7 @@ pub fn damaged(alloc: Global, bad: usize) -> Result<Image, AllocError> {
     Ok(image)
 }
 
-/// These records in blocks of 400, of which one cannot be read.
+/// These records in blocks of 400, one of which is unreadable.
 fn damaged_blocks(image: &mut Image, records: &[u8], bad: usize) -> Result<(), AllocError> {
     for (number, block) in records.chunks(400).enumerate() {
         let high = if number == bad { 0x80 } else { 0 };

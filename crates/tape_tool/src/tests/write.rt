@@ -24,7 +24,7 @@ impl Write for Unflushed {
     }
 }
 
-/// The lines, and no more where they can't be passed on.
+/// The lines, and no more if they cannot be passed on.
 #[test]
 fn what_is_printed(rt: HostRuntime) -> Result<(), Fail> {
     let mut text = Vec::new(rt.alloc());

@@ -12,7 +12,7 @@ const EXISTS: ToolFault = ToolFault::File(FileFault::Exists);
 const WRITE: &str = "write worked ABC 100000 PAYROLL=payroll.bin \
     --format F --block 800 --record 80 --form raw";
 
-/// The worked image; over a blank volume; and not over what was written.
+/// The worked image; over a blank volume; and not over a written one.
 const WORKED_VOLUME: &[Step<'_>] = &[
     Step::PutRecords("payroll.bin"),
     Step::Folder("worked"),
@@ -55,7 +55,7 @@ const UNFIT: &[Step<'_>] = &[
     Step::Ends("write . UNF 100000 A=unfit.txt", End::WrongWords),
     Step::HasLength("UNF001.tap", 100),
     Step::HasLength("UNF002.tap", 100),
-    // A device, and a folder, behind images that would be written before them.
+    // A device and a directory, among images some of which would be written before them.
     Step::Remove("UND003.tap"),
     Step::Link("UND003.tap", "/dev/null"),
     Step::Fails("write . UND 100000 A=apart.txt", EXISTS),
@@ -68,7 +68,7 @@ const UNFIT: &[Step<'_>] = &[
     Step::IsMissing("UNO001.tap"),
 ];
 
-/// A second volume that is no blank one: the first one stands.
+/// A second volume that is not blank: the first one remains.
 const SECOND: &[Step<'_>] = &[
     Step::PutRecords("second.bin"),
     Step::Put("SND002.tap", b"kept"),

@@ -1,9 +1,9 @@
-//! A writer that keeps the line which was written last.
+//! A writer that remembers the line written last.
 use arrayvec::ArrayVec;
 use std::io;
 use std::io::Write;
 
-/// The line that was written last, as far as there is room for it.
+/// The line written last, as far as the buffer has room.
 #[derive(Drop)]
 pub struct LastLine {
     text: ArrayVec<u8, 256>,

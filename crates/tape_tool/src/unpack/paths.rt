@@ -1,16 +1,16 @@
-//! Where a file is unpacked to, and where its stage is kept.
+//! The paths of an unpacked file and of its stage.
 use std::alloc::{AllocError, Global};
 
 /// The paths of a file.
 #[derive(Drop)]
 pub struct Paths {
-    /// Where its records go.
+    /// The path of its records.
     pub out: String,
-    /// Where what was gathered of it is kept.
+    /// The path of its stage.
     pub stage: String,
 }
 
-/// The paths of a file of this name in a folder.
+/// Returns the paths of a file of this name in a directory.
 pub fn paths_of(alloc: Global, folder: &str, name: &[u8]) -> Result<Paths, AllocError> {
     let mut out = String::new(alloc);
     out.push_str(folder)?;

@@ -23,14 +23,14 @@ use tape_run::{
 };
 use tape_writer::system::found;
 
-/// How many bytes of the report are held before they are written, at most.
+/// The maximum number of bytes of the report that are buffered.
 const LINES: usize = 8_192;
 
 /// The report could not be written.
 const NOT_REPORTED: End = End::Faulted(ToolFault::File(FileFault::WriteFailed));
 
-/// What files are unpacked from: the images by their names, what was met on them, and the image
-/// that stays mounted from file to file.
+/// The source of the files: the images by their names, what was found on them, and the image that
+/// stays open from file to file.
 #[derive(Drop)]
 struct Source<'n, D> {
     names: &'n [&'n str],
@@ -38,8 +38,8 @@ struct Source<'n, D> {
     mounted: Option<Mounted<D>>,
 }
 
-/// Gets every file back that is on the images that the words name. At a fault the site is where it
-/// came.
+/// Recovers every file on the images that the arguments name. On error, the site says where it
+/// occurred.
 pub fn unpack<'a, R: Host>(rt: &R, order: &Unpack<'a>, site: &mut Site<'a>) -> End {
     let mut text = String::new(rt.alloc());
     match names_of(rt, &order.images, &mut text, site) {
@@ -51,7 +51,7 @@ pub fn unpack<'a, R: Host>(rt: &R, order: &Unpack<'a>, site: &mut Site<'a>) -> E
     }
 }
 
-/// Gets every file back that is on the images of these names.
+/// Recovers every file on the images with these names.
 fn unpack_images<R: Host>(rt: &R, order: &Unpack<'_>, names: &[&str]) -> End {
     if let Err(unfit) = is_folder(rt, order.folder) {
         return refuse_unfit(rt, &UNPACK, unfit);
@@ -70,7 +70,7 @@ fn unpack_images<R: Host>(rt: &R, order: &Unpack<'_>, names: &[&str]) -> End {
     }
 }
 
-/// Refuses what is no folder. An image that stands there was named without one before it.
+/// Refuses what is not a directory. An image in its place was named without a directory before it.
 fn is_folder<R: Host>(rt: &R, path: &str) -> Result<(), Unfit> {
     match fs::metadata(rt, path) {
         Ok(found) if found.is_dir() => Ok(()),
@@ -79,8 +79,8 @@ fn is_folder<R: Host>(rt: &R, path: &str) -> Result<(), Unfit> {
     }
 }
 
-/// Unpacks the files that were found, and reports whether every image was read to its end. A file
-/// that fails does not keep the others from being tried: the run ends with the first such fault.
+/// Unpacks the files that were found, and returns whether every image was read to its end. If a
+/// file fails, the others are still tried: the run ends with the first such fault.
 fn unpack_all<R: Host, P: Write>(
     rt: &R,
     order: &Unpack<'_>,
@@ -123,7 +123,7 @@ fn unpack_all<R: Host, P: Write>(
 /// How the unpacking of a file ends, or as an error how the run ends with it.
 type Ended = Result<End, End>;
 
-/// Returns the number after that of the file before, if this is of the set, or else 1.
+/// Returns the number after that of the previous file, if this one belongs to its set, otherwise 1.
 fn number_after(before: Option<(Field<6>, u16)>, set_id: &Field<6>) -> u16 {
     match before {
         Some((set, number)) if set == *set_id => number.saturating_add(1),
@@ -131,7 +131,7 @@ fn number_after(before: Option<(Field<6>, u16)>, set_id: &Field<6>) -> u16 {
     }
 }
 
-/// Unpacks a file, and reports what became of it.
+/// Unpacks a file, and prints the outcome.
 fn unpack_file<R: Host, P: Write>(
     rt: &R,
     order: &Unpack<'_>,
@@ -159,7 +159,7 @@ fn unpack_file<R: Host, P: Write>(
     }
 }
 
-/// Unpacks a file to these paths, unless something of its name is there.
+/// Unpacks a file to these paths, unless something has its name.
 fn unpack_to<R: Host, P: Write>(
     rt: &R,
     order: &Unpack<'_>,
@@ -189,8 +189,8 @@ fn unpack_to<R: Host, P: Write>(
     }
 }
 
-/// Recovers a file, unless something has its name, and removes the stage of one that is complete:
-/// the file has what the stage kept.
+/// Recovers a file, unless something has its name, and removes the stage of a complete one, since
+/// the file then contains all that the stage had.
 fn unpacked<R: Host>(
     rt: &R,
     order: &Unpack<'_>,
@@ -203,7 +203,7 @@ fn unpacked<R: Host>(
     if found(fs::symlink_metadata(rt, paths.out.as_str()))?.is_some() {
         return Err(ToolFault::File(FileFault::Exists));
     }
-    // A stage is never looked for where a link leads.
+    // A stage is never looked for through a link.
     let is_staged = match found(fs::symlink_metadata(rt, stage))? {
         Some(there) if !there.is_file() => return Err(ToolFault::File(FileFault::NotOpened)),
         there => there.is_some(),
@@ -219,9 +219,9 @@ fn unpacked<R: Host>(
     }
 }
 
-/// Recovers a file: a file whose sections are all whole from the images on which these are, in one
-/// reading of each; any other file, and one that was not complete then, on its stage, round by
-/// round. The last line of both is kept.
+/// Recovers a file: if all its sections are intact, from the images that have these, in one reading
+/// of each; any other file, and one that was not complete then, on its stage, pass by pass. The
+/// last line of both is remembered.
 fn gather<R: Host>(
     rt: &R,
     order: &Unpack<'_>,

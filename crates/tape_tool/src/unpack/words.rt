@@ -1,4 +1,4 @@
-//! What the words behind `unpack` ask for.
+//! The arguments of `unpack`.
 ghost use Rattle.std.specs.Prelude.{IfOk, IfErr};
 ghost use Rattle.clap.specs.Words.{found_of, rows_of};
 ghost use Rattle.tape_tool.specs.Words.{AsksToUnpack, IsNoUnpack, RefusedFor};
@@ -11,7 +11,7 @@ use clap::{ArgMatches, Error};
 use std::alloc::Global;
 use tape_blocks::Form;
 
-/// What `unpack` gets back, and from what: every file, into a folder.
+/// What `unpack` recovers, and from what: every file, into a directory.
 #[derive(Drop)]
 pub struct Unpack<'a> {
     pub folder: &'a str,
@@ -39,7 +39,8 @@ pub const UNPACK: Outline = Outline {
     ],
 };
 
-/// What the words behind `unpack` ask for. The parser has seen to it that all of them are there.
+/// Returns what the arguments of `unpack` ask for. The parser has checked that all required ones
+/// are present.
 pub fn unpack_order<'a>(alloc: Global, matches: &ArgMatches<'a>) -> Result<Unpack<'a>, Error>
     ensures ok { IfOk result (AsksToUnpack (rows_of (found_of matches.now))) }
     ensures err { IfErr result (RefusedFor (IsNoUnpack (rows_of (found_of matches.now)))) }

@@ -8,15 +8,14 @@ use std::fs::Metadata;
 use std::rt::Runtime;
 use tape_writer::system::{VOLUMES, image_path};
 
-/// Judges the files that the words name. None is opened, made or changed.
+/// Checks the files that the arguments name. None is opened, created or changed.
 ///
 /// # Errors
 ///
-/// `Words` where an input is an image that the set may be written to: the file itself, whatever
-/// name or link leads there. `Faulted` with `NotOpened` where a folder stands in the place of such
-/// an image, and where one of these files can't be looked at; with `Exists` where anything else
-/// does that is no plain file, as a pipe or a device; with `OutOfMemory` where a growth was
-/// refused.
+/// Returns `Words` if an input is an image that the set may be written to: the same file, whatever
+/// name or link leads to it. Returns `Faulted` with `NotOpened` if a directory has the name of such
+/// an image, or one of these files cannot be looked at; with `Exists` if anything else does that is
+/// not a plain file, such as a pipe or a device; with `OutOfMemory` if an allocation was refused.
 pub fn look_ahead<R: Runtime + AllocGlobal>(rt: &R, order: &WriteOrder<'_>) -> Result<(), Unfit> {
     let images = images_of(rt, order)?;
     differ(rt, order.files.as_slice(), images.as_slice())
@@ -39,7 +38,7 @@ fn differ<R: Runtime>(rt: &R, files: &[&str], images: &[Metadata]) -> Result<(),
     Ok(())
 }
 
-/// The images of the set that are there already.
+/// Returns the existing images of the set.
 fn images_of<R: Runtime + AllocGlobal>(
     rt: &R,
     order: &WriteOrder<'_>,
@@ -55,7 +54,7 @@ fn images_of<R: Runtime + AllocGlobal>(
     Ok(images)
 }
 
-/// What stands in the place of the image with this number, if anything does.
+/// Returns what has the name of the image with this number, if anything.
 fn image_at<R: Runtime + AllocGlobal>(
     rt: &R,
     order: &WriteOrder<'_>,
@@ -70,7 +69,7 @@ fn image_at<R: Runtime + AllocGlobal>(
     }
 }
 
-/// Refuses what is no plain file.
+/// Refuses what is not a plain file.
 fn plain(found: Metadata) -> Result<Option<Metadata>, Unfit> {
     if found.is_file() {
         Ok(Some(found))

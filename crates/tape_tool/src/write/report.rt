@@ -13,12 +13,12 @@ use tape_writer::system::Ended;
 /// Room for the longest line, which is that of all.
 type Line = ArrayVec<u8, 64>;
 
-/// Prints a line for each volume, and one that says how many files and volumes there are.
+/// Prints a line for each volume, and one with the numbers of files and volumes.
 ///
 /// # Errors
 ///
-/// `WriteFailed` where the writer fails, also where its flush does. What was printed is a front of
-/// these lines.
+/// Returns `WriteFailed` if the writer or its flush fails. What was printed is a prefix of these
+/// lines.
 pub fn say<W: Write>(writer: &mut W, files: u64, ended: &[Ended]) -> Result<(), WriteFailed>
     ensures ok { OnOk result
         (Appends (W.contents writer.old) (W.contents writer.new) (report files ended.now)) }

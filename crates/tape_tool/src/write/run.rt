@@ -18,7 +18,8 @@ use tape_label::{Field, Format, Head1};
 use tape_writer::system::{FolderPlan, InputFile, write_in_folder};
 use tape_writer::{Input, WriteFault};
 
-/// Writes files on volumes, if no file would be lost by it. At a fault the site is where it came.
+/// Writes files to volumes, unless a file would be lost by it. On error, the site says where it
+/// occurred.
 pub fn write<'a, R: Host>(rt: &R, order: &WriteOrder<'a>, site: &mut Site<'a>) -> End {
     *site = Site::Images(order.folder);
     match look_ahead(rt, order) {
@@ -27,10 +28,11 @@ pub fn write<'a, R: Host>(rt: &R, order: &WriteOrder<'a>, site: &mut Site<'a>) -
     }
 }
 
-/// Writes the files on volumes, and says on which. One input and one image are open at a time.
+/// Writes the files to volumes, and reports the volumes. One input and one image are open at a
+/// time.
 ///
-/// Faults are looked for in this order: the shape, the files' identifiers, their inputs, and then
-/// what the engine finds.
+/// Errors are checked in this order: the shape, the files' identifiers, their inputs, and then
+/// those that the writer finds.
 fn write_set<'a, R: Host>(
     rt: &R,
     order: &WriteOrder<'a>,
@@ -43,7 +45,7 @@ fn write_set<'a, R: Host>(
     write_files(rt, &plan, files.as_mut_slice())
 }
 
-/// Writes these files on volumes, and says on which.
+/// Writes these files to volumes, and reports the volumes.
 fn write_files<R: Host>(
     rt: &R,
     plan: &FolderPlan<'_>,
@@ -64,7 +66,7 @@ fn plan_of<'a>(order: &WriteOrder<'a>) -> Result<FolderPlan<'a>, ToolFault> {
     })
 }
 
-/// The shape of all files. What a shape cannot be is told of as of one that is not written.
+/// Returns the shape of all files. An impossible shape is reported as one that is not written.
 fn shape_of(order: &WriteOrder<'_>) -> Result<Shape, ToolFault>
     ensures format { IfOk result (λ shape. shape.format ≡ order.now.format) }
     ensures block_len { IfOk result (λ shape. shape.block_len ≡ order.now.block) }
@@ -93,7 +95,7 @@ fn shape_of(order: &WriteOrder<'_>) -> Result<Shape, ToolFault>
     }
 }
 
-/// The record length: with D, where none is given, the greatest for which there is room.
+/// Returns the record length: with D, if none is specified, the greatest that fits into a block.
 fn record_length(order: &WriteOrder<'_>) -> u32
     ensures { result ≡ record_length order.now.format order.now.record order.now.block
         order.now.offset }
@@ -108,7 +110,7 @@ fn record_length(order: &WriteOrder<'_>) -> u32
     }
 }
 
-/// Looks at the identifiers of all files. Nothing of them is kept: there may be thousands.
+/// Checks the identifiers of all files. Nothing of them is kept, since there may be thousands.
 fn check_ids<'a>(order: &WriteOrder<'a>, site: &mut Site<'a>) -> Result<(), ToolFault> {
     for word in order.files.as_slice() {
         *site = Site::Input(*word);
@@ -126,7 +128,7 @@ fn head_for(word: &str) -> Result<Head1, ToolFault> {
     }
 }
 
-/// A file's identifier and its path, which stand round the first equals sign.
+/// A file's identifier and its path, before and after the first equals sign.
 pub fn split<'a>(word: &'a str) -> (&'a str, &'a str)
     ensures id { result.0.now ≡ before_first (λ byte. byte == 61) word.now }
     ensures path { result.1.now ≡ after_first (λ byte. byte == 61) word.now }
@@ -134,8 +136,8 @@ pub fn split<'a>(word: &'a str) -> (&'a str, &'a str)
     word.split_once('=').unwrap_or((word, ""))
 }
 
-/// The head of a file, with neither dates nor restrictions. The writer puts in the set's identifier
-/// and the numbers.
+/// Returns the head of a file, without dates or restrictions. The writer fills in the set's
+/// identifier and the numbers.
 fn head_of(file_id: Field<17>) -> Head1
     ensures { result ≡ plain_head file_id }
 {

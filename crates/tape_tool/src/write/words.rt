@@ -1,4 +1,4 @@
-//! What the words behind `write` ask for.
+//! The arguments of `write`.
 
 ghost use Rattle.std.specs.Prelude.{◌≡◌, ◌↔◌, ◌⊎◌, [], codes, map, IfOk, IfErr, IfSome, IfNone};
 ghost use Rattle.std.specs.Prelude.{IsTrue};
@@ -22,7 +22,7 @@ const FORMATS: &[&str] = &["F", "D", "S"];
 /// The greatest number that a block or a record length, or a capacity, can be.
 const MOST: u64 = 4_294_967_295;
 
-/// What `write` writes: the files of these words, each `ID=PATH`, on volumes of a folder.
+/// What `write` writes: the files of these arguments, each `ID=PATH`, to volumes in a directory.
 #[derive(Drop)]
 pub struct WriteOrder<'a> {
     pub folder: &'a str,
@@ -66,7 +66,8 @@ pub const WRITE: Outline = Outline {
     ],
 };
 
-/// What the words behind `write` ask for. The parser has seen to it that they are there.
+/// Returns what the arguments of `write` ask for. The parser has checked that all required ones are
+/// present.
 pub fn write_order<'a>(alloc: Global, matches: &ArgMatches<'a>) -> Result<WriteOrder<'a>, Error>
     ensures ok { IfOk result (AsksToWrite (rows_of (found_of matches.now))) }
     ensures err { IfErr result (RefusedFor (IsNoWrite (rows_of (found_of matches.now)))) }
@@ -81,7 +82,7 @@ pub fn write_order<'a>(alloc: Global, matches: &ArgMatches<'a>) -> Result<WriteO
     }
 }
 
-/// The order of these words, with this prefix and these files.
+/// Returns the order of these arguments, with this prefix and these files.
 fn asked<'a>(matches: &ArgMatches<'a>, prefix: Prefix, files: Vec<&'a str>) -> WriteOrder<'a>
     ensures asks { prefix.characters ≡ text_in (rows_of (found_of matches.now)) (codes "PRE")
         → map (λ w. w.now) files.entry.items
@@ -105,7 +106,7 @@ fn asked<'a>(matches: &ArgMatches<'a>, prefix: Prefix, files: Vec<&'a str>) -> W
     }
 }
 
-/// The words of the files, each of which names a path.
+/// Returns the arguments that name files, each of which must have a path.
 fn files_of<'a>(alloc: Global, matches: &ArgMatches<'a>) -> Result<Vec<&'a str>, Error>
     ensures ok { IfOk result (λ files. map (λ w. w.now) files.items
         ≡ texts_in (rows_of (found_of matches.now)) (codes "ID=PATH")) }
@@ -121,7 +122,7 @@ fn files_of<'a>(alloc: Global, matches: &ArgMatches<'a>) -> Result<Vec<&'a str>,
     Ok(Vec::from_slice(alloc, files)?)
 }
 
-/// Whether each of these words names a path.
+/// Whether each of these arguments has a path.
 fn have_paths(words: &[&str]) -> bool
     ensures { IsTrue result ↔ HavePaths (map (λ w. w.now) words.now) }
 {
@@ -133,14 +134,14 @@ fn have_paths(words: &[&str]) -> bool
     true
 }
 
-/// Whether the word names a path, which stands behind an equals sign.
+/// Whether the argument has a path, after an equals sign.
 fn has_path(word: &str) -> bool
     ensures { IsTrue result ↔ Contains word.now 61 }
 {
     word.contains('=')
 }
 
-/// What is wrong with words that don't go together.
+/// The error for options that exclude each other.
 fn wrong(order: &WriteOrder<'_>) -> Option<&'static str>
     ensures some { IfSome result (λ _. (order.now.folder.now ≡ []) ⊎ IsAtOdds order.now) }
     ensures folder { IfNone result (order.now.folder.now ≡ [] → ⊥) }
