@@ -18,15 +18,15 @@ abbrev pub stop_at : Ending → ImageStop
 stop_at endings.Marked = Marked
 stop_at endings.Physical = Physical
 
--- The bytes begin with these items, and then stop so: at an end, or at a fault with its cause in
--- the bytes, or, where the device failed, in those that it gave.
+-- The bytes begin with these items, and then stop like this: at an end, or at a fault caused by the
+-- bytes or, if the device failed, by those that it returned.
 abbrev pub StopsBehind : List TapeItem → ImageStop → List ℕ → List ℕ → Type 0
 StopsBehind items Marked xs ys = (place : ℕ) × TakesEnd 0 items endings.Marked place xs ys
 StopsBehind items Physical xs ys = (place : ℕ) × TakesEnd 0 items endings.Physical place xs ys
 StopsBehind items (Fault fault) xs ys = TakesFault 0 items fault xs ys
 
--- All items that a reader gave were read, and the sections that they tell were noted. Before the
--- call the reader had the bytes `before`, and then it has the bytes `after`.
+-- All items that a reader returned were read, and the sections found in them were added. Before the
+-- call the reader had the bytes `before`, and afterwards it has the bytes `after`.
 pub record Adds
     (before after : Option (List ℕ)) (old : List Told) (line : ImageLine) (new : List Told) : Type 0
   where
@@ -37,7 +37,7 @@ pub record Adds
     pub places : KeepsPlaces old new
     pub good : GoodIsShown items old new
 
--- There was no memory: the sections were noted that a front of the items tells.
+-- Memory ran out: the sections found in a prefix of the items were added.
 pub record AddsInPart (before : Option (List ℕ)) (old new : List Told) : Type 0 where
   pub items : List TapeItem
   pub front : IfSome before (λ xs. (place : ℕ) × (ys : List ℕ) × Walks 0 xs items place ys)

@@ -10,8 +10,7 @@ abbrev pub reels_of : List (List ℕ) → List Step
 reels_of [] = []
 reels_of (b ∷ bs) = Reel ∷ reels_of bs
 
--- The images begin with exactly the items of the volumes behind volume k: each with those of the
--- next one, and there is one for each.
+-- The images begin with exactly the items of the volumes after volume k, one image for each volume.
 abbrev pub AreVolumes : FileSet → ℕ → List (List ℕ) → Type 0
 AreVolumes set k [] = k ≡ length set.volumes
 AreVolumes set k (b ∷ bs) =

@@ -1,4 +1,4 @@
--- What the reader's table makes of any items whatever, whether or not a lawful set fits them.
+-- What the reader's table makes of any items, whether or not they are those of a valid set.
 use Rattle.std.specs.Prelude.{◌≡◌, ℕ, ◌<◌, ◌+◌, List, [], ◌∷◌, ◌++◌, length, take, drop, Option}
 use Rattle.std.specs.Prelude.{Some, None}
 use Rattle.tape_blocks.specs.Block.{Portion}
@@ -16,12 +16,12 @@ use Rattle.tape_core.specs.Table.{step_of, saved}
 use Rattle.tape_run.specs.Puts.{refused_point}
 use Rattle.tape_run.specs.Reels.{behind_items}
 
--- the parts of a block by what is known of its file, from the awaited one on
+-- the parts of a block by what is known of its file, from the expected one on
 abbrev pub parts_from : Position → Option FileForm → List ℕ → List Portion
 parts_from p None content = []
 parts_from p (Some form) content = drop (part_of p) (parts_in form content)
 
--- the parts that an item delivers by its answer: those of a block that is the awaited one
+-- the parts that an item delivers by its answer: those of a block that is the expected one
 abbrev pub parts_by : Answer → TapeItem → Position → Option FileForm → List Portion
 parts_by Deliver (block content) p known = parts_from p known content
 parts_by answer item p known = []
@@ -31,7 +31,7 @@ abbrev pub parts_at : State → TapeItem → List Portion
 parts_at core item =
     parts_by (step_of core (Some item)).0 item core.position (step_of core (Some item)).1.known
 
--- the same of what comes, an item or the end of the reel
+-- the same for an event, an item or the end of the reel
 abbrev pub parts_of_arrival : State → Option TapeItem → List Portion
 parts_of_arrival core None = []
 parts_of_arrival core (Some item) = parts_at core item
@@ -41,14 +41,14 @@ abbrev pub delivered_parts : State → List TapeItem → List Portion
 delivered_parts core [] = []
 delivered_parts core (x ∷ xs) = parts_at core x ++ delivered_parts (step_of core (Some x)).1 xs
 
--- The table leads the core over these items to where it stands now, and to the parts held came
--- just those that they deliver.
+-- The table leads the core over these items to its current state, and exactly the parts that they
+-- deliver were added to held.
 pub record IsLed (xs : List TapeItem) (core new : State) (held now : List Portion) : Type 0 where
   pub place : new ≡ rest_of (behind_items core xs)
   pub parts : now ≡ held ++ delivered_parts core xs
 
--- A part of a block that came was refused: the parts before it, so many more and not all of them,
--- were delivered, and the core stands at it; where it is the first of them it stands as it did.
+-- A part of the block was refused: some of the parts before it, possibly none, were delivered, and
+-- the core's position is the refused part; if it is the first of them, the core is unchanged.
 pub record StopsInside (core new : State) (item : TapeItem) (held now : List Portion)
     : Type 0 where
   pub delivers : (step_of core (Some item)).0 ≡ Deliver
@@ -59,7 +59,7 @@ pub record StopsInside (core new : State) (item : TapeItem) (held now : List Por
   pub place : new ≡ place_of (refused_point (saved core 0) (saved (step_of core (Some item)).1 0)
       (part_of core.position + more) (begun_behind core.begun (take more (parts_at core item))))
 
--- Behind some of these items a part of the next one was refused.
+-- After some of these items a part of the next one was refused.
 pub record IsCutAt (xs : List TapeItem) (core new : State) (held now : List Portion)
     : Type 0 where
   pub before : List TapeItem

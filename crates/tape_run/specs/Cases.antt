@@ -1,5 +1,5 @@
--- What the definitions of a session and of its history say of cases, so that none of them says
--- less, or asks more, than it should. The call `laws::cases` has them as its contract.
+-- Examples for the definitions of a session and of its history, so that none of them says less, or
+-- requires more, than it should. They are the contract of the call `laws::cases`.
 use Rattle.std.specs.Prelude.{◌≡◌, ◌≤◌, ℕ, ◌+◌, Bool, true, false, List, [], ◌∷◌, ◌++◌, Option}
 use Rattle.std.specs.Prelude.{length, take, slice_get, Some, None, IsSome}
 use Rattle.tape_image.specs.declared.item.ImageCause.TheVariants.{Truncated, Device}
@@ -44,27 +44,27 @@ use Rattle.tape_run.specs.WorkedHistory.{worked_set, vol1, hdr1, reading}
 
 -- ---- what may be mounted
 
--- of copies, foreign reels, and fronts of both
+-- of copies, foreign reels, and prefixes of both
 pub record CasesOfMounts : Type 0 where
-  -- each reading of a volume, whole or cut, with any of its items not read well, is a mount of it
+  -- each reading of a volume, complete or cut, with any unreadable items, is a mount of it
   pub readings : (set : FileSet) (r : Reading) → IsReadingOf set r
       → IsMount set (as_read (items set r.volume) r.good) (reads r)
-  -- behind a whole volume of which only data blocks are bad anything may follow
+  -- after a complete volume of which only data blocks are bad anything may follow
   pub more_behind : (set : FileSet) (r : Reading) (more : List TapeItem) → IsReadingOf set r
       → length r.good ≡ length (items set r.volume) → passes r.good (entries set r.volume) ≡ true
       → IsMount set (as_read (items set r.volume) r.good ++ more) (reads r)
-  -- an image without a byte, and a reel that begins with a tape mark, are none of the set
+  -- an image without a byte, and a reel that begins with a tape mark, are foreign
   pub empty_image : (set : FileSet) → IsMountOf set [] foreign_reel
   pub mark_first : (set : FileSet) (rest : List TapeItem) → IsMount set (mark ∷ rest) foreign_reel
   -- a volume of the set is not foreign
   pub own_volume : (rest : List TapeItem)
       → IsMount worked_set (block vol1 ∷ block hdr1 ∷ rest) foreign_reel → ⊥
-  -- an image may stop in any way behind the items of a mount
+  -- an image may stop in any way after the items of a mount
   pub any_stop : (set : FileSet) (bytes : List ℕ) (xs : List TapeItem) (end : ℕ) (stop : Stop)
       (h : Happening) → Begins 0 bytes xs end stop → IsMount set xs h → IsMountOf set bytes h
   pub no_save : (set : FileSet) (xs : List TapeItem) → IsMount set xs saves → ⊥
   pub no_restart : (set : FileSet) (xs : List TapeItem) → IsMount set xs (restarts 0) → ⊥
-  -- a front of a reading, and a reel that moves nothing
+  -- a prefix of a reading, and a reel that moves nothing
   pub cut_off : cut 2 (reads (reading 1 (true ∷ false ∷ true ∷ [])))
       ≡ reads (reading 1 (true ∷ false ∷ []))
   pub foreign_moves_nothing : (set : FileSet) (p : Position)
@@ -72,29 +72,29 @@ pub record CasesOfMounts : Type 0 where
 
 -- ---- histories
 
--- two positions and a course that noted both
+-- two positions and a course with checkpoints of both
 abbrev pub two_notes : Course
 two_notes = record { at = awaiting 2 0; notes = start ∷ awaiting 1 1 ∷ [] }
 
 -- of scripts, what happens, and where that leads
 pub record CasesOfHistories : Type 0 where
-  -- notes are saved and gone back to, and a reel that is not asked for may be left
+  -- checkpoints are saved and returned to, and readers that the script does not use may be left
   pub saved_and_back : (set : FileSet) (bytes : List ℕ)
       → IsHistory set 0 (Save ∷ Save ∷ Restart 1 ∷ Restart 0 ∷ []) (bytes ∷ [])
       (saves ∷ saves ∷ restarts 1 ∷ restarts 0 ∷ [])
-  -- but no note is there before one is saved, nor one that was forgotten
+  -- but there is no checkpoint before one is saved, nor one that was dropped
   pub no_note_yet : (set : FileSet) → IsHistory set 0 (Restart 0 ∷ []) [] (restarts 0 ∷ []) → ⊥
   pub forgotten : (set : FileSet)
       → IsHistory set 2 (Restart 0 ∷ Restart 1 ∷ []) [] (restarts 0 ∷ restarts 1 ∷ []) → ⊥
   pub other_note : (set : FileSet) → IsHistory set 2 (Restart 0 ∷ []) [] (restarts 1 ∷ []) → ⊥
-  -- a reel is mounted where the script asks for one, and nothing happens that it does not ask for
+  -- a reel is mounted if the script says so, and nothing happens that it does not say
   pub reel_mounted : (set : FileSet) (bytes : List ℕ) (h : Happening) → IsMountOf set bytes h
       → IsHistory set 0 (Reel ∷ []) (bytes ∷ []) (h ∷ [])
   pub no_reel : (set : FileSet) (h : Happening) → IsHistory set 0 (Reel ∷ []) [] (h ∷ []) → ⊥
   pub unasked : (set : FileSet) (h : Happening) → IsHistory set 0 [] [] (h ∷ []) → ⊥
   pub left_out : (set : FileSet) (s : Step) → IsHistory set 0 (s ∷ []) [] [] → ⊥
-  -- where they lead: a save notes the position, going back forgets the later notes, and a foreign
-  -- reel and a note that is not there change nothing
+  -- where they lead: a save records the position, a rollback drops the later checkpoints, and a
+  -- foreign reel and a missing checkpoint change nothing
   pub saved_course : course worked_set 1 two_notes (saves ∷ [])
       ≡ record { at = awaiting 2 0; notes = start ∷ awaiting 1 1 ∷ awaiting 2 0 ∷ [] }
   pub back_course : course worked_set 1 two_notes (restarts 0 ∷ [])
@@ -103,11 +103,11 @@ pub record CasesOfHistories : Type 0 where
       ≡ record { at = awaiting 1 1; notes = start ∷ awaiting 1 1 ∷ [] }
   pub same_course : course worked_set 1 two_notes (foreign_reel ∷ restarts 2 ∷ []) ≡ two_notes
 
--- ---- what readers gave
+-- ---- what readers returned
 
 -- of bytes, readers that failed, and their count
 pub record CasesOfGiven : Type 0 where
-  -- of a reader that failed just that was given which it has not left
+  -- a reader that failed returned exactly what it no longer has
   pub no_other : (left : Option (List ℕ)) → IsGiven true (1 ∷ 2 ∷ []) left (2 ∷ []) → ⊥
   pub front : IsGiven true (1 ∷ 2 ∷ []) (Some (2 ∷ [])) (1 ∷ [])
   pub no_less : (given : List ℕ) → IsGiven true (1 ∷ 2 ∷ []) (Some (2 ∷ [])) given
@@ -118,7 +118,7 @@ pub record CasesOfGiven : Type 0 where
   pub one : counted true 3 ≡ 4
   pub greatest : counted true 18446744073709551615 ≡ 18446744073709551615
   pub two : counted_up 2 3 ≡ 5
-  -- of readers of which it is told which failed
+  -- of readers, with a list of those that failed
   pub second_failed : (b c d : List ℕ) → AreGivenBy (false ∷ true ∷ []) (b ∷ c ∷ d ∷ [])
       (None ∷ Some c ∷ None ∷ []) (b ∷ [] ∷ d ∷ [])
   pub just_the_second : (b c d e l : List ℕ) → AreGivenBy (false ∷ true ∷ []) (b ∷ c ∷ [])
@@ -132,7 +132,7 @@ pub record CasesOfGiven : Type 0 where
   pub as_far_as_it_reaches : written (true ∷ false ∷ true ∷ []) (false ∷ true ∷ [])
       ≡ true ∷ false ∷ []
   pub the_rest_stays : written (true ∷ []) (false ∷ true ∷ []) ≡ true ∷ true ∷ []
-  -- it is the device's fault, and no other, that tells of such a reader
+  -- only the device's fault means that a reader failed
   pub device : is_device (Some (record { place = 9; cause = Device })) ≡ true
   pub no_fault : is_device None ≡ false
   pub in_the_bytes : is_device (Some (record { place = 9; cause = Truncated })) ≡ false
@@ -154,7 +154,7 @@ pub record CasesOfVolumes : Type 0 where
       → AreVolumes (on_one_volume id v files) 1 (bytes ∷ []) → ⊥
   pub a_reel_each : (b c : List ℕ) → reels_of (b ∷ c ∷ []) ≡ Reel ∷ Reel ∷ []
 
--- ---- what a session is
+-- ---- sessions
 
 -- of sessions, and of what was read of a file
 pub record CasesOfSessions : Type 0 where
@@ -162,7 +162,7 @@ pub record CasesOfSessions : Type 0 where
       → course_of s ≡ record { at = s.place.position; notes = c.position ∷ [] }
   pub session : (set : FileSet) (s : Seen) → IsSession set s
       → IsPlaced set s.place s.parts × AreNotes set s.place.file [] s.notes s.parts
-  -- a note stands with a front of the parts
+  -- a checkpoint is valid for a prefix of the parts
   pub one_note : (set : FileSet) (c : Point) (parts : List Portion)
       → Stands set 1 c [] → AreNotes set 1 [] (c ∷ []) parts
   pub note_stands : (set : FileSet) (c : Point) (parts : List Portion)
@@ -170,7 +170,7 @@ pub record CasesOfSessions : Type 0 where
   pub kept_note : (s : Seen) (c : Point) → s.notes ≡ c ∷ [] → IsKept s
       → (ps : List Portion) × IsFront ps s.parts × (c.set_id ≡ s.place.set_id)
       × (c.file ≡ s.place.file) × (c.staged ≡ weight_of ps)
-  -- where all steps were made the session is where the history leads
+  -- if all steps succeeded the session is where the history leads
   pub ran : (set : FileSet) (old new : Seen) (hs : List Happening) → Ran set old hs new
       → IsSession set new × (new.place.file ≡ old.place.file)
       × (course set old.place.file (course_of old) hs ≡ course_of new)
@@ -193,11 +193,11 @@ pub record CasesOfSessions : Type 0 where
       × (s.parts ≡ before set file (course set file begins hs).at)
       × AreGivenBy r.which bytes left r.given × (s.failures ≡ counted_up (failed_of r.which) 0)
 
--- ---- steps that were made, and runs that were stopped
+-- ---- steps that succeeded, and runs that were stopped
 
 -- of steps, one by one
 pub record CasesOfMade : Type 0 where
-  -- what was given is what is not left, where the reader failed; parts and notes stay
+  -- if the reader failed, it returned what it no longer has; parts and checkpoints are unchanged
   pub was_reeled : (bytes : List ℕ) (left : Option (List ℕ)) (failed : Bool) (old new : Seen)
       (r : Reeled bytes left failed old new) → IsGiven failed bytes left r.given
       × (new.failures ≡ counted failed old.failures) × (new.notes ≡ old.notes)
@@ -219,12 +219,12 @@ pub record CasesOfMade : Type 0 where
       → Runs [] old (Reel ∷ []) (Some bytes ∷ []) (l ∷ []) new → ⊥
   pub none_is_left : (failed : Bool) (old new : Seen) (bytes : List ℕ)
       → Runs (failed ∷ []) old (Reel ∷ []) (Some bytes ∷ []) [] new → ⊥
-  -- a step is made behind the one before it, with the reader that this left
+  -- a step follows the one before it, with the reader that this left
   pub two_were_made : (old new : Seen) (bytes : List ℕ) (l : Option (List ℕ))
       → Runs (true ∷ []) old (Save ∷ Reel ∷ Restart 1 ∷ []) (Some bytes ∷ []) (l ∷ []) new
       → (first : Seen) × (second : Seen) × Saved old first
       × Reeled bytes l true first second × WentBack 1 second new
-  -- what is noted is where the session stands, with the weight of its parts
+  -- a checkpoint has the session's position, with the weight of its parts
   pub was_saved : (old new : Seen) → Saved old new
       → (new.notes ≡ old.notes ++ saved old.place (weight_of old.parts) ∷ [])
       × (new.place ≡ old.place) × (new.parts ≡ old.parts)
@@ -234,8 +234,8 @@ pub record CasesOfMade : Type 0 where
       × IsFront new.parts old.parts × (weight_of new.parts ≡ w.point.staged)
       × (new.notes ≡ take 2 old.notes) × (new.failures ≡ old.failures)
       × (new.refusals ≡ old.refusals)
-  -- The step of the number that is told is the one that was not made, and those before it were,
-  -- each with its reader. There is no such step behind the last one.
+  -- The step with the reported number is the one that failed, and those before it succeeded, each
+  -- with its reader. There is no such step after the last one.
   pub second_was_not : (old new : Seen) (fault : RunFault) (bytes : List ℕ) (l : Option (List ℕ))
       → RunsUpTo (true ∷ []) old (Reel ∷ Reel ∷ Save ∷ []) (Some bytes ∷ []) (l ∷ []) 1 fault new
       → (mid : Seen) × Reeled bytes l true old mid
@@ -250,7 +250,7 @@ pub record CasesOfMade : Type 0 where
   pub fails : (old new : Seen) (fault : RunFault) (reels : List (Option (List ℕ)))
       → (Fails Save reels fault old new → SaveFails fault old new)
       × (Fails (Restart 3) reels fault old new → RestartFails 3 fault old new)
-  -- why one was not made, and what it left
+  -- why a step failed, and what it left
   pub save_refused : (cause : SinkFault) (old new : Seen) → SaveFails (Sink cause) old new
       → (new.place ≡ old.place) × (new.parts ≡ old.parts) × (new.notes ≡ old.notes)
       × (new.failures ≡ old.failures)
@@ -282,8 +282,8 @@ pub record CasesOfMade : Type 0 where
 
 -- ---- crashes
 
--- of what comes back, and of lives one after another
--- of a crash at moment 4, and since each moment up to it, alone
+-- of what a crash leaves, and of runs one after another: of a crash at moment 4, and since each
+-- moment up to it, alone
 abbrev pub came_by : List Portion → Point → Crashes
 came_by ps c = record {
   returns = λ back there. ⊥;
@@ -294,15 +294,15 @@ came_by ps c = record {
 }
 
 pub record CasesOfCrashes : Type 0 where
-  -- a place of a course is where it is, or one that it noted
+  -- a place of a course is its position, or one of its checkpoints
   pub its_place : (p q : Position) → IsPlaceOf (record { at = p; notes = [] }) q → q ≡ p
   pub noted_place : IsPlaceOf two_notes (awaiting 1 1)
-  -- what a session without notes brings back is where it stands, with its parts
+  -- a session without checkpoints leaves its position, with its parts
   pub of_session : (s : Seen) (back : Point) (there : List Portion) → s.notes ≡ []
       → IsOf s back there → (back ≡ saved s.place (weight_of s.parts)) × (there ≡ s.parts)
   pub of_a_note : (s : Seen) (back : Point) (there : List Portion) → s.notes ≡ back ∷ []
       → IsFront there s.parts → weight_of there ≡ back.staged → IsOf s back there
-  -- of one note it comes back alone, of a crash now, and from a past moment on
+  -- of one checkpoint a crash leaves that alone, now and from a past moment on
   pub alone : (s : Seen) (c p : Point) (ps : List Portion) → s.notes ≡ c ∷ []
       → LastAlone (comes_now ps p) s → p ≡ c
   pub alone_since : (s : Seen) (c p : Point) (ps : List Portion) → s.notes ≡ c ∷ []

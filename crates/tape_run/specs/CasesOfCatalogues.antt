@@ -1,5 +1,5 @@
--- What the definitions of a catalogue, and of reports of what is on reels, say of cases. The call
--- `laws::cases` has them as its contract.
+-- Examples for the definitions of a catalogue, and of reports of what is on reels. They are the
+-- contract of the call `laws::cases`.
 use Rattle.std.specs.Prelude.{◌≡◌, ◌<◌, ◌≤◌, ◌+◌, ℕ, zero, suc, Bool, true, false, List, [], ◌∷◌}
 use Rattle.std.specs.Prelude.{◌++◌, length, map, Option, Some, None, codes}
 use Rattle.std.specs.List.{AllByRecursion, flat_map}
@@ -43,7 +43,7 @@ use Rattle.tape_run.specs.WholeSet.{HasEach, IsWholeCopy, IsNoDevice, key_in}
 
 -- ---- the catalogue
 
--- this section of the set ABC001, met so
+-- this section of the set ABC001, in this state
 abbrev pub met : ℕ → ℕ → Bool → SectionState → Told
 met file sect eof state = (
   key_at (codes "ABC001") file sect,
@@ -53,7 +53,7 @@ met file sect eof state = (
 abbrev pub lack : ℕ → ℕ → Lack
 lack file sect = record { set_id = codes "ABC001"; file = file; sect = sect }
 
--- of what is noted, and what lacks
+-- of what is added, and what is missing
 pub record CasesOfCatalogues : Type 0 where
   pub line : line_of (met 1 2 true Bad) ≡ record {
     set_id = codes "ABC001";
@@ -65,7 +65,7 @@ pub record CasesOfCatalogues : Type 0 where
   }
   pub key : (set : FileSet) (x : Placed) → ((key_in set x).set_id ≡ set.set_id)
       × ((key_in set x).file ≡ x.file) × ((key_in set x).sect ≡ x.sect)
-  -- a new section goes last, a good one takes the place of another, and nothing takes its place
+  -- a new section goes last, a good one replaces another, and nothing replaces it
   pub new_one : noted (met 1 1 false Good ∷ []) (met 1 2 true Cut)
       ≡ met 1 1 false Good ∷ met 1 2 true Cut ∷ []
   pub better : noted (met 1 1 false Cut ∷ met 1 2 true Cut ∷ []) (met 1 1 false Good)
@@ -74,17 +74,17 @@ pub record CasesOfCatalogues : Type 0 where
   pub other_file : noted (met 1 1 false Good ∷ []) (met 2 1 true Good)
       ≡ met 1 1 false Good ∷ met 2 1 true Good ∷ []
   pub all : noted_all [] (met 1 1 true Cut ∷ met 1 1 true Good ∷ []) ≡ met 1 1 true Good ∷ []
-  -- where nothing is known of a file its first section lacks
+  -- if nothing is known of a file, its first section is missing
   pub nothing_known : (id : List ℕ) (file sect : ℕ) → IsFirstLack [] id file sect → sect ≡ 1
   pub nothing_found : (id : List ℕ) (file : ℕ) → IsFoundWhole [] id file → ⊥
-  -- those before it are good and go on, and it is not
+  -- those before it are good and continue, and it is not good
   pub lacks_itself : (c : List Told) (id : List ℕ) (file : ℕ) → IsFirstLack c id file 1
       → good_end (entry_at c (key_at id file 1)) ≡ None
   pub first_goes_on : (c : List Told) (id : List ℕ) (file : ℕ) (f : IsFoundWhole c id file)
       → 1 < f.sect → good_end (entry_at c (key_at id file 1)) ≡ Some false
   pub no_good : (key : SectionKey) → IsGoodAt [] key → ⊥
-  -- what lacks: the section behind one that goes on, one that is not good, and each file before the
-  -- last one met
+  -- what is missing: the section after one that continues, one that is not good, and each file
+  -- before the last one found
   pub next_lacks : lacks (met 1 1 false Good ∷ []) ≡ lack 1 2 ∷ []
   pub bad_lacks : lacks (met 1 1 true Bad ∷ []) ≡ lack 1 1 ∷ []
   pub count_lacks : lacks (met 1 1 true Count ∷ []) ≡ lack 1 1 ∷ []
@@ -138,7 +138,7 @@ pub record CasesOfCopies : Type 0 where
       → HasEach (on_one_volume id v files) (1 ∷ 1 ∷ [])
   pub one_lacks : (id : List ℕ) (v : Volume) (files : List (List Section))
       → HasEach (on_one_volume id v files) (2 ∷ []) → ⊥
-  -- a whole copy may end in both ways, and a fault that is none of the device is no failure
+  -- a complete copy may end in both ways, and a fault that is not the device's is no failure
   pub whole_copy : (set : FileSet) (k end : ℕ) (ending : Ending) (xs : List ℕ)
       → Begins 0 xs (items set k) end (ends ending) → IsWholeCopy set k xs
   pub ends_are_none : IsNoDevice Physical × IsNoDevice Marked
@@ -149,12 +149,12 @@ pub record CasesOfCopies : Type 0 where
       (Some (record { items = n; stop = Marked }) ∷ []) (k ∷ [])
   pub unopened : (set : FileSet) (line : Option ImageLine) (k : ℕ)
       → AreWholeCopies set (None ∷ []) (line ∷ []) (k ∷ []) → ⊥
-  -- what is told whole: all found, no lack, and a line GOOD for each section
+  -- the report of a complete set: all found, nothing missing, and a line GOOD for each section
   pub told_whole : (set : FileSet) (lines : List (Option ImageLine)) (text : List ℕ) (found : Bool)
       (w : IsToldWhole set lines text found) → (found ≡ true)
       × (text ≡ image_lines 1 lines ++ (flat_map section_line w.listed ++ found_line))
       × AllByRecursion (λ x. IsListedGood w.listed (key_in set x)) (sections set)
-  -- what is shown stands on one of the images, in the items that its bytes begin with
+  -- what is shown is on one of the images, in the items that its bytes begin with
   pub shown_on : (reels : List Reel) (told : Told) (s : IsShownOn reels told)
       → (reels ≡ s.front ++ Some s.before ∷ s.rest) × Shown s.items told.0 told.1
       × IfKnown s.before s.after (StopsBehind s.items s.stop)
@@ -163,7 +163,7 @@ pub record CasesOfCopies : Type 0 where
 
 -- of reports of images
 pub record CasesOfReports : Type 0 where
-  -- what is reported is what was read, and found is what the sections tell
+  -- what is reported is what was read, and found is what the sections say
   pub report : (reels : List Reel) (text : List ℕ) (found : Bool) (r : IsReport reels text found)
       → AddsImages reels r.lines [] r.sections
       × (text ≡ image_lines 1 r.lines ++ summary r.sections) × (found ≡ found_all r.sections)
@@ -182,7 +182,7 @@ pub record CasesOfReports : Type 0 where
       (old new : Option (List ℕ)) (found : Bool)
       (r : Reports length Took (λ x. x) (a ∷ b ∷ []) left old new found)
       → (r.reels ≡ a ∷ b ∷ []) × IsReport r.reels r.text found × Appends old new r.text
-  -- a front of a report ends with a summary only where no image is left
+  -- a prefix of a report ends with a summary only if no image is left
   pub no_summary_before : (left : ℕ) (d : List Told) → summary_behind (suc left) d ≡ []
   pub summary_last : (d : List Told) → summary_behind zero d ≡ summary d
   -- and at most one image was mounted that was not read

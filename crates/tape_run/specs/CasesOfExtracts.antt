@@ -1,5 +1,4 @@
--- What the definitions of files got back say of cases. The call `laws::cases` has them as its
--- contract.
+-- Examples for the definitions of recovered files. They are the contract of the call `laws::cases`.
 use Rattle.std.specs.Prelude.{◌≡◌, ◌≢◌, ◌+◌, ◌<◌, ◌≤◌, ◌⊎◌, ℕ, List, [], ◌∷◌, ◌++◌, length, map}
 use Rattle.std.specs.Prelude.{Option, Some, None, Bool, true, false, ⊤, is_some}
 use Rattle.std.specs.Io.KnownBytes.{Appends}
@@ -73,7 +72,7 @@ pub record CasesOfTurns : Type 0 where
       (left : List (Option (Option (List ℕ))))
       → AreTurns Took (λ r. r) (a ∷ b ∷ []) 0 (s ∷ t ∷ []) left
       → IsTurn (λ r. r) a s × IsTurn (λ r. r) b t × (left ≡ None ∷ None ∷ [])
-  -- at a fault one image more may have been mounted, and those behind it were not
+  -- at a fault one more image may have been opened, and those after it were not
   pub one_more : (a b : Option (Option (List ℕ))) (left : List (Option (Option (List ℕ))))
       → AreFirstTurns Took (λ r. r) (a ∷ b ∷ []) [] left
       → (left ≡ a ∷ b ∷ []) ⊎ (left ≡ None ∷ b ∷ [])
@@ -81,7 +80,7 @@ pub record CasesOfTurns : Type 0 where
       (left : List (Option (Option (List ℕ))))
       → AreFirstTurns Took (λ r. r) (a ∷ b ∷ []) (t ∷ []) left → IsTurn (λ r. r) a t
       × ((left ≡ None ∷ b ∷ []) ⊎ (left ≡ None ∷ None ∷ []))
-  -- a wrong count, and a reader that it broke, are in doubt, and then nothing is noted
+  -- a wrong count, and a reader that it broke, are suspect, and then nothing is saved
   pub doubtful : is_doubtful (Useless (BlockCount 3 4)) ≡ true
   pub broken : is_doubtful (Useless Broken) ≡ true
   pub sure : (is_doubtful SectionDone ≡ false) × (is_doubtful (Useless BadItem) ≡ false)
@@ -89,20 +88,21 @@ pub record CasesOfTurns : Type 0 where
       → new ≡ old
   pub is_noted : (back spares : Bool) (old new : Seen) → IsNoted back spares false true old new
       → Saved old new
-  -- a session that does not spare notes makes one each time, and one that does none twice
+  -- a session that does not spare checkpoints makes one each time, and one that does never makes
+  -- two at one position
   pub noted_each_time : (back : Bool) (old new : Seen) → IsNoted back false false false old new → ⊥
   pub noted_before : (back : Bool) (old new : Seen) (c : Point) → old.notes ≡ c ∷ []
       → IsNoted back true false false old new
       → (new ≡ old) × (c ≡ saved old.place (weight_of old.parts))
   pub noted_anew : (back : Bool) (old new : Seen) (c : Point) → old.notes ≡ c ∷ []
       → c ≡ saved old.place (weight_of old.parts) → IsNoted back true false true old new → ⊥
-  -- a session that has a note goes back then, to the one made last
+  -- a session with a checkpoint then rolls back to the last one
   pub has_note : (c : Point) → (goes_back [] ≡ false) × (goes_back (c ∷ []) ≡ true)
   pub went_to_last : (old new : Seen) (c d : Point) → old.notes ≡ c ∷ d ∷ []
       → IsNoted true false true false old new → WentBack 1 old new
   pub its_own_notes : (s : Seen) → IsKeptFor true s → IsKept s
-  -- by steps: a save behind each reel where a note was made, none where it is in doubt, or the way
-  -- back
+  -- by steps: after each reel a save if a checkpoint was made, none if the reel is suspect, or the
+  -- rollback
   pub steps_behind : (step_behind true false true 2 ≡ Save ∷ [])
       × (step_behind true false false 2 ≡ []) × (step_behind false true false 2 ≡ [])
       × (step_behind true true false 2 ≡ Restart 1 ∷ []) × (step_behind true true false 0 ≡ [])
@@ -134,7 +134,7 @@ pub record CasesOfTurns : Type 0 where
 abbrev pub Listed : Type 0
 Listed = Story (List Portion)
 
--- what a list tells as the sink of its parts: it weighs nothing, and no crash brings it back
+-- a list that takes the place of the sink's parts: it weighs nothing, and nothing survives a crash
 abbrev pub as_sink : Ghosts (List Portion)
 as_sink = record {
   holds = λ s ps. s ≡ ps;
@@ -146,7 +146,7 @@ as_sink = record {
 abbrev pub Known : Type 0
 Known = Option (List ℕ)
 
--- images of which each is taken once
+-- images, each of which is taken once
 abbrev pub Readers : Type 0
 Readers = List (Option Known)
 
@@ -173,14 +173,14 @@ StopsListedNow session shelf left form out put said says =
 
 -- of what was written
 pub record CasesOfOutputs : Type 0 where
-  -- where nothing is wanted the records were written, and counted
+  -- if nothing is missing the records were written, and counted
   pub written : (records : ℕ) (form : Form) (out now : Known) (parts : List Portion)
       → IsWritten None records form out now parts
       → (records ≡ length (join parts).records) × Appends out now (output_of form parts)
   pub put : (records : ℕ) (form : Form) (stands : Known) (parts : List Portion)
       → IsPut None ⊤ records form stands parts
       → (records ≡ length (join parts).records) × (stands ≡ Some (output_of form parts))
-  -- what is wanted is what the session wants, where its images brought it
+  -- what is missing is what the session needs at the position where its images led it
   pub ends : (spares : Bool) (first : State) (old : Seen) (turns : List Turn) (want : Option Want)
       (records : ℕ) (form : Form) (out now : Known)
       (e : Ends spares first old turns want records form out now)
@@ -194,7 +194,7 @@ pub record CasesOfOutputs : Type 0 where
       → (want ≡ want_at e.now.place.file e.now.place.position) × AreSteps false turns old e.now
       × Follows false false first old turns e.last e.now
       × IsPut want ⊤ records form stands e.now.parts
-  -- images are left unread only where nothing is wanted, and each that was read has a line
+  -- images are left unread only if nothing is missing, and each that was read has a line
   pub left_unread : (session behind : Listed) (shelf left : Readers) (form : Form)
       (out now said says : Known) (want : Option Want)
       (e : ExtractsListed session behind shelf left form out now said says want)
@@ -204,7 +204,7 @@ pub record CasesOfOutputs : Type 0 where
       (e : ExtractsListed session behind shelf left form out now said says want)
       → Appends said says (reel_lines 1 (map answer_of e.turns) ++ last_line want e.records)
       × AreTurns Took (λ r. r) shelf 0 e.turns left
-  -- the session that is left stands where its images brought it, with the parts that were written
+  -- the session that is left is where its images led it, with the parts that were written
   pub left_there : (session behind : Listed) (shelf left : Readers) (form : Form)
       (out now said says : Known) (want : Option Want) → session.notes ≡ []
       → ExtractsListed session behind shelf left form out now said says want
@@ -224,13 +224,13 @@ pub record CasesOfOutputs : Type 0 where
       (e : ExtractsListedNow session shelf left form stands said says want)
       → EndsNow session.core (seen as_sink session session.sink) e.turns want e.records form ⊤
       stands
-  -- a fault ends a report behind the line of at most one image more than those that were noted
+  -- a fault ends a report after the line of at most one more image than those that were read
   pub one_line_more : (session behind : Listed) (shelf left : Readers) (form : Form)
       (out now said says : Known)
       (s : StopsListed session behind shelf left form out now said says) → (length s.more ≤ 1)
       × AppendsFront said says
       (reel_lines 1 (map answer_of s.turns ++ s.more) ++ last_line s.want s.records)
-  -- what its last line tells is of the session, if anything of that line was reported
+  -- its last line is that of the session, if any of that line was reported
   pub last_line_tells : (p : Seen) (want : Option Want) (records : ℕ)
       → p.place.position ≡ Finished → TellsEnd ⊥ want records p
       → (want ≡ None) × (records ≡ length (join p.parts).records)
@@ -261,7 +261,7 @@ pub record CasesOfOutputs : Type 0 where
       (out now said says : Known) (s : StopsListedNow session shelf left form out now said says)
       → (length s.turns + length s.more ≤ length shelf)
       × AreFirstTurns Took (λ r. r) shelf s.turns left
-  -- and nothing was done to the output, or the file is complete and a front of it was written
+  -- and the output was not touched, or the file is complete and a prefix of it was written
   pub output_stopped : (session behind : Listed) (shelf left : Readers) (form : Form)
       (out now said says : Known)
       → session.notes ≡ [] → StopsListed session behind shelf left form out now said says
@@ -271,7 +271,7 @@ pub record CasesOfOutputs : Type 0 where
       (out now said says : Known)
       → StopsListedNow session shelf left form out now said says → (now ≡ out)
       ⊎ ((s : Seen) × (s.place.position ≡ Finished) × (now ≡ Some (output_of form s.parts)))
-  -- what a sink that writes has taken
+  -- what a sink that writes has received
   pub taken : (form : Form) (out : Known) (weight records : ℕ) (begun failed : Bool)
       (parts : List Portion)
       → HasTaken (λ (w : Known). w) form out weight records begun failed parts
@@ -282,14 +282,16 @@ pub record CasesOfOutputs : Type 0 where
       → (begun ≡ is_some (join parts).rest)
       × (TellsAlways (λ (w : Known). w) → IsText failed (text_so_far form parts) out)
   pub text : (known : List ℕ) → IsText false (7 ∷ []) (Some known) → known ≡ 7 ∷ []
-  -- a writer that is its bytes tells them always, and one whose bytes are never known does not
+  -- a writer that consists of its bytes always tells them, and one whose bytes are never known does
+  -- not
   pub tells : TellsAlways (λ (w : List ℕ). Some w)
   pub tells_nothing : TellsAlways {W = List ℕ} (λ w. None) → ⊥
   pub ended : (with_end true 3 ≡ 3) × (with_end false 3 ≡ 4)
 
 -- ---- why it was not
 
--- of a sink that is its count of refused calls, and holds no part, or of which nothing is held
+-- of a sink that consists of its count of refused calls, and contains no part, or about whose
+-- contents nothing is known
 abbrev pub FailsEmpty : EngineFault → ℕ → ℕ → Type 0
 FailsEmpty fault old new = WritingFails (λ s ps. ps ≡ []) (λ s. s) old new fault
 
@@ -297,15 +299,16 @@ abbrev pub FailsUnknown : EngineFault → ℕ → ℕ → Type 0
 FailsUnknown fault old new = WritingFails (λ s ps. ⊥) (λ s. s) old new fault
 
 pub record CasesOfCauses : Type 0 where
-  -- a refusal is told where one was counted, of whatever cause
+  -- a refusal is reported if one was counted, whatever its cause
   pub refused_writing : (cause : SinkFault) (old new : ℕ) → FailsEmpty (Run (Sink cause)) old new
       → Rose old new
   pub told_refusal : FailsEmpty (Run (Sink Device)) 3 4
-  -- of a sink of which nothing is held Failed may come where none was, and no other
+  -- only a sink about whose contents nothing is known may return Failed, and no other fault,
+  -- without a refused call
   pub only_failed : (cause : SinkFault) (old new : ℕ) → FailsUnknown (Run (Sink cause)) old new
       → Rose old new ⊎ (cause ≡ Failed)
   pub fewer_given : FailsUnknown (Run (Sink Failed)) 3 3
-  -- no other fault comes, and a write that failed is no refusal
+  -- no other fault comes, and a failed write is not a refusal
   pub no_other_fault : (old new : ℕ) → (FailsUnknown (Run NoSuchPoint) old new → ⊥)
       × (FailsUnknown (Run TooFewReels) old new → ⊥) × (FailsUnknown (Run OutOfMemory) old new → ⊥)
       × (FailsUnknown (Run OtherFile) old new → ⊥)

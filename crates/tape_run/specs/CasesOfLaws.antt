@@ -1,5 +1,5 @@
--- What a caller draws from each law, so that none has a premise that nothing meets. The call
--- `laws::cases` has them as its contract.
+-- What a caller can conclude from each law, so that no law has a premise that is never true. They
+-- are the contract of the call `laws::cases`.
 use Rattle.std.specs.Prelude.{◌≡◌, ℕ, true, false, List, [], ◌∷◌, ◌++◌, length, map, Option, Some}
 use Rattle.std.specs.Prelude.{None, IsSome, Bool}
 use Rattle.std.specs.List.{AllByRecursion}
@@ -82,8 +82,8 @@ pub record CasesOfRunLaws : Type 0 where
       × (new.parts ≡ before set c.file new.place.position)
   pub items_are : ItemsAreThere → (bytes : List ℕ)
       → (reels : List (List TapeItem)) × AreItems (bytes ∷ []) reels
-  -- a life begins with what was there, ends with what comes back of it, and has the history of what
-  -- was given in it
+  -- a run begins with what was there, ends with what a crash leaves of it, and has the history of
+  -- what was returned in it
   pub no_life : (c : Point) (ps : List Portion) → Outlives c ps [] c ps
   pub one_life : (c back : Point) (ps there : List Portion) (life : Life)
       → IsResumed c ps life.began

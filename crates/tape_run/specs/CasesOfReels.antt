@@ -1,5 +1,5 @@
--- What the definitions of a reel's answer, and of where the table leads over any tapes, say of
--- cases. The call `laws::cases` has them as its contract.
+-- Examples for the definitions of a reel's answer, and of where the table leads over any tapes.
+-- They are the contract of the call `laws::cases`.
 use Rattle.std.specs.Prelude.{◌≡◌, ◌<◌, ◌+◌, ℕ, List, [], ◌∷◌, ◌++◌, length, take, drop}
 use Rattle.std.specs.Prelude.{codes, Option, Some, None, false}
 use Rattle.std.specs.List.{AllByRecursion}
@@ -56,7 +56,7 @@ pub record CasesOfAnswers : Type 0 where
   pub on : (core : State) (bytes left : List ℕ) (answer : ReelAnswer)
       (r : ReadsReel core bytes left answer) → AllByRecursion GoesOn (answers_to core r.items)
       × (answer.blocks ≡ delivered_by (answers_to core r.items))
-  -- an item that ended the reading was answered finally, is the last one taken, and is no fault
+  -- an item that ended the reading got a final answer, is the last one taken, and is not a fault
   pub by_item : (core : State) (items : List TapeItem) (bytes left : List ℕ)
       (answer : ReelAnswer) (e : EndedByItem core items bytes left answer)
       → (answer.answer ≡ (step_of (behind_items core items) (Some e.item)).0)
@@ -70,7 +70,7 @@ pub record CasesOfAnswers : Type 0 where
       (answer : ReelAnswer) (e : EndedByFault core items bytes left answer)
       → (answer.answer ≡ (step_of (behind_items core items) None).0)
       × (answer.fault ≡ Some e.fault) × TakesFault 0 items e.fault bytes left
-  -- memory that was refused left everything unread, a sink what stands behind the refused block
+  -- refused memory left everything unread, a refusing sink what follows the refused block
   pub memory_left_all : (core : State) (old new : Option (List ℕ)) → Leaves OutOfMemory core old new
       → new ≡ old
   pub sink_left : (core : State) (cause : SinkFault) (old new : Option (List ℕ))
@@ -107,7 +107,7 @@ pub record CasesOfTable : Type 0 where
   pub unknown_gives_none : (p : Position) (content : List ℕ) → parts_from p None content ≡ []
   pub from_its_front : parts_by Deliver (block block_0) start (Some spanned) ≡ first ∷ []
   pub from_its_part : parts_by Deliver (block block_1) (Awaits 1 1 1) (Some spanned) ≡ []
-  -- the first block of a section is delivered, and a bad one behind it ends the reading there
+  -- the first block of a section is delivered, and a bad one after it ends the reading there
   pub one_block : delivered_parts (mount_of at_front) first_items ≡ first ∷ []
   pub behind_one : (behind_items (mount_of at_front) first_items).position ≡ awaiting 1 1
   pub led : (xs : List TapeItem) (core new : State) (held now : List Portion)
@@ -118,7 +118,7 @@ pub record CasesOfTable : Type 0 where
       × (now ≡ held ++ take s.more (parts_at core item))
       × (new.position ≡ at_part (part_of core.position + s.more) core.position)
       × (s.more < length (parts_at core item))
-  -- at the awaited part it stands as it did, and behind it as the block told
+  -- at the expected part the core is unchanged, and after it the block determines its state
   pub stops_at_first : (core new : State) (item : TapeItem) (held now : List Portion)
       (s : StopsInside core new item held now) → s.more ≡ 0 → new ≡ record core { phase = Over }
   pub stops_behind : (core new : State) (item : TapeItem) (held now : List Portion)
@@ -134,7 +134,7 @@ pub record CasesOfTable : Type 0 where
 pub record CasesOfLeads : Type 0 where
   pub starts : at_start (codes "ABC001") 1
       ≡ record { place = at_front; parts = []; notes = [] }
-  -- a save notes where it stands, and going back leads there again and forgets the later notes
+  -- a save records the position, and a rollback returns to it and drops the later checkpoints
   pub saved_and_back : lead (at_start (codes "ABC001") 1) (Save ∷ Save ∷ Restart 0 ∷ []) []
       ≡ record {
         place = at_front;
@@ -159,7 +159,7 @@ pub record CasesOfLeads : Type 0 where
       → (c ≡ saved n.place (weight_of n.parts)) × IsFront n.parts parts
   pub each_noted : (n : Noted) (c : Point) (parts : List Portion)
       → (AreNoted [] (n ∷ []) [] parts → ⊥) × (AreNoted [] [] (c ∷ []) parts → ⊥)
-  -- a step that was not made leaves it where it led, or inside the reel
+  -- a failed step leaves it where it was led, or inside the reel
   pub save_stops : (t : Lead) (readers : List (List ℕ)) (fault : RunFault) (new : Seen)
       → StopsBy t Save readers fault new → StandsThere t new
   pub reel_stops : (t : Lead) (bytes : List ℕ) (cause : SinkFault) (new : Seen)

@@ -1,4 +1,4 @@
--- What the definitions of rounds say of cases. The call `laws::cases` has them as its contract.
+-- Examples for the definitions of passes. They are the contract of the call `laws::cases`.
 use Rattle.std.specs.Prelude.{◌≡◌, ◌≢◌, ◌⊎◌, ◌+◌, ◌<◌, ◌≤◌, List, [], ◌∷◌, ◌++◌, length, map}
 use Rattle.std.specs.Prelude.{Option, Some, None, Bool, true}
 use Rattle.std.specs.Io.KnownBytes.{Appends}
@@ -18,7 +18,7 @@ use Rattle.tape_run.specs.Rounds.{Round, turns_of, core_behind, wanted, AreRound
 use Rattle.tape_run.specs.Rounds.{BroughtSomething, IsEnough, FollowsRounds, GoesRound}
 use Rattle.tape_run.specs.Seen.{Seen, seen}
 
--- what `extract` says where it goes round readers in a list
+-- what `extract` says of passes over readers in a list
 abbrev pub AgainListed : Listed → Listed → Readers → Readers → Form → Known → Known → Known → Known
     → Option Want → Type 0
 AgainListed session behind shelf left form out written said says want =
@@ -33,7 +33,7 @@ StopsAgainListed session behind shelf left form out written said says =
 
 -- of rounds
 pub record CasesOfRounds : Type 0 where
-  -- two rounds are one row of turns, and lead where the second one ends
+  -- two passes are one sequence of turns, and lead where the second one ends
   pub two_rounds : (a b : List Turn) (p q core : State)
       → (turns_of (record { turns = a; behind = p } ∷ record { turns = b; behind = q } ∷ [])
       ≡ a ++ (b ++ []))
@@ -50,14 +50,15 @@ pub record CasesOfRounds : Type 0 where
       ∷ record { turns = t ∷ []; behind = q } ∷ []) left
       → (mid : Readers) × AreTurns Took (λ r. r) (a ∷ b ∷ []) 0 (s ∷ []) mid
       × AreTurns Took (λ r. r) mid 0 (t ∷ []) left
-  -- a round that is followed had all images, and brought something, but not the last of the file
+  -- a pass followed by another had all images, and recovered something, but not the rest of the
+  -- file
   pub brought : (turns : List Turn) (core behind : State)
       → BroughtSomething 3 core (record { turns = turns; behind = behind } ∷ [])
       → (length turns ≡ 3) × (wanted behind ≢ None) × (wanted behind ≢ wanted core)
   pub brought_twice : (a b : List Turn) (core p q : State)
       → BroughtSomething 3 core (record { turns = a; behind = p }
       ∷ record { turns = b; behind = q } ∷ []) → (length b ≡ 3) × (wanted q ≢ wanted p)
-  -- rounds end where nothing is wanted or nothing came
+  -- passes end if nothing is missing or nothing was recovered
   pub enough : (before want : Option Want) → IsEnough 3 6 before want
       → (want ≡ None) ⊎ (want ≡ before)
   pub complete_is_enough : (before : Option Want) → IsEnough 3 6 before None
@@ -94,7 +95,7 @@ pub record CasesOfRounds : Type 0 where
       → (length e.turns ≤ length shelf) × (length e.turns < length shelf → want ≡ None)
       × IsEnough (length shelf) (length (turns_of e.rounds))
       (wanted (core_behind session.core e.rounds)) want
-  -- over all rounds the session ended as over one row of images
+  -- over all passes the session ended as over one sequence of images
   pub again_ends : (session behind : Listed) (shelf left : Readers) (form : Form)
       (out now said says : Known) (want : Option Want)
       (e : AgainListed session behind shelf left form out now said says want)
@@ -115,7 +116,7 @@ pub record CasesOfRounds : Type 0 where
       × AppendsFront said says
       (reel_lines 1 (map answer_of (turns_of s.rounds ++ s.turns) ++ s.more)
       ++ last_line s.want s.records)
-  -- and nothing was done to the output, or the file is complete and a front of it was written
+  -- and the output was not touched, or the file is complete and a prefix of it was written
   pub again_output : (session behind : Listed) (shelf left : Readers) (form : Form)
       (out now said says : Known)
       (s : StopsAgainListed session behind shelf left form out now said says)

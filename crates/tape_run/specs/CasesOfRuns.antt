@@ -1,4 +1,4 @@
--- What the definitions of runs that stopped say of cases: as in Cases.
+-- Examples for the definitions of runs that stopped, as in Cases.
 use Rattle.std.specs.Prelude.{◌≡◌, ◌≤◌, ℕ, ◌+◌, List, [], ◌∷◌, length, slice_get, Option}
 use Rattle.std.specs.Prelude.{Some}
 use Rattle.tape_image.specs.Tape.{TapeItem, block}
@@ -20,7 +20,7 @@ use Rattle.tape_run.specs.Seen.{Seen, IsSession}
 
 -- of runs that a fault ended
 pub record CasesOfStops : Type 0 where
-  -- a step is not made for no other reason than it can have
+  -- a step fails only for a reason that it can have
   pub saves_stop : (set : FileSet) (old new : Seen) (hs : List Happening)
       (readers : List (List ℕ)) → (StopsStep set old hs Save readers NoSuchPoint new → ⊥)
       × (StopsStep set old hs Save readers TooFewReels new → ⊥)
@@ -44,8 +44,8 @@ pub record CasesOfStops : Type 0 where
       (readers : List (List ℕ)) (cause : SinkFault)
       → (StopsStep set old hs Save readers (Sink cause) new → Ran set old hs new)
       × (StopsStep set old hs (Restart 0) readers (Sink cause) new → Ran set old hs new)
-  -- a refused part: the sink holds just what lies before it, in a block that stands where the items
-  -- before it lead
+  -- a refused part: the sink contains exactly what precedes it, in a block where the items before
+  -- it lead
   pub part_refused : (set : FileSet) (old new : Seen) (hs : List Happening) (xs : List TapeItem)
       (h : Happening) (r : PutRefused set old hs xs h new)
       → (new.parts ≡ before set new.place.file new.place.position)
@@ -56,7 +56,7 @@ pub record CasesOfStops : Type 0 where
       × (new.place.position ≡ at_part r.by.part (after_mount set old.place.file
       (course set old.place.file (course_of old) hs).at (cut r.by.n h)))
       × ((course_of new).notes ≡ (course set old.place.file (course_of old) hs).notes)
-  -- the step that was not made is the one of the number that is told
+  -- the step that failed is the one with the reported number
   pub stopped_at : (old new : Seen) (bytes : List (List ℕ)) (left : List (Option (List ℕ)))
       (fault : RunFault) (s : HasStopped old (Reel ∷ Save ∷ Restart 0 ∷ []) bytes left 1 fault new)
       → (s.step ≡ Save) × AreGivenBy s.which bytes left s.given
@@ -72,7 +72,7 @@ pub record CasesOfStops : Type 0 where
       → HasStopped old [] bytes left n fault new → ⊥
   -- readers are counted
   pub two_reels : reels_in (Reel ∷ Save ∷ Restart 0 ∷ Reel ∷ []) ≡ 2
-  -- only a going back in which the device of the sink failed loses what it holds
+  -- only a rollback in which the device of the sink failed loses what it contains
   pub loses : LosesParts (Reel ∷ Restart 4 ∷ []) 1 (Sink sinks.Device)
   pub mount_keeps : LosesParts (Reel ∷ Restart 4 ∷ []) 0 (Sink sinks.Device) → ⊥
   pub save_keeps : LosesParts (Save ∷ Restart 4 ∷ []) 0 (Sink sinks.Device) → ⊥

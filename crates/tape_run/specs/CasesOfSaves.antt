@@ -1,5 +1,5 @@
--- What the definitions of saves, and of what comes back of a session, say of cases. The call
--- `laws::cases` has them as its contract.
+-- Examples for the definitions of saves, and of what a crash leaves of a session. They are the
+-- contract of the call `laws::cases`.
 use Rattle.std.specs.Prelude.{◌≡◌, ◌≤◌, ◌⊎◌, ℕ, List, [], ◌∷◌, length, true, false}
 use Rattle.tape_blocks.specs.Block.{Portion}
 use Rattle.tape_set.specs.declared.position.Position.TheVariants.{Finished}
@@ -16,7 +16,7 @@ use Rattle.tape_core.specs.Stands.{weight_of}
 use Rattle.tape_core.specs.Table.{saved}
 use Rattle.tape_core.specs.Weight.{IsFront}
 
--- a sink that brings back one checkpoint, with these parts, and holds any parts
+-- a sink that a crash leaves with one checkpoint and these parts, and that contains any parts
 abbrev pub brings : List Portion → Point → Point → List Portion → Type 0
 brings ps c back there = (back ≡ c) × (there ≡ ps)
 
@@ -39,7 +39,7 @@ comes_since ps c = record {
   survived = λ t. c.position ≡ Finished;
 }
 
--- a sink that is a checkpoint: it holds any parts of that weight, and comes back so
+-- a sink that is a checkpoint: it contains any parts of that weight, and a crash leaves it so
 abbrev pub weighing : (Point → Crashes) → Ghosts Point
 weighing crashes = record {
   holds = λ s parts. s.staged ≡ weight_of parts;
@@ -57,9 +57,9 @@ holding_none crashes = record {
   crashes = crashes;
 }
 
--- of what comes back of a session that was saved
+-- of what a crash leaves of a session that was saved
 pub record CasesOfSaved : Type 0 where
-  -- of two notes the first comes back with its own parts, and the last alone is brought
+  -- of two checkpoints the first is left with its own parts, and only the last is left alone
   pub first_note : (s : Seen) (c d back : Point) (there : List Portion) → s.notes ≡ c ∷ d ∷ []
       → IsNoteOf 0 s back there
       → (back ≡ c) × IsFront there s.parts × (weight_of there ≡ back.staged)
@@ -68,21 +68,21 @@ pub record CasesOfSaved : Type 0 where
   pub brings_none : (s : Seen) (p : Point) (ps : List Portion) → s.notes ≡ []
       → BringsLast (brings ps p) s → ⊥
   pub brings_nothing : (s : Seen) → BringsLast (λ back there. ⊥) s
-  -- the note that was made on the way is brought
+  -- the checkpoint that was made meanwhile is left
   pub noted_on_the_way : (old new : Story Point) (held now ps : List Portion) (c : Point)
       → old.notes ≡ [] → new.notes ≡ c ∷ []
       → KeepsLast (weighing (comes_now ps)) old held new now
       → (new.sink ≡ c) × IsFront ps now
-  -- where none was made the one that came back alone still does
+  -- if none was made, the one that was left alone still is
   pub none_on_the_way : (old new : Story Point) (held now ps : List Portion) (c : Point)
       → old.notes ≡ c ∷ [] → new.notes ≡ c ∷ [] → old.sink ≡ c → IsFront ps held
       → weight_of ps ≡ c.staged → KeepsLast (weighing (comes_now ps)) old held new now
       → new.sink ≡ c
-  -- where something came back whatever a crash left it does so still
+  -- if something survived every crash, something still does
   pub survives : (old new : Story Point) (held now : List Portion)
       → KeepsLast (weighing (comes_now [])) old held new now
       → old.sink.position ≡ Finished → new.sink.position ≡ Finished
-  -- the same since a moment up to the first, where no note was made
+  -- the same since a moment up to the first, if no checkpoint was made
   pub none_since : (old new : Story Point) (held now ps : List Portion) (c : Point) (t : ℕ)
       → old.notes ≡ c ∷ [] → new.notes ≡ c ∷ [] → old.sink ≡ c → IsFront ps held
       → weight_of ps ≡ c.staged → t ≤ old.sink.file
@@ -93,14 +93,14 @@ pub record CasesOfSaved : Type 0 where
   pub goes_on : (old new : Story Point) (held now : List Portion)
       → KeepsLast (weighing (comes_since [])) old held new now
       → (length old.notes ≤ length new.notes) × (old.sink.file ≤ new.sink.file)
-  -- a session that stands so is there, and its sink holds these parts
+  -- a session at this position is there, and its sink contains these parts
   pub stood : (old new : Story Point) (held ps : List Portion) (now : Seen) (c : Point)
       → old.notes ≡ [] → now.notes ≡ c ∷ []
       → StoodSaved (weighing (comes_now ps)) old held
       new now
       → (new.sink ≡ c) × (now.place ≡ rest_of new.core)
       × IsFront ps now.parts × (c.staged ≡ weight_of now.parts)
-  -- at a fault nothing comes back but the note made on the way, or where the session stands
+  -- after a fault only the checkpoint made meanwhile, or the session's position, is left
   pub left_at_a_fault : (old new : Story Point) (held ps : List Portion) (now : Seen) (c : Point)
       → old.notes ≡ [] → now.notes ≡ c ∷ []
       → LeavesSaved (weighing (comes_now ps)) old held

@@ -1,5 +1,5 @@
--- What the definitions of sections, and of lines about them, say of cases, besides. The call
--- `laws::cases` has them as its contract.
+-- Further examples for the definitions of sections, and of lines about them. They are the contract
+-- of the call `laws::cases`.
 use Rattle.std.specs.Prelude.{◌≡◌, ℕ, true, false, List, [], ◌∷◌, ◌++◌, Option, IfSome}
 use Rattle.std.specs.Io.KnownBytes.{Appends}
 use Rattle.tape_image.specs.Begins.{Walks}
@@ -19,14 +19,14 @@ use Rattle.tape_run.specs.WholeSet.{AreAllGood, key_in}
 
 -- of sections, one by one
 pub record CasesOfSections : Type 0 where
-  -- of two that are not good the one met first stays
+  -- of two that are not good the one found first stays
   pub first_stays : noted (met 1 1 false Cut ∷ []) (met 1 1 true Bad) ≡ met 1 1 false Cut ∷ []
-  -- each file up to the greatest number is asked for, whichever was met last
+  -- each file up to the greatest number is looked up, whichever was found last
   pub last_file : lacks (met 3 1 true Good ∷ met 1 1 true Good ∷ []) ≡ lack 2 1 ∷ []
-  -- where all of them are good this one is
+  -- if all of them are good this one is
   pub all_good : (set : FileSet) (c : List Told) (x : Placed) → AreAllGood set c (x ∷ [])
       → IsGoodAt c (key_in set x)
-  -- without memory the sections were noted that a front of the items tells
+  -- after running out of memory the sections in a prefix of the items were added
   pub added_in_part : (before : Option (List ℕ)) (old new : List Told)
       (a : AddsInPart before old new)
       → IfSome before (λ xs. (place : ℕ) × (ys : List ℕ) × Walks 0 xs a.items place ys)
@@ -35,6 +35,6 @@ pub record CasesOfSections : Type 0 where
   pub listed : (lines : List SectionLine) (key : SectionKey) (l : IsListedGood lines key)
       → (lines ≡ l.front ++ l.line ∷ l.rest) × (l.line.set_id ≡ key.set_id)
       × (l.line.file ≡ key.file) × (l.line.sect ≡ key.sect) × (l.line.state ≡ Good)
-  -- where a write failed a front of what was due is there
+  -- if a write failed, a prefix of the text was written
   pub written_front : (old new : Option (List ℕ)) (all : List ℕ) (a : AppendsFront old new all)
       → Appends old new a.0 × (all ≡ a.0 ++ a.1)

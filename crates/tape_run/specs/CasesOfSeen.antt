@@ -1,5 +1,5 @@
--- What the definitions of what is seen of a session, and of readers that tell their bytes, say of
--- cases. The call `laws::cases` has them as its contract.
+-- Examples for the definitions of what is seen of a session, and of readers that tell their bytes.
+-- They are the contract of the call `laws::cases`.
 use Rattle.std.specs.Prelude.{◌≡◌, ◌⊎◌, ◌≤◌, ℕ, ◌+◌, List, [], ◌∷◌, length, ⊤, Bool, false}
 use Rattle.std.specs.Prelude.{Some, None}
 use Rattle.tape_blocks.specs.Block.{Portion}
@@ -25,7 +25,7 @@ use Rattle.tape_run.specs.declared.fault.RunFault.{RunFault}
 use Rattle.tape_run.specs.declared.script.Step.TheVariants.{Reel, Save, Restart}
 use Rattle.tape_run.specs.Story.{Story}
 
--- a sink that is a count: it holds any parts of that number, and refused as many calls
+-- a sink that is a count: it contains any parts of that number, and refused as many calls
 abbrev pub counting : Ghosts ℕ
 counting = record {
   holds = λ n parts. length parts ≡ n;
@@ -41,7 +41,7 @@ pub record CasesOfSeen : Type 0 where
   pub seen_counts : (s : Story ℕ) (parts : List Portion)
       → ((seen counting s parts).failures ≡ s.failures)
       × ((seen counting s parts).refusals ≡ s.sink)
-  -- of a sink that holds one part: whichever this is, and none is not one
+  -- of a sink that contains one part: this can be any part, and no part is not one
   pub each_part : (s : Story ℕ) (p : Portion) → s.sink ≡ 1
       → IfSeen counting s (λ is. is.parts ≡ p ∷ []) → (q : Portion) → q ≡ p
   pub no_others : (s : Story ℕ) → s.sink ≡ 1 → IfSeen counting s (λ is. is.parts ≡ [] → ⊥)
@@ -52,17 +52,18 @@ pub record CasesOfSeen : Type 0 where
   pub lost_parts : (s : Story ℕ) (parts : List Portion)
       → IsSeenUnless ⊤ counting s (λ is. is.parts ≡ parts)
   pub not_lost : (s : Story ℕ) → s.sink ≡ 1 → IsSeenUnless ⊥ counting s (λ is. is.parts ≡ []) → ⊥
-  -- what holds of known bytes is asked where each reader tells its own
+  -- what is true of known bytes is required if each reader tells its own
   pub told : (a b : List ℕ) (all : List (List ℕ))
       → IfTold (λ r. r) (Some a ∷ Some b ∷ []) (λ bytes. bytes ≡ all) → all ≡ a ∷ b ∷ []
   pub both_told : (a b : List ℕ)
       → IfTold (λ r. r) (Some a ∷ Some b ∷ []) (λ bytes. bytes ≡ a ∷ b ∷ [])
   pub one_untold : (a : List ℕ) → IfTold (λ r. r) (Some a ∷ None ∷ []) (λ bytes. ⊥)
-  -- a crash brings back what it did, of a sink that held parts
+  -- a crash leaves what it did, for a sink that contained parts
   pub brings_no_more : (old new : Point) → old.staged ≡ 0
       → BringsNoMore (weighing (comes_now [])) old new → new ≡ old
   pub of_no_parts : (old new : Point) → BringsNoMore (holding_none (comes_now [])) old new
-  -- a session is brought from what it was to what it is, its own notes kept, and the last of them
+  -- a session goes from its earlier state to its current one, with its checkpoints and the last of
+  -- them
   pub carried : (back : Bool) (old new : Story Point) → old.sink.staged ≡ 0 → new.sink.staged ≡ 0
       → IsKeptFor back (seen (weighing (comes_now [])) old [])
       → Carries (weighing (comes_now [])) back old new
@@ -81,8 +82,8 @@ pub record CasesOfSeen : Type 0 where
   pub no_other_fault : (old new : Story ℕ) → (Refuses counting NoSuchPoint old new → ⊥)
       × (Refuses counting TooFewReels old new → ⊥)
       × (Refuses counting OtherFile old new → ⊥)
-  -- a session does not go back since the sink refused, or weighs too little, as only one does of
-  -- which nothing is held
+  -- a session does not roll back because the sink refused, or weighs too little, as is possible
+  -- only if nothing is known about its contents
   pub back_refused : (cause : SinkFault) (n : ℕ) (old new : Story ℕ)
       → RefusesRestart counting n (Sink cause) old new → (new.failures ≡ old.failures)
       × (Rose old.sink new.sink ⊎ ((cause ≡ Failed) × (new.sink ≡ old.sink)
@@ -93,7 +94,7 @@ pub record CasesOfSeen : Type 0 where
       → (RefusesRestart counting n TooFewReels old new → ⊥)
       × (RefusesRestart counting n OutOfMemory old new → ⊥)
       × (RefusesRestart counting n OtherFile old new → ⊥)
-  -- a step is not made for the reason of its call, or since no reader is left
+  -- a step fails for the reason of its call, or because no reader is left
   pub reel_not_made : (fault : RunFault) (old new : Story ℕ)
       → RefusesStep counting Reel fault old new
       → Refuses counting fault old new ⊎ ((fault ≡ TooFewReels) × (new ≡ old))
@@ -104,8 +105,8 @@ pub record CasesOfSeen : Type 0 where
   pub second_not_made : (fault : RunFault) (old new : Story ℕ)
       (s : StopsFor counting (Save ∷ Reel ∷ []) 1 fault old new) → (s.step ≡ Reel)
       × (s.mid.sink ≡ old.sink) × RefusesStep counting s.step fault s.mid new
-  -- images are not read since the sink refused, or has failed, of which nothing is held; or there
-  -- was no memory, or a write failed, and it refused none
+  -- images are not read because the sink refused, or failed with nothing known about its contents;
+  -- or memory ran out, or a write failed, and it refused no call
   pub not_extracted : (back : Bool) (cause : SinkFault) (old new : Story ℕ)
       → ExtractFails counting back (engine.Run (Sink cause)) old new
       → Rose old.sink new.sink ⊎ ((cause ≡ Failed)
@@ -113,7 +114,7 @@ pub record CasesOfSeen : Type 0 where
   pub no_memory_to_extract : (back : Bool) (old new : Story ℕ)
       → (ExtractFails counting back (engine.Run OutOfMemory) old new → new.sink ≡ old.sink)
       × (ExtractFails counting back engine.WriteFailed old new → new.sink ≡ old.sink)
-  -- of a session with a note there is no other fault, nor of one that does not go back
+  -- a session with a checkpoint has no other fault, nor has one that does not roll back
   pub noted : (back : Bool) (c : Point) (old new : Story ℕ) → old.notes ≡ c ∷ []
       → ExtractFails counting back (engine.Run NoSuchPoint) old new → ⊥
   pub goes_on : (old new : Story ℕ) → ExtractFails counting false (engine.Run NoSuchPoint) old new
@@ -130,7 +131,7 @@ pub record CasesOfSeen : Type 0 where
       × (new.notes ≡ [] → old.notes ≡ []) × ((held : List Portion) → length held ≡ old.sink
       → IsKept (seen counting old held)
       → IsSeen counting new (λ is. IsKept is))
-  -- only the sink of a session may be another, which holds what it held
+  -- only the sink of a session may differ, with the same contents
   pub walked : (old new : Story Point) (ps : List Portion) → old.sink.staged ≡ 0
       → IsWalked (weighing (comes_now ps)) old new → (new.core ≡ old.core)
       × (new.notes ≡ old.notes) × (new.failures ≡ old.failures) × (new.sink ≡ old.sink)

@@ -1,4 +1,4 @@
--- What the definitions of unpacking say of cases. The call `laws::cases` has them as its contract.
+-- Examples for the definitions of unpacking. They are the contract of the call `laws::cases`.
 use Rattle.std.specs.Prelude.{◌≡◌, ◌≢◌, ℕ, ◌<◌, ◌^◌, List, [], ◌∷◌, ◌++◌, length, true, false}
 use Rattle.std.specs.Prelude.{Some, None}
 use Rattle.std.specs.Prelude.{codes, map}
@@ -20,11 +20,11 @@ use Rattle.tape_run.specs.UnpackLaws.{NamesDiffer, NamesStay, AreBytes, IsNameOf
 
 -- what unpacking says of files, names and lines
 pub record CasesOfUnpacking : Type 0 where
-  -- what header labels tell
+  -- what header labels say
   pub one_file : (n : FileNote) → n.differs ≡ false → heading_of n ≡ Named n.head.file_id
   pub two_files : (n : FileNote) → n.differs ≡ true → heading_of n ≡ Differs
-  -- each set has its files from 1 on, up to the greatest, and a file is told by its own labels; a
-  -- number of which no label was found is none
+  -- each set has its files from 1 on, up to the greatest, and a file is described by its own
+  -- labels; a number without a label is not a file
   pub files : (d : Found) → set_files d ((codes "ABC001", 2) ∷ (codes "DEF001", 1) ∷ [])
       ≡ (file_at d (codes "ABC001") 1 ++ (file_at d (codes "ABC001") 2 ++ []))
       ++ ((file_at d (codes "DEF001") 1 ++ []) ++ [])
@@ -52,19 +52,20 @@ pub record CasesOfUnpacking : Type 0 where
   pub failed : unpack_outcome_text outcomes.Failed ≡ codes "FAILED"
   pub left_over : left_over_line false ≡ codes "INCOMPLETE IMAGES\n"
   pub nothing_left : left_over_line true ≡ []
-  -- the files are those of the images, all of which were viewed, each in its place
+  -- the files are those of the images, all of which were read, each in its place
   pub on_images : (shelf left : Readers) (met : ShelfFiles)
       (f : FilesOn length Took (λ r. r) shelf left met)
       → (length f.viewed.sights ≡ length shelf)
       × AreViewed Took (λ r. r) shelf 0 f.viewed.sights nothing_found left f.found
       × (met.files ≡ files_of f.found) × (met.whole ≡ f.found.whole)
       × (met.sets ≡ map set_of f.viewed.sights)
-  -- an image on which no section begins is of no set, and another of that of its first one
+  -- an image on which no section begins is of no set, and another is of the set of its first
+  -- section
   pub of_no_set : (s : Sight) → s.glance.head ≡ None → set_of (Some s) ≡ None
   pub of_a_set : (s : Sight) (h : Head1) → s.glance.head ≡ Some h
       → set_of (Some s) ≡ Some h.set_id
   pub not_opened : set_of None ≡ None
-  -- what a caller draws from the laws of names
+  -- what a caller can conclude from the laws of names
   pub own_name : NamesDiffer → (s t : List ℕ) (m n : ℕ) (a b : List ℕ) → AreBytes s → AreBytes t
       → length s ≡ length t → m < 2 ^ 16 → n < 2 ^ 16 → s ≢ t
       → file_name s m a ≢ file_name t n b

@@ -12,8 +12,9 @@ use Rattle.tape_run.specs.declared.fault.RunFault.TheVariants.{OutOfMemory, Othe
 use Rattle.tape_run.specs.Seen.{IsKept, IfSeen, IsSeen}
 use Rattle.tape_run.specs.Story.{Story}
 
--- why the records of a sink were not written: it refused a call; or it gave fewer than were
--- counted, as only a sink does of which nothing is held; or a write failed, and it refused none
+-- why the records of a sink were not written: it refused a call; or it returned fewer than were
+-- counted, as is possible only if nothing is known about its contents; or a write failed, and it
+-- refused none
 abbrev pub WritingFails : {S : Type 0} → (S → List Portion → Type 0) → (S → ℕ) → S → S
     → EngineFault → Type 0
 WritingFails holds refusals old new (Run (Sink cause)) = Rose (refusals old) (refusals new)
@@ -24,10 +25,10 @@ WritingFails holds refusals old new (Run OutOfMemory) = ⊥
 WritingFails holds refusals old new (Run OtherFile) = ⊥
 WritingFails holds refusals old new WriteFailed = refusals new ≡ refusals old
 
--- why images were not read, or the records of a session's sink not written, by one that goes back
--- or not: the sink refused a call; or it has failed, as only one has of which nothing is held; or
--- there was no memory, or a write failed, and the sink refused no call. A session without a note
--- does not go back.
+-- why images were not read, or the records of a session's sink not written, by one that rolls back
+-- or not: the sink refused a call; or it has failed, as is possible only if nothing is known about
+-- its contents; or memory ran out, or a write failed, and the sink refused no call. A session
+-- without a checkpoint does not roll back.
 abbrev pub ExtractFails : {S : Type 0} → Ghosts S → Bool → EngineFault → Story S → Story S → Type 0
 ExtractFails g back (Run (Sink cause)) old new = Rose (g.refusals old.sink) (g.refusals new.sink)
     ⊎ ((cause ≡ Failed) × IfSeen g old (λ was. IsKept was → ⊥))
@@ -46,14 +47,15 @@ IsExtractFault (Run OutOfMemory) = ⊤
 IsExtractFault (Run OtherFile) = ⊥
 IsExtractFault WriteFailed = ⊤
 
--- No call of the sink was refused, a session with notes has one still, and what is true of each
--- session stays so.
+-- No call of the sink was refused, a session with checkpoints still has one, and the invariant of
+-- sessions is preserved.
 pub record IsCalm {S : Type 0} (g : Ghosts S) (old new : Story S) : Type 0 where
   pub calm : g.refusals new.sink ≡ g.refusals old.sink
   pub notes : new.notes ≡ [] → old.notes ≡ []
   pub kept : IfSeen g old (λ was. IsKept was → IsSeen g new (λ is. IsKept is))
 
--- a write failed before, a record is begun, or another form is asked for than was written
+-- a write failed before, a record is unfinished, or the requested form is not the one that was
+-- written
 abbrev pub CannotEnd : Bool → Bool → Form → Form → Type 0
 CannotEnd failed begun form asked = (failed ≡ true) ⊎ (begun ≡ true) ⊎ (form ≢ asked)
 

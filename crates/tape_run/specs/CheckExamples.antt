@@ -19,7 +19,7 @@ pub record ImagesAreWorked : Type 0 where
   pub numbered : (first second : Option ImageLine)
       → image_lines 1 (first ∷ second ∷ []) ≡ image_line 1 first ++ (image_line 2 second ++ [])
 
--- the lines of sections and of lacks
+-- the lines of sections and of missing sections
 pub record SectionsAreWorked : Type 0 where
   pub good : section_line (record {
     set_id = codes "ABC001";
@@ -41,7 +41,7 @@ pub record SectionsAreWorked : Type 0 where
   })
       ≡ codes "LACKS ? ~??? 1 2\n"
 
--- what stands behind the lines of images, and in which order
+-- what follows the lines of images, and in which order
 pub record SummaryIsWorked : Type 0 where
   pub order : (s : SectionLine) (l : Lack) → summary_of (s ∷ []) (l ∷ []) false
       ≡ (section_line s ++ []) ++ (lack_line l ++ []) ++ []

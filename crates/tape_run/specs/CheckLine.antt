@@ -30,7 +30,7 @@ image_front n = codes "IMAGE " ++ decimal n ++ codes " "
 abbrev pub items_text : ImageLine → List ℕ
 items_text line = decimal line.items ++ codes " " ++ stop_text line.stop
 
--- what was met of an image; one that was not opened has no items
+-- what was found on an image; one that was not opened has no items
 abbrev pub met_text : Option ImageLine → List ℕ
 met_text (Some line) = items_text line
 met_text None = codes "0 NOT OPENED"
@@ -39,12 +39,12 @@ met_text None = codes "0 NOT OPENED"
 abbrev pub image_line : ℕ → Option ImageLine → List ℕ
 image_line n line = image_front n ++ met_text line ++ codes "\n"
 
--- the lines of images, of which the first has this number
+-- the lines of images, the first of which has this number
 abbrev pub image_lines : ℕ → List (Option ImageLine) → List ℕ
 image_lines n [] = []
 image_lines n (line ∷ lines) = image_line n line ++ image_lines (n + 1) lines
 
--- how a section was met
+-- the state of a section
 abbrev pub state_text : SectionState → List ℕ
 state_text Good = codes "GOOD"
 state_text Bad = codes "BAD"
@@ -56,17 +56,17 @@ abbrev pub section_text : List ℕ → ℕ → ℕ → List ℕ
 section_text set_id file sect =
     identifier_text set_id ++ codes " " ++ decimal file ++ codes " " ++ decimal sect
 
--- the line of a section: which one it is, the volume that it was met on, its blocks and its state
+-- the line of a section: its numbers, the volume on which it was found, its blocks and its state
 abbrev pub section_line : SectionLine → List ℕ
 section_line s =
     codes "SECTION " ++ section_text s.set_id s.file s.sect ++ codes " "
     ++ identifier_text s.volume ++ codes " " ++ decimal s.blocks ++ codes " "
     ++ state_text s.state ++ codes "\n"
 
--- the line of the first section that a file lacks
+-- the line of the first missing section of a file
 abbrev pub lack_line : Lack → List ℕ
 lack_line l = codes "LACKS " ++ section_text l.set_id l.file l.sect ++ codes "\n"
 
--- the last line, where all was found
+-- the last line, if all was found
 abbrev pub found_line : List ℕ
 found_line = codes "ALL SECTIONS FOUND\n"

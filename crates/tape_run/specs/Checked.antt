@@ -16,8 +16,7 @@ use Rattle.tape_run.specs.CheckLine.{image_line, image_lines, section_line, lack
 use Rattle.tape_image.specs.Written.{AppendsFront}
 use Rattle.tape_run.specs.Reeling.{Mounting, AreMounted}
 
--- an image: none where it was not opened, or else the bytes that its reader has, where it tells
--- them
+-- an image: none if it was not opened, otherwise the bytes that its reader has, if it tells them
 abbrev pub Reel : Type 0
 Reel = Option (Option (List ℕ))
 
@@ -25,7 +24,7 @@ Reel = Option (Option (List ℕ))
 abbrev pub IsReel : {R : Type 0} → (R → Option (List ℕ)) → Option R → Reel → Type 0
 IsReel remaining image reel = reel ≡ option_map remaining image
 
--- An image was read to its end, or to a fault, and its sections were noted in a catalogue; or it
+-- An image was read to its end, or to a fault, and its sections were added to a catalogue; or it
 -- was not opened.
 abbrev pub AddsImage : Reel → Option ImageLine → List Told → List Told → Type 0
 AddsImage None None c d = d ≡ c
@@ -39,17 +38,17 @@ AddsImages (reel ∷ reels) (line ∷ lines) c d =
     (mid : List Told) × AddsImage reel line c mid × AddsImages reels lines mid d
 AddsImages _ _ c d = ⊥
 
--- the last line, which there is where all was found
+-- the last line, which is printed if all was found
 abbrev pub last_line : Bool → List ℕ
 last_line found = if found then found_line else []
 
--- a line for each section, for each lack, and the last line
+-- a line for each section, for each missing one, and the last line
 abbrev pub summary_of : List SectionLine → List Lack → Bool → List ℕ
 summary_of listed lacking found =
     flat_map section_line listed ++ flat_map lack_line lacking ++ last_line found
 
--- What stands behind the lines of images: the sections that were met, the first that each of their
--- files lacks, and the last line where something was met and nothing lacks.
+-- What follows the lines of images: the sections that were found, the first missing section of each
+-- file, and the last line if sections were found and none is missing.
 abbrev pub summary : List Told → List ℕ
 summary d = summary_of (map line_of d) (lacks d) (found_all d)
 
@@ -71,13 +70,13 @@ pub record TellsImages {L R : Type 0} (size : L → ℕ) (gives : Mounting L R)
   pub read : AddsImages reels lines [] sections
   pub wrote : Appends old new (image_lines 1 lines)
 
--- At the image with this number a fault came: nothing more was written, or the image was read and a
--- front of its line was written.
+-- A fault came at the image with this number: nothing more was written, or the image was read and a
+-- prefix of its line was written.
 abbrev pub StopsAtImage : Reel → ℕ → List Told → Option (List ℕ) → Option (List ℕ) → Type 0
 StopsAtImage reel n c old new = Appends old new [] ⊎ ((line : Option ImageLine) × (d : List Told)
     × AddsImage reel line c d × AppendsFront old new (image_line n line))
 
--- The text is the report of these images, and tells so whether all was found. Behind the images the
+-- The text is the report of these images, and says whether all was found. After the images the
 -- catalogue has these sections.
 pub record IsReport (reels : List Reel) (text : List ℕ) (found : Bool) : Type 0 where
   pub lines : List (Option ImageLine)
@@ -97,14 +96,13 @@ pub record Reports {L R : Type 0} (size : L → ℕ) (gives : Mounting L R)
   pub report : IsReport reels text found
   pub wrote : Appends old new text
 
--- the summary follows where no image is left
+-- the summary follows if no image is left
 abbrev pub summary_behind : ℕ → List Told → List ℕ
 summary_behind zero d = summary d
 summary_behind (suc left) d = []
 
--- The first images of a shelf were mounted and read, and a front of their report was written; its
--- summary follows the line of the last image. Of those that were not read one may have been
--- mounted, and no more.
+-- The first images were opened and read, and a prefix of their report was written; its summary
+-- follows the line of the last image. Of those that were not read at most one was opened.
 pub record ReportsInPart {L R : Type 0} (size : L → ℕ) (gives : Mounting L R)
     (remaining : R → Option (List ℕ)) (shelf left : L) (old new : Option (List ℕ)) : Type 0 where
   pub first : List Reel

@@ -1,4 +1,4 @@
--- What a crash brings back of a session.
+-- What a crash leaves of a session.
 use Rattle.std.specs.Prelude.{◌≡◌, ◌⊎◌, ℕ, ◌+◌, ◌≤◌, List, [], ◌∷◌, length, Option, Some}
 use Rattle.std.specs.Prelude.{None, slice_get, ⊤, Bool, true, false}
 use Rattle.tape_blocks.specs.Block.{Portion}
@@ -15,34 +15,34 @@ use Rattle.tape_run.specs.Seen.{Seen, seen}
 use Rattle.tape_run.specs.Steps.{Reeled, Saved, WentBack}
 use Rattle.tape_run.specs.Story.{Story}
 
--- where the session stands, with its parts
+-- the session's position, with its parts
 abbrev pub IsHere : Seen → Point → List Portion → Type 0
 IsHere s back there = (back ≡ saved s.place (weight_of s.parts)) × (there ≡ s.parts)
 
--- the note of this number of the session, with the front of its parts that this weighs
+-- the checkpoint of the session with this number, with the first parts up to its weight
 abbrev pub IsNoteOf : ℕ → Seen → Point → List Portion → Type 0
 IsNoteOf n s back there = (slice_get s.notes n ≡ Some back) × IsFront there s.parts
     × (weight_of there ≡ back.staged)
 
--- the note of the session that was made last, with its parts
+-- the last checkpoint of the session, with its parts
 abbrev pub IsLast : Seen → Point → List Portion → Type 0
 IsLast s back there = (n : ℕ) × (length s.notes ≡ n + 1) × IsNoteOf n s back there
 
--- Nothing comes back but the note that was made last, with its parts.
+-- Only the last checkpoint, with its parts, is left.
 abbrev pub BringsLast : Returns → Seen → Type 0
 BringsLast returns s = (back : Point) (there : List Portion) → returns back there
     → IsLast s back there
 
--- Nothing comes back but the note that was made last, with its parts, of a crash now, or at any
--- moment from a past one on.
+-- Only the last checkpoint, with its parts, is left after a crash now, or at any moment from a past
+-- one on.
 abbrev pub LastAlone : Crashes → Seen → Type 0
 LastAlone now s = BringsLast now.returns s
     × ((t : ℕ) × (t ≤ now.moment) × BringsLast (now.returned t) s)
 
--- Nothing comes back but the note that was made last, where it was made on the way or nothing but
--- the note made last came back before; where none was made on the way nothing else came back since
--- a moment, if nothing else had up to here; and where something came back whatever a crash leaves
--- it does so still, and did at each moment on the way.
+-- Only the last checkpoint is left, if it was made meanwhile or only the last one was left before;
+-- if none was made meanwhile, nothing else was left since a moment, provided that nothing else had
+-- been left until the start; and if something survived every crash, it still does, and did at each
+-- moment meanwhile.
 pub record KeepsLast {S : Type 0} (g : Ghosts S) (old : Story S) (held : List Portion)
     (new : Story S) (now : List Portion) : Type 0 where
   pub last : (length new.notes ≡ length old.notes
@@ -57,23 +57,23 @@ pub record KeepsLast {S : Type 0} (g : Ghosts S) (old : Story S) (held : List Po
   pub survived : (t : ℕ) → t ≤ (g.crashes old.sink).moment
       → (g.crashes old.sink).survived t → (g.crashes new.sink).survived t
 
--- where the session stands, with all that its sink holds: these parts, and perhaps more
+-- the session's position, with all that its sink contains: these parts, and perhaps more
 abbrev pub IsHeld : {S : Type 0} → Ghosts S → List Portion → Story S → Returns
 IsHeld g parts s back there = g.holds s.sink there × IsFront parts there
     × (back ≡ saved (rest_of s.core) (weight_of there))
 
--- A step was not made: nothing more comes back than before it, but where the session stands then,
--- and of one that goes back the note that it made last.
+-- A step failed: a crash leaves only what it could before, or the session's position then, and for
+-- a rollback the last checkpoint.
 abbrev pub LeavesStep : {S : Type 0} → Ghosts S → Bool → Story S → List Portion → Story S → Type 0
 LeavesStep g goes old held new =
     AddsOnly (λ back there. ((goes ≡ true) × IsLast (seen g old held) back there)
     ⊎ IsHeld g held new back there) (g.crashes old.sink) (g.crashes new.sink)
 
--- A fault came behind this: nothing comes back but the note that was made last then, where it was
--- made on the way or nothing but the note made last came back before, or where the session stands
--- now; where none was made on the way nothing else came back since a moment, if nothing else had up
--- to here; and where something came back whatever a crash leaves it does so still, and did at each
--- moment on the way.
+-- A fault came after this: a crash leaves only the last checkpoint at that time, if it was made
+-- meanwhile or only the last one was left before, or the session's position now; if none was made
+-- meanwhile, nothing else was left since a moment, provided that nothing else had been left until
+-- the start; and if something survived every crash, it still does, and did at each moment
+-- meanwhile.
 pub record LeavesSaved {S : Type 0} (g : Ghosts S) (old : Story S) (held : List Portion)
     (now : Seen) (new : Story S) : Type 0 where
   pub comes : (length now.notes ≡ length old.notes
@@ -89,13 +89,13 @@ pub record LeavesSaved {S : Type 0} (g : Ghosts S) (old : Story S) (held : List 
   pub survived : (t : ℕ) → t ≤ (g.crashes old.sink).moment
       → (g.crashes old.sink).survived t → (g.crashes new.sink).survived t
 
--- Of a sink that held parts a crash brings back no more than before.
+-- Of a sink that contained parts, a crash leaves no more than before.
 abbrev pub BringsNoMore : {S : Type 0} → Ghosts S → S → S → Type 0
 BringsNoMore g old new = (parts : List Portion) → g.holds old parts
     → AddsNothing (g.crashes old) (g.crashes new)
 
--- The session is where it was, and only its sink may be another: one that holds what it held, and
--- of which a crash brings back no more.
+-- The session is unchanged, except perhaps its sink, which has the same contents, and of which a
+-- crash leaves no more.
 pub record IsWalked {S : Type 0} (g : Ghosts S) (old new : Story S) : Type 0 where
   pub core : new.core ≡ old.core
   pub notes : new.notes ≡ old.notes
@@ -103,19 +103,19 @@ pub record IsWalked {S : Type 0} (g : Ghosts S) (old new : Story S) : Type 0 whe
   pub kept : (parts : List Portion) → g.holds old.sink parts → g.holds new.sink parts
   pub crash : BringsNoMore g old.sink new.sink
 
--- whether nothing but reels was read behind the save made last, where that was so before or not
+-- whether only reels were read after the last save, given whether that was so before
 abbrev pub is_saved : Bool → List Step → Bool
 is_saved saved [] = saved
 is_saved saved (Reel ∷ steps) = is_saved saved steps
 is_saved saved (Save ∷ steps) = is_saved true steps
 is_saved saved (Restart n ∷ steps) = is_saved false steps
 
--- where the session stands, or a note of it
+-- the session's position, or one of its checkpoints
 abbrev pub IsOf : Seen → Point → List Portion → Type 0
 IsOf s back there = IsHere s back there ⊎ ((n : ℕ) × IsNoteOf n s back there)
 
--- This is of the session before the first of the steps, or behind one of them that was made, with
--- readers that have this left. Behind a reader that does not tell its bytes nothing is known.
+-- This is true of the session before the first of the steps, or after one that succeeded, with
+-- readers that have this left. After a reader that does not tell its bytes nothing is known.
 abbrev pub StoodAt : Seen → List Step → List (Option (List ℕ)) → List (Option (List ℕ)) → Point
     → List Portion → Type 0
 StoodAt s [] reels left back there = IsOf s back there

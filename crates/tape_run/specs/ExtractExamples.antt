@@ -11,7 +11,7 @@ use Rattle.tape_blocks.specs.declared.parts.Form.TheVariants.{Lines, Raw}
 use Rattle.tape_run.specs.RecordText.{output_of}
 use Rattle.tape_run.specs.ReelLine.{reel_line, reel_lines, awaits_line}
 
--- a record AB, a record CDE in three parts, and a record that is begun with F
+-- a record AB, a record CDE in three parts, and an unfinished record that begins with F
 abbrev pub worked_parts : List Portion
 worked_parts =
     record { span = Whole; bytes = codes "AB" }
@@ -20,7 +20,7 @@ worked_parts =
     ∷ record { span = Last; bytes = codes "E" }
     ∷ record { span = First; bytes = codes "F" } ∷ []
 
--- block 2 of the first section of file 9, of which so many parts are there
+-- block 2 of the first section of file 9, of which this many parts were delivered
 abbrev pub worked_want : ℕ → Want
 worked_want part = record { file = 9; sect = 1; block = 2; part = part }
 

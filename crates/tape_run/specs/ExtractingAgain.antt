@@ -1,4 +1,4 @@
--- What `extract` leaves where it goes round the images.
+-- What `extract` leaves after passes over the images.
 use Rattle.std.specs.Prelude.{◌≡◌, ◌⊎◌, ℕ, ◌+◌, ◌<◌, ◌≤◌, List, ◌++◌, length, map, Option, None}
 use Rattle.std.specs.Prelude.{true}
 use Rattle.std.specs.Io.KnownBytes.{Appends}
@@ -20,10 +20,10 @@ use Rattle.tape_run.specs.Rounds.{BroughtSomething, IsEnough, GoesRound}
 use Rattle.tape_run.specs.Seen.{Seen, IfSeen}
 use Rattle.tape_run.specs.Story.{Story}
 
--- Images were read round by round: whole rounds that brought something, and a last one, of all
--- images or up to the one that completed the file, which was enough. A line was reported for each
--- image of each round, numbered on and on, and a last one with what is wanted or how many records
--- the file has; and over all rounds the session ended as over images that are named so often.
+-- Images were read pass by pass: passes that recovered something, and a last one, of all images or
+-- up to the one that completed the file. A line was reported for each image of each pass, numbered
+-- continuously, and a last one with what is missing or how many records the file has; and over all
+-- passes the session ended as over images that are named that often.
 pub record ExtractsAgain {S L R : Type 0} (g : Ghosts S) (size : L → ℕ) (gives : Mounting L R)
     (remaining : R → Option (List ℕ)) (old new : Story S) (shelf left : L) (form : Form)
     (out written said says : Option (List ℕ)) (want : Option Want) : Type 0 where
@@ -45,10 +45,10 @@ pub record ExtractsAgain {S L R : Type 0} (g : Ghosts S) (size : L → ℕ) (giv
       × GoesRound (goes_back old.notes) old.core was rounds turns e.last e.now
       × StoodSaved g old was.parts new e.now)
 
--- A fault ended it: what was reported is a front of such a report, with the line of at most one
--- image more than those that were read and noted, which are those of whole rounds that brought
--- something and the first of the images once more; and nothing was done to the output, or the file
--- is complete and a front of its records was written.
+-- A fault ended it: what was reported is a prefix of such a report, with the line of at most one
+-- more image than those that were read, which are those of passes that recovered something and the
+-- first images of another pass; and the output was not touched, or the file is complete and a
+-- prefix of its records was written.
 pub record StopsAgain {S L R W : Type 0} (g : Ghosts S) (size : L → ℕ) (gives : Mounting L R)
     (remaining : R → Option (List ℕ)) (old new : Story S) (shelf left : L) (form : Form)
     (contents : W → Option (List ℕ)) (out written : W) (said says : Option (List ℕ))

@@ -1,4 +1,4 @@
--- What `unpack` leaves of a file that is whole, where an image is read once for all of its files.
+-- What `unpack` leaves of a complete file, if an image is read once for all of its files.
 use Rattle.std.specs.Prelude.{◌≡◌, ◌≢◌, ◌⊎◌, ℕ, ◌<◌, Bool, false, List, [], ◌∷◌, ◌++◌}
 use Rattle.std.specs.Prelude.{Option, Some, None, IsSome, ⊤}
 use Rattle.tape_blocks.specs.Block.{Portion}
@@ -28,23 +28,22 @@ use Rattle.tape_run.specs.Story.{Story}
 use Rattle.tape_run.specs.declared.extract.located.Mounted.{Mounted}
 use Rattle.tape_run.specs.declared.survey.files.FileKey.{FileKey}
 
--- ---- an image that stays mounted
+-- ---- an image that stays open
 
 -- The session of every later file of the set passes these items over.
 abbrev pub ArePassed : FileKey → List TapeItem → Type 0
 ArePassed key front = (core : State) → core.set_id ≡ key.set_id → key.file < core.file
     → is_finished core.position ≡ false → core.phase ≢ Broken → PassedOver core front
 
--- The bytes of an image begin with items that every later file's session passes over, and these are
--- left.
+-- The bytes of an image begin with items that every later file's session skips, and these are left.
 pub record PassesTo (key : FileKey) (bytes left : List ℕ) : Type 0 where
   pub front : List TapeItem
   pub at : ℕ
   pub walks : Walks 0 bytes front at left
   pub passed : ArePassed key front
 
--- The image that is mounted, if one is, has these bytes, and later files' sessions read on where
--- its reader is.
+-- The open image, if there is one, has these bytes, and later files' sessions continue where its
+-- reader is.
 abbrev pub IsHeld : {R : Type 0} → (R → Option (List ℕ)) → Option (Mounted R) → Option (List ℕ)
     → Type 0
 IsHeld remaining None whole = ⊤
@@ -52,8 +51,8 @@ IsHeld remaining (Some m) whole = IfKnown whole (remaining m.device) (PassesTo m
 
 -- ---- what a session reads
 
--- What a session read of an image: the bytes that the image has, the items before those that it
--- read, the bytes that the reader had after these and has left, and whether it failed.
+-- What a session read of an image: the bytes of the image, the items before those that it read, the
+-- bytes that the reader then had and has left, and whether it failed.
 pub record Stretch : Type 0 where
   pub whole : Option (List ℕ)
   pub front : List TapeItem
@@ -66,7 +65,7 @@ abbrev pub IsPartOf : Stretch → Type 0
 IsPartOf s = IfKnown s.whole s.had (λ bytes rest. (at : ℕ) × Walks 0 bytes s.front at rest)
 
 -- The session went where the table leads over the whole image: over the items before, and those of
--- the bytes that the reader gave, all that it had or, where it failed, what it has not left.
+-- the bytes that the reader returned, all that it had or, if it failed, what it no longer has.
 pub record ReadsOn (s : Stretch) (old new : Seen) : Type 0 where
   pub given : List ℕ
   pub is_given : IfKnown s.whole s.had (λ bytes had. IsGiven s.failed had s.left given)
@@ -75,14 +74,14 @@ pub record ReadsOn (s : Stretch) (old new : Seen) : Type 0 where
       → Begins 0 given xs end stop
       → IsLed (s.front ++ xs) (mount_of old.place) new.place old.parts new.parts
 
--- The bytes were given, of each stretch those that its reader gave.
+-- The bytes returned are those that the reader of each stretch returned.
 abbrev pub AreGivenOf : List Stretch → List (List ℕ) → Type 0
 AreGivenOf [] [] = ⊤
 AreGivenOf (s ∷ ss) (g ∷ given) =
     IfKnown s.whole s.had (λ bytes had. IsGiven s.failed had s.left g) × AreGivenOf ss given
 AreGivenOf ss given = ⊥
 
--- The items of each image: those before, and those that the bytes given begin with. Each reader
+-- The items of each image: those before, and those that the returned bytes begin with. Each reader
 -- told its bytes.
 abbrev pub AreTapesOf : List Stretch → List (List ℕ) → List (List TapeItem) → Type 0
 AreTapesOf [] [] [] = ⊤
@@ -114,13 +113,13 @@ abbrev pub over_tapes : Lead → List (List TapeItem) → Lead
 over_tapes t [] = t
 over_tapes t (xs ∷ tapes) = over_tapes (over_reel t xs) tapes
 
--- The session is there, and its sink holds the parts that were delivered up to there.
+-- The session is there, and its sink contains the parts that were delivered until then.
 pub record IsThere (t : Lead) (s : Seen) : Type 0 where
   pub place : s.place ≡ t.place
   pub parts : s.parts ≡ t.parts
 
--- Of every lawful set and all mounts that the images are, the session is where these lead; and
--- whatever the images are, it is where the table leads.
+-- For every valid set and all mounts that the images are, the session is where these lead; and for
+-- any images, it is where the table leads.
 pub record GathersOf (stretches : List Stretch) (old new : Seen) : Type 0 where
   pub given : List (List ℕ)
   pub are_given : AreGivenOf stretches given
@@ -132,8 +131,8 @@ pub record GathersOf (stretches : List Stretch) (old new : Seen) : Type 0 where
 
 -- ---- which images
 
--- Each stretch is of the image that is mounted, which has these bytes, or of one that the shelf
--- gave, and this is mounted then. The shelf may have given one more.
+-- Each stretch is of the open image, which has these bytes, or of one that the source yielded,
+-- which is then open. The source may have yielded one more.
 abbrev pub AreFrom : {L R : Type 0} → Mounting L R → (R → Option (List ℕ)) → Option (List ℕ) → L
     → List Stretch → L → Type 0
 AreFrom gives remaining whole shelf [] last = (last ≡ shelf)
@@ -150,8 +149,8 @@ held_behind whole (s ∷ ss) = held_behind s.whole ss
 
 -- ---- calls
 
--- A stretch of the image with these bytes was read; if a section ended well the image stays
--- mounted.
+-- A stretch of the image with these bytes was read; if a section was completed the image stays
+-- open.
 pub record ReadsPart {S R : Type 0} (g : Ghosts S) (remaining : R → Option (List ℕ))
     (whole : Option (List ℕ)) (old new : Story S) (after : Option (Mounted R)) : Type 0 where
   pub stretch : Stretch
@@ -160,8 +159,8 @@ pub record ReadsPart {S R : Type 0} (g : Ghosts S) (remaining : R → Option (Li
   pub reads : IfSeen g old (λ was. IsSeen g new (λ is. ReadsOn stretch was is))
   pub held : IsHeld remaining after whole
 
--- A stretch was read of the image that was mounted or of one that the shelf gave; or this is not
--- there, and nothing changed.
+-- A stretch was read of the open image or of one that the source yielded; or there is no such
+-- image, and nothing changed.
 abbrev pub ReadsLocated : {S L R : Type 0} → Ghosts S → Mounting L R → (R → Option (List ℕ))
     → Story S → Story S → L → L → Option (List ℕ) → Option (Mounted R) → Type 0
 ReadsLocated g gives remaining old new shelf left whole after =
@@ -179,8 +178,7 @@ pub record ReadsSections {S L R : Type 0} (g : Ghosts S) (gives : Mounting L R)
   pub held : IsHeld remaining after (held_behind whole stretches)
   pub gathers : IfSeen g old (λ was. IsSeen g new (λ is. GathersOf stretches was is))
 
--- So a file was read. Where it is complete its records, and nothing else, stand under the output's
--- name.
+-- A file was read in this way. If it is complete, exactly its records have the output's name.
 pub record ExtractsLocated {S L R : Type 0} (g : Ghosts S) (gives : Mounting L R)
     (remaining : R → Option (List ℕ)) (session : Story S) (shelf left : L)
     (whole : Option (List ℕ)) (after : Option (Mounted R)) (form : Form) (tells : Type 0)

@@ -1,4 +1,4 @@
--- What `extract` leaves where the records are written as the images are read.
+-- What `extract` leaves if the records are written while the images are read.
 use Rattle.std.specs.Prelude.{◌≡◌, ◌⊎◌, ℕ, ◌+◌, ◌<◌, ◌≤◌, List, ◌++◌, length, map, Option, Some}
 use Rattle.std.specs.Prelude.{None, ⊤, false}
 use Rattle.std.specs.Io.KnownBytes.{Appends}
@@ -20,15 +20,15 @@ use Rattle.tape_run.specs.ReelLine.{reel_lines, last_line}
 use Rattle.tape_run.specs.Reeling.{Turn, answer_of, AreTurns, AreFirstTurns, Follows, AreSteps}
 use Rattle.tape_run.specs.Reeling.{Mounting}
 
--- what stands under the output's name where something is wanted, and where nothing is: just the
--- records, which were counted; the bytes, of a writer that tells them
+-- what has the output's name if something is missing, and if nothing is: exactly the records, which
+-- were counted; the bytes, for a writer that tells them
 abbrev pub IsPut : Option Want → Type 0 → ℕ → Form → Option (List ℕ) → List Portion → Type 0
 IsPut (Some want) tells records form stands parts = ⊤
 IsPut None tells records form stands parts = (records ≡ length (join parts).records)
     × (tells → stands ≡ Some (output_of form parts))
 
--- What a session came to, over the images that were read. It never goes back: what was written
--- cannot be taken back.
+-- What a session came to, over the images that were read. It never rolls back: what was written
+-- cannot be dropped.
 pub record EndsNow (first : State) (old : Seen) (turns : List Turn) (want : Option Want)
     (records : ℕ) (form : Form) (tells : Type 0) (stands : Option (List ℕ)) : Type 0 where
   pub last : State
@@ -39,8 +39,8 @@ pub record EndsNow (first : State) (old : Seen) (turns : List Turn) (want : Opti
   pub is_put : IsPut want tells records form stands now.parts
 
 -- Images were read in their order, all of them or up to the one that completed the file; a line was
--- reported for each, and a last one; and where nothing is wanted the records, and nothing else,
--- stand under the output's name.
+-- reported for each, and a last one; and if nothing is missing, exactly the records have the
+-- output's name.
 pub record ExtractsNow {S L R : Type 0} (g : Ghosts S) (size : L → ℕ) (gives : Mounting L R)
     (remaining : R → Option (List ℕ)) (session : Story S) (shelf left : L) (form : Form)
     (tells : Type 0) (stands said says : Option (List ℕ)) (want : Option Want) : Type 0 where
@@ -53,9 +53,9 @@ pub record ExtractsNow {S L R : Type 0} (g : Ghosts S) (size : L → ℕ) (gives
   pub ends : IfSeen g session (λ was.
       EndsNow session.core was turns want records form tells stands)
 
--- A fault ended it: what was reported is a front of such a report, of the first of the images; and
--- nothing was done to what stands under the output's name, or the file is complete and the same
--- stands there, or just its records.
+-- A fault ended it: what was reported is a prefix of such a report, for the first of the images;
+-- and what has the output's name was not touched, or the file is complete and the same has the
+-- name, or exactly its records.
 pub record StopsNow {S L R O : Type 0} (g : Ghosts S) (size : L → ℕ) (gives : Mounting L R)
     (remaining : R → Option (List ℕ)) (session : Story S) (shelf left : L) (form : Form)
     (tells : Type 0) (stands : O → Option (List ℕ)) (out put : O) (said says : Option (List ℕ))

@@ -1,4 +1,4 @@
--- A front of a mount is a mount.
+-- A prefix of a mount is a mount.
 use Rattle.std.specs.Prelude.{Bool, ℕ, List, Option, ◌++◌}
 use Rattle.tape_set.specs.Layout.{FileSet}
 use Rattle.tape_run.specs.declared.script.Step.{Step}
@@ -6,13 +6,13 @@ use Rattle.tape_run.specs.Mount.{Happening, IsMountOf, cut}
 use Rattle.tape_run.specs.History.{IsHistory}
 use Rattle.tape_run.specs.Given.{AreGivenBy}
 
--- The front of a reel that a reader gave before it failed is a mount: of the same volume, up to
--- some item, or foreign.
+-- The prefix of a reel that a reader returned before it failed is a mount: of the same volume, up
+-- to some item, or foreign.
 abbrev pub FrontsAreMounts : Type 0
 FrontsAreMounts = (set : FileSet) (front rest : List ℕ) (h : Happening)
     → IsMountOf set (front ++ rest) h → (n : ℕ) × IsMountOf set front (cut n h)
 
--- So whatever readers failed, what was given is a history too.
+-- So whichever readers failed, what was returned is a history too.
 abbrev pub GivenIsHistory : Type 0
 GivenIsHistory = (set : FileSet) (notes : ℕ) (which : List Bool) (steps : List Step)
     (bytes given : List (List ℕ)) (left : List (Option (List ℕ))) (hs : List Happening)

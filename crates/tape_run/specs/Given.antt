@@ -1,4 +1,4 @@
--- The bytes that readers gave, and the count of readers that failed.
+-- The bytes that readers returned, and the count of readers that failed.
 use Rattle.std.specs.Prelude.{◌≡◌, ℕ, zero, suc, ◌+◌, Bool, true, false, List, [], ◌∷◌, ◌++◌}
 use Rattle.std.specs.Prelude.{map, min, Option, Some, None}
 use Rattle.tape_image.specs.declared.item.ImageFault.{ImageFault}
@@ -21,25 +21,25 @@ abbrev pub is_device : Option ImageFault → Bool
 is_device None = false
 is_device (Some fault) = is_device_cause fault.cause
 
--- All that a reader has was given, or, where it failed, what it has not left.
+-- All that a reader had was returned, or, if it failed, what it no longer has.
 abbrev pub IsGiven : Bool → List ℕ → Option (List ℕ) → List ℕ → Type 0
 IsGiven false bytes left given = given ≡ bytes
 IsGiven true bytes left given = (rest : List ℕ) × (left ≡ Some rest) × (bytes ≡ given ++ rest)
 
--- Where each of the readers tells its bytes, these are so.
+-- If each of the readers tells its bytes, this is true of them.
 abbrev pub IfTold : {R : Type 0} → (R → Option (List ℕ)) → List R → (List (List ℕ) → Type 0)
     → Type 0
 IfTold remaining readers so = (bytes : List (List ℕ)) → map remaining readers ≡ map Some bytes
     → so bytes
 
--- a count of failures behind one more reader, which failed or did not; it stays at its greatest
+-- a count of failures after one more reader, which failed or did not; it never exceeds its greatest
 -- value
 abbrev pub counted : Bool → ℕ → ℕ
 counted false n = n
 counted true n = min (n + 1) 18446744073709551615
 
--- The bytes that were given of each of the first readers, as many as are told of, by whether it
--- failed: all that it has, or what it has not left. The readers behind these were not taken.
+-- The bytes that each of the first readers returned, one for each entry of the list, which says
+-- whether it failed: all that it had, or what it no longer has. The other readers were not taken.
 abbrev pub AreGivenBy : List Bool → List (List ℕ) → List (Option (List ℕ)) → List (List ℕ) → Type 0
 AreGivenBy [] all left given = given ≡ all
 AreGivenBy (f ∷ which) [] left given = ⊥
@@ -60,7 +60,7 @@ written [] row = row
 written (f ∷ which) [] = []
 written (f ∷ which) (old ∷ row) = f ∷ written which row
 
--- a count of failures behind n readers that failed
+-- a count of failures after n readers that failed
 abbrev pub counted_up : ℕ → ℕ → ℕ
 counted_up zero c = c
 counted_up (suc n) c = counted_up n (counted true c)

@@ -1,4 +1,4 @@
--- A reading of a later file goes on behind that of an earlier one, in the same image.
+-- A reading of a later file continues after that of an earlier one, in the same image.
 use Rattle.std.specs.Prelude.{◌≡◌, ◌≢◌, ◌⊎◌, ℕ, Bool, false, List, [], ◌∷◌, ◌++◌}
 use Rattle.std.specs.Prelude.{Option, Some, None}
 use Rattle.std.specs.List.{AllByRecursion}
@@ -33,28 +33,28 @@ use Rattle.tape_run.specs.Seen.{Seen}
 abbrev pub EndsSection : Answer → Type 0
 EndsSection answer = (answer ≡ SectionDone) ⊎ (answer ≡ Complete)
 
--- A reel that is mounted begins with these items, behind each of which the reading goes on, and
--- then with one that ends a section well.
+-- A mounted reel begins with these items, after each of which the reading continues, and then with
+-- one that completes a section.
 pub record ReadsSection (core : State) (items : List TapeItem) (item : TapeItem) : Type 0 where
   pub sound : core.phase ≢ Broken
   pub on : AllByRecursion GoesOn (answers_to (mount_of core) items)
   pub ended : EndsSection (step_of (behind_items (mount_of core) items) (Some item)).0
 
--- A reader passed all these items of a reel that was mounted, stands where a reading goes on behind
--- a trailer label, and nothing was delivered.
+-- A reader skipped all these items of a mounted reel, is where a reading continues after a trailer
+-- label, and nothing was delivered.
 pub record PassedOver (core : State) (items : List TapeItem) : Type 0 where
   pub answers : AllByRecursion (λ a. a ≡ Passed) (answers_to (mount_of core) items)
   pub behind : behind_items (mount_of core) items ≡ behind_of core
   pub nothing : delivered_parts (mount_of core) items ≡ []
 
--- What the reader of one file read up to the end of a section, the reader of each later file of the
--- set passes over: it goes on behind that as if it had read the reel from its front.
+-- What the reader of one file read up to the end of a section is skipped by the reader of each
+-- later file of the set: it continues after that as if it had read the reel from its start.
 abbrev pub PassesFiles : Type 0
 PassesFiles = (first later : State) (items : List TapeItem) (item : TapeItem)
     → AreInOrder first later → later.phase ≢ Broken → ReadsSection first items item
     → PassedOver later (items ++ item ∷ [])
 
--- So where the reading that went on behind them is led over the other items, the whole reel leads
+-- So if the reading that continued after them is led over the other items, the whole reel leads
 -- there.
 abbrev pub LeadsOverAll : Type 0
 LeadsOverAll = (core new : State) (front more : List TapeItem) (held now : List Portion)
@@ -63,8 +63,8 @@ LeadsOverAll = (core new : State) (front more : List TapeItem) (held now : List 
 
 -- ---- calls
 
--- A reel was read on behind a trailer label: what its reader gave, all of it or, where the reader
--- failed, what it has not left.
+-- A reel was read on after a trailer label: what its reader returned, all of it or, if the reader
+-- failed, what it no longer has.
 pub record ReeledBehind (bytes : List ℕ) (left : Option (List ℕ)) (failed : Bool) (old new : Seen)
     : Type 0 where
   pub given : List ℕ
@@ -78,7 +78,8 @@ pub record ReeledBehind (bytes : List ℕ) (left : Option (List ℕ)) (failed : 
   pub table : (xs : List TapeItem) (end : ℕ) (stop : Stop) → Begins 0 given xs end stop
       → IsLed xs (behind_of old.place) new.place old.parts new.parts
 
--- A reel that is read on was read up to a part that the sink refused: the session is at this part.
+-- A reel that is continued was read up to a part that the sink refused: the session's position is
+-- this part.
 pub record CutBehind (bytes : List ℕ) (old new : Seen) : Type 0 where
   pub count : new.failures ≡ old.failures
   pub notes : new.notes ≡ old.notes
@@ -96,16 +97,16 @@ ReelFailsBehind bytes TooFewReels old new = ⊥
 ReelFailsBehind bytes OutOfMemory old new = new ≡ old
 ReelFailsBehind bytes OtherFile old new = ⊥
 
--- What a reel that is read on answers and leaves unread: of a complete file it reads nothing.
+-- What a continued reel answers and leaves unread: for a complete file nothing is read.
 abbrev pub ReadsBehind : Position → State → List ℕ → List ℕ → ReelAnswer → Type 0
 ReadsBehind Finished core bytes left answer =
     (left ≡ bytes) × (answer.answer ≡ Complete) × (answer.fault ≡ None) × (answer.blocks ≡ 0)
 ReadsBehind (Awaits sect number part) core bytes left answer =
     ReadsReel (behind_of core) bytes left answer
 
--- So the headline holds of it: of every lawful set and each history that the reel is, of which
--- these items stand in front and were passed over, the session is where that history leads, with
--- the parts before that position.
+-- So the headline is true of it: for every valid set and each history that the reel is, if it
+-- begins with these items, which were skipped, the session is where that history leads, with the
+-- parts before that position.
 abbrev pub ReadsByHistory : Type 0
 ReadsByHistory = (set : FileSet) (h : Happening) (old new : Seen) (core : State) (bytes : List ℕ)
     (left : Option (List ℕ)) (failed : Bool) (front more : List TapeItem) (end : ℕ) (stop : Stop)
@@ -115,7 +116,7 @@ ReadsByHistory = (set : FileSet) (h : Happening) (old new : Seen) (core : State)
     → Begins 0 r.given more end stop
     → ReadBy set old.place.file old.place.position h new.place new.parts
 
--- Behind a reel that ended a section well what is left is what stands behind that section.
+-- After a reel that completed a section, what is left is what follows that section.
 abbrev pub LeavesBehind : Type 0
 LeavesBehind = (core : State) (bytes left : List ℕ) (answer : ReelAnswer)
     → is_finished core.position ≡ false → core.phase ≢ Broken
@@ -123,7 +124,7 @@ LeavesBehind = (core : State) (bytes left : List ℕ) (answer : ReelAnswer)
     → (items : List TapeItem) × (item : TapeItem) × (at : ℕ) × ReadsSection core items item
     × Walks 0 bytes (items ++ item ∷ []) at left
 
--- The same where the reading went on behind items that were passed over.
+-- The same if the reading continued after items that were skipped.
 abbrev pub LeavesBehindAgain : Type 0
 LeavesBehindAgain = (core : State) (front : List TapeItem) (bytes left : List ℕ)
     (answer : ReelAnswer) → is_finished core.position ≡ false → core.phase ≢ Broken

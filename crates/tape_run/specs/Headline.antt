@@ -1,9 +1,9 @@
 -- The headline: what a run of a session leaves, over the mounts that happened.
 --
--- Premises, each a parameter or a field below: the set is lawful (`IsLawful`); each reader told its
--- bytes, and these are a copy of one of the set's volumes, whole, cut or damaged, or a reel that is
--- none of the set (`IsHistory`); the notes that the script goes back to exist (`IsHistory`); the
--- sink holds the parts of the session before (`IsSession`, `IsNew`); no call was refused (`HasRun`,
+-- Premises, each a parameter or a field below: the set is valid (`IsLawful`); each reader told its
+-- bytes, and these are a copy of one of the set's volumes, complete, cut or damaged, or a foreign
+-- reel (`IsHistory`); the checkpoints that the script returns to exist (`IsHistory`); the sink
+-- contains the parts of the session before (`IsSession`, `IsNew`); no call was refused (`HasRun`,
 -- `IsRead`), or the first one that was ended the run (`HasStopped`).
 use Rattle.std.specs.Prelude.{◌≡◌, ℕ, suc, ◌≤◌, List, [], ◌∷◌, length, take, drop, IsSome}
 use Rattle.std.specs.Prelude.{Bool, Option, Some, slice_get}
@@ -27,17 +27,17 @@ use Rattle.tape_run.specs.Steps.{StoppedBy}
 use Rattle.tape_run.specs.Lead.{Lead, lead, at_start, AreItems, StandsThere, LeadsBy, StopsBy}
 use Rattle.tape_core.specs.Table.{reader_of}
 
--- ---- all steps were made
+-- ---- all steps succeeded
 
--- The session is where the history leads, with just the parts before that position.
+-- The session is where the history leads, with exactly the parts before that position.
 pub record Ran (set : FileSet) (old : Seen) (hs : List Happening) (new : Seen) : Type 0 where
   pub session : IsSession set new
   pub same_file : new.place.file ≡ old.place.file
   pub reached : course set old.place.file (course_of old) hs ≡ course_of new
 
--- All steps were made: of every lawful set and every history that the bytes given are, the session
--- is where this leads; and whatever they are, it is where the table leads. What was given of each
--- reader follows of what it has left.
+-- All steps succeeded: for every valid set and every history that the returned bytes are, the
+-- session is where this leads; and for any bytes, it is where the table leads. What each reader
+-- returned follows from what it has left.
 pub record HasRun (old : Seen) (steps : List Step) (bytes : List (List ℕ))
     (left : List (Option (List ℕ))) (new : Seen) : Type 0 where
   pub given : List (List ℕ)
@@ -55,14 +55,14 @@ pub record HasRun (old : Seen) (steps : List Step) (bytes : List (List ℕ))
 abbrev pub begins : Course
 begins = record { at = start; notes = [] }
 
--- A session of the set that stands at the start of the file.
+-- A session of the set at the start of the file.
 pub record IsNew (set : FileSet) (file : ℕ) (s : Seen) : Type 0 where
   pub session : IsSession set s
   pub its_file : s.place.file ≡ file
   pub course : course_of s ≡ begins
 
--- The session has read nothing of this file: in every lawful set of the identifier that has the
--- file it stands at the file's start.
+-- The session has read nothing of this file: in every valid set with the identifier that has the
+-- file, its position is the file's start.
 pub record IsStart (set_id : List ℕ) (file : ℕ) (s : Seen) : Type 0 where
   pub no_notes : s.notes ≡ []
   pub no_failures : s.failures ≡ 0
@@ -71,10 +71,10 @@ pub record IsStart (set_id : List ℕ) (file : ℕ) (s : Seen) : Type 0 where
   pub each : (set : FileSet) → IsLawful set → set_id ≡ set.set_id → IsSome (file_of set file)
       → IsNew set file s
 
--- What was read of a file from its start: of every lawful set of this identifier that has the file,
--- and every history that the bytes given are, the sink holds the parts before the position that
--- this leads to, and the position and the notes are those of it. Whatever the bytes are, all is as
--- the table leads.
+-- What was read of a file from its start: for every valid set with this identifier that has the
+-- file, and every history that the returned bytes are, the sink contains the parts before the
+-- position that this leads to, and the position and the checkpoints are those of the history. For
+-- any bytes, all is as the table leads.
 pub record IsRead (set_id : List ℕ) (file : ℕ) (steps : List Step) (bytes : List (List ℕ))
     (left : List (Option (List ℕ))) (s : Seen) : Type 0 where
   pub given : List (List ℕ)
@@ -98,15 +98,15 @@ reels_in (Reel ∷ steps) = suc (reels_in steps)
 reels_in (Save ∷ steps) = reels_in steps
 reels_in (Restart n ∷ steps) = reels_in steps
 
--- The step of this number, which was not made for this reason, goes back to a note, and the sink's
--- device failed in it: of what the sink holds then nothing is said.
+-- The step with this number, which failed for this reason, is a rollback in which the sink's device
+-- failed: nothing is known about what the sink then contains.
 abbrev pub LosesParts : List Step → ℕ → RunFault → Type 0
 LosesParts steps n fault =
     ((note : ℕ) × (slice_get steps n ≡ Some (Restart note))) × (fault ≡ Sink Device)
 
--- Behind these happenings a part was refused, in the block of the reel that was awaited there: the
--- session is where the items before it lead, in the block at the refused part, with just the parts
--- before that position.
+-- After this history a part was refused, in the block of the reel that was expected there: the
+-- session is where the items before it lead, in the block at the refused part, with exactly the
+-- parts before that position.
 pub record PutRefused (set : FileSet) (old : Seen) (hs : List Happening) (xs : List TapeItem)
     (h : Happening) (new : Seen) : Type 0 where
   pub session : IsSession set new
@@ -115,8 +115,8 @@ pub record PutRefused (set : FileSet) (old : Seen) (hs : List Happening) (xs : L
   pub by : StoppedBy set old.place.file (course set old.place.file (course_of old) hs).at xs h
       new.place new.parts
 
--- The step was not made, for this reason, by a session that these happenings brought where it was,
--- with these readers left: the session is there still, or at a part that the sink refused.
+-- The step failed, for this reason, in a session with this history, with these readers left: the
+-- session's position is unchanged, or is a part that the sink refused.
 abbrev pub StopsStep : FileSet → Seen → List Happening → Step → List (List ℕ) → RunFault → Seen
     → Type 0
 StopsStep set old hs Reel [] TooFewReels new = Ran set old hs new
@@ -131,9 +131,9 @@ StopsStep set old hs (Restart n) readers NoSuchPoint new =
 StopsStep set old hs (Restart n) readers (Sink cause) new = Ran set old hs new
 StopsStep set old hs step readers fault new = ⊥
 
--- The first n steps were made, and the next one was not: of every lawful set and every history that
--- the steps made and the bytes given are, the session is where this leads, or at a part that the
--- sink refused.
+-- The first n steps succeeded, and the next one failed: for every valid set and every history that
+-- the successful steps and the returned bytes are, the session is where this leads, or at a part
+-- that the sink refused.
 pub record HasStopped (old : Seen) (steps : List Step) (bytes : List (List ℕ))
     (left : List (Option (List ℕ))) (n : ℕ) (fault : RunFault) (new : Seen) : Type 0 where
   pub step : Step

@@ -9,17 +9,17 @@ use Rattle.tape_run.specs.declared.script.Step.{Step}
 use Rattle.tape_run.specs.declared.script.Step.TheVariants.{Reel, Save, Restart}
 use Rattle.tape_run.specs.Seen.{Seen}
 
--- a position, and those that were noted, the first of them first
+-- a position, and the checkpoints, the oldest first
 pub record Course : Type 0 where
   pub at : Position
   pub notes : List Position
 
--- back at note n, if there is one: the later notes are forgotten
+-- back at checkpoint n, if there is one: the later checkpoints are dropped
 abbrev pub at_note : Course → ℕ → Option Position → Course
 at_note c n None = c
 at_note c n (Some p) = record { at = p; notes = take (n + 1) c.notes }
 
--- what one happening makes of it
+-- what one event makes of it
 abbrev pub after : FileSet → ℕ → Course → Happening → Course
 after set file c (reads r) = record { at = far set file c.at r; notes = c.notes }
 after set file c foreign_reel = c
@@ -31,8 +31,8 @@ abbrev pub course : FileSet → ℕ → Course → List Happening → Course
 course set file c [] = c
 course set file c (h ∷ hs) = course set file (after set file c h) hs
 
--- The steps, with so many notes before them, and the bytes of the reels are what happens. More
--- reels than steps ask for may be there.
+-- The steps, with this many checkpoints before them, and the bytes of the reels are what happens.
+-- There may be more reels than the steps use.
 abbrev pub IsHistory : FileSet → ℕ → List Step → List (List ℕ) → List Happening → Type 0
 IsHistory set notes [] reels [] = ⊤
 IsHistory set notes [] reels (h ∷ hs) = ⊥

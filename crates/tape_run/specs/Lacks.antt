@@ -1,4 +1,4 @@
--- What a catalogue lacks.
+-- What is missing from a catalogue.
 use Rattle.std.specs.Prelude.{◌≡◌, ◌<◌, ◌≤◌, ℕ, zero, suc, ◌+◌, max, Bool, true, false, MatchOption}
 use Rattle.std.specs.Prelude.{if◌then◌else◌, List, [], ◌∷◌, ◌++◌, Option, Some, None}
 use Rattle.std.specs.List.{flat_map}
@@ -16,13 +16,13 @@ use Rattle.tape_run.specs.Noted.{same_key, is_good}
 abbrev pub entry_at : List Told → SectionKey → Option Entry
 entry_at c key = lookup (same_key key) c
 
--- the section is there as good, and this is what is known of it
+-- the section is good, and this is what is known of it
 pub record IsGoodAt (c : List Told) (key : SectionKey) : Type 0 where
   pub entry : Entry
   pub there : entry_at c key ≡ Some entry
   pub good : entry.state ≡ Good
 
--- whether a good section ends its file; none where it is not there as good
+-- whether a good section ends its file; none if there is no good one
 abbrev pub good_end : Option Entry → Option Bool
 good_end None = None
 good_end (Some e) = if is_good e.state then Some e.eof else None
@@ -31,55 +31,54 @@ good_end (Some e) = if is_good e.state then Some e.eof else None
 abbrev pub key_at : List ℕ → ℕ → ℕ → SectionKey
 key_at set_id file sect = record { set_id = set_id; file = file; sect = sect }
 
--- a section is lacking where it is not told whether it ends its file; nothing is where it does; and
--- else what is lacking behind it
+-- a section is missing if it is not known whether it ends its file; nothing is if it does;
+-- otherwise what is missing after it
 abbrev pub lack_by : Option Bool → ℕ → Option ℕ → Option ℕ
 lack_by None sect behind = Some sect
 lack_by (Some true) sect behind = None
 lack_by (Some false) sect behind = behind
 
--- The first section of a file that is not there as good, going on from this one while good ones end
--- by EOV, over so many sections at most; none where the file ends before.
+-- The first section of a file that is not good, counting from this one while good ones end with
+-- EOV, among this many at most; none if the file ends before.
 abbrev pub first_lack : List Told → List ℕ → ℕ → ℕ → ℕ → Option ℕ
 first_lack c set_id file sect zero = Some sect
 first_lack c set_id file sect (suc n) =
     let end = good_end (entry_at c (key_at set_id file sect)) in
     lack_by end sect (first_lack c set_id file (sect + 1) n)
 
--- the first section that a file lacks; section numbers have four digits
+-- the first missing section of a file; section numbers have four digits
 unfoldable pub lack_of : List Told → List ℕ → ℕ → Option ℕ
 lack_of c set_id file = first_lack c set_id file 1 9999
 
--- the sections of a file before this one are there as good, and none of them ends the file
+-- the sections of a file before this one are good, and none of them ends the file
 abbrev pub GoesOnTo : List Told → List ℕ → ℕ → ℕ → Type 0
 GoesOnTo c set_id file sect =
     (i : ℕ) → 1 ≤ i → i < sect → good_end (entry_at c (key_at set_id file i)) ≡ Some false
 
--- The file lacks nothing: its sections are good up to one that ends it.
+-- Nothing is missing of the file: its sections are good up to one that ends it.
 pub record IsFoundWhole (c : List Told) (set_id : List ℕ) (file : ℕ) : Type 0 where
   pub sect : ℕ
   pub numbered : (1 ≤ sect) × (sect ≤ 9999)
   pub goes_on : GoesOnTo c set_id file sect
   pub ends : good_end (entry_at c (key_at set_id file sect)) ≡ Some true
 
--- This section is the first that the file lacks: those before it are good and go on, and it is not
--- there as good, or it would be the 10,000th.
+-- This section is the first missing one of the file: those before it are good and continue, and it
+-- is not good, or it would be the 10,000th.
 pub record IsFirstLack (c : List Told) (set_id : List ℕ) (file sect : ℕ) : Type 0 where
   pub numbered : (1 ≤ sect) × (sect ≤ 10000)
   pub goes_on : GoesOnTo c set_id file sect
   pub lacks : sect ≤ 9999 → good_end (entry_at c (key_at set_id file sect)) ≡ None
 
--- What a file lacks is its first section that is not there as good, and it lacks none where all
--- are.
+-- What is missing of a file is its first section that is not good, and nothing is if all are good.
 abbrev pub LackIsFirst : Type 0
 LackIsFirst = (c : List Told) (set_id : List ℕ) (file : ℕ)
     → MatchOption (lack_of c set_id file) (IsFoundWhole c set_id file) (IsFirstLack c set_id file)
 
--- a set, and the greatest number of a file of it that was met
+-- a set, and the greatest number of a file of it that was found
 abbrev pub SetFiles : Type 0
 SetFiles = List ℕ × ℕ
 
--- the greatest number of a file, where this was the greatest known and one more file is met
+-- the greatest number of a file, if this was the greatest known and one more file is found
 abbrev pub greatest : Option ℕ → ℕ → ℕ
 greatest None file = file
 greatest (Some known) file = max known file
@@ -90,29 +89,29 @@ with_file [] set_id file = (set_id, file) ∷ []
 with_file (x ∷ xs) set_id file =
     if bytes_eq set_id x.0 then (x.0, max x.1 file) ∷ xs else x ∷ with_file xs set_id file
 
--- the sets of a catalogue in the order in which they were met first, each with the greatest number
--- of a file
+-- the sets of a catalogue in the order in which they were found first, each with the greatest
+-- number of a file
 abbrev pub sets_from : List SetFiles → List Told → List SetFiles
 sets_from sets [] = sets
 sets_from sets (t ∷ ts) = sets_from (with_file sets t.0.set_id t.0.file) ts
 
--- what a file lacks, as a list
+-- what is missing of a file, as a list
 abbrev pub one_lack : List ℕ → ℕ → Option ℕ → List Lack
 one_lack set_id file None = []
 one_lack set_id file (Some sect) =
     record { set_id = set_id; file = file; sect = sect } ∷ []
 
--- the lacks of n files of a set, from this one on
+-- what is missing of n files of a set, from this one on
 abbrev pub file_lacks : List Told → List ℕ → ℕ → ℕ → List Lack
 file_lacks c set_id file zero = []
 file_lacks c set_id file (suc n) =
     one_lack set_id file (lack_of c set_id file) ++ file_lacks c set_id (file + 1) n
 
--- the lacks of these sets, file by file up to the greatest number of each
+-- what is missing of these sets, file by file up to the greatest number of each
 abbrev pub set_lacks : List Told → List SetFiles → List Lack
 set_lacks c sets = flat_map (λ x. file_lacks c x.0 1 x.1) sets
 
--- the lacks of a catalogue: set by set in the order in which they were met first
+-- what is missing from a catalogue: set by set in the order in which they were found first
 abbrev pub lacks : List Told → List Lack
 lacks c = set_lacks c (sets_from [] c)
 
@@ -127,12 +126,12 @@ line_of t = record {
   state = t.1.state;
 }
 
--- no lack is listed
+-- no missing section is listed
 abbrev pub is_none_lacking : List Lack → Bool
 is_none_lacking [] = true
 is_none_lacking (_ ∷ _) = false
 
--- something was met, and nothing lacks
+-- sections were found, and none is missing
 abbrev pub found_all : List Told → Bool
 found_all [] = false
 found_all (t ∷ ts) = is_none_lacking (lacks (t ∷ ts))

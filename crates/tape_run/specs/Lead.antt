@@ -1,4 +1,4 @@
--- Where the reader's table leads a run, whatever is on the reels: no set is named here.
+-- Where the reader's table leads a run, for any reels: no set is named here.
 use Rattle.std.specs.Prelude.{◌≡◌, ℕ, ◌+◌, List, [], ◌∷◌, ◌++◌, take, Option, Some, None, slice_get}
 use Rattle.std.specs.Prelude.{⊤}
 use Rattle.tape_blocks.specs.Block.{Portion}
@@ -19,12 +19,12 @@ use Rattle.tape_run.specs.declared.fault.RunFault.{RunFault}
 use Rattle.tape_run.specs.declared.fault.RunFault.TheVariants.{Sink}
 use Rattle.tape_run.specs.Seen.{Seen}
 
--- what was noted: where the reader stood, and the parts that had been delivered
+-- a checkpoint: the state of the reader, and the parts that had been delivered
 pub record Noted : Type 0 where
   pub place : State
   pub parts : List Portion
 
--- where the reader stands, the parts that were delivered, and the notes, the first of them first
+-- the state of the reader, the parts that were delivered, and the checkpoints, the oldest first
 pub record Lead : Type 0 where
   pub place : State
   pub parts : List Portion
@@ -34,7 +34,7 @@ pub record Lead : Type 0 where
 abbrev pub at_start : List ℕ → ℕ → Lead
 at_start set_id file = record { place = reader_of set_id file; parts = []; notes = [] }
 
--- behind a reel of these items
+-- after a reel with these items
 abbrev pub over_reel : Lead → List TapeItem → Lead
 over_reel t xs = record {
   place = rest_of (behind_items (mount_of t.place) xs);
@@ -42,7 +42,7 @@ over_reel t xs = record {
   notes = t.notes;
 }
 
--- with one more note
+-- with one more checkpoint
 abbrev pub over_save : Lead → Lead
 over_save t = record {
   place = t.place;
@@ -50,7 +50,8 @@ over_save t = record {
   notes = t.notes ++ record { place = t.place; parts = t.parts } ∷ [];
 }
 
--- back at note n, if there is one, where no reading is under way: the later notes are forgotten
+-- back at checkpoint n, if there is one, with no reading under way: the later checkpoints are
+-- dropped
 abbrev pub back_to : Lead → ℕ → Option Noted → Lead
 back_to t n None = t
 back_to t n (Some note) = record {
@@ -59,7 +60,7 @@ back_to t n (Some note) = record {
   notes = take (n + 1) t.notes;
 }
 
--- behind these steps, over reels of these items
+-- after these steps, over reels with these items
 abbrev pub lead : Lead → List Step → List (List TapeItem) → Lead
 lead t [] reels = t
 lead t (Reel ∷ steps) [] = t
@@ -75,8 +76,8 @@ AreItems (bytes ∷ given) [] = ⊥
 AreItems (bytes ∷ given) (xs ∷ reels) =
     ((end : ℕ) × (stop : Stop) × Begins 0 bytes xs end stop) × AreItems given reels
 
--- The points are those of the notes, whose parts are ever longer fronts of the parts, the first of
--- them one that has this front.
+-- The points are those of the checkpoints, whose parts are prefixes of the parts, each at least as
+-- long as the one before, and the first at least as long as this prefix.
 abbrev pub AreNoted : List Portion → List Noted → List Point → List Portion → Type 0
 AreNoted front [] [] parts = IsFront front parts
 AreNoted front [] (c ∷ cs) parts = ⊥
@@ -84,7 +85,7 @@ AreNoted front (n ∷ ns) [] parts = ⊥
 AreNoted front (n ∷ ns) (c ∷ cs) parts = IsFront front n.parts
     × (c ≡ saved n.place (weight_of n.parts)) × AreNoted n.parts ns cs parts
 
--- The session is there: its core, the parts that its sink holds, and its notes.
+-- The session is there: its core, the parts that its sink contains, and its checkpoints.
 pub record StandsThere (t : Lead) (s : Seen) : Type 0 where
   pub place : s.place ≡ t.place
   pub parts : s.parts ≡ t.parts
@@ -100,8 +101,8 @@ abbrev pub ItemsAreThere : Type 0
 ItemsAreThere = (given : List (List ℕ)) → (reels : List (List TapeItem)) × AreItems given reels
     × ((others : List (List TapeItem)) → AreItems given others → others ≡ reels)
 
--- A step was not made, for this reason, by a session that stood there: it stands there still, or
--- inside the reel at a part that the sink refused, with its notes.
+-- A step failed, for this reason, in a session in this state: it is still in it, or inside the reel
+-- at a part that the sink refused, with its checkpoints.
 abbrev pub StopsBy : Lead → Step → List (List ℕ) → RunFault → Seen → Type 0
 StopsBy t Reel (bytes ∷ readers) (Sink cause) new = AreNoted [] t.notes new.notes new.parts
     × ((xs : List TapeItem) (end : ℕ) (stop : Stop) → Begins 0 bytes xs end stop

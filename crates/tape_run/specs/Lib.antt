@@ -1,4 +1,5 @@
--- To be believed, with what they import from the crates below: what is read, in this order.
+-- Definitions to believe, with those that they import from the crates below: what is read, in this
+-- order.
 pub mod Story
 pub mod Seen
 pub mod Mount
@@ -8,7 +9,7 @@ pub mod Lead
 pub mod Headline
 pub mod Back
 pub mod Fault
--- Kept step by step, and believed where a single call's contract is read.
+-- Preserved step by step, and to believe if a single call's contract is read.
 pub mod Reels
 pub mod ByTable
 pub mod GoesBehind
@@ -21,7 +22,7 @@ pub mod Under
 pub mod Made
 pub mod Puts
 pub mod Taking
--- The catalogue: to be believed, in this order.
+-- The catalogue: definitions to believe, in this order.
 pub mod Shown
 pub mod Noted
 pub mod Added
@@ -29,7 +30,7 @@ pub mod Lacks
 pub mod WholeSet
 -- Kept item by item, and by laws what those above say.
 pub mod Passing
--- Of readings cut short, and of one history that meets every premise.
+-- Readings cut short, and one history that satisfies every premise.
 pub mod Fronts
 pub mod WorkedHistory
 pub mod WorkedDays
@@ -42,7 +43,7 @@ pub mod Listed
 pub mod ListExamples
 pub mod Placed
 pub mod PlacedExamples
--- Reports of what is on reels: to be believed, in this order.
+-- Reports of what is on reels: definitions to believe, in this order.
 pub mod CheckLine
 pub mod Checked
 pub mod WholeReels
@@ -64,7 +65,7 @@ pub mod SurveyLaws
 pub mod Unpacking
 pub mod UnpackLine
 pub mod UnpackLaws
--- Files got back, and reports of that: to be believed, in this order.
+-- Recovered files, and reports of that: definitions to believe, in this order.
 pub mod ReelLine
 pub mod RecordText
 pub mod RecordFront
@@ -86,7 +87,7 @@ pub mod MergeLines
 -- Laws of those.
 pub mod MergeLaws
 pub mod MergedCopies
--- What is recovered of a file of which no image has all: to be believed, in this order.
+-- What is recovered of a file that no image has completely: definitions to believe, in this order.
 pub mod SalvageWalk
 pub mod SalvageCopies
 pub mod SalvageRecords

@@ -1,5 +1,4 @@
--- A worked listing, and what each outcome of listing says, clause by clause: they hold the
--- definitions.
+-- A worked listing, and the meaning of each outcome of listing, clause by clause.
 use Rattle.std.specs.Prelude.{◌≡◌, ◌≢◌, ℕ, List, [], ◌∷◌, ◌++◌, Option, codes}
 use Rattle.std.specs.Io.KnownBytes.{Appends, Keeps}
 use Rattle.tape_image.specs.declared.item.Ending.TheVariants.{Marked}
@@ -28,14 +27,14 @@ pub record EndSays (old new : Option (List ℕ)) (bytes left : List ℕ) : Type 
   pub wrote : (l : ListsToEnd old new bytes left)
       → Appends old new (listing_of l.items (ends l.ending))
 
--- what a run that met a fault of the image says
+-- what a run that found a fault of the image says
 abbrev pub FaultSays : ImageFault → Option (List ℕ) → Option (List ℕ) → List ℕ → List ℕ → Type 0
 FaultSays fault old new bytes left = (l : ListsToFault fault old new bytes left)
     → TakesFault 0 l.items fault bytes left
     × (fault.cause ≢ Device → IsListing bytes (lines_from 1 l.items))
     × Appends old new (lines_from 1 l.items)
 
--- what a run whose write failed says: a front of the bytes was read, and a front of what `list`
+-- what a run whose write failed says: a prefix of the bytes was read, and a prefix of what `list`
 -- says of it was written
 abbrev pub StopSays : Option (List ℕ) → Option (List ℕ) → List ℕ → List ℕ → Type 0
 StopSays old new bytes left = StopsWriting old new bytes left

@@ -16,8 +16,8 @@ use Rattle.tape_label.specs.Kinds.{identifier}
 use Rattle.tape_label.specs.Labels.{label_at}
 use Rattle.tape_run.specs.Identifier.{identifier_text}
 
--- The number of an item in digits: six, and more where it needs them. An image has room for less
--- than 2 ^ 30 items.
+-- The number of an item in digits: six, or more if it needs them. An image has room for less than 2
+-- ^ 30 items.
 abbrev pub item_number : ℕ → List ℕ
 item_number n =
     if nat_lt n 1000000 then digits 6 n
@@ -67,12 +67,12 @@ label_text (labels.Trail1 label) = trail1_text label
 abbrev pub plain_text : List ℕ → List ℕ
 plain_text bytes = codes "BLOCK " ++ digits 5 (length bytes)
 
--- the text of what was read, or else the other text
+-- the text of what was read, otherwise the other text
 abbrev pub text_or : {T : Type 0} → Result T LabelFault → (T → List ℕ) → List ℕ → List ℕ
 text_or (Ok label) text other = text label
 text_or (Err _) text other = other
 
--- a block that reads as a label is told as that label, wherever it stands
+-- a block that reads as a label is listed as that label, wherever it is
 abbrev pub block_text : List ℕ → List ℕ
 block_text bytes = text_or (label_at bytes) label_text (plain_text bytes)
 

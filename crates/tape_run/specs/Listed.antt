@@ -1,4 +1,4 @@
--- What a run of `list` leaves, where the writer held `old` before and holds `new` after.
+-- What a run of `list` leaves; the writer contained `old` before and contains `new` after.
 use Rattle.std.specs.Prelude.{◌≡◌, ◌≢◌, ℕ, ◌+◌, List, [], ◌∷◌, ◌++◌, length, Option}
 use Rattle.std.specs.Io.KnownBytes.{Appends, Keeps}
 use Rattle.tape_image.specs.declared.item.Ending.{Ending}
@@ -15,8 +15,9 @@ use Rattle.tape_run.specs.ListLine.{line_of}
 use Rattle.tape_run.specs.Listing.{lines_from, end_line, listing_of, IsListing}
 use Rattle.tape_image.specs.Written.{AppendsFront}
 
--- The items that the bytes begin with, up to the end of medium, were read, and the listing of the
--- image was written. What is left of the bytes begins behind the end word, if there is one.
+-- The items that the bytes begin with, up to the end of the medium, were read, and the listing of
+-- the image was written. The rest of the bytes begins after the end-of-medium marker, if there is
+-- one.
 pub record ListsToEnd (old new : Option (List ℕ)) (bytes left : List ℕ) : Type 0 where
   pub items : List TapeItem
   pub ending : Ending
@@ -34,17 +35,17 @@ pub record ListsToFault (fault : ImageFault) (old new : Option (List ℕ)) (byte
   pub listed : fault.cause ≢ Device → IsListing bytes (lines_from 1 items)
   pub wrote : Appends old new (lines_from 1 items)
 
--- a front of the listing was written
+-- a prefix of the listing was written
 abbrev pub ListsInPart : Option (List ℕ) → Option (List ℕ) → List ℕ → Type 0
 ListsInPart old new bytes = (text : List ℕ) × IsListing bytes text × AppendsFront old new text
 
--- All of this was written, and then a front of that.
+-- All of this was written, and then a prefix of that.
 abbrev pub AppendsInto : Option (List ℕ) → Option (List ℕ) → List ℕ → List ℕ → Type 0
 AppendsInto old new all part =
     (front rest : List ℕ) × Appends old new (all ++ front) × (part ≡ front ++ rest)
 
--- Where a write failed: what was read of the bytes, and which line was not written whole. Nothing
--- is read behind the item whose line it is.
+-- If a write failed: what was read of the bytes, and which line was not written completely. Nothing
+-- is read after the item of that line.
 pub data StopsWriting (old new : Option (List ℕ)) (bytes left : List ℕ) : Type 0 where
   -- at the line of an item
   at_item : (done : List TapeItem) (item : TapeItem) (place : ℕ)
@@ -62,7 +63,7 @@ pub data StopsWriting (old new : Option (List ℕ)) (bytes left : List ℕ) : Ty
       → Appends old new (lines_from 1 items)
       → StopsWriting old new bytes left
 
--- Where memory was refused nothing was read or written. Otherwise the image was listed up to its
+-- If memory was refused nothing was read or written. Otherwise the image was listed up to its
 -- fault.
 abbrev pub FitsCause : ImageCause → ImageFault → Option (List ℕ) → Option (List ℕ)
     → Option (List ℕ) → Option (List ℕ) → Type 0
@@ -70,7 +71,7 @@ FitsCause OutOfMemory fault before after old new =
     (fault.place ≡ 0) × (after ≡ before) × Keeps old new
 FitsCause _ fault before after old new = IfKnown before after (ListsToFault fault old new)
 
--- the fault comes where it should, of a reader with the bytes `before` and then `after`
+-- the fault comes where it should, for a reader with the bytes `before` and then `after`
 abbrev pub FitsFault : Option (List ℕ) → Option (List ℕ) → Option (List ℕ) → Option (List ℕ)
     → ListFault → Type 0
 FitsFault before after old new (Image fault) = FitsCause fault.cause fault before after old new

@@ -6,7 +6,7 @@ use Rattle.tape_image.specs.Tape.{TapeItem}
 use Rattle.tape_image.specs.Begins.{Stop, ends, faults, Begins}
 use Rattle.tape_run.specs.ListLine.{line_of}
 
--- the lines of items, of which the first has this number
+-- the lines of items, the first of which has this number
 abbrev pub lines_from : ℕ → List TapeItem → List ℕ
 lines_from n [] = []
 lines_from n (item ∷ items) = line_of n item ++ lines_from (n + 1) items
@@ -16,12 +16,12 @@ abbrev pub end_line : Ending → List ℕ
 end_line Marked = codes "END MARKED\n"
 end_line Physical = codes "END PHYSICAL\n"
 
--- the last line tells the end of medium; behind a fault there is none
+-- the last line is that of the end of the medium; after a fault there is none
 abbrev pub last_line : Stop → List ℕ
 last_line (ends ending) = end_line ending
 last_line (faults _) = []
 
--- the listing of items behind which the image stops so
+-- the listing of items after which the image stops like this
 abbrev pub listing_of : List TapeItem → Stop → List ℕ
 listing_of items stop = lines_from 1 items ++ last_line stop
 

@@ -18,13 +18,13 @@ use Rattle.tape_run.specs.Given.{AreGivenBy}
 use Rattle.tape_run.specs.Headline.{HasRun}
 use Rattle.tape_run.specs.Crash.{StoodAt}
 
--- the position of the course, or one that it noted
+-- the position of the course, or one of its checkpoints
 abbrev pub IsPlaceOf : Course → Position → Type 0
 IsPlaceOf c p = (p ≡ c.at) ⊎ ((n : ℕ) × (slice_get c.notes n ≡ Some p))
 
--- This came back, of the session behind these of its steps: of every lawful set and every history
--- that these steps and the bytes given are, it stands, at the position that the history leads to or
--- at one that was noted on the way.
+-- This was left of the session after these of its steps: for every valid set and every history that
+-- these steps and the returned bytes are, it is valid, at the position that the history leads to or
+-- at one of the checkpoints made meanwhile.
 pub record ComesBack (old : Seen) (steps done : List Step) (bytes : List (List ℕ))
     (left : List (Option (List ℕ))) (given : List (List ℕ))
     (back : Point) (there : List Portion) : Type 0 where
@@ -37,15 +37,15 @@ pub record ComesBack (old : Seen) (steps done : List Step) (bytes : List (List �
       → Stands set old.place.file back there
       × IsPlaceOf (course set old.place.file (course_of old) hs) back.position
 
--- What may come back of a session over readers that tell their bytes comes back so.
+-- Whatever may be left of a session over readers that tell their bytes is valid in this sense.
 abbrev pub StoodComesBack : Type 0
 StoodComesBack = (old : Seen) (steps : List Step) (bytes : List (List ℕ))
     (left : List (Option (List ℕ))) (back : Point) (there : List Portion)
     → StoodAt old steps (map Some bytes) left back there → (done : List Step)
     × (given : List (List ℕ)) × ComesBack old steps done bytes left given back there
 
--- one life of a session, up to a crash: its beginning, its steps and readers, with what these have
--- left, and the steps that what came back stands behind, with what was given
+-- one run of a session, up to a crash: its beginning, its steps and readers, with what these have
+-- left, and the steps after which what was left is valid, with what was returned
 pub record Life : Type 0 where
   pub began : Seen
   pub steps : List Step
@@ -54,15 +54,15 @@ pub record Life : Type 0 where
   pub done : List Step
   pub given : List (List ℕ)
 
--- the session was resumed at the checkpoint, over a sink that holds these parts
+-- the session was resumed at the checkpoint, over a sink that contains these parts
 pub record IsResumed (c : Point) (ps : List Portion) (s : Seen) : Type 0 where
   pub place : s.place ≡ place_of c
   pub parts : s.parts ≡ ps
   pub notes : s.notes ≡ []
   pub failures : s.failures ≡ 0
 
--- Life after life was resumed at what the crash before it brought back: what was there when the
--- life began, or what comes back of it.
+-- Each run was resumed at what the crash before it left: what was there when the run began, or what
+-- a crash leaves of it.
 abbrev pub Outlives : Point → List Portion → List Life → Point → List Portion → Type 0
 Outlives c ps [] back there = (back ≡ c) × (there ≡ ps)
 Outlives c ps (life ∷ lives) back there =
@@ -72,8 +72,8 @@ Outlives c ps (life ∷ lives) back there =
     ⊎ ComesBack life.began life.steps life.done life.bytes life.left life.given mid front)
     × Outlives mid front lives back there)
 
--- Where nothing came back before but this checkpoint with these parts, what comes back now is that,
--- or outlives a life of these steps.
+-- If only this checkpoint with these parts was left before, what is left now is that, or what a
+-- crash leaves of a run of these steps.
 abbrev pub LivesOn : Point → List Portion → List Step → List (List ℕ) → List (Option (List ℕ))
     → Returns → Returns → Type 0
 LivesOn c ps steps bytes left old new = OnlyThis c ps old → (back : Point) (there : List Portion)
@@ -88,15 +88,15 @@ AreHistories set (life ∷ lives) [] = ⊥
 AreHistories set (life ∷ lives) (hs ∷ hss) = IsHistory set 0 life.done life.given hs
     × AreHistories set lives hss
 
--- Across any number of crashes what comes back stands.
+-- Across any number of crashes what is left is valid.
 abbrev pub StandsAcrossCrashes : Type 0
 StandsAcrossCrashes = (set : FileSet) (c : Point) (ps : List Portion) (lives : List Life)
     (hss : List (List Happening)) (back : Point) (there : List Portion) → IsLawful set
     → Stands set c.file c ps → Outlives c ps lives back there → AreHistories set lives hss
     → Stands set c.file back there
 
--- What such a session delivered once it made its steps: of every lawful set in which the checkpoint
--- stands, and every history that the bytes given are, it is where this leads from there, with the
+-- What such a session delivered after its steps: for every valid set in which the checkpoint is
+-- valid, and every history that the returned bytes are, it is where this leads from there, with the
 -- parts before that position.
 abbrev pub ResumedGoesOn : Type 0
 ResumedGoesOn = (set : FileSet) (c : Point) (ps : List Portion) (began new : Seen)

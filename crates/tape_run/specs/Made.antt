@@ -1,4 +1,4 @@
--- Steps of a run that were made.
+-- Steps of a run that succeeded.
 use Rattle.std.specs.Prelude.{◌≡◌, ℕ, ◌+◌, Bool, true, List, ◌∷◌, ◌++◌, Option, take, drop, length}
 use Rattle.tape_blocks.specs.Block.{Portion}
 use Rattle.tape_core.specs.Crash.{Crashes}
@@ -10,10 +10,10 @@ use Rattle.tape_run.specs.Given.{written}
 use Rattle.tape_run.specs.Runs.{Runs, RunsUpTo}
 use Rattle.tape_run.specs.Seen.{Seen}
 
--- The first so many steps were made, with the first of the readers, of which these failed, and
--- which have this unread: whatever the steps that are left do from here, all steps do from before,
--- where those stop these stop so many steps later, and where the session stands between those it
--- stands between these.
+-- The first of the steps succeeded, with the first of the readers, of which these failed, and which
+-- have this unread: whatever the remaining steps do from here, all steps do from the start, if
+-- those stop these stop as many steps later, and a session's state between those is one between
+-- these.
 pub record HasMade (made : ℕ) (which : List Bool) (old : Seen) (steps : List Step)
     (readers unread : List (Option (List ℕ))) (new : Seen) (left : List Step)
     (others : List (Option (List ℕ))) : Type 0 where
@@ -27,9 +27,9 @@ pub record HasMade (made : ℕ) (which : List Bool) (old : Seen) (steps : List S
       → StoodAt new left others behind back there
       → StoodAt old steps readers (unread ++ behind) back there
 
--- A step was made, with the first of the readers where it is a reel: whatever the steps behind it
--- do from here, it and they do from before; and where a crash brought back the last note alone, if
--- it is said to, it does so still, if that is said behind the step.
+-- A step succeeded, with the first of the readers if it is a reel: whatever the steps after it do
+-- from here, all of them do from before; and if a crash left only the last checkpoint, where this
+-- is assumed, it still does, where this is assumed after the step.
 pub record IsMade (which : List Bool) (step : Step) (readers unread others : List (Option (List ℕ)))
     (was now : Crashes) (old new : Seen) : Type 0 where
   pub makes : (rest : List Step) → HasMade 1 which old (step ∷ rest) readers unread new rest others
@@ -37,8 +37,8 @@ pub record IsMade (which : List Bool) (step : Step) (readers unread others : Lis
       × ((rest : List Step) → is_saved saved (step ∷ rest) ≡ is_saved still rest)
       × (still ≡ true → LastAlone now new)
 
--- Over the row, from this number on, just these were written, as far as it reaches; and so many
--- numbers are behind them then.
+-- Exactly these were written over the list, from this number on, as far as it reaches; and this
+-- many numbers follow them then.
 abbrev pub WritesFrom : ℕ → List Bool → List Bool → List Bool → ℕ → Type 0
 WritesFrom used which old new now_used =
     (new ≡ take used old ++ written which (drop used old)) × (now_used ≡ used + length which)

@@ -15,8 +15,8 @@ pub data Happening : Type 0 where
   saves : Happening
   restarts : ℕ → Happening
 
--- The items are those of a reading of a volume; behind a whole volume of which only data blocks are
--- bad any items may follow.
+-- The items are those of a reading of a volume; after a complete volume of which only data blocks
+-- are bad any items may follow.
 pub record IsCopy (set : FileSet) (xs : List TapeItem) (r : Reading) : Type 0 where
   pub is_reading : IsReadingOf set r
   pub more : List TapeItem
@@ -24,7 +24,7 @@ pub record IsCopy (set : FileSet) (xs : List TapeItem) (r : Reading) : Type 0 wh
   pub behind : more ≢ [] → (length r.good ≡ length (items set r.volume))
       × (passes r.good (entries set r.volume) ≡ true)
 
--- the items of a reel are those of a reading of a volume, or of a reel that is none of the set
+-- the items of a reel are those of a reading of a volume, or of a foreign reel
 abbrev pub IsMount : FileSet → List TapeItem → Happening → Type 0
 IsMount set xs (reads r) = IsCopy set xs r
 IsMount set xs foreign_reel = starts_set set.set_id xs ≡ false

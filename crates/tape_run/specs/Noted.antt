@@ -1,5 +1,5 @@
--- What a catalogue becomes by the sections that are told. A catalogue is seen as the list of its
--- sections, in the order in which they were met first.
+-- How found sections change a catalogue, seen as the list of its sections in the order in which
+-- they were found first.
 use Rattle.std.specs.Prelude.{◌≡◌, ◌⊎◌, ◌==◌, ◌&&◌, not, Bool, true, false, if◌then◌else◌, Option}
 use Rattle.std.specs.Prelude.{Some, None, List, [], ◌∷◌, ◌++◌, map}
 use Rattle.std.specs.Str.{bytes_eq}
@@ -22,7 +22,7 @@ is_good Bad = false
 is_good Count = false
 is_good Cut = false
 
--- a good entry takes the place of one that is not
+-- a good entry replaces one that is not
 abbrev pub better : Entry → Entry → Entry
 better old new = if is_good new.state && not (is_good old.state) then new else old
 
@@ -31,26 +31,26 @@ abbrev pub kept : Option Entry → Entry → Entry
 kept None new = new
 kept (Some old) new = better old new
 
--- the catalogue behind one more section: a new one goes last, and one that is there keeps its place
+-- the catalogue after one more section: a new one goes last, and a known one keeps its place
 abbrev pub noted : List Told → Told → List Told
 noted [] t = t ∷ []
 noted (x ∷ xs) t = if same_key t.0 x.0 then (x.0, better x.1 t.1) ∷ xs else x ∷ noted xs t
 
--- behind each of these in turn
+-- after each of these in turn
 abbrev pub noted_all : List Told → List Told → List Told
 noted_all sections [] = sections
 noted_all sections (t ∷ ts) = noted_all (noted sections t) ts
 
--- t stands in the list
+-- t is in the list
 abbrev pub StandsIn : List Told → Told → Type 0
 StandsIn ts t = (front rest : List Told) × (ts ≡ front ++ t ∷ rest)
 
--- The sections from before keep their places, and new ones stand behind them.
+-- The sections from before keep their places, and new ones follow them.
 abbrev pub KeepsPlaces : List Told → List Told → Type 0
 KeepsPlaces old new =
     (more : List SectionKey) × (map (λ t. t.0) new ≡ map (λ t. t.0) old ++ more)
 
--- What is good stood so before, or these items show it.
+-- What is good was so before, or these items show it.
 abbrev pub GoodIsShown : List TapeItem → List Told → List Told → Type 0
 GoodIsShown items old new =
     (t : Told) → StandsIn new t → t.1.state ≡ Good → StandsIn old t ⊎ Shown items t.0 t.1

@@ -16,8 +16,8 @@ abbrev pub HasOneEach : List Told → Type 0
 HasOneEach [] = ⊤
 HasOneEach (t ∷ ts) = AreOthers t.0 ts × HasOneEach ts
 
--- Whatever images are added to a catalogue, also where memory was refused, it has one entry a
--- section; and so a report has one line of it.
+-- Whatever images are added to a catalogue, even if memory was refused, it has one entry per
+-- section; and so a report has one line for each.
 pub record OneEntryASection : Type 0 where
   pub added : (before after : Option (List ℕ)) (old new : List Told) (line : ImageLine)
       → HasOneEach old → Adds before after old line new → HasOneEach new

@@ -1,5 +1,5 @@
--- Reading a reel with every section passed over: what is expected behind each item, and which
--- sections the items tell.
+-- Reading a reel with every section skipped: what is expected after each item, and which sections
+-- the items contain.
 use Rattle.std.specs.Prelude.{ℕ, ◌+◌, ◌==◌, ◌&&◌, ◌||◌, not, Bool, true, false, if◌then◌else◌, List}
 use Rattle.std.specs.Prelude.{[], ◌∷◌, ◌++◌, Option, Some, None, Result, Ok, Err}
 use Rattle.tape_image.specs.Tape.{TapeItem, block, bad, mark}
@@ -35,7 +35,7 @@ abbrev pub cut : Met → Told
 cut met =
     (met.key, record { volume = met.volume; blocks = met.blocks; eof = false; state = Cut })
 
--- how the section was met, where its trailer label has this count
+-- the state of the section, if its trailer label has this count
 abbrev pub state_by : Met → ℕ → SectionState
 state_by met count =
     if not (count == label_count met.blocks) then Count
@@ -47,29 +47,29 @@ abbrev pub closes : Met → Trail1 → Bool
 closes met trail =
     (trail.head.sect == met.key.sect) && (trail.head.sequence == met.key.file)
 
--- what its trailer label tells
+-- the description that its trailer label completes
 abbrev pub told : Met → Trail1 → Told
 told met trail =
     let state = state_by met trail.blocks in
     (met.key, record { volume = met.volume; blocks = met.blocks; eof = trail.eof; state = state })
 
--- behind a block that was read as a trailer label, or could not be
+-- after a block that was read as a trailer label, or could not be
 abbrev pub told_with : Met → Result Trail1 LabelFault → Phase × Option Told
 told_with met (Ok trail) =
     if closes met trail then (Trailers met.volume, Some (told met trail))
     else (Over, Some (cut met))
 told_with met (Err _) = (Over, Some (cut met))
 
--- behind a block where a section's trailer label is expected
+-- after a block where a section's trailer label is expected
 abbrev pub told_by : Met → List ℕ → Phase × Option Told
 told_by met b = told_with met (trail1_at b)
 
--- behind a block that was read as a volume label, or could not be
+-- after a block that was read as a volume label, or could not be
 abbrev pub volume_with : Result Vol1 LabelFault → Phase
 volume_with (Ok label) = Labels label.volume
 volume_with (Err _) = Over
 
--- behind the first block
+-- after the first block
 abbrev pub volume_phase : List ℕ → Phase
 volume_phase b = volume_with (vol1_at b)
 
@@ -80,25 +80,25 @@ met_by volume head =
     record { set_id = head.set_id; file = head.sequence; sect = head.sect } in
     record { volume = volume; key = key; blocks = 0; bad = false }
 
--- behind a block that was read as a header label, or could not be
+-- after a block that was read as a header label, or could not be
 abbrev pub header_with : List ℕ → Result Head1 LabelFault → Phase → Phase
 header_with volume (Ok head) other = Second (met_by volume head)
 header_with volume (Err _) other = other
 
--- behind a block where a section may begin
+-- after a block where a section may begin
 abbrev pub header_phase : List ℕ → List ℕ → Phase → Phase
 header_phase volume b other = header_with volume (head1_at b) other
 
--- behind a block of this kind where a section's second label is expected
+-- after a block of this kind where a section's second label is expected
 abbrev pub second_with : Met → Option Kind → Phase
 second_with met (Some kinds.Hdr2) = Headers met
 second_with met _ = Over
 
--- behind a block where a further volume label or a section may begin
+-- after a block where a further volume label or a section may begin
 abbrev pub labels_phase : List ℕ → List ℕ → Phase
 labels_phase v b = if is_volume_label b then Labels v else header_phase v b Over
 
--- What is expected behind an item, and the section that it tells, if it tells one.
+-- What is expected after an item, and the section that it completes, if any.
 --
 -- In the order of a volume: its label, further labels; for each section two labels, what follows
 -- them, a mark, data, a mark, a trailer label, what follows it, a mark; then a second mark.
@@ -129,13 +129,13 @@ step (Next v) bad = (Over, None)
 step (Next v) mark = (Over, None)
 step Over _ = (Over, None)
 
--- the section that is not told yet, where the items end here: it is cut
+-- the section that is not complete if the items end here: it is cut
 abbrev pub under_way : Phase → Option Told
 under_way (Data met) = Some (cut met)
 under_way (Trailer met) = Some (cut met)
 under_way _ = None
 
--- how many data blocks of a section were met that is not told yet
+-- how many data blocks were found of a section that is not complete yet
 abbrev pub blocks_of : Phase → ℕ
 blocks_of (Second met) = met.blocks
 blocks_of (Headers met) = met.blocks
@@ -143,21 +143,21 @@ blocks_of (Data met) = met.blocks
 blocks_of (Trailer met) = met.blocks
 blocks_of _ = 0
 
--- a section that was told, as a list
+-- a completed section, as a list
 abbrev pub in_list : Option Told → List Told
 in_list None = []
 in_list (Some t) = t ∷ []
 
--- the phase behind these items
+-- the phase after these items
 abbrev pub phase_after : Phase → List TapeItem → Phase
 phase_after p [] = p
 phase_after p (x ∷ xs) = phase_after (step p x).0 xs
 
--- the sections that these items tell, in order
+-- the sections that these items contain, in order
 abbrev pub told_from : Phase → List TapeItem → List Told
 told_from p [] = []
 told_from p (x ∷ xs) = in_list (step p x).1 ++ told_from (step p x).0 xs
 
--- the sections that the items of an image tell, in the order in which they were met
+-- the sections that the items of an image contain, in the order in which they were found
 abbrev pub met_in : List TapeItem → List Told
 met_in items = told_from Volume items ++ in_list (under_way (phase_after Volume items))

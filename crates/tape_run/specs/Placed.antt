@@ -1,5 +1,5 @@
--- The listing of an image with the place and the size of each item, and what a run that writes it
--- leaves, where the writer held `old` before and holds `new` after.
+-- The listing of an image with the offset and the size of each item, and what a run that writes it
+-- leaves; the writer contained `old` before and contains `new` after.
 use Rattle.std.specs.Prelude.{◌≡◌, ℕ, ◌+◌, ◌-◌, List, [], ◌∷◌, ◌++◌, length, Option, Some, None}
 use Rattle.std.specs.Prelude.{codes, decimal, unwrap_or}
 use Rattle.std.specs.Io.KnownBytes.{Appends, Keeps}
@@ -24,24 +24,26 @@ pub record PlacedItem : Type 0 where
   pub from : ℕ
   pub behind : ℕ
 
--- From place p on the bytes xs are these items, with gaps between them, up to place q, and then ys.
+-- From offset p on the bytes xs are these items, with gaps between them, up to offset q, and then
+-- ys.
 abbrev pub Places : ℕ → List PlacedItem → ℕ → List ℕ → List ℕ → Type 0
 Places p [] q xs ys = (p ≡ q) × (xs ≡ ys)
 Places p (x ∷ more) q xs ys =
     (x.from ≡ p) × (mid : List ℕ) × TakesItem p x.item x.behind xs mid
     × Places x.behind more q mid ys
 
--- how many bytes of an image an item takes; a bad block does not tell
+-- how many bytes of an image an item takes; a bad block does not say
 abbrev pub item_extent : TapeItem → Option ℕ
 item_extent (block bytes) = Some (block_extent (length bytes))
 item_extent bad = None
 item_extent mark = Some 4
 
--- how many bytes an item takes; a bad block, all from the item before it on, with the gaps there
+-- how many bytes an item takes; for a bad block, all from the item before it on, with the gaps
+-- there
 abbrev pub item_size : PlacedItem → ℕ
 item_size x = unwrap_or (item_extent x.item) (x.behind - x.from)
 
--- a line behind the place and the size of what it tells
+-- a line after the offset and the size of its item
 abbrev pub told_at : ℕ → ℕ → List ℕ → List ℕ
 told_at place size line = decimal place ++ codes " " ++ decimal size ++ codes " " ++ line
 
@@ -49,17 +51,18 @@ told_at place size line = decimal place ++ codes " " ++ decimal size ++ codes " 
 abbrev pub placed_line : ℕ → PlacedItem → List ℕ
 placed_line n x = told_at (x.behind - item_size x) (item_size x) (line_of n x.item)
 
--- the lines of items, of which the first has this number
+-- the lines of items, the first of which has this number
 abbrev pub placed_lines : ℕ → List PlacedItem → List ℕ
 placed_lines n [] = []
 placed_lines n (x ∷ more) = placed_line n x ++ placed_lines (n + 1) more
 
--- the last line, where this many bytes were taken: an end word has a place and a size too
+-- the last line, after this many bytes: an end-of-medium marker has an offset and a size too
 abbrev pub placed_end : Ending → ℕ → List ℕ
 placed_end ending behind = told_at (behind - end_len ending) (end_len ending) (end_line ending)
 
--- The items that the bytes begin with, up to the end of medium, were read, and their lines were
--- written, and the last one. What is left of the bytes begins behind the end word, if there is one.
+-- The items that the bytes begin with, up to the end of the medium, were read, and their lines were
+-- written, and the last one. The rest of the bytes begins after the end-of-medium marker, if there
+-- is one.
 pub record PlacesToEnd (old new : Option (List ℕ)) (bytes left : List ℕ) : Type 0 where
   pub items : List PlacedItem
   pub at : ℕ
@@ -80,8 +83,8 @@ pub record PlacesToFault (fault : ImageFault) (old new : Option (List ℕ)) (byt
   pub takes : TakesFault at [] fault rest left
   pub wrote : Appends old new (placed_lines 1 items)
 
--- Where a write failed: what was read of the bytes, and which line was not written whole. Nothing
--- is read behind the item whose line it is.
+-- If a write failed: what was read of the bytes, and which line was not written completely. Nothing
+-- is read after the item of that line.
 pub data StopsPlacing (old new : Option (List ℕ)) (bytes left : List ℕ) : Type 0 where
   -- at the line of an item
   at_item : (done : List PlacedItem) (x : PlacedItem) (at : ℕ)
@@ -97,7 +100,7 @@ pub data StopsPlacing (old new : Option (List ℕ)) (bytes left : List ℕ) : Ty
   at_fault : (fault : ImageFault) → PlacesToFault fault old new bytes left
       → StopsPlacing old new bytes left
 
--- Where memory was refused nothing was read or written. Otherwise the image was listed up to its
+-- If memory was refused nothing was read or written. Otherwise the image was listed up to its
 -- fault.
 abbrev pub FitsPlacesCause : ImageCause → ImageFault → Option (List ℕ) → Option (List ℕ)
     → Option (List ℕ) → Option (List ℕ) → Type 0
@@ -105,7 +108,7 @@ FitsPlacesCause OutOfMemory fault before after old new =
     (fault.place ≡ 0) × (after ≡ before) × Keeps old new
 FitsPlacesCause _ fault before after old new = IfKnown before after (PlacesToFault fault old new)
 
--- the fault comes where it should, of a reader with the bytes `before` and then `after`
+-- the fault comes where it should, for a reader with the bytes `before` and then `after`
 abbrev pub FitsPlaces : Option (List ℕ) → Option (List ℕ) → Option (List ℕ) → Option (List ℕ)
     → ListFault → Type 0
 FitsPlaces before after old new (Image fault) =

@@ -1,5 +1,5 @@
--- What the listing with places says: a worked one, and that each number in it is the one that the
--- image's bytes have. They hold the definitions.
+-- Examples for the listing with offsets: a worked one, and that each number in it is the one that
+-- the image's bytes have.
 use Rattle.std.specs.Prelude.{◌≡◌, ℕ, ◌+◌, ◌-◌, List, [], ◌∷◌, ◌++◌, length, map, codes, Option}
 use Rattle.std.specs.Io.KnownBytes.{Appends, Keeps}
 use Rattle.tape_image.specs.declared.item.Ending.TheVariants.{Marked}
@@ -25,18 +25,18 @@ abbrev pub PlacesAreWorked : Type 0
 PlacesAreWorked = placed_lines 1 some_items ++ placed_end Marked 34
     ≡ codes "4 4 000001 MARK\n8 22 000002 BAD\n30 4 END MARKED\n"
 
--- the items that stand so are those that the bytes begin with
+-- the items at these places are those that the bytes begin with
 abbrev pub PlacedAreFirst : Type 0
 PlacedAreFirst = (items : List PlacedItem) (p q : ℕ) (xs ys : List ℕ) → Places p items q xs ys
     → Walks p xs (map (λ x. x.item) items) q ys
 
--- bytes have one way to be so many items
+-- bytes are this many items in one way only
 abbrev pub OnePlaces : Type 0
 OnePlaces = (items others : List PlacedItem) (p q r : ℕ) (xs ys zs : List ℕ)
     → Places p items q xs ys → Places p others r xs zs → length items ≡ length others
     → items ≡ others
 
--- the place of a block, and of a mark, is that of its first word: behind the gaps before it
+-- the offset of a block, and of a mark, is that of its first word: after the gaps before it
 abbrev pub PlaceIsOfWord : TapeItem → Type 0
 PlaceIsOfWord item = (p q : ℕ) (xs ys : List ℕ) (t : TakesItem p item q xs ys)
     → q - item_size (record { item = item; from = p; behind = q }) ≡ p + length t.gaps
@@ -45,13 +45,13 @@ PlaceIsOfWord item = (p q : ℕ) (xs ys : List ℕ) (t : TakesItem p item q xs y
 abbrev pub items_of : List PlacedItem → List TapeItem
 items_of items = map (λ x. x.item) items
 
--- what a run that ended the medium says: it has the items that `list` tells, each in its line
+-- what a run that ended the medium says: it has the items that `list` lists, each in its line
 abbrev pub PlacesEndSays : Option (List ℕ) → Option (List ℕ) → List ℕ → List ℕ → Type 0
 PlacesEndSays old new bytes left = (l : PlacesToEnd old new bytes left)
     → TakesEnd 0 (items_of l.items) l.ending l.place bytes left
     × Appends old new (placed_lines 1 l.items ++ placed_end l.ending l.place)
 
--- what a run that met a fault of the image says
+-- what a run that found a fault of the image says
 abbrev pub PlacesFaultSays : ImageFault → Option (List ℕ) → Option (List ℕ) → List ℕ → List ℕ
     → Type 0
 PlacesFaultSays fault old new bytes left = (l : PlacesToFault fault old new bytes left)
@@ -70,7 +70,7 @@ pub record PlacesFaultFits (before after old new : Option (List ℕ)) : Type 0 w
   pub of_memory : (fault : ImageFault) → FitsPlacesCause OutOfMemory fault before after old new
       → (fault.place ≡ 0) × (after ≡ before) × Keeps old new
 
--- what a listing with places says
+-- what a listing with offsets says
 pub record PlacesSay : Type 0 where
   pub at_end : (old new : Option (List ℕ)) (bytes left : List ℕ) → PlacesEndSays old new bytes left
   pub at_fault : (fault : ImageFault) (old new : Option (List ℕ)) (bytes left : List ℕ)

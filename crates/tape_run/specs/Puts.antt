@@ -14,12 +14,12 @@ use Rattle.tape_core.specs.Stands.{inside_block}
 use Rattle.tape_core.specs.Place.{place_of}
 use Rattle.tape_run.specs.declared.intake.Refused.{Refused}
 
--- an item that came has a size that items have
+-- an item that came has a size that items can have
 abbrev pub IsSized : Option TapeItem → Type 0
 IsSized None = ⊤
 IsSized (Some item) = IsTapeItem item
 
--- The block was checked: it holds parts in span order, as what is known says.
+-- The block was checked: it contains parts in span order, in the known form.
 pub record IsChecked (item : Option TapeItem) (new : State) : Type 0 where
   pub bytes : List ℕ
   pub is_block : item ≡ Some (block bytes)
@@ -31,7 +31,7 @@ pub record IsChecked (item : Option TapeItem) (new : State) : Type 0 where
   pub holds : Holds known.format known.rec_len known.offset bytes parts
   pub order : InOrder begun parts end
 
--- Of the parts of a block those from the first on, up to the refused one, were put.
+-- The parts of a block from the first on, up to the refused one, were put.
 pub record PutsFew (holds : List Portion → Type 0) (held parts : List Portion) (first : ℕ)
     (begun : Bool) (r : Refused) : Type 0 where
   pub from : first ≤ r.part
@@ -39,14 +39,14 @@ pub record PutsFew (holds : List Portion → Type 0) (held parts : List Portion)
   pub held_now : holds (held ++ drop first (take r.part parts))
   pub begun_now : r.begun ≡ begun_behind begun (drop first (take r.part parts))
 
--- the checkpoint at the refused part of a block: the one before the block, where none of its parts
--- was put now
+-- the checkpoint at the refused part of a block: the one before the block, if none of its parts was
+-- put now
 abbrev pub refused_point : Point → Point → ℕ → Bool → Point
 refused_point before after part begun =
     if part == part_of before.position then before
     else inside_block after before.position part begun 0
 
--- The parts before the n-th were put, and the core went back from behind the block to this part.
+-- The parts before the n-th were put, and the core moved back from after the block to this part.
 pub record PutUpTo (new : List Portion → Type 0) (before : Point) (held parts : List Portion)
     (behind place : State) : Type 0 where
   pub n : ℕ

@@ -1,4 +1,4 @@
--- The parts before the first one that leaves its record begun.
+-- The parts before the first one that leaves its record unfinished.
 use Rattle.std.specs.Prelude.{◌≡◌, ⊤, ℕ, Bool, true, false, List, [], ◌∷◌, ◌++◌, length, Option}
 use Rattle.std.specs.Io.KnownBytes.{Appends}
 use Rattle.tape_blocks.specs.Block.{Portion}
@@ -11,8 +11,8 @@ abbrev pub EachEnds : List Portion → Type 0
 EachEnds [] = ⊤
 EachEnds (p ∷ ps) = (leaves p.span ≡ false) × EachEnds ps
 
--- So many parts come first, each of which ends a record, and what they join to was written; all of
--- them where that is said.
+-- This many parts come first, each of which ends a record, and the records that they join to were
+-- written; if `all` is set, these are all parts.
 pub record WritesFront (form : Form) (count : ℕ) (all : Bool) (old new : Option (List ℕ))
     (parts : List Portion) : Type 0 where
   pub first : List Portion

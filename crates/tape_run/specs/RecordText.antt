@@ -5,21 +5,21 @@ use Rattle.tape_blocks.specs.Spans.{leaves, join}
 use Rattle.tape_blocks.specs.declared.parts.Form.{Form}
 use Rattle.tape_blocks.specs.declared.parts.Form.TheVariants.{Lines, Raw}
 
--- what stands behind each record
+-- the terminator of each record
 abbrev pub record_end : Form → List ℕ
 record_end Lines = codes "\n"
 record_end Raw = []
 
--- the records, one behind another
+-- the records, one after another
 abbrev pub records_text : Form → List (List ℕ) → List ℕ
 records_text form [] = []
 records_text form (record_bytes ∷ others) =
     (record_bytes ++ record_end form) ++ records_text form others
 
--- the records that the parts join to; one that is begun and not ended is none
+-- the records that the parts join to, without an unfinished one
 abbrev pub output_of : Form → List Portion → List ℕ
 output_of form parts = records_text form (join parts).records
 
--- what one part adds to the text: its bytes, and the end of the record where it ends one
+-- what one part adds to the text: its bytes, and the terminator if it ends a record
 abbrev pub part_text : Form → Portion → List ℕ
 part_text form p = p.bytes ++ (if leaves p.span then [] else record_end form)

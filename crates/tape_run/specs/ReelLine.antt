@@ -17,11 +17,11 @@ use Rattle.tape_core.specs.declared.event.Reason.TheVariants.{BlockCount, SpanLe
 use Rattle.tape_core.specs.declared.event.Reason.TheVariants.{BadLabel, Broken}
 use Rattle.tape_run.specs.declared.intake.ReelAnswer.{ReelAnswer}
 
--- a word, and two numbers behind it
+-- a word, followed by two numbers
 abbrev pub two_numbers : List ℕ → ℕ → ℕ → List ℕ
 two_numbers word a b = word ++ decimal a ++ codes " " ++ decimal b
 
--- why a reading gave nothing more
+-- why a reading yielded nothing more
 abbrev pub reason_text : Reason → List ℕ
 reason_text NotLabelled = codes "NOT LABELLED"
 reason_text OtherSet = codes "OTHER SET"
@@ -61,25 +61,25 @@ outcome_text (Some answer) = answer_text answer.answer ++ end_text answer.fault
 abbrev pub reel_line : ℕ → Option ReelAnswer → List ℕ
 reel_line n outcome = codes "REEL " ++ decimal n ++ codes " " ++ outcome_text outcome ++ codes "\n"
 
--- the last line of a file that is complete, which has so many records
+-- the last line of a complete file, which has this many records
 abbrev pub complete_line : ℕ → List ℕ
 complete_line records = codes "COMPLETE " ++ decimal records ++ codes "\n"
 
--- how many parts of the block that is wanted are there, where some are
+-- how many parts of the missing block were delivered, if any
 abbrev pub part_text : ℕ → List ℕ
 part_text part = if part == 0 then [] else codes " " ++ decimal part
 
--- the last line of one that is not: what is wanted
+-- the last line of an incomplete one: what is missing
 abbrev pub awaits_line : Want → List ℕ
 awaits_line want = codes "AWAITS " ++ decimal want.file ++ codes " " ++ decimal want.sect
     ++ codes " " ++ decimal want.block ++ part_text want.part ++ codes "\n"
 
--- the last line: what is wanted, or how many records the file has
+-- the last line: what is missing, or how many records the file has
 abbrev pub last_line : Option Want → ℕ → List ℕ
 last_line None records = complete_line records
 last_line (Some want) records = awaits_line want
 
--- the lines of images, of which the first has this number
+-- the lines of images, the first of which has this number
 abbrev pub reel_lines : ℕ → List (Option ReelAnswer) → List ℕ
 reel_lines n [] = []
 reel_lines n (outcome ∷ outcomes) = reel_line n outcome ++ reel_lines (n + 1) outcomes

@@ -35,8 +35,8 @@ use Rattle.tape_run.specs.Story.{Story}
 use Rattle.tape_image.specs.Written.{AppendsFront}
 use Rattle.tape_run.specs.ReelLine.{reel_line, reel_lines}
 
--- An image that was opened: the bytes that its reader had and has left, where these are known, what
--- its reel answered, and whether a note was made behind it.
+-- An image that was opened: the bytes that its reader had and has left, if these are known, what
+-- its reel answered, and whether a checkpoint was made after it.
 pub record Opened : Type 0 where
   pub had : Option (List ℕ)
   pub left : Option (List ℕ)
@@ -52,25 +52,24 @@ abbrev pub answer_of : Turn → Option ReelAnswer
 answer_of None = None
 answer_of (Some o) = Some o.answer
 
--- An image that was mounted, or was not there, is this turn: its reader had these bytes, and was
--- given up with those left.
+-- An image that was opened, or could not be, is this turn: its reader had these bytes, and was
+-- closed with those left.
 abbrev pub IsTurn : {R : Type 0} → (R → Option (List ℕ)) → Option R → Turn → Type 0
 IsTurn remaining None None = ⊤
 IsTurn remaining (Some old) (Some o) =
     (o.had ≡ remaining old) × ((new : _) × (o.left ≡ remaining new))
 IsTurn remaining image turn = ⊥
 
--- What mounting an image of a shelf gives, by its number, and the shelf then.
+-- What opening an image of a source yields, by its number, and the source then.
 abbrev pub Mounting : Type 0 → Type 0 → Type 1
 Mounting L R = L → ℕ → Option R → L → Type 0
 
--- The reader with this number is taken from a list, where there is one.
+-- The reader with this number is taken from a list, if there is one.
 abbrev pub Took : {R : Type 0} → Mounting (List (Option R)) R
 Took readers number image left =
     (image ≡ get_or readers number None) × (left ≡ set readers number None)
 
--- The images of a shelf from this number on, mounted one after another, are each what stands beside
--- it in a list.
+-- The images of a source from this number on, opened one after another, are each as the list says.
 abbrev pub AreMounted : {L R T : Type 0} → Mounting L R → (Option R → T → Type 0) → L → ℕ → List T
     → L → Type 0
 AreMounted gives is shelf number [] last = last ≡ shelf
@@ -95,36 +94,37 @@ is_doubtful (Useless (BlockCount label seen)) = true
 is_doubtful (Useless Broken) = true
 is_doubtful answer = false
 
--- The session went back to the note made last.
+-- The session rolled back to its last checkpoint.
 abbrev pub WentToLast : Seen → Seen → Type 0
 WentToLast old new = (n : ℕ) × (length old.notes ≡ n + 1) × WentBack n old new
 
--- The note made last is of where the session stands, with its parts.
+-- The last checkpoint has the session's position, with its parts.
 abbrev pub HasNotedHere : Seen → Type 0
 HasNotedHere s = IsLast s (saved s.place (weight_of s.parts)) s.parts
 
--- After a reel the session made a note of its position. One that spares notes made it only if its
--- last note is of another position; if it is of this one nothing changed. If what the reel gave is
--- in doubt no note was made: a session that goes back is at its last note, another is as it was.
+-- After a reel the session made a checkpoint of its position. One that spares checkpoints made it
+-- only if its last one has another position; if it has this one nothing changed. If the reel is
+-- suspect no checkpoint was made: a session that rolls back is at its last one, another is
+-- unchanged.
 abbrev pub IsNoted : Bool → Bool → Bool → Bool → Seen → Seen → Type 0
 IsNoted back spares false true old new = (spares ≡ true → HasNotedHere old → ⊥) × Saved old new
 IsNoted back spares false false old new = (spares ≡ true) × HasNotedHere old × (new ≡ old)
 IsNoted false spares true noted old new = new ≡ old
 IsNoted true spares true noted old new = WentToLast old new
 
--- a session goes back, behind a reel that is in doubt, where it has a note
+-- a session rolls back after a suspect reel if it has a checkpoint
 abbrev pub goes_back : List Point → Bool
 goes_back [] = false
 goes_back (c ∷ cs) = true
 
--- The notes of a session that goes back are its own, as those of every session are.
+-- The checkpoints of a session that rolls back are its own, as those of every session are.
 abbrev pub IsKeptFor : Bool → Seen → Type 0
 IsKeptFor false s = ⊤
 IsKeptFor true s = IsKept s
 
--- A reel was read from one state of a session to another, and then it was noted where this stands,
--- or it went back: the file was not complete, the answer is the core's, and the session is where
--- the reel and the note lead.
+-- A reel was read from one state of a session to another, and then a checkpoint was made of its
+-- position, or it rolled back: the file was not complete, the answer is the core's, and the session
+-- is where the reel and the checkpoint lead.
 pub record ReadsAndNotes (back spares : Bool) (core : State) (old : Seen) (o : Opened)
     (next : State) (new : Seen) : Type 0 where
   pub waits : core.position ≢ Finished
@@ -145,7 +145,7 @@ Follows back spares core old (Some o ∷ turns) last new = (next : State) × (be
     × ReadsAndNotes back spares core old o next behind
     × Follows back spares next behind turns last new
 
--- The step that is made behind a reel, of a session that has so many notes, if one is.
+-- The step after a reel, of a session that has this many checkpoints, if there is one.
 abbrev pub step_behind : Bool → Bool → Bool → ℕ → List Step
 step_behind back false true notes = Save ∷ []
 step_behind back false false notes = []
@@ -153,15 +153,15 @@ step_behind false true noted notes = []
 step_behind true true noted zero = []
 step_behind true true noted (suc n) = Restart n ∷ []
 
--- how many notes there are then
+-- how many checkpoints there are then
 abbrev pub notes_behind : Bool → Bool → ℕ → ℕ
 notes_behind false true notes = notes + 1
 notes_behind false false notes = notes
 notes_behind true noted notes = notes
 
--- The steps of a session over images, which has so many notes before: of each that was opened its
--- reel, and behind it a save, where a note was made; behind one that is in doubt it goes back to
--- the note made last.
+-- The steps of a session over images, which has this many checkpoints before: for each image that
+-- was opened its reel, and after it a save, if a checkpoint was made; after a suspect one it rolls
+-- back to the last checkpoint.
 abbrev pub steps_of : Bool → ℕ → List Turn → List Step
 steps_of back notes [] = []
 steps_of back notes (None ∷ turns) = steps_of back notes turns
@@ -182,15 +182,15 @@ left_in [] = []
 left_in (None ∷ turns) = left_in turns
 left_in (Some o ∷ turns) = o.left ∷ left_in turns
 
--- which of the readers that were taken failed, as the lines of their images tell
+-- which of the readers that were taken failed, as the lines of their images say
 abbrev pub failed_in : List Turn → List Bool
 failed_in [] = []
 failed_in (None ∷ turns) = failed_in turns
 failed_in (Some o ∷ turns) = is_device o.answer.fault ∷ failed_in turns
 
--- What was done with the images are steps of a run, one that goes back where a reel is in doubt: so
--- the headline holds of them, over all histories that the images are; and those readers failed of
--- which it is told.
+-- What was done with the images are steps of a run, one that rolls back after a suspect reel: so
+-- the headline is true of them, over all histories that the images are; and exactly the listed
+-- readers failed.
 abbrev pub AreSteps : Bool → List Turn → Seen → Seen → Type 0
 AreSteps back turns old new = (bytes : List (List ℕ)) → AreTold turns bytes
     → (run : HasRun old (steps_of back (length old.notes) turns) bytes (left_in turns) new)
@@ -198,8 +198,8 @@ AreSteps back turns old new = (bytes : List (List ℕ)) → AreTold turns bytes
 
 -- ---- calls
 
--- Whatever parts its sink held, the session was brought so from what it was then to what it is now,
--- a session that goes back has its own notes still, and the note made last comes back of a crash.
+-- For any parts of its sink, the session went like this from its earlier state to its current one,
+-- a session that rolls back still has its own checkpoints, and a crash leaves the last one.
 abbrev pub Carries : {S : Type 0} → Ghosts S → Bool → Story S → Story S → (Seen → Seen → Type 0)
     → Type 0
 Carries g back old new so = IfSeen g old (λ was. IsKeptFor back was
@@ -217,7 +217,7 @@ pub record Takes {S R : Type 0} (g : Ghosts S) (remaining : R → Option (List �
       (λ was is. Follows back spares old.core was (turn ∷ []) new.core is)
 
 -- Images, of which there are so many, were read in their order, all of them or up to the one that
--- completed the file, and a line was reported for each, behind so many lines that were there.
+-- completed the file, and a line was reported for each, after the given number of earlier lines.
 pub record TakesAll {S L R : Type 0} (g : Ghosts S) (size before : ℕ) (gives : Mounting L R)
     (remaining : R → Option (List ℕ)) (back spares : Bool) (old new : Story S) (shelf left : L)
     (said says : Option (List ℕ)) : Type 0 where
@@ -230,19 +230,19 @@ pub record TakesAll {S L R : Type 0} (g : Ghosts S) (size before : ℕ) (gives :
   pub follows : Carries g back old new
       (λ was is. Follows back spares old.core was turns new.core is)
 
--- Nothing was reported but a front of the lines of at most one image, which has this number.
+-- Only a prefix of the lines of at most one image, which has this number, was reported.
 abbrev pub IsReported : ℕ → Option (List ℕ) → Option (List ℕ) → Type 0
 IsReported number said says = (more : List (Option ReelAnswer)) × (length more ≤ 1)
     × AppendsFront said says (reel_lines number more)
 
--- The session is here, and its sink holds these parts; and a crash brings back nothing but the note
--- that it made last, where it made one since it was the old one or that alone came back before.
+-- The session is here, and its sink contains these parts; and a crash leaves only its last
+-- checkpoint, if it made one since its old state or only that was left before.
 abbrev pub StoodSaved : {S : Type 0} → Ghosts S → Story S → List Portion → Story S → Seen → Type 0
 StoodSaved g old held new now = (parts : List Portion) × g.holds new.sink parts
     × (now ≡ seen g new parts) × KeepsLast g old held new parts
 
 -- Images were read in their order, and a fault ended that: a line was reported for each of them,
--- and a front of one for one more. Those behind that one were not mounted.
+-- and a prefix of one for one more. Those after that one were not opened.
 pub record StopsReading {S L R : Type 0} (g : Ghosts S) (size before : ℕ) (gives : Mounting L R)
     (remaining : R → Option (List ℕ)) (back spares : Bool) (old new : Story S) (shelf left : L)
     (said says : Option (List ℕ)) : Type 0 where

@@ -1,4 +1,4 @@
--- What a reel answers: the core's answers to the items that the reader gave, one after another.
+-- What a reel answers: the core's answers to the items that the reader returned, one after another.
 use Rattle.std.specs.Prelude.{◌≡◌, ◌⊎◌, ℕ, ◌+◌, List, [], ◌∷◌, ◌++◌, Option, Some, None, ⊤}
 use Rattle.std.specs.List.{AllByRecursion}
 use Rattle.tape_image.specs.declared.item.ImageFault.{ImageFault}
@@ -18,7 +18,7 @@ use Rattle.tape_run.specs.declared.intake.ReelAnswer.{ReelAnswer}
 use Rattle.tape_run.specs.declared.fault.RunFault.{RunFault}
 use Rattle.tape_run.specs.declared.fault.RunFault.TheVariants.{Sink, OutOfMemory}
 
--- the core behind these items
+-- the core after these items
 abbrev pub behind_items : State → List TapeItem → State
 behind_items core [] = core
 behind_items core (x ∷ xs) = behind_items (step_of core (Some x)).1 xs
@@ -28,7 +28,7 @@ abbrev pub answers_to : State → List TapeItem → List Answer
 answers_to core [] = []
 answers_to core (x ∷ xs) = (step_of core (Some x)).0 ∷ answers_to (step_of core (Some x)).1 xs
 
--- the reading goes on behind this answer
+-- the reading continues after this answer
 abbrev pub GoesOn : Answer → Type 0
 GoesOn answer = (answer ≡ Passed) ⊎ (answer ≡ Deliver)
 
@@ -38,8 +38,8 @@ delivered_by [] = 0
 delivered_by (Deliver ∷ answers) = 1 + delivered_by answers
 delivered_by (answer ∷ answers) = delivered_by answers
 
--- The bytes begin with these items, behind each of which the reading went on; then an item ended
--- it, and nothing behind that was taken.
+-- The bytes begin with these items, after each of which the reading continued; then an item ended
+-- it, and nothing after that was taken.
 pub record EndedByItem (core : State) (items : List TapeItem) (bytes left : List ℕ)
     (answer : ReelAnswer) : Type 0 where
   pub item : TapeItem
@@ -49,7 +49,7 @@ pub record EndedByItem (core : State) (items : List TapeItem) (bytes left : List
   pub at : ℕ
   pub taken : Walks 0 bytes (items ++ item ∷ []) at left
 
--- The same up to the end of medium.
+-- The same up to the end of the medium.
 pub record EndedByMedium (core : State) (items : List TapeItem) (bytes left : List ℕ)
     (answer : ReelAnswer) : Type 0 where
   pub last : answer.answer ≡ (step_of (behind_items core items) None).0
@@ -58,7 +58,7 @@ pub record EndedByMedium (core : State) (items : List TapeItem) (bytes left : Li
   pub at : ℕ
   pub taken : TakesEnd 0 items ending at bytes left
 
--- The same up to a fault of the image, which is told.
+-- The same up to a fault of the image, which is reported.
 pub record EndedByFault (core : State) (items : List TapeItem) (bytes left : List ℕ)
     (answer : ReelAnswer) : Type 0 where
   pub last : answer.answer ≡ (step_of (behind_items core items) None).0
@@ -66,7 +66,7 @@ pub record EndedByFault (core : State) (items : List TapeItem) (bytes left : Lis
   pub told : answer.fault ≡ Some fault
   pub taken : TakesFault 0 items fault bytes left
 
--- A core at the front of a reel took the items that the bytes begin with, up to the one, the end or
+-- A core at the start of a reel took the items that the bytes begin with, up to the one, the end or
 -- the fault that ended the reading; what is left was not read. The answer is the core's last one,
 -- with the fault and the blocks delivered.
 pub record ReadsReel (core : State) (bytes left : List ℕ) (answer : ReelAnswer) : Type 0 where
@@ -85,12 +85,12 @@ pub record ReadsToBlock (core : State) (bytes left : List ℕ) : Type 0 where
   pub at : ℕ
   pub taken : Walks 0 bytes (items ++ block content ∷ []) at left
 
--- What came is a block, and the core's answer is that it is the awaited one.
+-- The item is a block, and by the core's answer it is the expected one.
 abbrev pub IsDelivery : State → Option TapeItem → Type 0
 IsDelivery core came = (content : List ℕ) × (came ≡ Some (block content))
     × ((step_of core came).0 ≡ Deliver)
 
--- What a reel answers and leaves unread: of a complete file it reads nothing.
+-- What a reel answers and leaves unread: for a complete file nothing is read.
 abbrev pub Reads : Position → State → List ℕ → List ℕ → ReelAnswer → Type 0
 Reads Finished core bytes left answer =
     (left ≡ bytes) × (answer.answer ≡ Complete) × (answer.fault ≡ None) × (answer.blocks ≡ 0)

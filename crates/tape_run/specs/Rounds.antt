@@ -12,22 +12,22 @@ use Rattle.tape_run.specs.Reeling.{StopsReading}
 use Rattle.tape_run.specs.Seen.{Seen}
 use Rattle.tape_run.specs.Story.{Story}
 
--- A round over the images: what became of each, and the reader's state behind the last one.
+-- A pass over the images: the outcome of each, and the reader's state after the last one.
 pub record Round : Type 0 where
   pub turns : List Turn
   pub behind : State
 
--- the turns of rounds, one behind another
+-- the turns of passes, one after another
 abbrev pub turns_of : List Round → List Turn
 turns_of [] = []
 turns_of (r ∷ rounds) = r.turns ++ turns_of rounds
 
--- the reader's state behind rounds, from this one on
+-- the reader's state after passes, from this one on
 abbrev pub core_behind : State → List Round → State
 core_behind core [] = core
 core_behind core (r ∷ rounds) = core_behind r.behind rounds
 
--- what is wanted of a file where its reader is in this state
+-- what is missing of a file if its reader is in this state
 abbrev pub wanted : State → Option Want
 wanted core = want_at core.file core.position
 
@@ -38,27 +38,27 @@ AreRounds gives remaining shelf [] last = last ≡ shelf
 AreRounds gives remaining shelf (r ∷ rounds) last = (mid : _)
     × AreTurns gives remaining shelf 0 r.turns mid × AreRounds gives remaining mid rounds last
 
--- Each round had all images, of which there are so many, and brought something: behind it something
--- is wanted, and that is something else than before.
+-- Each pass had all images, of which there are so many, and recovered something: something is
+-- missing after it, but not the same as before.
 abbrev pub BroughtSomething : ℕ → State → List Round → Type 0
 BroughtSomething size core [] = ⊤
 BroughtSomething size core (r ∷ rounds) = (length r.turns ≡ size) × (wanted r.behind ≢ None)
     × (wanted r.behind ≢ wanted core) × BroughtSomething size r.behind rounds
 
--- Behind a round there is no other one: nothing is wanted, or just what was wanted before it, or
--- the lines of another one have no numbers in 64 bits. So many lines stand before the round.
+-- After a pass there is no other one: nothing is missing, or the same as before it, or the lines of
+-- another one have no numbers in 64 bits. This many lines precede the pass.
 abbrev pub IsEnough : ℕ → ℕ → Option Want → Option Want → Type 0
 IsEnough size lines before want = (want ≡ None) ⊎ ((want ≡ before)
     ⊎ (18446744073709551615 < lines + size + size))
 
--- The rounds, one behind another, took a session from one state to another, each to the state that
--- it tells.
+-- The passes, one after another, took a session from one state to another, each to its recorded
+-- state.
 abbrev pub FollowsRounds : Bool → State → Seen → List Round → Seen → Type 0
 FollowsRounds back core old [] new = new ≡ old
 FollowsRounds back core old (r ∷ rounds) new = (mid : Seen)
     × Follows back true core old r.turns r.behind mid × FollowsRounds back r.behind mid rounds new
 
--- Rounds, and a last one with these turns, took a session from one state to another.
+-- Passes, and a last one with these turns, took a session from one state to another.
 abbrev pub GoesRound : Bool → State → Seen → List Round → List Turn → State → Seen → Type 0
 GoesRound back core old rounds turns last new = (mid : Seen)
     × FollowsRounds back core old rounds mid
@@ -66,7 +66,8 @@ GoesRound back core old rounds turns last new = (mid : Seen)
 
 -- ---- calls
 
--- Whole rounds were made, each brought something, and a line was reported for each image of each.
+-- Complete passes were made, each recovered something, and a line was reported for each image of
+-- each.
 pub record HasGone {S L R : Type 0} (g : Ghosts S) (size : ℕ) (gives : Mounting L R)
     (remaining : R → Option (List ℕ)) (back : Bool) (old new : Story S) (shelf left : L)
     (said says : Option (List ℕ)) (rounds : List Round) : Type 0 where
@@ -76,7 +77,7 @@ pub record HasGone {S L R : Type 0} (g : Ghosts S) (size : ℕ) (gives : Mountin
   pub lines : Appends said says (reel_lines 1 (map answer_of (turns_of rounds)))
   pub follows : Carries g back old new (λ was is. FollowsRounds back old.core was rounds is)
 
--- Rounds were made until one was enough.
+-- Passes were made until there was a last one.
 pub record TakesRounds {S L R : Type 0} (g : Ghosts S) (size : ℕ) (gives : Mounting L R)
     (remaining : R → Option (List ℕ)) (back : Bool) (old new : Story S) (shelf left : L)
     (said says : Option (List ℕ)) : Type 0 where
@@ -89,7 +90,7 @@ pub record TakesRounds {S L R : Type 0} (g : Ghosts S) (size : ℕ) (gives : Mou
       between left told says
   pub enough : IsEnough size (length (turns_of rounds)) (wanted mid.core) (wanted new.core)
 
--- Rounds were made, and a fault ended the one behind them.
+-- Passes were made, and a fault ended the one after them.
 pub record StopsInRound {S L R : Type 0} (g : Ghosts S) (size : ℕ) (gives : Mounting L R)
     (remaining : R → Option (List ℕ)) (back : Bool) (old new : Story S) (shelf left : L)
     (said says : Option (List ℕ)) : Type 0 where

@@ -17,9 +17,8 @@ use Rattle.tape_run.specs.Causes.{IsCalm}
 use Rattle.tape_run.specs.Story.{Story}
 use Rattle.tape_core.specs.declared.sink.PartSink.{Ghosts}
 
--- All steps were made, one after another, each with the next reader where it is a reel, of which it
--- is told whether it failed, and what it has left. Behind a reader that does not tell its bytes
--- nothing is known.
+-- All steps succeeded, one after another, each reel with the next reader; the lists say whether it
+-- failed, and what it has left. After a reader that does not tell its bytes nothing is known.
 abbrev pub Runs : List Bool → Seen → List Step → List (Option (List ℕ)) → List (Option (List ℕ))
     → Seen → Type 0
 Runs which old [] reels left new = (which ≡ []) × (new ≡ old)
@@ -34,7 +33,7 @@ Runs which old (Save ∷ steps) reels left new =
 Runs which old (Restart n ∷ steps) reels left new =
     (mid : Seen) × WentBack n old mid × Runs which mid steps reels left new
 
--- The step was not made, with these readers left, for this reason.
+-- The step failed, with these readers left, for this reason.
 abbrev pub Fails : Step → List (Option (List ℕ)) → RunFault → Seen → Seen → Type 0
 Fails Reel [] fault old new = (fault ≡ TooFewReels) × (new ≡ old)
 Fails Reel (None ∷ reels) fault old new = ⊤
@@ -42,7 +41,7 @@ Fails Reel (Some bytes ∷ reels) fault old new = ReelFails bytes fault old new
 Fails Save reels fault old new = SaveFails fault old new
 Fails (Restart n) reels fault old new = RestartFails n fault old new
 
--- The first n steps were made, and the next one was not, for this reason.
+-- The first n steps succeeded, and the next one failed, for this reason.
 pub record RunsUpTo (which : List Bool) (old : Seen) (steps : List Step)
     (reels left : List (Option (List ℕ))) (n : ℕ) (fault : RunFault) (new : Seen) : Type 0 where
   pub step : Step
@@ -51,14 +50,13 @@ pub record RunsUpTo (which : List Bool) (old : Seen) (steps : List Step)
   pub runs : Runs which old (take n steps) reels left mid
   pub fails : Fails step (drop (reels_in (take n steps)) reels) fault mid new
 
--- Why the step was not made, of any sink, and whether or not readers tell their bytes.
+-- Why the step failed, for any sink, whether or not readers tell their bytes.
 abbrev pub RefusesStep : {S : Type 0} → Ghosts S → Step → RunFault → Story S → Story S → Type 0
 RefusesStep g Reel fault old new = Refuses g fault old new ⊎ ((fault ≡ TooFewReels) × (new ≡ old))
 RefusesStep g Save fault old new = Refuses g fault old new
 RefusesStep g (Restart n) fault old new = RefusesRestart g n fault old new
 
--- The step of this number was not made, for this reason, and no call of the sink was refused
--- before.
+-- The step with this number failed, for this reason, and no call of the sink was refused before.
 pub record StopsFor {S : Type 0} (g : Ghosts S) (steps : List Step) (n : ℕ) (fault : RunFault)
     (old new : Story S) : Type 0 where
   pub step : Step
@@ -75,8 +73,7 @@ IsRefusal TooFewReels = ⊥
 IsRefusal OutOfMemory = ⊤
 IsRefusal OtherFile = ⊥
 
--- A run over a script that names notes that exist, with readers enough, is stopped by a refusal
--- alone.
+-- Only a refusal can stop a run over a script with existing checkpoints and enough readers.
 abbrev pub OnlyRefusalsStop : Type 0
 OnlyRefusalsStop = (which : List Bool) (old new : Seen) (steps : List Step)
     (bytes given : List (List ℕ)) (left : List (Option (List ℕ))) (n : ℕ) (fault : RunFault)

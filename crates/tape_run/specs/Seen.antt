@@ -1,4 +1,4 @@
--- What a session is, where its sink holds these parts.
+-- A session whose sink contains these parts.
 use Rattle.std.specs.Prelude.{◌≡◌, ℕ, List, [], ◌∷◌}
 use Rattle.tape_blocks.specs.Block.{Portion}
 use Rattle.tape_set.specs.Layout.{FileSet}
@@ -10,8 +10,8 @@ use Rattle.tape_core.specs.Weight.{IsFront}
 use Rattle.tape_core.specs.declared.sink.PartSink.{Ghosts}
 use Rattle.tape_run.specs.Story.{Story}
 
--- a session at rest: its core, the parts that its sink holds, its notes, how many readers failed,
--- and how many calls the sink refused
+-- a session at rest: its core, the parts that its sink contains, its checkpoints, how many readers
+-- failed, and how many calls the sink refused
 pub record Seen : Type 0 where
   pub place : State
   pub parts : List Portion
@@ -19,37 +19,37 @@ pub record Seen : Type 0 where
   pub failures : ℕ
   pub refusals : ℕ
 
--- The notes stand with ever longer fronts of the parts, the first of them with one that has this
--- front.
+-- The checkpoints are valid for prefixes of the parts, each at least as long as the one before, and
+-- the first at least as long as this prefix.
 abbrev pub AreNotes : FileSet → ℕ → List Portion → List Point → List Portion → Type 0
 AreNotes set file front [] parts = IsFront front parts
 AreNotes set file front (c ∷ cs) parts = (ps : List Portion) × IsFront front ps
     × Stands set file c ps × AreNotes set file ps cs parts
 
--- The session reads a file of the set: it is where its parts say, and each note stands with a front
--- of them.
+-- The session reads a file of the set: its position is the one after its parts, and each checkpoint
+-- is valid for a prefix of them.
 pub record IsSession (set : FileSet) (s : Seen) : Type 0 where
   pub at : IsPlaced set s.place s.parts
   pub notes : AreNotes set s.place.file [] s.notes s.parts
 
--- The note is one of the place's file, and has the weight of these parts.
+-- The checkpoint is one of the place's file, and has the weight of these parts.
 pub record IsNote (place : State) (c : Point) (ps : List Portion) : Type 0 where
   pub of_set : c.set_id ≡ place.set_id
   pub of_file : c.file ≡ place.file
   pub staged : c.staged ≡ weight_of ps
 
--- The notes have the weights of ever longer fronts of the parts, the first of them of one that has
--- this front.
+-- The checkpoints have the weights of prefixes of the parts, each at least as long as the one
+-- before, and the first at least as long as this prefix.
 abbrev pub KeepsNotes : State → List Portion → List Point → List Portion → Type 0
 KeepsNotes place front [] parts = IsFront front parts
 KeepsNotes place front (c ∷ cs) parts = (ps : List Portion) × IsFront front ps × IsNote place c ps
     × KeepsNotes place ps cs parts
 
--- What is true of each session, whatever set it reads.
+-- The invariant of sessions, whatever set they read.
 abbrev pub IsKept : Seen → Type 0
 IsKept s = KeepsNotes s.place [] s.notes s.parts
 
--- a session, where its sink holds these parts
+-- a session whose sink contains these parts
 abbrev pub seen : {S : Type 0} → Ghosts S → Story S → List Portion → Seen
 seen g s parts = record {
   place = rest_of s.core;
@@ -59,15 +59,15 @@ seen g s parts = record {
   refusals = g.refusals s.sink;
 }
 
--- Whatever parts its sink holds, the session as it is seen with them is so.
+-- For any parts that its sink contains, the session seen with them satisfies this.
 abbrev pub IfSeen : {S : Type 0} → Ghosts S → Story S → (Seen → Type 0) → Type 0
 IfSeen g s so = (held : List Portion) → g.holds s.sink held → so (seen g s held)
 
--- The sink holds parts, and the session as it is seen with them is so.
+-- The sink contains parts, and the session seen with them satisfies this.
 abbrev pub IsSeen : {S : Type 0} → Ghosts S → Story S → (Seen → Type 0) → Type 0
 IsSeen g s so = (now : List Portion) × g.holds s.sink now × so (seen g s now)
 
--- The same of parts that the sink holds, unless it lost them by this.
+-- The same for parts that the sink contains, unless this step lost them.
 abbrev pub IsSeenUnless : {S : Type 0} → Type 0 → Ghosts S → Story S → (Seen → Type 0) → Type 0
 IsSeenUnless lost g s so = (now : List Portion) × ((lost → ⊥) → g.holds s.sink now)
     × so (seen g s now)

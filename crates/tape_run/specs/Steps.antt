@@ -1,4 +1,4 @@
--- What one step of a run does, or leaves where it is not made.
+-- What one step of a run does, or leaves if it fails.
 use Rattle.std.specs.Prelude.{◌≡◌, ℕ, ◌+◌, ◌≤◌, Bool, List, ◌∷◌, [], ◌++◌, length, take, Some}
 use Rattle.std.specs.Prelude.{slice_get, Option, ◌⊎◌}
 use Rattle.tape_image.specs.Tape.{TapeItem, block}
@@ -25,7 +25,7 @@ use Rattle.tape_run.specs.ByTable.{IsLed, IsCutAt}
 use Rattle.tape_run.specs.Seen.{Seen, IsKept, IfSeen}
 use Rattle.tape_run.specs.Story.{Story}
 
--- ---- steps that were made
+-- ---- steps that succeeded
 
 -- A mount that began at p was read to its end: the reader is at the position that it makes, with
 -- the parts before it.
@@ -34,7 +34,7 @@ pub record ReadBy (set : FileSet) (file : ℕ) (p : Position) (h : Happening) (p
   pub at : IsPlaced set place parts
   pub position : place.position ≡ after_mount set file p h
 
--- A reel was read: what its reader gave, all of it, or, where it failed, what it has not left.
+-- A reel was read: what its reader returned, all of it, or, if it failed, what it no longer has.
 pub record Reeled (bytes : List ℕ) (left : Option (List ℕ)) (failed : Bool) (old new : Seen)
     : Type 0 where
   pub given : List ℕ
@@ -51,7 +51,7 @@ pub record Reeled (bytes : List ℕ) (left : Option (List ℕ)) (failed : Bool) 
   pub table : (xs : List TapeItem) (end : ℕ) (stop : Stop) → Begins 0 given xs end stop
       → IsLed xs (mount_of old.place) new.place old.parts new.parts
 
--- The point was noted.
+-- The checkpoint was made.
 pub record Saved (old new : Seen) : Type 0 where
   pub place : new.place ≡ old.place
   pub parts : new.parts ≡ old.parts
@@ -59,8 +59,8 @@ pub record Saved (old new : Seen) : Type 0 where
   pub count : new.failures ≡ old.failures
   pub calm : new.refusals ≡ old.refusals
 
--- The session went back to a note, with the front of the parts that this weighs, and forgot the
--- later notes.
+-- The session rolled back to a checkpoint, with the first parts up to its weight, and dropped the
+-- later checkpoints.
 pub record WentBack (n : ℕ) (old new : Seen) : Type 0 where
   pub point : Point
   pub noted : slice_get old.notes n ≡ Some point
@@ -71,10 +71,11 @@ pub record WentBack (n : ℕ) (old new : Seen) : Type 0 where
   pub count : new.failures ≡ old.failures
   pub calm : new.refusals ≡ old.refusals
 
--- ---- steps that were not made
+-- ---- steps that failed
 
--- A mount that began at p was read up to the block that it awaits, the n-th item counted from 0, of
--- which this part was refused: the reader is at that part of the block, with the parts before it.
+-- A mount that began at p was read up to the block expected there, the n-th item counted from 0, of
+-- which this part was refused: the reader's position is that part of the block, with the parts
+-- before it.
 pub record StoppedBy (set : FileSet) (file : ℕ) (p : Position) (xs : List TapeItem) (h : Happening)
     (place : State) (parts : List Portion) : Type 0 where
   pub at : IsPlaced set place parts
@@ -86,7 +87,7 @@ pub record StoppedBy (set : FileSet) (file : ℕ) (p : Position) (xs : List Tape
   pub part : ℕ
   pub position : place.position ≡ at_part part (after_mount set file p (cut n h))
 
--- A reel was read up to a part that the sink refused: the session stands at this part.
+-- A reel was read up to a part that the sink refused: the session's position is this part.
 pub record CutShort (bytes : List ℕ) (old new : Seen) : Type 0 where
   pub count : new.failures ≡ old.failures
   pub notes : new.notes ≡ old.notes
@@ -107,7 +108,7 @@ pub record Unmoved (old new : Seen) : Type 0 where
   pub notes : new.notes ≡ old.notes
   pub count : new.failures ≡ old.failures
 
--- What a reel leaves that was not read to its end, since memory was refused before, or the sink
+-- What a reel leaves that was not read to its end, because memory was refused before, or the sink
 -- refused a part. Whether the sink did refuse a call is in `Refuses`.
 abbrev pub ReelFails : List ℕ → RunFault → Seen → Seen → Type 0
 ReelFails bytes (Sink cause) old new = CutShort bytes old new
@@ -116,7 +117,7 @@ ReelFails bytes TooFewReels old new = ⊥
 ReelFails bytes OutOfMemory old new = new ≡ old
 ReelFails bytes OtherFile old new = ⊥
 
--- Why a reel was not read to its end, or nothing was noted, of any sink, and whether or not a
+-- Why a reel was not read to its end, or no checkpoint was made, for any sink, whether or not a
 -- reader tells its bytes: the sink refused a call, or memory was refused, and nothing changed.
 abbrev pub Refuses : {S : Type 0} → Ghosts S → RunFault → Story S → Story S → Type 0
 Refuses g (Sink cause) old new = (new.failures ≡ old.failures)
@@ -126,8 +127,9 @@ Refuses g TooFewReels old new = ⊥
 Refuses g OutOfMemory old new = new ≡ old
 Refuses g OtherFile old new = ⊥
 
--- Why a session did not go back, of any sink: the sink refused a call, or weighs less than the note
--- tells, as only one does of which nothing is held; or there is no such note.
+-- Why a session did not roll back, for any sink: the sink refused a call, or weighs less than the
+-- checkpoint says, as is possible only if nothing is known about its contents; or there is no such
+-- checkpoint.
 abbrev pub RefusesRestart : {S : Type 0} → Ghosts S → ℕ → RunFault → Story S → Story S → Type 0
 RefusesRestart g n (Sink cause) old new = (new.failures ≡ old.failures)
     × (Rose (g.refusals old.sink) (g.refusals new.sink)
@@ -138,7 +140,7 @@ RefusesRestart g n TooFewReels old new = ⊥
 RefusesRestart g n OutOfMemory old new = ⊥
 RefusesRestart g n OtherFile old new = ⊥
 
--- what is left where nothing was noted; whether the sink did refuse a call is in `Refuses`
+-- what is left if no checkpoint was made; whether the sink did refuse a call is in `Refuses`
 abbrev pub SaveFails : RunFault → Seen → Seen → Type 0
 SaveFails (Sink cause) old new = Unmoved old new
 SaveFails NoSuchPoint old new = ⊥
@@ -146,7 +148,7 @@ SaveFails TooFewReels old new = ⊥
 SaveFails OutOfMemory old new = new ≡ old
 SaveFails OtherFile old new = ⊥
 
--- what is left where the session did not go back; whether the sink did refuse a call is in
+-- what is left if the session did not roll back; whether the sink did refuse a call is in
 -- `RefusesRestart`
 abbrev pub RestartFails : ℕ → RunFault → Seen → Seen → Type 0
 RestartFails n (Sink cause) old new = Unmoved old new

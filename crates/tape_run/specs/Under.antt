@@ -1,4 +1,4 @@
--- Where a mount is under way.
+-- The position of a mount under way.
 use Rattle.std.specs.Prelude.{◌≡◌, ℕ, List, take, drop}
 use Rattle.tape_image.specs.Tape.{TapeItem}
 use Rattle.tape_set.specs.declared.position.Position.{Position}
@@ -9,7 +9,7 @@ use Rattle.tape_core.specs.Foreign.{IsForeignAt}
 use Rattle.tape_run.specs.Mount.{Happening, reads, foreign_reel, saves, restarts}
 
 -- The mount of these items, which began at p, is under way, and i of them were taken: the reader
--- follows the reading, or stands before what is left of a reel that is none of the set.
+-- follows the reading, or what is left of a foreign reel is still to come.
 abbrev pub is_under : State → FileSet → Position → List TapeItem → ℕ → Happening → Type 0
 is_under core set p xs i (reads r) = IsReading set p r.volume (take i r.good) core
 is_under core set p xs i foreign_reel = (core.position ≡ p)

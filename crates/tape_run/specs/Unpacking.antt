@@ -15,11 +15,11 @@ use Rattle.tape_run.specs.SurveyFiles.{note_at, file_key}
 use Rattle.tape_run.specs.SurveyLine.{trimmed_len}
 use Rattle.tape_run.specs.SurveyRead.{Found, nothing_found, AreViewed}
 
--- what the header labels of a file say, of which this is known
+-- what the header labels of a file say, given what is known of it
 abbrev pub heading_of : FileNote → Heading
 heading_of note = if note.differs then Differs else Named note.head.file_id
 
--- a file, if this is known of its labels; if none of them was found it is none
+-- a file, if this is known of its labels; without a label there is no file
 abbrev pub file_by : Found → List ℕ → ℕ → Option FileNote → List SetFile
 file_by d set_id file None = []
 file_by d set_id file (Some note) = record {
@@ -42,11 +42,11 @@ files_from d set_id file (suc n) = file_at d set_id file ++ files_from d set_id 
 abbrev pub set_files : Found → List SetFiles → List SetFile
 set_files d sets = flat_map (λ x. files_from d x.0 1 x.1) sets
 
--- the files of all sets that were met, in the order in which they were met first
+-- the files of all sets that were found, in the order in which they were found first
 abbrev pub files_of : Found → List SetFile
 files_of d = set_files d (sets_from [] d.sections)
 
--- the set of the section that begins first on an image, where one does
+-- the set of the section that begins first on an image, if any
 abbrev pub set_of : Option Sight → Option (List ℕ)
 set_of None = None
 set_of (Some sight) = option_map (λ head. head.set_id) sight.glance.head
@@ -60,8 +60,8 @@ pub record ViewsAll {L R : Type 0} (size : L → ℕ) (gives : Mounting L R)
   pub viewed : AreViewed gives remaining shelf 0 sights nothing_found left found
   pub sets_are : sets ≡ map set_of sights
 
--- These are the files of all sets that were met on them, and it is told so of which set each image
--- is, whether nothing on them is left over, and on which image each section begins.
+-- These are the files of all sets that were found on them; also recorded are the set of each image,
+-- whether every image was read completely, and the image on which each section begins.
 pub record FilesOn {L R : Type 0} (size : L → ℕ) (gives : Mounting L R)
     (remaining : R → Option (List ℕ)) (shelf left : L) (met : ShelfFiles) : Type 0 where
   pub found : Found

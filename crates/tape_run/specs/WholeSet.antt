@@ -20,7 +20,7 @@ use Rattle.tape_run.specs.Lacks.{IsGoodAt, lack_of, found_all}
 abbrev pub key_in : FileSet → Placed → SectionKey
 key_in set x = record { set_id = set.set_id; file = x.file; sect = x.sect }
 
--- the catalogue behind whole copies of these volumes
+-- the catalogue after complete copies of these volumes
 abbrev pub behind_copies : FileSet → List Told → List ℕ → List Told
 behind_copies set c [] = c
 behind_copies set c (k ∷ ks) = behind_copies set (noted_all c (met_in (items set k))) ks
@@ -29,7 +29,7 @@ behind_copies set c (k ∷ ks) = behind_copies set (noted_all c (met_in (items s
 abbrev pub HasEach : FileSet → List ℕ → Type 0
 HasEach set ks = (k : ℕ) → IsSome (nth set.volumes k) → StandsIn ks k
 
--- these sections of the set are there as good
+-- these sections of the set are good
 abbrev pub AreAllGood : FileSet → List Told → List Placed → Type 0
 AreAllGood set c xs = AllByRecursion (λ x. IsGoodAt c (key_in set x)) xs
 
@@ -39,18 +39,18 @@ WholeVolumeIsGood = (set : FileSet) (k : ℕ) (c : List Told)
     → IsLawful set → IsSome (nth set.volumes k)
     → AreAllGood set (noted_all c (met_in (items set k))) (on k (sections set))
 
--- Whole copies of all volumes make each section of the set good, whatever was noted before.
+-- Complete copies of all volumes make each section of the set good, whatever was found before.
 abbrev pub WholeSetIsGood : Type 0
 WholeSetIsGood = (set : FileSet) (ks : List ℕ) (c : List Told)
     → IsLawful set → HasEach set ks → AreAllGood set (behind_copies set c ks) (sections set)
 
--- Where nothing else was noted, no file of the set lacks a section.
+-- If nothing else was found, no file of the set has a missing section.
 abbrev pub WholeSetLacksNothing : Type 0
 WholeSetLacksNothing = (set : FileSet) (ks : List ℕ) (file : ℕ)
     → IsLawful set → HasEach set ks → IsSome (file_of set file)
     → lack_of (behind_copies set [] ks) set.set_id file ≡ None
 
--- And where the set has a file, something was met and nothing lacks.
+-- And if the set has a file, something was found and nothing is missing.
 abbrev pub WholeSetIsFound : Type 0
 WholeSetIsFound = (set : FileSet) (ks : List ℕ)
     → IsLawful set → HasEach set ks → IsSome (file_of set 1)
@@ -67,7 +67,7 @@ IsNoDevice (Fault fault) = fault.cause ≢ Device
 IsNoDevice Marked = ⊤
 IsNoDevice Physical = ⊤
 
--- What `add` notes of a whole copy whose reader did not fail is what the volume's items tell.
+-- What `add` adds for a complete copy whose reader did not fail is what the volume's items contain.
 abbrev pub WholeCopiesAreAdded : Type 0
 WholeCopiesAreAdded =
     (set : FileSet) (k : ℕ) (xs : List ℕ) (after : Option (List ℕ))

@@ -1,5 +1,5 @@
--- What the headline says of the worked set where a reader fails, where the sink refuses a part, and
--- where a session is resumed on another day.
+-- What the headline says of the worked set if a reader fails, if the sink refuses a part, and if a
+-- session is resumed on another day.
 use Rattle.std.specs.Prelude.{◌≡◌, ℕ, true, List, [], ◌∷◌, Option, None, Some, codes}
 use Rattle.tape_label.specs.declared.values.Format.TheVariants.{Spanned}
 use Rattle.tape_set.specs.Position.{awaiting, want_at}
@@ -14,7 +14,7 @@ use Rattle.tape_run.specs.Lives.{IsResumed}
 use Rattle.tape_run.specs.Seen.{Seen}
 use Rattle.tape_run.specs.WorkedHistory.{worked_set, first, middle, last, reel_1, reel_2}
 
--- the whole file is held, and nothing is wanted of it
+-- the sink contains the whole file, and nothing is missing
 pub record IsWhole (s : Seen) : Type 0 where
   pub all : s.parts ≡ first ∷ middle ∷ last ∷ []
   pub no_want : want_at 1 s.place.position ≡ None
@@ -33,7 +33,7 @@ two_reels = Reel ∷ Reel ∷ []
 abbrev pub four_reels : List Step
 four_reels = Reel ∷ Reel ∷ Reel ∷ Reel ∷ []
 
--- the checkpoint behind the first block of volume 1, inside the record
+-- the checkpoint after the first block of volume 1, inside the record
 abbrev pub behind_one : Point
 behind_one = record {
   set_id = codes "ABC001";
@@ -55,13 +55,13 @@ pub record DaysAreWorked : Type 0 where
   pub failed_reader : (s : Seen) (left : List (Option (List ℕ)))
       → IsRead (codes "ABC001") 1 four_reels twice left s → s.failures ≡ 1 → IsWhole s
   -- A part of volume 1 was refused, whichever it was, and then both volumes were read: the file is
-  -- whole, and no part is there twice.
+  -- complete, and no part is there twice.
   pub refused_part : (old mid new : Seen) (n : ℕ) (cause : SinkFault)
       (left over : List (Option (List ℕ))) → IsStart (codes "ABC001") 1 old
       → HasStopped old (Reel ∷ []) (reel_1 ∷ []) left n (Sink cause) mid
       → HasRun mid two_reels once over new → new.failures ≡ 0 → IsWhole new
-  -- The checkpoint stands, with the part before it. A session that is resumed there, over readers
-  -- of which none fails, holds the whole file in the end.
+  -- The checkpoint is valid, with the part before it. A session that is resumed there, over readers
+  -- none of which fails, contains the whole file in the end.
   pub stands : Stands worked_set 1 behind_one (first ∷ [])
   pub resumed : (began new : Seen) (left : List (Option (List ℕ)))
       → IsResumed behind_one (first ∷ []) began

@@ -144,7 +144,7 @@ bad_0_reel = headers_1 ++ (bad_data ++ (data_block block_1 ++ trailers_1))
 abbrev pub bad_1_reel : List ℕ
 bad_1_reel = headers_1 ++ (data_block block_0 ++ (bad_data ++ trailers_1))
 
--- volume 2 up to the mark behind its data, where the bytes end
+-- volume 2 up to the mark after its data, where the bytes end
 abbrev pub short_reel : List ℕ
 short_reel = headers_2 ++ (data_block block_2 ++ a_mark)
 
@@ -186,7 +186,7 @@ worked_history =
     ∷ reads (reading 2 (replicate 10 true))
     ∷ reads (reading 1 (replicate 11 true)) ∷ []
 
--- the position behind each of the twelve, and the note
+-- the position after each of the twelve, and the checkpoint
 abbrev pub positions_after : Course → List Happening → List Position
 positions_after c [] = []
 positions_after c (h ∷ hs) =
@@ -207,8 +207,8 @@ pub record HistoryIsWorked : Type 0 where
   pub all_before : before worked_set 1 Finished ≡ first ∷ middle ∷ last ∷ []
   pub one_record : join (before worked_set 1 Finished)
       ≡ record { records = codes "AAAAAAAAAAAAAAAAAAAAAAAAAAAAAA" ∷ []; rest = None }
-  -- A session that made these steps, over these readers of which none failed, holds the three parts
-  -- and wants nothing.
+  -- A session that made these steps, over these readers none of which failed, contains the three
+  -- parts and needs nothing more.
   pub read : (s : Seen) (left : List (Option (List ℕ)))
       → IsRead (codes "ABC001") 1 worked_steps worked_reels left s → s.failures ≡ 0
       → (s.parts ≡ first ∷ middle ∷ last ∷ []) × (want_at 1 s.place.position ≡ None)

@@ -1,4 +1,4 @@
-//! The catalogue of the file sections that were met.
+//! The catalogue of the file sections that were found.
 
 ghost use Rattle.std.specs.Result.{IsOkUnless};
 ghost use Rattle.tape_run.specs.declared.fault.RunFault.TheVariants as faults;
@@ -15,10 +15,10 @@ use std::io::Read;
 use std::marker::Model;
 use tape_image::{Ending, ImageReader};
 
-/// The file sections that were met on reels, in the order in which they were met first.
+/// The file sections found on reels, in the order in which they were found first.
 ///
-/// A section that is met again keeps its place, and is known as whole from the first time on that
-/// it was.
+/// A section that is found again keeps its place, and counts as complete once a complete copy was
+/// found.
 #[derive(Drop)]
 pub struct Catalogue {
     alloc: Global,
@@ -36,7 +36,7 @@ impl Model for Catalogue {
 }
 
 impl Catalogue {
-    /// A catalogue of no sections. It takes no memory.
+    /// Creates a catalogue without sections. Does not allocate.
     pub fn new(alloc: Global) -> Catalogue
         ensures { result ≡ [] }
     {
@@ -46,16 +46,16 @@ impl Catalogue {
         }
     }
 
-    /// Reads an image to its end, and notes the sections that stand on it, with the volume
-    /// identifier of the image.
+    /// Reads an image to its end, and adds the sections that are on it, with the image's volume
+    /// identifier.
     ///
-    /// The sections are those of a labelled volume, read with every section passed over (ECMA-13,
-    /// the order of labels and files on a volume); items behind them are counted and not looked at.
+    /// The sections are those of a labelled volume, read with every section skipped (ECMA-13, the
+    /// order of labels and files on a volume); items after them are counted and otherwise ignored.
     ///
     /// # Errors
     ///
-    /// `OutOfMemory` where the reader's buffer or the room for a section was refused, and nothing
-    /// else. The sections met before stay.
+    /// Returns `OutOfMemory` if the reader's buffer or the memory for a section was refused, and no
+    /// other error. The sections found before remain.
     pub fn add<R: Read>(&mut self, reader: &mut R) -> Result<ImageLine, RunFault>
         ensures ok { IfOk result (λ line.
             Adds (R.remaining reader.old) (R.remaining reader.new) self.old line self.new) }
@@ -67,13 +67,13 @@ impl Catalogue {
             Err(_) => return Err(RunFault::OutOfMemory),
         };
         let added = add_items(&mut self.sections, &mut image);
-        // What the reader has left is its caller's again.
+        // The rest of the reader is its caller's again.
         image.into_device();
         added
     }
 }
 
-/// Notes the sections on an image of which nothing was read yet.
+/// Adds the sections on an image of which nothing was read yet.
 fn add_items<R: Read>(
     sections: &mut Sections,
     image: &mut ImageReader<'_, R>,

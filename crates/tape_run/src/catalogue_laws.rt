@@ -7,12 +7,12 @@ ghost use Rattle.tape_run.specs.Shown.{GoodAreShown};
 ghost use Rattle.tape_run.specs.WholeSet.{WholeVolumeIsGood, WholeSetIsGood, WholeCopiesAreAdded};
 ghost use Rattle.tape_run.specs.WholeSet.{WholeSetLacksNothing, WholeSetIsFound};
 
-/// A section that is told as good stands whole in the items that tell it.
+/// A section that is reported as good is complete in the items that report it.
 pub fn good_sections_are_shown()
     ensures { GoodAreShown }
 {}
 
-/// A whole copy of a volume of a lawful set makes each section on it good, whatever was noted
+/// A complete copy of a volume of a valid set makes each section on it good, whatever was found
 /// before.
 pub fn whole_volumes_make_sections_good()
     ensures { WholeVolumeIsGood }
@@ -24,24 +24,24 @@ pub fn whole_sets_are_good()
     ensures { WholeSetIsGood }
 {}
 
-/// What a file lacks is its first section that is not there as good, and it lacks none where its
+/// What a file is missing is its first section that is not good, and nothing is missing if its
 /// sections are good up to one that ends it.
 pub fn what_lacks_comes_first()
     ensures { LackIsFirst }
 {}
 
-/// And where nothing else was noted, no file of the set lacks a section.
+/// And if nothing else was found, no file of the set is missing a section.
 pub fn whole_sets_lack_nothing()
     ensures { WholeSetLacksNothing }
 {}
 
-/// So where the set has a file, all of it is found: something was met, and nothing lacks.
+/// So if the set has a file, all of it is found: something was found, and nothing is missing.
 pub fn whole_sets_are_found()
     ensures { WholeSetIsFound }
 {}
 
-/// What [`Catalogue::add`](crate::Catalogue::add) notes of a whole copy whose reader did not fail
-/// is what the volume's items tell.
+/// What [`Catalogue::add`](crate::Catalogue::add) adds for a complete copy whose reader did not
+/// fail is what the volume's items say.
 pub fn whole_copies_are_added()
     ensures { WholeCopiesAreAdded }
 {}

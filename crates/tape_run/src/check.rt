@@ -21,28 +21,27 @@ use crate::text::{flush, write_text};
 use std::alloc::{AllocError, Global};
 use std::io::{Read, Write};
 
-/// Reports what is on the images of a shelf: a line for each image, a line for each section in the
-/// order in which they were met first, a line for each file that lacks a section, and a last line
-/// where something was met and nothing lacks. It answers whether that is so.
+/// Reports what is on the images: a line for each image, a line for each section in the order in
+/// which they were found first, a line for each file with a missing section, and a last line if
+/// sections were found and none is missing. Returns whether that is so.
 ///
-/// An image is mounted when its turn comes, read to its end or to a fault, and given up then. One
-/// that is not there is told as not opened, and passed. It takes memory for the buffer of one
-/// image, what mounting takes, and else for the sections alone. The line of an image is passed on
-/// before the next one is mounted, and the rest of the report at the end; no contract can tell that
-/// of a writer: tests show it.
+/// An image is opened when its turn comes, read to its end or to a fault, and then closed. One that
+/// cannot be opened is reported and skipped. Allocates the buffer of one image, what opening it
+/// takes, and the sections. The line of an image is flushed before the next one is opened, and the
+/// rest of the report at the end; a contract cannot say that of a writer, so tests show it.
 ///
 /// # Errors
 ///
-/// `WriteFailed` where the report could not be written, and `Run(OutOfMemory)`.
+/// Returns `WriteFailed` if the report could not be written, and `Run(OutOfMemory)`.
 pub fn check_to<R: Read + Drop, L: Shelf<R>, P: Write>(
     alloc: Global,
     images: &mut L,
     report: &mut P,
 ) -> Result<bool, EngineFault>
-    // Success is the whole report, and tells whether all was found.
+    // On success the whole report was written, and the result says whether all was found.
     ensures ok { IfOk result (Reports L.size L.gives R.remaining images.old images.new
         (P.contents report.old) (P.contents report.new)) }
-    // Whatever the fault, a front of a report was written: of the images that were read.
+    // On any error a prefix of a report on the images that were read was written.
     ensures front { OnErr result (ReportsInPart L.size L.gives R.remaining images.old images.new
         (P.contents report.old) (P.contents report.new)) }
     ensures fault { IfErr result IsCheckFault }
@@ -52,7 +51,7 @@ pub fn check_to<R: Read + Drop, L: Shelf<R>, P: Write>(
     summarize(alloc, &catalogue, report)
 }
 
-/// Mounts the images in their order, notes what is on each, and writes a line for it.
+/// Opens the images in their order, adds what is on each, and writes a line for it.
 fn check_images<R: Read + Drop, L: Shelf<R>, P: Write>(
     catalogue: &mut Catalogue,
     images: &mut L,
@@ -74,7 +73,7 @@ fn check_images<R: Read + Drop, L: Shelf<R>, P: Write>(
     Ok(())
 }
 
-/// Notes what is on an image, writes its line, and has it passed on.
+/// Adds what is on an image, writes its line, and flushes it.
 fn check_image<R: Read + Drop, P: Write>(
     catalogue: &mut Catalogue,
     image: Option<R>,
@@ -94,7 +93,7 @@ fn check_image<R: Read + Drop, P: Write>(
     Ok(())
 }
 
-/// Notes what is on an image, if it was opened.
+/// Adds what is on an image, if it was opened.
 fn read_image<R: Read + Drop>(
     catalogue: &mut Catalogue,
     image: Option<R>,
@@ -111,7 +110,7 @@ fn read_image<R: Read + Drop>(
     }
 }
 
-/// Writes what stands behind the lines of the images, and answers whether all was found.
+/// Writes what follows the lines of the images, and returns whether all was found.
 fn summarize<P: Write>(
     alloc: Global,
     catalogue: &Catalogue,
@@ -132,7 +131,7 @@ fn summarize<P: Write>(
     Ok(found)
 }
 
-/// Something was met, and nothing lacks.
+/// Whether sections were found and none is missing.
 pub(crate) fn is_found(listed: &[SectionLine], lacking: &[Lack]) -> bool
     ensures { (met : List Told) → listed.now ≡ map line_of met → lacking.now ≡ lacks met
         → result ≡ found_all met }
@@ -143,7 +142,7 @@ pub(crate) fn is_found(listed: &[SectionLine], lacking: &[Lack]) -> bool
     }
 }
 
-/// Writes the lines of a report behind those of the images, and passes all of it on.
+/// Writes the lines of a report after those of the images, and flushes.
 fn write_summary<P: Write>(
     report: &mut P,
     listed: &[SectionLine],
@@ -174,7 +173,7 @@ fn write_sections<P: Write>(report: &mut P, listed: &[SectionLine]) -> Result<()
     Ok(())
 }
 
-/// Writes a line for each lack.
+/// Writes a line for each missing section.
 fn write_lacks<P: Write>(report: &mut P, lacking: &[Lack]) -> Result<(), WriteFailed>
     ensures ok { OnOk result (Appends (P.contents report.old) (P.contents report.new)
         (flat_map lack_line lacking.now)) }
@@ -188,7 +187,7 @@ fn write_lacks<P: Write>(report: &mut P, lacking: &[Lack]) -> Result<(), WriteFa
     Ok(())
 }
 
-/// Writes the last line where all was found, and passes the report on.
+/// Writes the last line if all was found, and flushes the report.
 fn write_last<P: Write>(report: &mut P, found: bool) -> Result<(), WriteFailed>
     ensures ok { OnOk result (Appends (P.contents report.old) (P.contents report.new)
         (last_line found)) }
@@ -198,7 +197,7 @@ fn write_last<P: Write>(report: &mut P, found: bool) -> Result<(), WriteFailed>
     pass_on(report, last_line(found))
 }
 
-/// Writes a text, and has the writer pass it on at once.
+/// Writes a text, and flushes.
 pub(crate) fn pass_on<P: Write>(report: &mut P, text: &[u8]) -> Result<(), WriteFailed>
     ensures ok { OnOk result
         (Appends (P.contents report.old) (P.contents report.new) text.now) }
@@ -209,7 +208,7 @@ pub(crate) fn pass_on<P: Write>(report: &mut P, text: &[u8]) -> Result<(), Write
     flush(report)
 }
 
-/// The last line, which there is where all was found.
+/// The last line, which is printed if all was found.
 fn last_line(found: bool) -> &'static [u8]
     ensures { result.now ≡ last_line found }
 {

@@ -3,13 +3,13 @@
 ghost use Rattle.tape_run.specs.CheckExamples.{ReportIsWorked};
 ghost use Rattle.tape_run.specs.WholeReels.{WholeSetIsTold, GoodWasSeen};
 
-/// Whole copies of all volumes of a lawful set, in any order and with repeats, are reported with
-/// each section as GOOD and with nothing that lacks.
+/// For complete copies of all volumes of a valid set, in any order and with repeats, each section
+/// is reported as GOOD, and nothing as missing.
 pub fn whole_sets_are_told()
     ensures { WholeSetIsTold }
 {}
 
-/// What is reported as GOOD stands whole on one of the images.
+/// What is reported as GOOD is complete on one of the images.
 pub fn what_is_good_was_seen()
     ensures { GoodWasSeen }
 {}

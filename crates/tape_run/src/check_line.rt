@@ -13,8 +13,8 @@ use tape_label::Field;
 /// Room for the longest line, which is that of an image with a fault.
 pub type CheckLine = ArrayVec<u8, 256>;
 
-/// The line of the image with this number, counted from 1: what was met of it, or that it was not
-/// opened.
+/// Returns the line of the image with this number, counted from 1: what was found on it, or that it
+/// was not opened.
 pub fn image_line(number: usize, met: &Option<ImageLine>) -> CheckLine
     ensures { result.items ≡ image_line number met.now }
 {
@@ -27,7 +27,7 @@ pub fn image_line(number: usize, met: &Option<ImageLine>) -> CheckLine
     line
 }
 
-/// What was met of an image.
+/// What was found on an image.
 fn put_met(line: &mut CheckLine, met: &Option<ImageLine>)
     requires room { array_vec_len line.old ≤ 50 }
     ensures items { line.new.items ≡ line.old.items ++ met_text met.now }
@@ -85,7 +85,8 @@ fn put_fault(line: &mut CheckLine, fault: &ImageFault)
     put_decimal(line, fault.place);
 }
 
-/// The line of a section: which one it is, the volume that it was met on, its blocks and its state.
+/// Returns the line of a section: its numbers, the volume on which it was found, its blocks and its
+/// state.
 pub fn section_line(section: &SectionLine) -> CheckLine
     ensures { result.items ≡ section_line section.now }
 {
@@ -102,7 +103,7 @@ pub fn section_line(section: &SectionLine) -> CheckLine
     line
 }
 
-/// The line of the first section that a file lacks.
+/// Returns the line of the first missing section of a file.
 pub fn lack_line(lack: &Lack) -> CheckLine
     ensures { result.items ≡ lack_line lack.now }
 {
@@ -126,7 +127,7 @@ fn put_section(line: &mut CheckLine, set_id: &Field<6>, file: u16, sect: u16)
     put_decimal(line, u64::from(sect));
 }
 
-/// How a section was met.
+/// The state of a section.
 pub(crate) fn state_text(state: SectionState) -> &'static [u8]
     ensures text { result.now ≡ state_text state }
     ensures short { length result.now ≤ 5 }

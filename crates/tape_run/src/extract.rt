@@ -39,30 +39,28 @@ use tape_blocks::{Form, Part};
 use tape_core::{PartSink, PartWalk, SinkFault};
 use tape_set::Want;
 
-/// Reads a file from its images, in their order, until it is complete, reports what each of them
-/// gave, and writes the file's records where it is complete. The answer is what is wanted of a file
-/// that is not.
+/// Reads a file from its images, in their order, until it is complete, prints a line for each, and
+/// writes the file's records if it is complete. Otherwise returns what is still missing.
 ///
-/// An image is mounted when its turn comes, and given up when it was read. One that is not there is
-/// reported as not opened, and passed. The session is saved after each reel, except after one that
-/// counted wrong. If the session came with a note it goes back then, to its last note, and the next
-/// reel goes on from there; else it stays broken, nothing is saved after the reels that are Broken
-/// for it, and nothing is gathered of them. Images after the one that completes the file are not
-/// mounted. `out` is written and
-/// flushed where the file is complete, and else not touched; the report's last line comes behind
-/// that, and then the report is flushed. The session stays its caller's, with what was delivered to
-/// its sink.
+/// An image is opened when its turn comes, and closed when it was read. One that cannot be opened
+/// is reported and skipped. The session is saved after each reel, except after one with a wrong
+/// count. If the session came with a checkpoint, it then rolls back to its last one, and the next
+/// reel continues from there; otherwise it stays broken: nothing of the following reels is used,
+/// and nothing is saved. Images after the one that completes the file are not opened. `out` is
+/// written and flushed if the file is complete, and not touched otherwise; then the last line of
+/// the report is written, and the report flushed. The session remains the caller's, with what was
+/// delivered to its sink.
 ///
-/// The only memory taken is that of the session, a buffer while a reel is read, and notes, and what
-/// mounting takes.
+/// Allocates only for the session, a buffer while a reel is read, checkpoints, and what opening
+/// takes.
 ///
 /// # Errors
 ///
-/// `Run` with the fault of a reel, of a save or of going back, with `OutOfMemory` where there was
-/// no memory to mount an image, or with the fault of the walk over the sink's parts, as
-/// `Sink(Failed)` where this gives fewer records than before; `WriteFailed` where `out` or the
-/// report failed. What was reported is a front of such a report. `out` was not touched, or the file
-/// is complete, and a front of its records was written.
+/// Returns `Run` with the fault of a reel, of a save or of a rollback, with `OutOfMemory` if there
+/// was no memory to open an image, or with the fault of the walk over the sink's parts,
+/// `Sink(Failed)` if this returns fewer records than before; `WriteFailed` if `out` or the report
+/// failed. What was reported is a prefix of such a report. `out` was not touched, or the file is
+/// complete, and a prefix of its records was written.
 pub fn extract_to<S: PartWalk, R: Read + Drop, L: Shelf<R>, W: Write, P: Write>(
     session: &mut Session<S>,
     images: &mut L,
@@ -73,13 +71,13 @@ pub fn extract_to<S: PartWalk, R: Read + Drop, L: Shelf<R>, W: Write, P: Write>(
     ensures ok { IfOk result (Extracts S.PartSink L.size L.gives R.remaining session.old session.new
         images.old images.new form (W.contents out.old) (W.contents out.new)
         (P.contents report.old) (P.contents report.new)) }
-    // While something of the file is wanted `out` is not touched at all.
+    // While something of the file is missing, `out` is not touched at all.
     ensures untouched { IfOk result (λ want. want ≢ None → out.new ≡ out.old) }
     ensures err { OnErr result (Stops S.PartSink L.size L.gives R.remaining session.old session.new
         images.old images.new form W.contents out.old out.new
         (P.contents report.old) (P.contents report.new)) }
-    // The sink refused a call, or there was no memory, or a write failed; a session without a note
-    // is not taken back.
+    // The sink refused a call, or memory ran out, or a write failed; a session without a checkpoint
+    // is not rolled back.
     ensures cause { IfErr result (λ fault. ExtractFails S.PartSink
         (goes_back session.old.notes) fault session.old session.new) }
 {
@@ -88,7 +86,7 @@ pub fn extract_to<S: PartWalk, R: Read + Drop, L: Shelf<R>, W: Write, P: Write>(
     end_file(session, form, out, report)
 }
 
-/// Reports what is wanted of the session's file, or writes the file and reports that.
+/// Reports what is missing of the session's file, or writes the file and reports that.
 fn end_file<S: PartWalk, W: Write, P: Write>(
     session: &mut Session<S>,
     form: Form,
@@ -114,14 +112,14 @@ fn end_file<S: PartWalk, W: Write, P: Write>(
     Ok(None)
 }
 
-/// Whether the session has a note, to which it can go back.
+/// Whether the session has a checkpoint to roll back to.
 fn has_note<S: PartSink>(session: &Session<S>) -> bool
     ensures { result ≡ goes_back session.now.notes }
 {
     session.notes() > 0
 }
 
-/// Reports the last line, and has the writer pass on all that it holds.
+/// Writes the last line, and flushes the report.
 fn end_report<P: Write>(report: &mut P, want: Option<Want>, records: u64) -> Result<(), EngineFault>
     ensures ok { OnOk result (Appends (P.contents report.old) (P.contents report.new)
         (last_line want records)) }
@@ -133,14 +131,15 @@ fn end_report<P: Write>(report: &mut P, want: Option<Want>, records: u64) -> Res
     Ok(flush(report)?)
 }
 
-/// Writes the records that the parts of a sink join to, has the writer pass them on, and says how
-/// many there are. Of a record that is begun and not ended nothing is written, so of a file that is
-/// not complete it writes the records before what is wanted.
+/// Writes the records that the parts of a sink join to, flushes, and returns their number. An
+/// unfinished record is left out, so for an incomplete file these are the records before the first
+/// missing part.
 ///
 /// # Errors
 ///
-/// `Run(Sink)` with what the sink's device refused, or `Failed` where it gives fewer records than
-/// it did when they were counted; `WriteFailed`. What was written before is a front of the records.
+/// Returns `Run(Sink)` with the refusal of the sink's device, or `Failed` if it returns fewer
+/// records than when they were counted; `WriteFailed`. What was written before is a prefix of the
+/// records.
 pub fn write_file<S: PartWalk, W: Write>(
     sink: &mut S,
     form: Form,
@@ -151,7 +150,7 @@ pub fn write_file<S: PartWalk, W: Write>(
     ensures err { OnErr result ((parts : List Portion) → S.holds sink.old parts
         → AppendsFront (W.contents out.old) (W.contents out.new) (output_of form parts)) }
     ensures kept { (parts : List Portion) → S.holds sink.old parts → S.holds sink.new parts }
-    // Whatever it answered: a crash behind it brings back nothing that none before it could.
+    // In any case, a crash after it leaves nothing that no crash before it could.
     ensures crash { BringsNoMore S.PartSink sink.old sink.new }
     ensures cause { IfErr result (WritingFails S.holds S.refusals sink.old sink.new) }
     ensures calm { OnOk result (S.refusals sink.new ≡ S.refusals sink.old) }
@@ -161,11 +160,11 @@ pub fn write_file<S: PartWalk, W: Write>(
     Ok(records)
 }
 
-/// How many records the parts of the sink join to. One that is begun and not ended is none.
+/// Returns how many records the parts of the sink join to, without an unfinished one.
 ///
 /// # Errors
 ///
-/// What the sink's device refused.
+/// Returns the refusal of the sink's device.
 pub fn count_records<S: PartWalk>(sink: &mut S) -> Result<u64, SinkFault>
     ensures count { IfOk result (λ count. (parts : List Portion) → S.holds sink.old parts
         → count ≡ length (join parts).records) }
@@ -174,7 +173,7 @@ pub fn count_records<S: PartWalk>(sink: &mut S) -> Result<u64, SinkFault>
     ensures cause { OnErr result (Rose (S.refusals sink.old) (S.refusals sink.new)) }
     ensures calm { OnOk result (S.refusals sink.new ≡ S.refusals sink.old) }
 {
-    // No sink weighs more than its limit, so the count below stays far from a u64's greatest value.
+    // A sink's weight is limited, so the count below stays far from the maximum of u64.
     let _weight = sink.weight();
     sink.rewind();
     let mut count = 0u64;
@@ -191,13 +190,13 @@ pub fn count_records<S: PartWalk>(sink: &mut S) -> Result<u64, SinkFault>
     }
 }
 
-/// Writes the records that the parts still to come join to, of which there are so many, by the
-/// form: up to the last part that ends one, and nothing of a record that is begun and not ended.
+/// Writes the given number of records that the parts still to come join to, in this form: up to the
+/// last part that ends a record, without an unfinished one.
 ///
 /// # Errors
 ///
-/// `Run(Sink)` with what the sink's device refused, or `Failed` where it gives fewer records than
-/// it did when they were counted; `WriteFailed`. What was written before is a front of the
+/// Returns `Run(Sink)` with the refusal of the sink's device, or `Failed` if it returns fewer
+/// records than when they were counted; `WriteFailed`. What was written before is a prefix of the
 /// text.
 pub fn write_records<S: PartWalk, W: Write>(
     sink: &mut S,
@@ -240,7 +239,7 @@ pub fn walk_fault(cause: SinkFault) -> EngineFault
     EngineFault::Run(RunFault::Sink(cause))
 }
 
-/// Writes one part, and the end of the record where it ends one.
+/// Writes one part, and the end of the record if it ends one.
 #[inline(always)]
 pub fn write_part<W: Write>(out: &mut W, part: Part<'_>, form: Form) -> Result<(), WriteFailed>
     ensures ok { OnOk result (Appends (W.contents out.old) (W.contents out.new)
@@ -255,7 +254,7 @@ pub fn write_part<W: Write>(out: &mut W, part: Part<'_>, form: Form) -> Result<(
     write_text(out, record_end(form))
 }
 
-/// What stands behind each record.
+/// The terminator of each record.
 fn record_end(form: Form) -> &'static [u8]
     ensures { result.now ≡ record_end form }
 {

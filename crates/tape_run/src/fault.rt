@@ -1,4 +1,4 @@
-//! Why a step of a run was not made, and what ends an engine.
+//! Errors of steps and of runs.
 
 ghost use Rattle.std.specs.Prelude.{◌≡◌};
 ghost use Rattle.tape_run.specs.Fault.{number_of};
@@ -9,25 +9,25 @@ use tape_core::SinkFault;
 use tape_image::ImageFault;
 use thiserror::Error;
 
-/// Why a step of a run was not made. The steps before it stand.
+/// Why a step of a run failed. The steps before it took effect.
 #[derive(Clone, Copy, Debug, PartialEq, Eq, Error)]
 pub enum RunFault {
-    /// The sink refused a call, for this cause. In a reel the session stands at the part that was
-    /// refused, and the next reel goes on there; a save or a restart that was refused leaves the
-    /// session as it was.
+    /// The sink refused a call, for this cause. In a reel the session's position is the part that
+    /// was refused, and the next reel continues there; a refused save or restart leaves the session
+    /// unchanged.
     #[error("the sink refused: {0}")]
     Sink(SinkFault),
-    /// There is no note of this number. Nothing changed.
+    /// There is no checkpoint with this number. Nothing changed.
     #[error("no such point was saved")]
     NoSuchPoint,
     /// A reel is asked for, and no reader is left. Nothing changed.
     #[error("too few reels")]
     TooFewReels,
-    /// There was no memory for the reader's buffer or for a note. Nothing changed.
+    /// There was no memory for the reader's buffer or for a checkpoint. Nothing changed.
     #[error("out of memory")]
     OutOfMemory,
-    /// A checkpoint that was stored belongs to another set or file. No session answers it: whoever
-    /// opens a stored checkpoint for a set and a file does, before there is a session.
+    /// A stored checkpoint belongs to another set or file. No session returns this: it is for
+    /// callers that open a stored checkpoint before they create a session.
     #[error("the checkpoint is one of another file")]
     OtherFile,
 }
@@ -47,18 +47,18 @@ impl RunFault {
     }
 }
 
-/// Where a run stopped: the step that was not made, by its number in the script counted from 0, and
-/// why it was not. The steps before it stand, and none behind it was begun.
+/// Where a run stopped: the number of the step that failed, counted from 0, and why it failed. The
+/// steps before it took effect, and none after it was begun.
 #[derive(Clone, Copy, Debug, PartialEq, Eq, Error)]
 #[error("step {step}: {fault}")]
 pub struct Stopped {
-    /// How many steps were made: the number of the step that was not.
+    /// How many steps were made: the number of the step that failed.
     pub step: usize,
-    /// Why it was not made.
+    /// Why it failed.
     pub fault: RunFault,
 }
 
-/// A writer refused a write or a flush, or took nothing of what was written.
+/// A writer refused a write or a flush, or accepted no byte.
 #[derive(Clone, Copy, Debug, PartialEq, Eq, Error)]
 #[error("a write failed")]
 pub struct WriteFailed;
@@ -66,7 +66,7 @@ pub struct WriteFailed;
 /// What ends an engine that reports of reels.
 #[derive(Clone, Copy, Debug, PartialEq, Eq, Error)]
 pub enum EngineFault {
-    /// A session or a catalogue could not go on.
+    /// A session or a catalogue could not continue.
     #[error("{0}")]
     Run(RunFault),
     /// The output or the report could not be written.

@@ -1,4 +1,4 @@
-//! A reel read into a sink, and what a mount answers.
+//! A reel read into a sink, and the outcome of that.
 
 ghost use Rattle.std.specs.Prelude.{◌≡◌, is_some, true, false, ◌+◌, ◌++◌, ◌<◌, ◌≤◌, List, Some};
 ghost use Rattle.std.specs.Prelude.{None, OnOk, OnErr, IfOk, IfSome, IfNone, length, ◌∷◌, [], Bool};
@@ -30,7 +30,7 @@ use tape_core::{Answer, Checkpoint, Event, PartSink, ReaderCore, SinkFault};
 use tape_image::{ImageCause, ImageFault, ImageReader, Item};
 use tape_set::Position;
 
-/// What a reel answered.
+/// The outcome of reading a reel.
 #[derive(Clone, Copy, PartialEq, Eq)]
 pub struct ReelAnswer {
     /// The last answer of the reading: the one that ended it.
@@ -42,7 +42,7 @@ pub struct ReelAnswer {
 }
 
 impl ReelAnswer {
-    /// An answer of these three.
+    /// An outcome with these three values.
     pub(crate) fn new(answer: Answer, fault: Option<ImageFault>, blocks: u32) -> ReelAnswer
         ensures answer { result.answer ≡ answer }
         ensures fault { result.fault ≡ fault }
@@ -73,11 +73,11 @@ pub struct Refused {
     pub cause: SinkFault,
     /// The part's number in its block, counted from 0.
     pub part: u32,
-    /// Whether a record is begun behind the parts before it.
+    /// Whether a record is unfinished after the parts before it.
     pub begun: bool,
 }
 
-/// Puts the parts of a checked block, from this one on. `begun` tells whether a record is begun
+/// Puts the parts of a checked block, from this one on. `begun` says whether a record is unfinished
 /// before it.
 pub fn put_parts<S: PartSink>(
     sink: &mut S,
@@ -129,7 +129,7 @@ pub struct Intake<S> {
     pub sink: S,
 }
 
-/// The event of what an image's reader told, and the fault of the image that it met.
+/// The event for what an image's reader returned, and the image's fault, if any.
 fn event_of<'a>(told: Result<Option<Item<'a>>, ImageFault>) -> (Event<'a>, Option<ImageFault>)
     ensures comes { arrival result.0 ≡ came_of (seen told.entry) }
     ensures fault { result.1 ≡ fault_of (seen told.entry) }
@@ -143,7 +143,7 @@ fn event_of<'a>(told: Result<Option<Item<'a>>, ImageFault>) -> (Event<'a>, Optio
     }
 }
 
-/// How many blocks an answer delivers; `None` where it ends the reading.
+/// How many blocks an answer delivers; `None` if it ends the reading.
 fn delivered(answer: Answer) -> Option<u32>
     ensures on { IfSome result (λ _. GoesOn answer) }
     ensures count { IfSome result (λ more. more ≡ delivered_by (answer ∷ [])) }
@@ -157,7 +157,7 @@ fn delivered(answer: Answer) -> Option<u32>
     }
 }
 
-/// The number of the part that is awaited.
+/// The number of the expected part.
 fn part_of(position: Position) -> u32
     ensures { result ≡ part_of position }
 {
@@ -183,8 +183,8 @@ fn refused_point(before: &Checkpoint, after: &Checkpoint, part: u32, begun: bool
 }
 
 impl<S: PartSink> Intake<S> {
-    /// Takes one event: gives it to the core, and puts what this delivers. At a refused part the
-    /// core goes back to that part.
+    /// Processes one event: passes it to the core, and puts what this delivers. If a part is
+    /// refused, the core's position becomes that part.
     fn take(&mut self, event: Event<'_>) -> Result<Answer, SinkFault>
         requires sized { IsSized (arrival event) }
         ensures file { self.new.core.file ≡ self.old.core.file }
@@ -221,7 +221,7 @@ impl<S: PartSink> Intake<S> {
         Ok(answer)
     }
 
-    /// Puts the parts of the block that the core has just delivered, from the awaited one on.
+    /// Puts the parts of the block that the core has just delivered, from the expected one on.
     fn put_block(&mut self, before: &Checkpoint, content: &[u8]) -> Result<(), SinkFault>
         requires short { length content.now ≤ longest_block }
         requires checked { IsChecked (Some (block content.now)) (rest_of self.old.core) }
@@ -250,7 +250,7 @@ impl<S: PartSink> Intake<S> {
         match put_parts(&mut self.sink, &shape, content, first, before.begun) {
             Ok(()) => Ok(()),
             Err(refused) => {
-                // The core is behind the block already, and goes back into it.
+                // The core is already after the block, and moves back into it.
                 let after = self.core.save(0);
                 let point = refused_point(before, &after, refused.part, refused.begun);
                 let _ = self.core.restart(&point);
@@ -259,8 +259,8 @@ impl<S: PartSink> Intake<S> {
         }
     }
 
-    /// Takes the items of an image of which nothing was read yet, up to a final answer, the end of
-    /// medium or a fault.
+    /// Processes the items of an image of which nothing was read yet, up to a final answer, the end
+    /// of the medium or a fault.
     pub fn read<R: Read>(&mut self, image: &mut ImageReader<'_, R>) -> Result<ReelAnswer, SinkFault>
         requires going { image.old.status ≡ going }
         requires first { image.old.place ≡ 0 }

@@ -24,20 +24,18 @@ ghost use Rattle.tape_run.specs.Runs.{OnlyRefusalsStop};
 ghost use Rattle.tape_run.specs.WorkedDays.{DaysAreWorked};
 ghost use Rattle.tape_run.specs.WorkedHistory.{HistoryIsWorked};
 
-/// A run over a script that names notes that exist, with readers enough, is stopped by a refusal
-/// alone.
+/// Only a refusal can stop a run over a script with existing checkpoints and enough readers.
 pub fn only_refusals_stop()
     ensures { OnlyRefusalsStop }
 {}
 
-/// What a crash brings back of a session stands, where the reels read before it were those of the
-/// set.
+/// What a crash leaves of a session is valid, if the reels read before it were those of the set.
 pub fn stood_comes_back()
     ensures { StoodComesBack }
 {}
 
-/// Across any number of crashes, each session resumed at what the one before left, what comes back
-/// stands.
+/// Across any number of crashes, if each session is resumed at what the one before left, what is
+/// left is valid.
 pub fn stands_across_crashes()
     ensures { StandsAcrossCrashes }
 {}
@@ -48,18 +46,18 @@ pub fn resumed_goes_on()
     ensures { ResumedGoesOn }
 {}
 
-/// What a reader gave of a mount before it failed is a mount.
+/// What a reader returned of a mount before it failed is a mount.
 pub fn fronts_are_mounts()
     ensures { FrontsAreMounts }
 {}
 
-/// Whatever readers failed, what was given is a history where all that the readers have is one.
+/// Whichever readers failed, what was returned is a history if all that the readers have is one.
 pub fn given_is_history()
     ensures { GivenIsHistory }
 {}
 
-/// A worked history meets the premises of the headline, and what this then says of it; so of its
-/// set where a reader fails, where the sink refuses a part, and on another day.
+/// A worked history satisfies the premises of the headline; also what follows from the headline for
+/// it, and for its set if a reader fails, if the sink refuses a part, and on another day.
 pub fn worked_history()
     ensures history { HistoryIsWorked }
     ensures days { DaysAreWorked }
@@ -70,8 +68,8 @@ pub fn items_are_there()
     ensures { ItemsAreThere }
 {}
 
-/// What the definitions say of cases: of histories and runs, of a reel's answer and the table, of
-/// catalogues and reports, of surveys, of unpacking, of files got back, and of the laws.
+/// Examples for the definitions: histories and runs, a reel's answer and the table, catalogues and
+/// reports, surveys, unpacking, recovered files, and the laws.
 pub fn cases()
     ensures mounts { CasesOfMounts }
     ensures histories { CasesOfHistories }
@@ -103,8 +101,8 @@ pub fn cases()
     ensures catalogue_laws { CasesOfCatalogueLaws }
 {}
 
-/// What the reader of one file read up to the end of a section, the reader of each later file of
-/// the set passes over, and goes on behind it as if it had read the reel from its front.
+/// What the reader of one file read up to the end of a section is skipped by the reader of each
+/// later file of the set, which then continues as if it had read the reel from its start.
 pub fn passes_files()
     ensures passes { PassesFiles }
     ensures leads { LeadsOverAll }

@@ -1,7 +1,7 @@
-//! Reads a file of a labelled set from its reels, in any order, into a sink of parts: what the sink
-//! holds is exactly what lies before the position that the reels define. And tells of any reels
-//! which file sections are on them, which of these are whole, and which are missing. Its engines
-//! write such a file, and reports of what reels gave, to any writer.
+//! Reads a file of a labelled set from its reels, in any order, into a sink of parts: the sink
+//! contains exactly what precedes the position that the reels lead to. It also reports which file
+//! sections are on any reels, which of them are complete, and which are missing, and writes
+//! recovered files and reports to any writer.
 #![tactic(auto)]
 
 mod catalogue;

@@ -13,19 +13,18 @@ use std::alloc::Global;
 use std::io::{Read, Write};
 use tape_image::{Ending, ImageBuffer, ImageCause, ImageFault, ImageReader};
 
-/// Lists the image that the reader gives: a line for each item, and a last line for the end of
-/// medium.
+/// Lists an image: a line for each item, and a last line for the end of the medium.
 ///
-/// It takes memory for the image reader's buffer alone, reads nothing behind an end word, and has
-/// the writer pass on what it holds at the end and at a fault of the image. No contract can tell
-/// that of a writer: tests show it.
+/// Allocates only the image reader's buffer, reads nothing after an end-of-medium marker, and
+/// flushes the writer at the end and at a fault of the image. A contract cannot say that of a
+/// writer, so tests show it.
 ///
 /// # Errors
 ///
-/// `Image` with the cause and the place where the image can't be read on, once all before it was
-/// listed; with `OutOfMemory` at place 0 where the buffer was refused, and then nothing was read
-/// or written. `WriteFailed` where the writer failed, also where the flush at a fault of the
-/// image did; then nothing was read behind the item whose line was not written whole.
+/// Returns `Image` with the cause and the offset where the image cannot be read on, after
+/// everything before it was listed; with `OutOfMemory` at offset 0 if the buffer was refused, and
+/// then nothing was read or written. `WriteFailed` if the writer failed, also if the flush at a
+/// fault of the image did; then nothing was read after the item whose line is incomplete.
 pub fn list_to<R: Read, W: Write>(
     alloc: Global,
     reader: &mut R,
@@ -34,18 +33,18 @@ pub fn list_to<R: Read, W: Write>(
     // Success is the end of medium, and the whole listing.
     ensures ok { OnOk result (IfKnown (R.remaining reader.old) (R.remaining reader.new)
         (ListsToEnd (W.contents writer.old) (W.contents writer.new))) }
-    // A fault of the image has its reason in the image, in its reader or in want of memory, and
-    // where a write failed nothing was read behind the item whose line it was,
+    // A fault of the image is caused by the image, its reader or lack of memory; if a write failed,
+    // nothing was read after the item whose line is incomplete,
     ensures fault { IfErr result (FitsFault (R.remaining reader.old) (R.remaining reader.new)
         (W.contents writer.old) (W.contents writer.new)) }
-    // and at any fault a front of the listing was written.
+    // and on any error a prefix of the listing was written.
     ensures front { OnErr result (IfSome (R.remaining reader.old)
         (ListsInPart (W.contents writer.old) (W.contents writer.new))) }
 {
     let buffer = reserve(alloc)?;
     let mut image = ImageReader::over(buffer, reader);
     let listed = list_items(&mut image, writer);
-    // What the reader has left is its caller's again.
+    // The rest of the reader is its caller's again.
     image.into_device();
     listed
 }
@@ -100,7 +99,7 @@ fn list_items<R: Read, W: Write>(
     }
 }
 
-/// Writes the last line, and has the writer pass on all that it holds.
+/// Writes the last line, and flushes.
 fn write_end<W: Write>(writer: &mut W, ending: Ending) -> Result<(), WriteFailed>
     ensures ok { OnOk result
         (Appends (W.contents writer.old) (W.contents writer.new) (end_line ending)) }
@@ -111,7 +110,7 @@ fn write_end<W: Write>(writer: &mut W, ending: Ending) -> Result<(), WriteFailed
     flush(writer)
 }
 
-/// The line that tells the end of medium.
+/// The line for the end of the medium.
 pub fn last_line(ending: Ending) -> &'static [u8]
     ensures { result.now ≡ end_line ending }
 {

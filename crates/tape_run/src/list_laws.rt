@@ -14,7 +14,7 @@ pub fn listings_are_worked()
     ensures { ListingIsWorked }
 {}
 
-/// What each outcome of a listing says, clause by clause.
+/// The meaning of each outcome of a listing, clause by clause.
 pub fn outcomes_say()
     ensures { OutcomesSay }
 {}

@@ -68,7 +68,7 @@ fn put_item(line: &mut Line, item: Item<'_>)
     }
 }
 
-/// A block, as the label that it reads as, or else by its length.
+/// A block, as the label that it reads as, otherwise by its length.
 fn put_block(line: &mut Line, bytes: &[u8])
     requires room { array_vec_len line.old ≤ 11 }
     requires fits { length bytes.now ≤ longest_block }

@@ -1,4 +1,4 @@
-//! `list --offsets`: the listing of an image, with the place and the size of each item.
+//! `list --offsets`: the listing of an image, with the offset and the size of each item.
 
 ghost use Rattle.std.specs.Prelude.{◌≡◌, ◌≤◌, ◌+◌, ◌++◌, length, decimal, IfErr, OnOk, OnErr};
 ghost use Rattle.std.specs.Prelude.{codes};
@@ -19,9 +19,9 @@ use std::alloc::Global;
 use std::io::{Read, Write};
 use tape_image::{Ending, ImageReader, Item};
 
-/// Lists the image that the reader gives, as `list_to` does, with two numbers before each line: the
-/// place where the item begins, and how many bytes of the image it takes. The place and the size of
-/// a bad block have the erase gaps before it with them, since no reader tells the length of one.
+/// Lists an image, as `list_to` does, with two numbers before each line: the offset at which the
+/// item begins, and its size in bytes. The size of a bad block includes the erase gaps before it,
+/// since no reader reports the length of one.
 ///
 /// # Errors
 ///
@@ -31,19 +31,19 @@ pub fn list_places_to<R: Read, W: Write>(
     reader: &mut R,
     writer: &mut W,
 ) -> Result<(), ListFault>
-    // Success is the end of medium, and the lines of all items up to it.
+    // Success means the end of the medium, with the lines of all items up to it.
     ensures ok { OnOk result (IfKnown (R.remaining reader.old) (R.remaining reader.new)
         (PlacesToEnd (W.contents writer.old) (W.contents writer.new))) }
-    // A fault of the image has its reason in the image, in its reader or in want of memory, with
-    // the lines of all items before it written; and where a write failed a front of the lines of
-    // what was read was, and nothing was read behind the item whose line it was.
+    // A fault of the image is caused by the image, its reader or lack of memory, and the lines of
+    // all items before it were written; if a write failed, a prefix of the lines of what was read
+    // was written, and nothing was read after the item of that line.
     ensures fault { IfErr result (FitsPlaces (R.remaining reader.old) (R.remaining reader.new)
         (W.contents writer.old) (W.contents writer.new)) }
 {
     let buffer = reserve(alloc)?;
     let mut image = ImageReader::over(buffer, reader);
     let listed = list_items(&mut image, writer);
-    // What the reader has left is its caller's again.
+    // The rest of the reader is its caller's again.
     image.into_device();
     listed
 }
@@ -88,8 +88,7 @@ fn list_items<R: Read, W: Write>(
     }
 }
 
-/// Writes the last line, of a medium that ended with this many bytes taken, and has the writer pass
-/// on all that it holds.
+/// Writes the last line, for a medium that ended after this many bytes, and flushes.
 fn write_end<W: Write>(writer: &mut W, ending: Ending, behind: u64) -> Result<(), WriteFailed>
     requires { end_len ending ≤ behind }
     ensures ok { OnOk result (Appends (W.contents writer.old) (W.contents writer.new)
@@ -105,7 +104,7 @@ fn write_end<W: Write>(writer: &mut W, ending: Ending, behind: u64) -> Result<()
     flush(writer)
 }
 
-/// How many bytes of an image the item takes, where it tells that.
+/// How many bytes of an image the item occupies, if it says so.
 fn extent_of(item: Item<'_>) -> Option<u64>
     requires { IsTapeItem (tape_item item) }
     ensures { result ≡ item_extent (tape_item item.entry) }
@@ -123,7 +122,7 @@ fn extent_of(item: Item<'_>) -> Option<u64>
 /// Room for the longest line, with its two numbers.
 type PlacedLine = ArrayVec<u8, 192>;
 
-/// The line, behind its place and its size.
+/// The line, after its offset and its size.
 fn told_at(place: u64, size: u64, line: &[u8]) -> PlacedLine
     requires { length line.now ≤ 64 }
     ensures { result.items ≡ told_at place size line.now }

@@ -1,4 +1,4 @@
-//! A file section under way: its labels were met, and its data are counted.
+//! A file section being read: its labels were found, and its data are counted.
 
 ghost use Rattle.std.specs.Prelude.{◌≡◌, ◌<◌};
 ghost use Rattle.tape_set.specs.Lawful.{most_blocks};
@@ -7,7 +7,7 @@ use crate::section::{Entry, SectionKey, SectionState};
 use tape_label::{Field, Trail1};
 use tape_set::label_count;
 
-/// A section whose labels were met, with its data so far.
+/// A section whose labels were found, with its data so far.
 #[derive(Clone, Copy)]
 pub(crate) struct Met {
     pub(crate) volume: Field<6>,
@@ -16,7 +16,7 @@ pub(crate) struct Met {
     pub(crate) bad: bool,
 }
 
-/// A section that was told: what the catalogue is to know of it.
+/// A complete description of a section, for the catalogue.
 pub(crate) type Told = (SectionKey, Entry);
 
 impl Met {
@@ -54,7 +54,7 @@ impl Met {
         trail.head.sect == self.key.sect && trail.head.sequence == self.key.file
     }
 
-    /// How it was met, where its trailer label has this count.
+    /// The section's state, if its trailer label has this count.
     fn state_by(&self, count: u32) -> SectionState
         ensures { result ≡ state_by self.now count }
     {
@@ -67,7 +67,7 @@ impl Met {
         }
     }
 
-    /// What its trailer label tells.
+    /// The description that its trailer label completes.
     pub(crate) fn told(&self, trail: &Trail1) -> Told
         ensures { result ≡ told self.now trail.now }
     {

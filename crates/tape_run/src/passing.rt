@@ -1,5 +1,4 @@
-//! Reading a reel with every section passed over: what is expected next, and which sections it
-//! tells.
+//! Reads a reel with every section skipped: what is expected next, and which sections were found.
 
 ghost use Rattle.std.specs.Prelude.{◌≡◌, ◌<◌, Ok};
 ghost use Rattle.tape_image.specs.Reader.{tape_item};
@@ -47,7 +46,7 @@ fn volume_phase(block: &[u8]) -> Phase
     }
 }
 
-/// Behind a block where a section may begin; `other` where it does not.
+/// After a block where a section may begin; `other` if it does not.
 fn header_phase(volume: Field<6>, block: &[u8], other: Phase) -> Phase
     ensures { result ≡ header_phase volume block.now other }
 {
@@ -66,7 +65,7 @@ fn header_phase(volume: Field<6>, block: &[u8], other: Phase) -> Phase
     }
 }
 
-/// Behind a block where a further volume label or a section may begin.
+/// After a block where a further volume label or a section may begin.
 fn labels_phase(volume: Field<6>, bytes: &[u8]) -> Phase
     ensures { result ≡ labels_phase volume bytes.now }
 {
@@ -76,7 +75,7 @@ fn labels_phase(volume: Field<6>, bytes: &[u8]) -> Phase
     header_phase(volume, bytes, Phase::Over)
 }
 
-/// Behind a block where a section's trailer label is expected.
+/// After a block where a section's trailer label is expected.
 fn told_by(met: Met, block: &[u8]) -> (Phase, Option<Told>)
     ensures { result ≡ told_by met block.now }
 {
@@ -86,7 +85,7 @@ fn told_by(met: Met, block: &[u8]) -> (Phase, Option<Told>)
     }
 }
 
-/// Behind a trailer label where a section's is expected.
+/// After a trailer label where a section's is expected.
 fn told_with(met: Met, trail: &Trail1) -> (Phase, Option<Told>)
     ensures { result ≡ told_with met (Ok trail.now) }
 {
@@ -97,7 +96,7 @@ fn told_with(met: Met, trail: &Trail1) -> (Phase, Option<Told>)
     }
 }
 
-/// Behind a block where a section's second label is expected.
+/// After a block where a section's second label is expected.
 fn second_phase(met: Met, block: &[u8]) -> Phase
     ensures { result ≡ second_with met (kind_at block.now) }
 {
@@ -107,7 +106,7 @@ fn second_phase(met: Met, block: &[u8]) -> Phase
     }
 }
 
-/// Behind a block, and the section that it tells.
+/// After a block, with the section that it completes.
 fn block_step(phase: Phase, bytes: &[u8]) -> (Phase, Option<Told>)
     requires { blocks_of phase < most_blocks }
     ensures { result ≡ step phase (block bytes.now) }
@@ -125,7 +124,7 @@ fn block_step(phase: Phase, bytes: &[u8]) -> (Phase, Option<Told>)
     }
 }
 
-/// Behind a tape mark, and the section that it tells.
+/// After a tape mark, with the section that it completes.
 fn mark_step(phase: Phase) -> (Phase, Option<Told>)
     ensures { result ≡ step phase mark }
 {
@@ -138,7 +137,7 @@ fn mark_step(phase: Phase) -> (Phase, Option<Told>)
     }
 }
 
-/// Behind a block that could not be read, and the section that it tells.
+/// After an unreadable block, with the section that it completes.
 fn bad_step(phase: Phase) -> (Phase, Option<Told>)
     requires { blocks_of phase < most_blocks }
     ensures { result ≡ step phase bad }
@@ -150,7 +149,7 @@ fn bad_step(phase: Phase) -> (Phase, Option<Told>)
     }
 }
 
-/// What is expected behind an item, and the section that it tells, if it tells one.
+/// What is expected after an item, with the section that it completes, if any.
 pub(crate) fn step(phase: Phase, item: Item<'_>) -> (Phase, Option<Told>)
     requires { blocks_of phase < most_blocks }
     ensures { result ≡ step phase (tape_item item.entry) }
@@ -163,7 +162,7 @@ pub(crate) fn step(phase: Phase, item: Item<'_>) -> (Phase, Option<Told>)
 }
 
 impl Phase {
-    /// The section that is not told yet, where the items end here: it is cut.
+    /// The section that is not complete when the items end here: it is cut.
     pub(crate) fn under_way(&self) -> Option<Told>
         ensures { result ≡ under_way self.now }
     {

@@ -1,4 +1,4 @@
-//! What a catalogue has, section by section, and what it lacks.
+//! The sections of a catalogue, and the missing ones.
 
 ghost use Rattle.std.specs.Prelude.{◌≡◌, ◌<◌, ◌+◌, ◌++◌, [], length, map, take, IfOk, OnOk};
 ghost use Rattle.std.specs.Map.{lookup};
@@ -18,13 +18,13 @@ use std::alloc::{AllocError, Global};
 use tape_label::Field;
 use tape_set::Sequence;
 
-/// What a catalogue has and lacks.
+/// The contents of a catalogue, and what is missing.
 #[derive(Drop)]
 pub struct Report {
-    /// The sections, in the order in which they were met first.
+    /// The sections, in the order in which they were found first.
     pub lines: Sequence<SectionLine>,
-    /// The first section that each file lacks, where it lacks one: set by set in the order in which
-    /// they were met first, and file by file from 1 to the greatest number that was met.
+    /// The first missing section of each incomplete file: set by set in the order in which the sets
+    /// were found first, and file by file from 1 to the greatest number that was found.
     pub lacks: Sequence<Lack>,
 }
 
@@ -75,7 +75,7 @@ fn lines_of(alloc: Global, sections: &Sections) -> Result<Vec<SectionLine>, Allo
     Ok(lines)
 }
 
-/// The greatest number of a file of a set, where one more file was met.
+/// The greatest number of a file of a set, after one more file was found.
 fn greatest_of(sets: &Sets, set_id: &Field<6>, file: u16) -> u16
     ensures { result ≡ greatest (lookup (bytes_eq set_id.now) sets.now.entries) file }
 {
@@ -85,7 +85,7 @@ fn greatest_of(sets: &Sets, set_id: &Field<6>, file: u16) -> u16
     }
 }
 
-/// Notes that a file of a set was met.
+/// Adds that a file of a set was found.
 fn note_file(sets: &mut Sets, set_id: Field<6>, file: u16) -> Result<(), AllocError>
     ensures { OnOk result (sets.new.entries ≡ with_file sets.old.entries set_id file) }
 {
@@ -96,7 +96,7 @@ fn note_file(sets: &mut Sets, set_id: Field<6>, file: u16) -> Result<(), AllocEr
     }
 }
 
-/// Notes the file of the section at a place behind those before it.
+/// Adds the file of the section at an index after those before it.
 fn note_place(sets: &mut Sets, sections: &Sections, place: usize) -> Result<(), AllocError>
     requires { place < length sections.now.entries }
     ensures { OnOk result (sets.old.entries ≡ sets_from [] (take place sections.now.entries)
@@ -109,7 +109,7 @@ fn note_place(sets: &mut Sets, sections: &Sections, place: usize) -> Result<(), 
     Ok(())
 }
 
-/// The sets in the order in which they were met first, each with the greatest number of a file.
+/// The sets in the order in which they were found first, each with the greatest number of a file.
 pub(crate) fn sets_of(alloc: Global, sections: &Sections) -> Result<Sets, AllocError>
     ensures { IfOk result (λ sets. sets.entries ≡ sets_from [] sections.now.entries) }
 {
@@ -120,7 +120,7 @@ pub(crate) fn sets_of(alloc: Global, sections: &Sections) -> Result<Sets, AllocE
     Ok(sets)
 }
 
-/// Adds what a file lacks, if it lacks a section.
+/// Adds what is missing of a file, if anything is.
 fn add_lack(
     lacks: &mut Vec<Lack>,
     sections: &Sections,
@@ -139,7 +139,7 @@ fn add_lack(
     }
 }
 
-/// Adds what the files of a set lack, up to the greatest number of a file.
+/// Adds what is missing of the files of a set, up to the greatest number of a file.
 fn add_lacks(
     lacks: &mut Vec<Lack>,
     sections: &Sections,
@@ -155,7 +155,7 @@ fn add_lacks(
     Ok(())
 }
 
-/// Adds what the files of the set at a place lack to what those of the sets before it do.
+/// Adds what is missing of the files of the set at an index, after those of the sets before it.
 fn add_set(
     lacks: &mut Vec<Lack>,
     sections: &Sections,
@@ -174,7 +174,7 @@ fn add_set(
     Ok(())
 }
 
-/// What the files of these sets lack.
+/// What is missing of the files of these sets.
 fn lacks_of(alloc: Global, sections: &Sections, sets: &Sets) -> Result<Vec<Lack>, AllocError>
     ensures { IfOk result (λ lacks.
         lacks.items ≡ set_lacks sections.now.entries sets.now.entries) }
@@ -200,11 +200,11 @@ pub(crate) fn report_of(alloc: Global, sections: &Sections) -> Result<Report, Al
     })
 }
 
-/// What a catalogue has, section by section, and what its files lack.
+/// Returns the sections of a catalogue, and what is missing of its files.
 ///
 /// # Errors
 ///
-/// `OutOfMemory` where memory was refused, and nothing else.
+/// Returns `OutOfMemory` if memory was refused, and no other error.
 pub fn check_set(alloc: Global, catalogue: &Catalogue) -> Result<Report, RunFault>
     ensures lines { IfOk result (λ report. report.lines ≡ map line_of catalogue.now) }
     ensures lacks { IfOk result (λ report. report.lacks ≡ lacks catalogue.now) }

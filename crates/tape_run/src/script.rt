@@ -30,31 +30,31 @@ use tape_core::PartSink;
 pub enum Step {
     /// The next reader's reel is read.
     Reel,
-    /// It is noted where the session stands.
+    /// Saves a checkpoint.
     Save,
-    /// The session goes back to the note of this number, counted from 0.
+    /// Rolls back to the checkpoint with this number, counted from 0.
     Restart(usize),
 }
 
-/// Makes the steps, one after another, up to the first fault. Each `Reel` takes the next reader,
-/// also where the file is complete and nothing is read of it.
+/// Makes the steps, one after another, up to the first error. Each `Reel` takes the next reader,
+/// even if the file is complete and nothing is read of it.
 ///
-/// Of each reader that was taken it is written into `failed`, in their order and as far as this
-/// reaches, whether it failed. Where nobody wants to know, `&mut []` does.
+/// Writes into `failed`, for each reader that was taken, in their order and as far as the slice
+/// reaches, whether it failed. Callers that do not need this pass `&mut []`.
 ///
 /// # Errors
 ///
-/// The first step that was not made, counted from 0, with its fault: as `reel`, `save` and
-/// `restart` answer it, or `TooFewReels` where a reel is asked for and no reader is left. The steps
-/// before it stand, and none behind it was begun.
+/// Returns the first step that failed, counted from 0, with its error: that of `reel`, `save` or
+/// `restart`, or `TooFewReels` if a reel is requested and no reader is left. The steps before it
+/// took effect, and none after it was begun.
 pub fn run<S: PartSink, R: Read>(
     session: &mut Session<S>,
     steps: &[Step],
     reels: &mut [R],
     failed: &mut [bool],
 ) -> Result<(), Stopped>
-    // The headline: the sink holds the parts before the position that the history leads to, and the
-    // session stands there with the notes of the history.
+    // The headline: the sink contains the parts before the position that the history leads to,
+    // which is the session's position, and the session has the checkpoints of the history.
     ensures headline { OnOk result (IfSeen S.PartSink session.old (λ old. IsKept old
         → IsSeen S.PartSink session.new (λ new. IsKept new
         × IfTold R.remaining reels.old (λ bytes.
@@ -66,8 +66,8 @@ pub fn run<S: PartSink, R: Read>(
         → IsSeen S.PartSink session.new (λ new. IfTold R.remaining reels.old (λ bytes.
         (read : IsRead set_id file steps.now bytes (map R.remaining reels.new) new)
         × (failed.new ≡ written read.which failed.old)))) }
-    // There and back: over the images of all volumes, in order, where no reader failed, the sink
-    // holds the whole file.
+    // After the images of all volumes, in order, if no reader failed, the sink contains the whole
+    // file.
     ensures back { OnOk result ((set : FileSet) (file : ℕ) (f : List Section)
         (bytes : List (List ℕ))
         → S.holds session.old.sink [] → IsStart set.set_id file (seen S.PartSink session.old [])
@@ -77,40 +77,40 @@ pub fn run<S: PartSink, R: Read>(
         → S.holds session.new.sink (section_parts f)
         × ((rest_of session.new.core).position ≡ Finished)
         × ((join (section_parts f)).rest ≡ None)) }
-    // Where it stopped at a step the headline holds of the steps before; a part that was refused is
-    // where the session stands. Only a going back that failed may lose what the sink holds.
+    // If it stopped at a step, the headline is true of the steps before it; the session's position
+    // is the part that was refused. Only a failed rollback may lose what the sink contains.
     ensures stopped { IfErr result (λ end. IfSeen S.PartSink session.old (λ old. IsKept old
         → IsSeenUnless (LosesParts steps.now end.step end.fault) S.PartSink session.new (λ new.
         IsKept new × IfTold R.remaining reels.old (λ bytes.
         (stop : HasStopped old steps.now bytes (map R.remaining reels.new) end.step end.fault new)
         × (failed.new ≡ written stop.which failed.old))))) }
-    // Whatever the set and the history are: each step did what `reel`, `save` and `restart`
-    // promise; and behind a save, and reels, a crash brings back what was saved, alone, now and
-    // from then on.
+    // For any set and history: each step did what `reel`, `save` and `restart` promise; and after a
+    // save followed by reels, a crash leaves exactly what was saved, now and from then on.
     ensures runs { OnOk result (IfSeen S.PartSink session.old (λ old. IsKept old
         → IsSeen S.PartSink session.new (λ new.
         ((which : List Bool) × (failed.new ≡ written which failed.old)
         × Runs which old steps.now (map R.remaining reels.old) (map R.remaining reels.new) new)
         × (is_saved false steps.now ≡ true → LastAlone (S.crashes session.new.sink) new)))) }
-    // Where it stopped: the same of the steps before, and the step that is told left what its call
+    // If it stopped: the same for the steps before, and the failed step left what its call
     // promises.
     ensures faults { IfErr result (λ end. IfSeen S.PartSink session.old (λ old. IsKept old
         → IsSeenUnless (LosesParts steps.now end.step end.fault) S.PartSink session.new (λ new.
         IsKept new × (which : List Bool) × (failed.new ≡ written which failed.old)
         × RunsUpTo which old steps.now (map R.remaining reels.old) (map R.remaining reels.new)
         end.step end.fault new))) }
-    // Of any sink, and whether or not readers tell their bytes: no call of the sink was refused; or
-    // the step that is told was not made for a reason that its call promises, and none was before.
+    // For any sink, even if readers make no claim about their bytes: no call of the sink was
+    // refused; or the failed step failed for a reason that its call promises, and no call was
+    // refused before.
     ensures calm { OnOk result (IsCalm S.PartSink session.old session.new) }
     ensures cause { IfErr result (λ end. StopsFor S.PartSink steps.now end.step end.fault
         session.old session.new) }
-    // A reader that no step took is as it was.
+    // A reader that no step took is unchanged.
     ensures unread { OnOk result (drop (reels_in steps.now) reels.new
         ≡ drop (reels_in steps.now) reels.old) }
     ensures untaken { IfErr result (λ end. let taken = reels_in (take (end.step + 1) steps.now) in
         drop taken reels.new ≡ drop taken reels.old) }
-    // Whatever it answered: what a crash in it or behind it brings back could come back before, or
-    // is where the session stood between two steps, or one of its notes there.
+    // In any case: what a crash during or after it leaves could have been left before, or is the
+    // session's position between two steps, or one of its checkpoints there.
     ensures crash { IfSeen S.PartSink session.old (λ old. IsKept old
         → AddsOnly (StoodAt old steps.now (map R.remaining reels.old) (map R.remaining reels.new))
         (S.crashes session.old.sink) (S.crashes session.new.sink)) }
@@ -125,7 +125,7 @@ pub fn run<S: PartSink, R: Read>(
     Ok(())
 }
 
-/// Makes a step, and answers how many of the readers are used then; so many were used before.
+/// Makes a step, and returns how many of the readers are used then; `used` were before.
 fn make<S: PartSink, R: Read>(
     session: &mut Session<S>,
     step: Step,
@@ -177,7 +177,7 @@ fn make<S: PartSink, R: Read>(
     }
 }
 
-/// Writes into the row at this number, where it reaches so far.
+/// Writes into the slice at this index, if it reaches that far.
 fn write_at(row: &mut [bool], number: usize, flag: bool)
     ensures { WritesFrom number (flag ∷ []) row.old row.new (number + 1) }
 {

@@ -1,4 +1,4 @@
-//! The sections that were met, in the order in which they were met first.
+//! The sections that were found, in the order in which they were found first.
 
 ghost use Rattle.std.specs.Result.{IsOkUnless};
 ghost use Rattle.tape_run.specs.declared.fault.RunFault.TheVariants as faults;
@@ -29,7 +29,7 @@ impl SectionState {
     }
 }
 
-/// What is kept of a section that was met before and is met again.
+/// What is kept of a section that was found before and is found again.
 fn better(old: Entry, new: Entry) -> Entry
     ensures { result ≡ better old new }
 {
@@ -39,7 +39,7 @@ fn better(old: Entry, new: Entry) -> Entry
     old
 }
 
-/// What is kept of a section that is met, where the sections are as they are.
+/// What is kept of a section that is found, given the sections so far.
 fn kept_of(sections: &Sections, key: &SectionKey, entry: Entry) -> Entry
     ensures { result ≡ kept (lookup (same_key key.now) sections.now.entries) entry }
 {
@@ -49,7 +49,7 @@ fn kept_of(sections: &Sections, key: &SectionKey, entry: Entry) -> Entry
     }
 }
 
-/// Notes a section. One that is there keeps its place, and takes what is better.
+/// Adds a section. A known section keeps its place, with the better of the two states.
 fn note(sections: &mut Sections, key: SectionKey, entry: Entry) -> Result<(), RunFault>
     ensures fault { IsOkUnless result faults.OutOfMemory }
     ensures ok { OnOk result (sections.new.entries ≡ noted sections.old.entries (key, entry)) }
@@ -63,7 +63,8 @@ fn note(sections: &mut Sections, key: SectionKey, entry: Entry) -> Result<(), Ru
     }
 }
 
-/// Makes room for a section whose headers' mark was met, so that it can be noted later.
+/// Allocates room for a section once the mark after its headers was found, so that it can be added
+/// later.
 fn make_room(sections: &mut Sections, phase: &Phase) -> Result<(), RunFault>
     ensures fault { IsOkUnless result faults.OutOfMemory }
     ensures same { sections.new.entries ≡ sections.old.entries }
@@ -78,7 +79,7 @@ fn make_room(sections: &mut Sections, phase: &Phase) -> Result<(), RunFault>
     }
 }
 
-/// Notes a section that was told, if one was.
+/// Adds a section that was completed, if one was.
 fn note_told(sections: &mut Sections, told: Option<Told>) -> Result<(), RunFault>
     ensures fault { IsOkUnless result faults.OutOfMemory }
     ensures ok { OnOk result (sections.new.entries
@@ -93,8 +94,8 @@ fn note_told(sections: &mut Sections, told: Option<Told>) -> Result<(), RunFault
     }
 }
 
-/// Notes what an item tells, and says what is expected behind it. A section that is under way then
-/// has its room already: want of memory is told at its headers, and not where it ends.
+/// Adds the section that an item completes, and returns what is expected next. A section being read
+/// already has its room: out of memory is reported at its headers, not where it ends.
 pub(crate) fn take(sections: &mut Sections, phase: Phase, item: Item<'_>) -> Result<Phase, RunFault>
     requires { blocks_of phase < most_blocks }
     ensures fault { IsOkUnless result faults.OutOfMemory }
@@ -110,7 +111,7 @@ pub(crate) fn take(sections: &mut Sections, phase: Phase, item: Item<'_>) -> Res
     Ok(next)
 }
 
-/// Notes the section that is under way where the items end, if one is.
+/// Adds the section that is being read when the items end, if there is one.
 pub(crate) fn close(sections: &mut Sections, phase: Phase) -> Result<(), RunFault>
     ensures fault { IsOkUnless result faults.OutOfMemory }
     ensures ok { OnOk result (sections.new.entries

@@ -35,8 +35,8 @@ use tape_image::{ImageBuffer, ImageReader};
 use tape_label::Field;
 use tape_set::{Position, Want};
 
-/// A session over one file: it reads reel after reel, and its sink holds exactly the parts of the
-/// file that lie before its position.
+/// A session over one file: it reads reel after reel, and its sink contains exactly the parts of
+/// the file that precede its position.
 #[derive(Drop)]
 pub struct Session<S> {
     alloc: Global,
@@ -59,12 +59,12 @@ impl<S> Model for Session<S> {
 }
 
 impl<S: PartSink + Drop> Session<S> {
-    /// A session at the start of a file of the set with this identifier, over an empty sink. It
-    /// takes no memory.
+    /// Creates a session at the start of a file of the set with this identifier, over an empty
+    /// sink. Does not allocate.
     ///
     /// # Errors
     ///
-    /// `FileNumber`, where the file's number is not 1 to 9,999; the sink is then dropped.
+    /// Returns `FileNumber` if the file's number is not 1 to 9,999; the sink is then dropped.
     pub fn new(alloc: Global, set_id: Field<6>, file: u16, sink: S) -> Result<Session<S>, CoreFault>
         ensures sink { IfOk result (λ session. session.sink ≡ sink) }
         ensures start { IfOk result (λ session. IsStart set_id file (seen S.PartSink session [])) }
@@ -81,7 +81,7 @@ impl<S: PartSink + Drop> Session<S> {
 }
 
 impl<S: PartSink> Session<S> {
-    /// A session over a core and a sink, without notes.
+    /// Creates a session from a core and a sink, without checkpoints.
     fn over(alloc: Global, core: ReaderCore, sink: S) -> Session<S>
         ensures sink { result.sink ≡ sink }
         ensures core { result.core ≡ core }
@@ -97,7 +97,7 @@ impl<S: PartSink> Session<S> {
         }
     }
 
-    /// Resumes at a checkpoint, over a sink that holds the parts before it. Does not allocate.
+    /// Resumes at a checkpoint, over a sink that contains the parts before it. Does not allocate.
     pub fn resume(alloc: Global, point: &Checkpoint, sink: S) -> Session<S>
         ensures sink { result.sink ≡ sink }
         ensures kept { (held : List Portion) → IsKept (seen S.PartSink result held) }
@@ -108,7 +108,7 @@ impl<S: PartSink> Session<S> {
             → IsResumed point.now held (seen S.PartSink result held) }
         ensures failures { result.failures ≡ 0 }
     {
-        // What a checkpoint tells of its file is a number of a file: a core can be made.
+        // A checkpoint has a valid file number, so a core can be created.
         let _position = point.position();
         let Ok(mut core) = ReaderCore::new(point.set_id, point.file) else {
             unreachable!()
@@ -117,14 +117,14 @@ impl<S: PartSink> Session<S> {
         Session::over(alloc, core, sink)
     }
 
-    /// The sink, with what was delivered.
+    /// Returns the sink, with what was delivered.
     pub fn sink(&self) -> &S
         ensures { result.now ≡ self.now.sink }
     {
         &self.intake.sink
     }
 
-    /// Ends the session, and gives its sink back.
+    /// Ends the session, and returns its sink.
     pub fn into_sink(self) -> S
         ensures { result ≡ self.sink }
     {
@@ -132,17 +132,18 @@ impl<S: PartSink> Session<S> {
     }
 
     /// Reads a reel up to the first item after which no other one of the reel can say anything of
-    /// the file. The parts of each block that the file awaits go to the sink, one by one, from the
-    /// awaited part on. If the file is complete nothing is read. Allocates only the image reader's
+    /// the file. The parts of each block that the file needs go to the sink, one by one, from the
+    /// expected part on. If the file is complete nothing is read. Allocates only the image reader's
     /// buffer.
     ///
-    /// A fault of the image, or a reader that failed, ends the reading and is in the answer; what
-    /// was read before it counts.
+    /// A fault of the image, or a reader that failed, ends the reading and is part of the result;
+    /// what was read before it counts.
     ///
     /// # Errors
     ///
-    /// `Sink` if the sink refused a part: the session is at that part, and the next reel goes on
-    /// there. `OutOfMemory` if the image reader's buffer was refused: nothing changed or was read.
+    /// Returns `Sink` if the sink refused a part: the session's position is that part, and the next
+    /// reel continues there. Returns `OutOfMemory` if the image reader's buffer was refused:
+    /// nothing changed or was read.
     pub fn reel<R: Read>(&mut self, device: &mut R) -> Result<ReelAnswer, RunFault>
         ensures ok { IfOk result (λ answer. IfSeen S.PartSink self.old (λ old.
             IsSeen S.PartSink self.new (λ new. IsFront old.parts new.parts
@@ -153,8 +154,8 @@ impl<S: PartSink> Session<S> {
             IsSeen S.PartSink self.new (λ new. IsFront old.parts new.parts
             × (IsKept old → IsKept new) × IfSome (R.remaining device.old)
             (λ bytes. ReelFails bytes fault old new)))) }
-        // Of any reader and sink: the session has the same file and notes; a reader that failed is
-        // counted, and a call of the sink that was refused is in the answer.
+        // For any reader and sink: the session has the same file and checkpoints; a reader that
+        // failed is counted, and a call of the sink that was refused is part of the result.
         ensures notes { self.new.notes ≡ self.old.notes }
         ensures file { (self.new.core.set_id ≡ self.old.core.set_id)
             × (self.new.core.file ≡ self.old.core.file) }
@@ -164,11 +165,11 @@ impl<S: PartSink> Session<S> {
             S.refusals self.new.sink ≡ S.refusals self.old.sink) }
         ensures refuses { IfErr result (λ fault.
             Refuses S.PartSink fault self.old self.new) }
-        // The answer is the core's last one, and no byte behind what ended the reading was read.
+        // The answer is the core's last one, and no byte after what ended the reading was read.
         ensures answer { IfOk result (λ answer. IfKnown (R.remaining device.old)
             (R.remaining device.new)
             (λ bytes left. Reads self.old.core.position self.old.core bytes left answer)) }
-        // Whatever was read, the answer is Complete exactly if nothing is wanted any more.
+        // Whatever was read, the answer is Complete exactly if nothing is missing any more.
         ensures complete { IfOk result (λ answer. answer.answer ≡ Answer.Complete
             → self.new.core.position ≡ Position.Finished) }
         ensures finished { IfOk result (λ answer.
@@ -176,7 +177,7 @@ impl<S: PartSink> Session<S> {
         ensures unread { IfErr result (λ fault.
             Leaves fault (mount_of self.old.core) (R.remaining device.old)
             (R.remaining device.new)) }
-        // Whatever it answered: a crash in it or after it brings back nothing new.
+        // In any case: a crash during or after it leaves nothing new.
         ensures crash { BringsNoMore S.PartSink self.old.sink self.new.sink }
     {
         if self.intake.core.want().is_none() {
@@ -188,7 +189,7 @@ impl<S: PartSink> Session<S> {
         let mut image = ImageReader::over(buffer, device);
         self.intake.core.mount();
         let read = self.intake.read(&mut image);
-        // What the reader has left is its caller's again.
+        // The rest of the reader is its caller's again.
         image.into_device();
         match read {
             Ok(answer) => {
@@ -199,7 +200,8 @@ impl<S: PartSink> Session<S> {
         }
     }
 
-    /// Notes where the session is, in its list and, if the sink is durable, in the sink.
+    /// Saves a checkpoint of the session's position, in its list and, if the sink is durable, in
+    /// the sink.
     ///
     /// # Errors
     ///
@@ -212,8 +214,9 @@ impl<S: PartSink> Session<S> {
             → point ≡ saved (rest_of self.old.core) (weight_of held)) }
         ensures err { IfErr result (λ fault. IfSeen S.PartSink self.old (λ old.
             IsSeen S.PartSink self.new (λ new. SaveFails fault old new))) }
-        // Of any sink: the session stays where it is; the note is of there, with the sink's weight,
-        // and comes last; no call of the sink was refused, or the one that was is in the answer.
+        // For any sink: the session's position is unchanged; the checkpoint has that position and
+        // the sink's weight, and is last in the list; no call of the sink was refused, or the one
+        // that was is in the result.
         ensures notes { IfOk result (λ point. self.new.notes ≡ self.old.notes ++ point ∷ []) }
         ensures at { IfOk result (λ point.
             point ≡ saved (rest_of self.old.core) (S.weighs self.old.sink)) }
@@ -221,17 +224,17 @@ impl<S: PartSink> Session<S> {
         ensures calm { OnOk result
             (S.refusals self.new.sink ≡ S.refusals self.old.sink) }
         ensures refuses { IfErr result (λ fault. Refuses S.PartSink fault self.old self.new) }
-        // The checkpoint stands, with the parts delivered.
+        // The checkpoint is valid, with the parts delivered.
         ensures stands { IfOk result (λ point. (set : FileSet) (held : List Portion)
             → S.holds self.old.sink held → IsSession set (seen S.PartSink self.old held)
             → Stands set (rest_of self.old.core).file point held) }
         ensures memory { result ≡ Err RunFault.OutOfMemory → self.new.sink ≡ self.old.sink }
-        // Behind an Ok, and from then on, a crash brings back the checkpoint that was saved, with
-        // its parts, alone.
+        // After an Ok, and from then on, a crash leaves exactly the checkpoint that was saved, with
+        // its parts.
         ensures kept { IfOk result (λ point. (held : List Portion) → S.holds self.old.sink held
             → ThisAlone point held (S.crashes self.new.sink)) }
-        // Whatever it answered: a crash in it or behind it brings back where the session stands,
-        // with the parts delivered, or what one before it could.
+        // In any case: a crash during or after it leaves the session's position, with the parts
+        // delivered, or what one before it could.
         ensures crash { IfSeen S.PartSink self.old (λ old. AddsOnly (IsHere old)
             (S.crashes self.old.sink) (S.crashes self.new.sink)) }
     {
@@ -248,8 +251,8 @@ impl<S: PartSink> Session<S> {
         }
     }
 
-    /// Notes in the session's list alone where it is, and has the sink keep nothing: for a sink
-    /// that comes back from a crash as it is, such as one that was opened just now.
+    /// Adds a checkpoint of the session's position to its list only, and stores nothing in the
+    /// sink: for a sink that a crash leaves as it is, such as one that was just opened.
     ///
     /// # Errors
     ///
@@ -271,36 +274,36 @@ impl<S: PartSink> Session<S> {
         Ok(())
     }
 
-    /// How many notes there are.
+    /// Returns the number of checkpoints.
     pub fn notes(&self) -> usize
         ensures { result ≡ length self.now.notes }
     {
         self.notes.len()
     }
 
-    /// Goes back to the note of this number, counted from 0: the sink is cut to what it held then,
-    /// and the later notes are forgotten. Does not allocate.
+    /// Rolls back to the checkpoint with this number, counted from 0: the sink is cut to its
+    /// contents at that time, and the later checkpoints are dropped. Does not allocate.
     ///
     /// # Errors
     ///
-    /// `NoSuchPoint` if there are not so many notes; `Sink` if the sink refused. Both leave the
-    /// session as it was; a sink that answered `Device` has to be opened again.
+    /// Returns `NoSuchPoint` if there are not that many checkpoints; `Sink` if the sink refused.
+    /// Both leave the session unchanged; a sink that returned `Device` must be opened again.
     pub fn restart(&mut self, n: usize) -> Result<(), RunFault>
         ensures ok { OnOk result (IfSeen S.PartSink self.old (λ old. IsKept old
             → IsSeen S.PartSink self.new (λ new. IsKept new × WentBack n old new))) }
         ensures err { IfErr result (λ fault. IfSeen S.PartSink self.old (λ old. IsKept old
             → (fault ≢ RunFault.Sink SinkFault.Device → S.holds self.new.sink old.parts)
             × RestartFails n fault old (seen S.PartSink self.new old.parts))) }
-        // Of any sink: the later notes are gone, or the session stays where it is; no call of the
-        // sink was refused, or the one that was is in the answer.
+        // For any sink: the later checkpoints are gone, or the session's position is unchanged; no
+        // call of the sink was refused, or the one that was is in the result.
         ensures stays { OnErr result (self.new.core ≡ self.old.core) }
         ensures notes { OnOk result (self.new.notes ≡ take (n + 1) self.old.notes) }
         ensures calm { OnOk result
             (S.refusals self.new.sink ≡ S.refusals self.old.sink) }
         ensures refuses { IfErr result (λ fault.
             RefusesRestart S.PartSink n fault self.old self.new) }
-        // Whatever it answered: a crash in it or behind it brings back the note of this number,
-        // with its parts, or what one before it could.
+        // In any case: a crash during or after it leaves the checkpoint with this number, with its
+        // parts, or what one before it could.
         ensures crash { IfSeen S.PartSink self.old (λ old. IsKept old → AddsOnly (IsNoteOf n old)
             (S.crashes self.old.sink) (S.crashes self.new.sink)) }
     {
@@ -319,7 +322,7 @@ impl<S: PartSink> Session<S> {
         Ok(())
     }
 
-    /// What is wanted next of the file: nothing exactly where it is complete.
+    /// Returns what is missing next of the file, or `None` exactly if it is complete.
     pub fn want(&self) -> Option<Want>
         ensures { result ≡ want_at (rest_of self.now.core).file (rest_of self.now.core).position }
     {
@@ -334,7 +337,7 @@ impl<S: PartSink> Session<S> {
     }
 }
 
-/// A count of readers that failed, behind one more, which failed or did not.
+/// A count of readers that failed, after one more, which failed or did not.
 fn counted(failures: u64, failed: bool) -> u64
     ensures { result ≡ counted failed failures }
 {

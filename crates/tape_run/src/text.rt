@@ -1,4 +1,4 @@
-//! Texts of at most so many bytes, built without taking memory, and text that is written.
+//! Texts of limited length, built without allocating, and their output.
 
 ghost use Rattle.std.specs.Prelude.{◌≡◌, ◌≤◌, ◌+◌, ◌++◌, length, decimal, OnOk, OnErr, IfSome};
 ghost use Rattle.std.specs.Io.KnownBytes.{Appends, Keeps};
@@ -100,8 +100,8 @@ pub(crate) fn put_trimmed<const W: usize, const N: usize>(
 ///
 /// # Errors
 ///
-/// `WriteFailed` where the writer answers an error, an interruption too, or takes nothing of what
-/// is left; then it took a front of the text. A write that failed is not tried again.
+/// Returns `WriteFailed` if the writer returns an error, even an interruption, or accepts none of
+/// the remaining bytes; it has then accepted a prefix of the text. A failed write is not repeated.
 #[inline(always)]
 pub fn write_text<W: Write>(writer: &mut W, text: &[u8]) -> Result<(), WriteFailed>
     ensures ok { OnOk result
@@ -114,7 +114,7 @@ pub fn write_text<W: Write>(writer: &mut W, text: &[u8]) -> Result<(), WriteFail
         match writer.write(rest) {
             Ok(0) => return Err(WriteFailed),
             Ok(n) => rest = &rest[n..],
-            // An interruption is a failure too: std's own calls would try again.
+            // An interruption is a failure too, although std's own calls would try again.
             Err(_) => return Err(WriteFailed),
         }
     }
@@ -125,7 +125,8 @@ pub fn write_text<W: Write>(writer: &mut W, text: &[u8]) -> Result<(), WriteFail
 ///
 /// # Errors
 ///
-/// `WriteFailed` as `write_text`; and for a line of more than 1,024 bytes, which there is none.
+/// Returns `WriteFailed` as `write_text` does; and for a line of more than 1,024 bytes, which does
+/// not occur.
 pub fn write_line<W: Write, D: Display>(writer: &mut W, line: &D) -> Result<(), WriteFailed>
     ensures ok { OnOk result (IfSome (D.output line.now) (λ text.
         Appends (W.contents writer.old) (W.contents writer.new) text)) }
@@ -139,11 +140,11 @@ pub fn write_line<W: Write, D: Display>(writer: &mut W, line: &D) -> Result<(), 
     }
 }
 
-/// Has the writer pass on all that it holds.
+/// Flushes the writer.
 ///
 /// # Errors
 ///
-/// `WriteFailed` where the writer answers an error.
+/// Returns `WriteFailed` if the writer returns an error.
 pub fn flush<W: Write>(writer: &mut W) -> Result<(), WriteFailed>
     ensures kept { Keeps (W.contents writer.old) (W.contents writer.new) }
 {

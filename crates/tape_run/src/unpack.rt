@@ -22,7 +22,7 @@ use std::io::Read;
 use tape_label::Field;
 use tape_set::Sequence;
 
-/// What the header labels under the number of a file say.
+/// What the header labels of a file's number say.
 #[derive(Clone, Copy)]
 pub enum Heading {
     /// They are of different files.
@@ -42,31 +42,31 @@ pub struct SetFile {
     pub lacks: bool,
 }
 
-/// What was met on the images of a shelf.
+/// What was found on the images.
 #[derive(Drop)]
 pub struct ShelfFiles {
     /// The files of which a label was found: set by set in the order in which the sets were found
     /// first, and by their numbers.
     pub files: Sequence<SetFile>,
-    /// For each image the set of the section that begins first on it, where one does. Of a file of
-    /// another set it has nothing.
+    /// For each image the set of the section that begins first on it, if any. It contains nothing
+    /// of a file of another set.
     pub sets: Sequence<Option<Field<6>>>,
-    /// Whether nothing on the images is left over: each was opened, and is a volume from its label
-    /// to its end, in formats that are read.
+    /// Whether every image was read completely: each was opened, and is a volume from its label to
+    /// its end, in formats that are read.
     pub whole: bool,
     /// For each section the number of an image on which it begins.
     pub locations: Locations,
 }
 
-/// The files of all sets that were met on the images of a shelf: just those that `survey` tells of.
+/// Finds the files of all sets on the images: exactly those that `survey` reports.
 ///
-/// Images are mounted in their order, each read to its end or to a fault, and then let go. It takes
-/// memory for the reader of one image, for the sections and files that were met, and for the set of
-/// each image.
+/// Images are opened in their order, each read to its end or to a fault, and then closed. Allocates
+/// for the reader of one image, for the sections and files that were found, and for the set of each
+/// image.
 ///
 /// # Errors
 ///
-/// `OutOfMemory`, and nothing else.
+/// Returns `OutOfMemory`, and no other error.
 pub fn files_on<R: Read + Drop, L: Shelf<R>>(
     alloc: Global,
     images: &mut L,
@@ -89,7 +89,7 @@ pub fn files_on<R: Read + Drop, L: Shelf<R>>(
     }
 }
 
-/// Reads the images of a shelf, and says of which set each of them is.
+/// Reads the images, and returns the set of each.
 fn view_images<R: Read + Drop, L: Shelf<R>>(
     findings: &mut Findings,
     images: &mut L,
@@ -112,7 +112,7 @@ fn view_images<R: Read + Drop, L: Shelf<R>>(
     Ok(sets)
 }
 
-/// The set of the section that begins first on an image, where one does.
+/// The set of the section that begins first on an image, if any.
 fn set_of(sight: Option<Sight>) -> Option<Field<6>>
     ensures { result ≡ set_of sight }
 {
@@ -122,7 +122,7 @@ fn set_of(sight: Option<Sight>) -> Option<Field<6>>
     }
 }
 
-/// Returns what the header labels of a file say, of which this is known.
+/// Returns what the header labels of a file say, given what is known of it.
 fn heading_of(note: &FileNote) -> Heading
     ensures { result ≡ heading_of note.now }
 {
@@ -210,7 +210,7 @@ fn files_of_sets(
     Ok(files)
 }
 
-/// The files of all sets that were met.
+/// The files of all sets that were found.
 fn files_of(alloc: Global, findings: &Findings) -> Result<Vec<SetFile>, AllocError>
     ensures { IfOk result (λ files. files.items ≡ files_of findings.now) }
 {

@@ -22,11 +22,12 @@ use tape_core::{Checkpoint, CoreFault, MemorySink, PartSink};
 use tape_label::Field;
 
 /// Reads a file into memory: a session from the file's start, and a run over the steps. The session
-/// is where the steps that were made lead, also where one was not.
+/// is where the successful steps lead, even if one failed.
 ///
 /// # Errors
 ///
-/// `FileNumber`, where the file's number is not 1 to 9,999. Beside the session: what `run` answers.
+/// Returns `FileNumber` if the file's number is not 1 to 9,999. The result of `run` is returned
+/// beside the session.
 pub fn read_file<R: Read>(
     alloc: Global,
     set_id: Field<6>,
@@ -34,21 +35,21 @@ pub fn read_file<R: Read>(
     steps: &[Step],
     reels: &mut [R],
 ) -> Result<(Session<MemorySink>, Result<(), Stopped>), CoreFault>
-    // The headline with no premise on a sink: what is in memory are the parts before the position
+    // The headline without a premise on the sink: the parts in memory are those before the position
     // that the history leads to.
     ensures read { IfOk result (λ read. OnOk read.1 (IfTold R.remaining reels.old (λ bytes.
         (now : Seen) × (now.parts ≡ portions read.0.sink) × (now.place ≡ rest_of read.0.core)
         × (now.notes ≡ read.0.notes) × (now.failures ≡ read.0.failures)
         × IsRead set_id file steps.now bytes (map R.remaining reels.new) now))) }
-    // It stopped at a step: the same of those before it.
+    // If it stopped at a step, the same is true of the steps before it.
     ensures stopped { IfOk result (λ read. IfErr read.1 (λ end. IfTold R.remaining reels.old
         (λ bytes. (began : Seen) × IsStart set_id file began
         × (now : Seen) × (now.place ≡ rest_of read.0.core)
         × ((LosesParts steps.now end.step end.fault → ⊥) → now.parts ≡ portions read.0.sink)
         × HasStopped began steps.now bytes (map R.remaining reels.new) end.step end.fault
         now))) }
-    // Why it stopped: the step of that number was not made for a reason that its call promises, and
-    // no call of the sink was refused before.
+    // Why it stopped: the step with that number failed for a reason that its call promises, and no
+    // call of the sink was refused before.
     ensures cause { IfOk result (λ read. IfErr read.1 (λ end. (began : Story MemorySink)
         × (portions began.sink ≡ []) × (began.sink.refused ≡ 0) × (began.notes ≡ [])
         × (began.core ≡ reader_of set_id file)
@@ -63,8 +64,7 @@ pub fn read_file<R: Read>(
     Ok((session, made))
 }
 
-/// Goes on with a file at a checkpoint, over a sink that came back with it: a session from there,
-/// and a run over the steps.
+/// Resumes a file at a checkpoint, over a sink that has its parts, and runs the steps.
 pub fn go_on<S: PartSink, R: Read>(
     alloc: Global,
     point: &Checkpoint,
@@ -72,13 +72,13 @@ pub fn go_on<S: PartSink, R: Read>(
     steps: &[Step],
     reels: &mut [R],
 ) -> (Session<S>, Result<(), Stopped>)
-    // The steps were made: a session that was resumed at the checkpoint is where the history leads,
-    // with the parts before that position.
+    // If all steps succeeded: a session that was resumed at the checkpoint is where the history
+    // leads, with the parts before that position.
     ensures delivers { OnOk result.1 ((held : List Portion) → S.holds sink held
         → (began : Seen) × IsResumed point.now held began
         × IsSeen S.PartSink result.0 (λ new. IfTold R.remaining reels.old (λ bytes.
         HasRun began steps.now bytes (map R.remaining reels.new) new))) }
-    // It stopped at one of them: the same of the steps before it.
+    // If it stopped at one of them: the same for the steps before it.
     ensures stopped { IfErr result.1 (λ end. (held : List Portion) → S.holds sink held
         → (began : Seen) × IsResumed point.now held began
         × IsSeenUnless (LosesParts steps.now end.step end.fault) S.PartSink result.0 (λ new.
@@ -90,8 +90,8 @@ pub fn go_on<S: PartSink, R: Read>(
         × (began.notes ≡ [])
         × StopsFor S.PartSink steps.now end.step end.fault began result.0) }
     ensures calm { OnOk result.1 (S.refusals result.0.sink ≡ S.refusals sink) }
-    // Whatever it answered: what a crash behind it brings back, or one in it, is what was there, or
-    // outlives this life.
+    // In any case: what a crash during or after it leaves is what was there, or something that this
+    // run saved.
     ensures crash { (held : List Portion) → S.holds sink held → IfTold R.remaining reels.old
         (λ bytes. LivesOn point.now held steps.now bytes (map R.remaining reels.new)
         (S.crashes sink).returns (S.crashes result.0.sink).returns

@@ -16,15 +16,14 @@ use tape_blocks::Form;
 use tape_core::{PartSink, PartWalk};
 use tape_set::Want;
 
-/// As `extract_to`, but the images are read once more, from the first one on, wherever a round of
-/// all of them brought something: something is wanted behind it, and something else than before. So
-/// the order of the images does not matter, and damaged copies mend each other. The lines are
-/// numbered on from round to round.
+/// As `extract_to`, but the images are read again, from the first one on, after each pass that
+/// recovered something and left something missing. So the order of the images does not matter, and
+/// damaged copies complete each other. The lines are numbered continuously over all passes.
 ///
-/// After a reel the session is saved only if its last note is not of where it is already.
+/// After a reel the session is saved only if its position differs from that of its last checkpoint.
 ///
-/// Each image is mounted again in each round. A shelf that gives an image once gives none then,
-/// and it is reported as not opened.
+/// Each image is opened again in each pass. A source that yields an image only once yields none
+/// then, and it is reported as not opened.
 ///
 /// # Errors
 ///
@@ -39,13 +38,13 @@ pub fn extract_again<S: PartWalk, R: Read + Drop, L: Shelf<R>, W: Write, P: Writ
     ensures ok { IfOk result (ExtractsAgain S.PartSink L.size L.gives R.remaining
         session.old session.new images.old images.new form (W.contents out.old)
         (W.contents out.new) (P.contents report.old) (P.contents report.new)) }
-    // While something of the file is wanted `out` is not touched at all.
+    // While something of the file is missing, `out` is not touched at all.
     ensures untouched { IfOk result (λ want. want ≢ None → out.new ≡ out.old) }
     ensures err { OnErr result (StopsAgain S.PartSink L.size L.gives R.remaining
         session.old session.new images.old images.new form W.contents out.old out.new
         (P.contents report.old) (P.contents report.new)) }
-    // The sink refused a call, or there was no memory, or a write failed; a session without a note
-    // is not taken back.
+    // The sink refused a call, or memory ran out, or a write failed; a session without a checkpoint
+    // is not rolled back.
     ensures cause { IfErr result (λ fault. ExtractFails S.PartSink
         (goes_back session.old.notes) fault session.old session.new) }
 {
@@ -54,8 +53,8 @@ pub fn extract_again<S: PartWalk, R: Read + Drop, L: Shelf<R>, W: Write, P: Writ
     end_file(session, form, out, report)
 }
 
-/// Mounts the images in their order, round by round, until one was enough. `back` says whether the
-/// session goes back behind a reel that is in doubt.
+/// Opens the images in their order, pass by pass, until a pass was the last. `back` says whether
+/// the session rolls back after a suspect reel.
 fn read_rounds<S: PartSink, R: Read + Drop, L: Shelf<R>, P: Write>(
     session: &mut Session<S>,
     images: &mut L,
@@ -88,7 +87,7 @@ fn read_rounds<S: PartSink, R: Read + Drop, L: Shelf<R>, P: Write>(
     }
 }
 
-/// Whether a round was enough: nothing is wanted behind it, or just what was wanted before.
+/// Whether a pass was the last: nothing is missing after it, or the same as before it.
 fn is_enough(before: Option<Want>, want: Option<Want>) -> bool
     ensures yes { OnTrue result ((want ≡ None) ⊎ (want ≡ before)) }
     ensures no { OnFalse result ((want ≢ None) × (want ≢ before)) }

@@ -1,4 +1,5 @@
-//! The records that the parts of a sink join to, written in one walk as far as each part is one.
+//! Writes the records that the parts of a sink join to, in one walk as long as each part is one
+//! record.
 ghost use Rattle.std.specs.Prelude.{◌≡◌, ◌++◌, List, length, OnOk, OnErr, IfOk, IfErr};
 ghost use Rattle.std.specs.Io.KnownBytes.{Appends};
 ghost use Rattle.tape_blocks.specs.Block.{Portion};
@@ -19,17 +20,17 @@ use tape_core::{PartWalk, SinkFault};
 /// What was written of the parts of a sink in the first walk.
 #[derive(Clone, Copy)]
 pub struct Front {
-    /// How many of them, each a record.
+    /// How many parts were written, each of which is a record.
     pub records: u64,
     /// Whether these are all.
     pub all: bool,
 }
 
-/// Writes the records that the parts of the sink join to, and says how many there are. Of a record
-/// that is begun and not ended nothing is written.
+/// Writes the records that the parts of the sink join to, and returns their number. An unfinished
+/// record is left out.
 ///
-/// Parts that end no record are met in blocks of format S alone: the sink is walked once where
-/// there are none, and else counted before the rest is written.
+/// Only blocks of format S contain parts that end no record: without such parts the sink is walked
+/// once, otherwise the records are counted before the rest is written.
 ///
 /// # Errors
 ///
@@ -56,7 +57,7 @@ pub fn write_parts<S: PartWalk, W: Write>(
     write_rest(sink, front.records, form, out)
 }
 
-/// Writes the parts of the sink from the first on, as far as each of them ends a record.
+/// Writes the parts of the sink from the first on, as long as each of them ends a record.
 fn write_front<S: PartWalk, W: Write>(
     sink: &mut S,
     form: Form,
@@ -72,7 +73,7 @@ fn write_front<S: PartWalk, W: Write>(
     ensures cause { IfErr result (WritingFails S.holds S.refusals sink.old sink.new) }
     ensures calm { OnOk result (S.refusals sink.new ≡ S.refusals sink.old) }
 {
-    // No sink weighs more than its limit, so the count below stays far from a u64's greatest value.
+    // A sink's weight is limited, so the count below stays far from the maximum of u64.
     let _weight = sink.weight();
     sink.rewind();
     let mut records = 0u64;
@@ -94,8 +95,8 @@ fn write_front<S: PartWalk, W: Write>(
     }
 }
 
-/// Writes what the parts behind so many join to, each of which ends a record, and says how many
-/// records all parts join to.
+/// Writes what the parts after the first `n` join to, each of which ends a record, and returns how
+/// many records all parts join to.
 fn write_rest<S: PartWalk, W: Write>(
     sink: &mut S,
     passed: u64,
@@ -128,7 +129,7 @@ fn write_rest<S: PartWalk, W: Write>(
     Ok(records)
 }
 
-/// Begins the walk behind so many parts.
+/// Begins the walk after this many parts.
 fn pass_parts<S: PartWalk>(sink: &mut S, count: u64) -> Result<(), SinkFault>
     ensures ok { OnOk result ((first rest : List Portion) → S.holds sink.old (first ++ rest)
         → length first ≡ count → S.ahead sink.new rest) }

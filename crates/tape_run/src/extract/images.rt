@@ -1,4 +1,4 @@
-//! Images on a shelf, mounted one behind another.
+//! A source of images, opened one after another.
 
 ghost use Rattle.std.specs.Prelude.{◌≡◌, ◌≢◌, ◌≤◌, ◌+◌, Some, Bool, OnOk, OnErr, true, false};
 ghost use Rattle.std.specs.Prelude.{ℕ, IfOk, IfErr, length};
@@ -23,7 +23,7 @@ pub trait Shelf<R: Read> {
     /// How many there are.
     ghost size: { Self → ℕ };
 
-    /// What mounting the one with a number gives, and the shelf then.
+    /// What opening the image with this number yields, and the source then.
     ghost gives: { Mounting Self R };
 
     /// How many images there are.
@@ -34,13 +34,13 @@ pub trait Shelf<R: Read> {
     ///
     /// # Errors
     ///
-    /// `AllocError`, where there is no memory to read it with. Nothing changed.
+    /// Returns `AllocError` if there is no memory to read it. Nothing changed.
     fn mount(&mut self, number: usize) -> Result<Option<R>, AllocError>
         ensures ok { IfOk result (λ image. gives self.old number image self.new) }
         ensures err { OnErr result (self.new ≡ self.old) };
 }
 
-/// Readers are a shelf, from which each is taken once.
+/// Readers are a source that yields each of them once.
 impl<R: Read> Shelf<R> for Vec<Option<R>> {
     ghost size = { λ readers. length readers.items };
 
@@ -58,9 +58,9 @@ impl<R: Read> Shelf<R> for Vec<Option<R>> {
     }
 }
 
-/// Mounts the images in order until the file is complete. `back` says whether the session goes back
-/// after a reel that is in doubt, `spares` whether it makes no note if its last one is of where it
-/// is already.
+/// Opens the images in order until the file is complete. `back` says whether the session rolls back
+/// after a suspect reel, `spares` whether it saves no checkpoint if its last one has the same
+/// position.
 pub fn read_images<S: PartSink, R: Read + Drop, L: Shelf<R>, P: Write>(
     session: &mut Session<S>,
     images: &mut L,
@@ -82,7 +82,7 @@ pub fn read_images<S: PartSink, R: Read + Drop, L: Shelf<R>, P: Write>(
     read_round(session, images, count, 0, back, spares, report)
 }
 
-/// Mounts `count` images in order until the file is complete. `lines` lines come before theirs.
+/// Opens `count` images in order until the file is complete. `lines` lines precede theirs.
 pub fn read_round<S: PartSink, R: Read + Drop, L: Shelf<R>, P: Write>(
     session: &mut Session<S>,
     images: &mut L,
@@ -116,7 +116,7 @@ pub fn read_round<S: PartSink, R: Read + Drop, L: Shelf<R>, P: Write>(
     Ok(())
 }
 
-/// Reads the image with this number, or passes it where it is not there, and reports its line.
+/// Reads the image with this number, or skips it if it cannot be opened, and prints its line.
 fn take_image<S: PartSink, R: Read + Drop, P: Write>(
     session: &mut Session<S>,
     image: Option<R>,
@@ -144,7 +144,7 @@ fn take_image<S: PartSink, R: Read + Drop, P: Write>(
     }
 }
 
-/// Reads a reel, reports its line, and notes where the session stands, or has it go back.
+/// Reads a reel, prints its line, and then saves a checkpoint, or rolls back.
 fn take_reel<S: PartSink, R: Read, P: Write>(
     session: &mut Session<S>,
     device: &mut R,
@@ -170,8 +170,8 @@ fn take_reel<S: PartSink, R: Read, P: Write>(
     Ok(())
 }
 
-/// Saves the session after a reel, as `note` does; after one that is in doubt a session that goes
-/// back does so. The answer is whether a note was made.
+/// Saves the session after a reel, as `note` does; after a suspect one, a session that may roll
+/// back does so. Returns whether a checkpoint was made.
 fn settle<S: PartSink>(
     session: &mut Session<S>,
     answer: &ReelAnswer,
@@ -195,7 +195,7 @@ fn settle<S: PartSink>(
     note(session, answer, spares)
 }
 
-/// Goes back to the note made last.
+/// Rolls back to the last checkpoint.
 fn go_back<S: PartSink>(session: &mut Session<S>) -> Result<(), RunFault>
     ensures ok { OnOk result (IfSeen S.PartSink session.old (λ old. IsKept old
         → IsSeen S.PartSink session.new (λ new. WentToLast old new
@@ -213,9 +213,9 @@ fn go_back<S: PartSink>(session: &mut Session<S>) -> Result<(), RunFault>
     session.restart(notes - 1)
 }
 
-/// Saves the session, unless it spares notes and its last one is of where it is already. If what
-/// the reel gave is in doubt nothing is saved, so that a stage keeps what it held before that reel.
-/// Returns whether a note was made.
+/// Saves the session, unless it spares checkpoints and its last one has the same position. If the
+/// reel is suspect nothing is saved, so that a stage keeps its state from before that reel. Returns
+/// whether a checkpoint was made.
 fn note<S: PartSink>(
     session: &mut Session<S>,
     answer: &ReelAnswer,

@@ -57,7 +57,7 @@ impl fmt::Display for AnswerText {
     }
 }
 
-/// Why a reading gave nothing more.
+/// Why a reading yielded nothing more.
 #[derive(Clone, Copy)]
 struct ReasonText(Reason);
 
@@ -109,7 +109,7 @@ impl fmt::Display for EndText {
 /// Room for the longest last line.
 pub type ReportLine = ArrayString<256>;
 
-/// The last line: what is wanted, or that the file is complete, with so many records.
+/// Returns the last line: what is missing, or that the file is complete, with this many records.
 pub fn last_line(want: Option<Want>, records: u64) -> ReportLine
     ensures { result.bytes ≡ last_line want records }
 {
@@ -130,7 +130,7 @@ fn complete_line(records: u64) -> ReportLine
     line
 }
 
-/// What is wanted of the file: its number, the section, the block, and the part where it is not 0.
+/// What is missing of the file: its number, the section, the block, and the part if it is not 0.
 fn awaits_line(want: &Want) -> ReportLine
     ensures { result.bytes ≡ awaits_line want.now }
 {
@@ -146,7 +146,7 @@ fn awaits_line(want: &Want) -> ReportLine
     line
 }
 
-/// How many parts of a block are there, where some are.
+/// How many parts of a block were delivered, if any.
 fn put_part(line: &mut ReportLine, part: u32)
     requires room { array_string_len line.old ≤ 129 }
     ensures text { line.new.bytes ≡ line.old.bytes ++ part_text part }

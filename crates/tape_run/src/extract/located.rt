@@ -1,4 +1,4 @@
-//! `unpack` of files that are whole: each image is read once for all of its files.
+//! `unpack` of complete files: each image is read once for all of its files.
 
 ghost use Rattle.std.specs.Prelude.{◌≡◌, ◌≢◌, ◌<◌, List, Option, Some, None, ℕ, true, OnOk, IfOk};
 ghost use Rattle.std.specs.Prelude.{OnErr, IfErr};
@@ -24,7 +24,7 @@ use std::io::{Read, Write};
 use tape_blocks::Form;
 use tape_core::{Answer, PartSink};
 
-/// An image that stays mounted from file to file. It was read up to and including the first trailer
+/// An image that stays open from file to file. It was read up to and including the first trailer
 /// label of a section.
 #[derive(Drop)]
 pub struct Mounted<R> {
@@ -41,15 +41,15 @@ pub struct Mounted<R> {
 /// or could not be read to its end from its image. Then the output's name is not touched, and what
 /// was written is dropped with the session.
 ///
-/// The image of the last section stays mounted. The session of a later file of the set reads on
-/// there, as if it had read the image from its front. So each byte of an image is read once for all
+/// The image of the last section stays open. The session of a later file of the set continues
+/// there, as if it had read the image from its start. So each byte of an image is read once for all
 /// files that are on it one after another.
 ///
 /// # Errors
 ///
-/// `Run` with the fault of a reel, with `OutOfMemory` if there was no memory to mount an image, or
-/// with `Sink(Failed)` if a record is begun and not ended; `WriteFailed` if the output could not be
-/// placed. What is under the output's name did not change.
+/// Returns `Run` with the fault of a reel, with `OutOfMemory` if there was no memory to open an
+/// image, or with `Sink(Failed)` if a record is left unfinished; `WriteFailed` if the output could
+/// not be placed. What has the output's name did not change.
 pub fn extract_located<W: Write + Drop, R: Read + Drop, L: Shelf<R>, O: Place<W>>(
     session: Session<OutSink<W>>,
     images: &mut L,
@@ -58,7 +58,7 @@ pub fn extract_located<W: Write + Drop, R: Read + Drop, L: Shelf<R>, O: Place<W>
     form: Form,
     out: &mut O,
 ) -> Result<Option<u64>, EngineFault>
-    // Whatever image is mounted, it is one of these bytes.
+    // Whatever image is open, it is one with these bytes.
     ensures ok { IfOk result (λ records. (whole : Option (List ℕ))
         → IsHeld R.remaining mounted.old whole
         → ExtractsLocated ⟦<OutSink<W> as PartSink>⟧ L.gives R.remaining session images.old
@@ -112,8 +112,8 @@ fn read_sections<S: PartSink, R: Read + Drop, L: Shelf<R>>(
     Ok(true)
 }
 
-/// Reads a section from an image: on from where this is, if it is the one that is mounted and an
-/// earlier file of the set left it there, or from its front. Returns the image, if a section ended.
+/// Reads a section from an image: from the current position if this image is open and an earlier
+/// file of the set left it there, otherwise from its start. Returns the image, if a section ended.
 fn read_section<S: PartSink, R: Read + Drop, L: Shelf<R>>(
     session: &mut Session<S>,
     images: &mut L,
@@ -145,7 +145,7 @@ fn read_section<S: PartSink, R: Read + Drop, L: Shelf<R>>(
     }
 }
 
-/// Reads an image from its front.
+/// Reads an image from its start.
 fn read_front<S: PartSink, R: Read + Drop>(
     session: &mut Session<S>,
     device: R,
@@ -169,7 +169,7 @@ fn read_front<S: PartSink, R: Read + Drop>(
     Ok(None)
 }
 
-/// Reads an image on from where the session of an earlier file left it.
+/// Continues an image where the session of an earlier file left it.
 fn read_on<S: PartSink, R: Read + Drop>(
     session: &mut Session<S>,
     held: Mounted<R>,

@@ -15,36 +15,36 @@ use tape_blocks::Form;
 use tape_core::PartSink;
 use tape_set::Want;
 
-/// The name under which an output comes to stand once it is complete.
+/// The name that an output is given once it is complete.
 pub trait Place<W: Write> {
-    /// What stands there, where this is known.
+    /// What has the name, if this is known.
     ghost stands: { Self → Option (List ℕ) };
 
-    /// Has the output stand there, and nothing else.
+    /// Gives the output this name, and nothing else.
     ///
     /// # Errors
     ///
-    /// `WriteFailed`. What stood there stands there.
+    /// Returns `WriteFailed` on failure. What had the name still has it.
     fn place(&mut self, out: W) -> Result<(), WriteFailed>
         ensures ok { OnOk result (stands self.new ≡ W.contents out) }
         ensures err { OnErr result (stands self.new ≡ stands self.old) };
 }
 
-/// Reads a file from its images, in their order, until it is complete, reports what each of them
-/// gave, and writes the file's records as they come. Where the file is complete they come to stand
-/// under the output's name; else what stands there is not touched, and what was written is dropped
-/// with the session. The answer is what is wanted of a file that is not complete.
+/// Reads a file from its images, in their order, until it is complete, prints a line for each, and
+/// writes the file's records as they come. If the file is complete they are placed under the
+/// output's name; otherwise what has the name is not touched, what was written is dropped with the
+/// session, and the result is what is missing of the file.
 ///
-/// The only memory taken is that of the session, a buffer while a reel is read, and notes, and what
-/// mounting takes.
+/// Allocates only for the session, a buffer while a reel is read, checkpoints, and what opening
+/// takes.
 ///
 /// # Errors
 ///
-/// `Run` with the fault of a reel or of a save, with `OutOfMemory` where there was none to mount an
-/// image, or `Sink(Failed)` where a record is begun behind
-/// the last part; `WriteFailed` where the output or the report failed. What was reported is a
-/// front of such a report. What stands under the output's name stands there as it was, or the file
-/// is complete, and its records stand there.
+/// Returns `Run` with the fault of a reel or of a save, with `OutOfMemory` if there was none to
+/// open an image, or with `Sink(Failed)` if a record is unfinished after the last part;
+/// `WriteFailed` if the output or the report failed. What was reported is a prefix of such a
+/// report. What has the output's name is unchanged, or the file is complete, and its records have
+/// the name.
 pub fn extract_now<W: Write + Drop, R: Read + Drop, L: Shelf<R>, O: Place<W>, P: Write>(
     session: Session<OutSink<W>>,
     images: &mut L,
@@ -55,7 +55,7 @@ pub fn extract_now<W: Write + Drop, R: Read + Drop, L: Shelf<R>, O: Place<W>, P:
     ensures ok { IfOk result (ExtractsNow ⟦<OutSink<W> as PartSink>⟧ L.size L.gives R.remaining
         session images.old images.new form (TellsAlways W.contents) (O.stands out.new)
         (P.contents report.old) (P.contents report.new)) }
-    // While something of the file is wanted the output's name is not touched at all.
+    // While something of the file is missing, the output's name is not touched at all.
     ensures untouched { IfOk result (λ want. want ≢ None → out.new ≡ out.old) }
     ensures err { OnErr result (StopsNow ⟦<OutSink<W> as PartSink>⟧ L.size L.gives R.remaining
         session images.old images.new form (TellsAlways W.contents) O.stands out.old out.new
@@ -64,7 +64,7 @@ pub fn extract_now<W: Write + Drop, R: Read + Drop, L: Shelf<R>, O: Place<W>, P:
     ensures cause { IfErr result IsExtractFault }
 {
     let mut session = session;
-    // What was written stays: this session does not go back.
+    // What was written remains: this session does not roll back.
     read_images(&mut session, images, false, false, report)?;
     if let Some(want) = session.want() {
         end_report(report, Some(want), 0)?;

@@ -1,4 +1,4 @@
-//! A sink that writes the records of a file as its parts come, and keeps none of them.
+//! A sink that writes the records of a file as its parts come, and stores none of them.
 
 ghost use Rattle.std.specs.Prelude.{◌≡◌, ◌≢◌, ◌≤◌, ◌<◌, ◌+◌, ◌++◌, ◌∷◌, [], List, Some, length};
 ghost use Rattle.std.specs.Prelude.{OnOk, OnErr, IfOk, IfErr, Ok, Err, true, false};
@@ -25,21 +25,20 @@ use tape_core::{Checkpoint, PartSink, SinkFault};
 /// The greatest weight of parts.
 const MOST_STAGED: u64 = 999_999_999_999_999;
 
-/// Writes the records of a file as its parts come. It takes no memory, and after a crash nothing
-/// comes back of it.
+/// Writes the records of a file as its parts come. Does not allocate, and nothing survives a crash.
 ///
 /// Once a write failed every call is refused.
 #[derive(Drop)]
 pub struct OutSink<W> {
-    /// What the records are written to.
+    /// The writer of the records.
     out: W,
-    /// How they stand in it.
+    /// How records are terminated.
     form: Form,
-    /// What the parts weigh.
+    /// The weight of the parts.
     weight: u64,
     /// How many records have ended.
     records: u64,
-    /// Whether a record is begun.
+    /// Whether a record is unfinished.
     begun: bool,
     /// Whether a write failed.
     failed: bool,
@@ -49,7 +48,7 @@ pub struct OutSink<W> {
     ghost few: { records ≤ weight },
 }
 
-/// How many records have ended behind a part.
+/// How many records have ended after a part.
 #[inline(always)]
 fn with_end(span: Span, records: u64) -> u64
     requires { records ≤ most_staged }
@@ -81,14 +80,12 @@ impl<W: Write> OutSink<W> {
 }
 
 impl<W: Write + Drop> OutSink<W> {
-    /// Ends it: the writer passes on all that it holds, and comes back with how many records there
-    /// are.
+    /// Ends the output: flushes the writer, and returns it with the number of records.
     ///
     /// # Errors
     ///
-    /// `Run(Sink(Failed))` where a write failed before, a record is begun and not ended, or the
-    /// records are not written in this form;
-    /// `WriteFailed`.
+    /// Returns `Run(Sink(Failed))` if a write failed before, a record is unfinished, or the records
+    /// cannot be written in this form; `WriteFailed`.
     pub fn finish(self, form: Form) -> Result<(W, u64), EngineFault>
         ensures ok { IfOk result (λ given. (parts : List Portion) → HasTaken W.contents self.form
             self.out self.weight self.records self.begun self.failed parts
@@ -169,7 +166,7 @@ impl<W: Write> PartSink for OutSink<W> {
         }
     }
 
-    /// What was written stays: a cut to all parts changes nothing, and any other is refused.
+    /// What was written remains: a cut to all parts changes nothing, and any other is refused.
     fn cut_to(&mut self, point: &Checkpoint) -> Result<(), SinkFault>
         requires { point.now.staged ≤ self.old.weight }
         ensures ok { OnOk result ((front rest : List Portion)

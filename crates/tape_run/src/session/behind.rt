@@ -1,4 +1,4 @@
-//! Reading on behind a section of an earlier file.
+//! Continues a reel after a section of an earlier file.
 
 ghost use Rattle.std.specs.Prelude.{◌≡◌, IfOk, IfErr, IfSome};
 ghost use Rattle.tape_image.specs.Reader.{IfKnown};
@@ -21,9 +21,9 @@ use tape_image::{ImageBuffer, ImageReader};
 use tape_set::Position;
 
 impl<S: PartSink> Session<S> {
-    /// Reads a reel on from where the session of an earlier file of the set ended a section well:
-    /// the device stands behind the section's trailer label. It is read as if this session had read
-    /// it from its front (`laws::passes_files`), but each byte is read once.
+    /// Continues a reel where the session of an earlier file of the set completed a section: the
+    /// reader's position is after the section's trailer label. The result is as if this session had
+    /// read the reel from its start (`laws::passes_files`), but each byte is read once.
     ///
     /// # Errors
     ///

@@ -1,4 +1,4 @@
-//! What a session has, as records.
+//! Writes the parts that a session contains as records.
 ghost use Rattle.std.specs.Prelude.{◌≡◌, List, None, OnOk, OnErr, IfOk, IfErr};
 ghost use Rattle.tape_blocks.specs.Block.{Portion};
 ghost use Rattle.tape_run.specs.Causes.{WritingFails};
@@ -16,7 +16,7 @@ use tape_core::PartWalk;
 
 impl<S: PartWalk> Session<S> {
     /// Writes the records that what was delivered so far joins to, as `write_file` does those of a
-    /// sink: of a file that is not complete those before what is wanted.
+    /// sink: for an incomplete file, the records before the first missing part.
     ///
     /// # Errors
     ///
@@ -26,8 +26,8 @@ impl<S: PartWalk> Session<S> {
             → IsWritten None records form (W.contents out.old) (W.contents out.new) parts) }
         ensures err { OnErr result ((parts : List Portion) → S.holds self.old.sink parts
             → AppendsFront (W.contents out.old) (W.contents out.new) (output_of form parts)) }
-        // Whatever it answered: the session stands where it stood, and a crash behind it brings
-        // back nothing that none before it could.
+        // In any case: the session's position is unchanged, and a crash afterwards leaves nothing
+        // that no crash before it could.
         ensures same { IsWalked S.PartSink self.old self.new }
         ensures cause { IfErr result (WritingFails S.holds S.refusals self.old.sink self.new.sink) }
         ensures calm { OnOk result (S.refusals self.new.sink ≡ S.refusals self.old.sink) }

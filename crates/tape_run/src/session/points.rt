@@ -1,4 +1,4 @@
-//! Whether the note made last is of where a session stands.
+//! Whether the last checkpoint has the session's position.
 
 ghost use Rattle.std.specs.Prelude.{◌≡◌, ◌≢◌};
 ghost use Rattle.std.specs.Bool.{OnTrue, OnFalse};
@@ -10,7 +10,7 @@ use tape_core::{Checkpoint, Known, PartSink};
 use tape_label::laws::same_field;
 
 impl<S: PartSink> Session<S> {
-    /// Whether the note made last is of where the session stands.
+    /// Returns whether the last checkpoint has the session's position.
     pub fn is_noted(&self) -> bool
         ensures yes { OnTrue result (IfSeen S.PartSink self.now HasNotedHere) }
         ensures no { OnFalse result (IfSeen S.PartSink self.now

@@ -1,4 +1,4 @@
-//! The lines that `unpack` tells.
+//! The lines that `unpack` prints.
 ghost use Rattle.std.specs.Prelude.{◌≡◌, ◌≤◌, ◌++◌, length, IfOk};
 ghost use Rattle.arrayvec.specs.ArrayVec.{array_vec_len};
 ghost use Rattle.tape_run.specs.UnpackLine.{file_front, path_text, file_line, unpack_outcome_text};
@@ -31,9 +31,9 @@ pub fn unpack_outcome_text(outcome: UnpackOutcome) -> &'static [u8]
     }
 }
 
-/// The line of a file: its set, its number, what became of it, and the path of its records or of
-/// its stage where there is one. A question mark stands for each byte of the set identifier that
-/// can't be printed, and for each of the path that would move the line.
+/// Returns the line of a file: its set, its number, its outcome, and the path of its records or of
+/// its stage if there is one. A question mark replaces each unprintable byte of the set identifier,
+/// and each byte of the path that would break the line.
 ///
 /// # Errors
 ///
@@ -55,7 +55,7 @@ pub fn file_line(
     Ok(line)
 }
 
-/// The words in front.
+/// The words before the path.
 fn file_front(set_id: &Field<6>, file: u16) -> Text
     ensures { result.items ≡ file_front set_id.now file }
 {
@@ -80,7 +80,7 @@ fn put_path(alloc: Global, line: &mut Vec<u8>, path: &str) -> Result<(), AllocEr
     line.extend_from_slice(name.as_slice())
 }
 
-/// The last line, which there is where something on the images is left over.
+/// The last line, which is printed if an image was not read completely.
 pub fn left_over_line(whole: bool) -> &'static [u8]
     ensures { result.now ≡ left_over_line whole }
 {

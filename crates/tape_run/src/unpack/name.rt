@@ -7,14 +7,14 @@ ghost use Rattle.tape_run.specs.Unpacking.{file_name};
 use crate::text::{Text, put, put_decimal, trimmed_len};
 use tape_label::Field;
 
-/// The name of a file, `SET.FILE.NAME`: its set identifier, its number there and its file
-/// identifier, as `ABC001.1.PAYROLL`.
+/// Returns the name of a file, `SET.FILE.NAME`: its set identifier, its number there and its file
+/// identifier, for example `ABC001.1.PAYROLL`.
 ///
-/// It is a name of its own in a folder: files of different numbers or of different sets never have
-/// one name (`names_differ`), and none leads out of the folder (`names_stay`). In the identifier of
-/// the set digits and letters stand as they are; `_` stands for a space, and `%` with two
-/// hexadecimal digits for any other byte. That of the file stands without the spaces at its end,
-/// with `_` for `/` and for each byte that can't be printed.
+/// Names are unique in a directory: files with different numbers or of different sets never have
+/// the same name (`names_differ`), and no name leads out of the directory (`names_stay`). In the
+/// set identifier digits and letters are unchanged; `_` replaces a space, and `%` with two
+/// hexadecimal digits any other byte. In the file identifier spaces at the end are left out, and
+/// `_` replaces `/` and each unprintable byte.
 pub fn file_name(set_id: &Field<6>, file: u16, file_id: &Field<17>) -> Text
     ensures { result.items ≡ file_name set_id.now file file_id.now }
 {
