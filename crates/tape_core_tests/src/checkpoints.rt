@@ -12,10 +12,10 @@ use tape_set::{Position, Want};
 
 const MOST: u64 = 999_999_999_999_999;
 
-/// What a checkpoint tells of its place.
+/// What a checkpoint says of its position.
 type Told = (Position, bool, Option<Known>);
 
-/// Whether the checkpoint tells this of its place.
+/// Whether the checkpoint has these values.
 fn tells(point: &Checkpoint, (position, begun, known): Told) -> bool {
     point.set_id == set_id()
         && point.position() == position
@@ -23,7 +23,7 @@ fn tells(point: &Checkpoint, (position, begun, known): Told) -> bool {
         && point.known == known
 }
 
-/// There is a checkpoint of these, which tells them.
+/// There is a checkpoint with these values, which it returns.
 fn is_one(rt: &impl Abort, name: &str, file: u16, told: Told, staged: u64) {
     let (position, begun, known) = told;
     let point = Checkpoint::from_parts(set_id(), file, position, begun, known, staged);
@@ -32,14 +32,14 @@ fn is_one(rt: &impl Abort, name: &str, file: u16, told: Told, staged: u64) {
     assert!(rt; same, "{name}");
 }
 
-/// There is no checkpoint of these.
+/// There is no checkpoint with these values.
 fn is_none(rt: &impl Abort, name: &str, file: u16, told: Told, staged: u64) {
     let (position, begun, known) = told;
     let point = Checkpoint::from_parts(set_id(), file, position, begun, known, staged);
     assert!(rt; point.is_none(), "{name}");
 }
 
-/// What is known of a file of format F, and of one of format S.
+/// The forms of a file of format F, and of one of format S.
 fn fixed(rt: &impl Abort) -> Option<Known> {
     Some(known(rt, Format::Fixed, 80))
 }
@@ -73,7 +73,7 @@ fn at_part(rt: &impl Abort, part: u32, begun: bool) -> Told {
     (inside(part), begun, fixed(rt))
 }
 
-/// The first part of a block of a file of format S, where a record is begun.
+/// The first part of a block of a file of format S, with an unfinished record.
 fn in_spanned(rt: &impl Abort) -> Told {
     (inside(0), true, spanned(rt))
 }
@@ -125,7 +125,7 @@ fn checkpoints_at_the_end_of_a_file(rt: HostRuntime) {
     );
 }
 
-/// There is a form of these, which tells them.
+/// There is a form with these values, which it returns.
 fn is_form(rt: &impl Abort, format: Format, rec_len: u32, offset: u8) {
     let file_id = Field::of_bytes(*b"PAYROLL          ");
     let form = Known::from_parts(format, rec_len, offset, file_id);
@@ -137,7 +137,7 @@ fn is_form(rt: &impl Abort, format: Format, rec_len: u32, offset: u8) {
     assert!(rt; same, "{format:?}, {rec_len}, {offset}");
 }
 
-/// There is no form of these.
+/// There is no form with these values.
 fn is_no_form(rt: &impl Abort, format: Format, rec_len: u32, offset: u8) {
     let file_id = Field::of_bytes(*b"PAYROLL          ");
     let form = Known::from_parts(format, rec_len, offset, file_id);
@@ -210,7 +210,7 @@ fn a_checkpoint_of_another_file_changes_nothing(rt: HostRuntime) {
     wants(&rt, &core, "goes on", wanted(1, 2, 0));
 }
 
-/// Goes to the checkpoint, and stands there.
+/// Moves the reader to the checkpoint, and compares its position.
 fn stands_at(rt: &impl Abort, core: &mut ReaderCore, point: &Checkpoint, want: Option<Want>) {
     go_to(rt, core, point);
     assert!(rt; core.save(point.staged) == *point);
@@ -233,7 +233,7 @@ fn a_restart_goes_back_in_all(rt: HostRuntime) {
     assert!(rt; told && later.staged == 18);
     stands_at(&rt, &mut core, &start, wanted(1, 0, 0));
     assert!(rt; core.shape().is_none());
-    // The reading is over, no record is begun, and nothing is known.
+    // The reading is over, no record is unfinished, and nothing is known.
     go_on(
         &rt,
         &mut core,

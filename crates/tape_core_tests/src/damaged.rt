@@ -12,7 +12,7 @@ use tape_core::{Answer, Event, ReaderCore, Reason};
 use tape_label::LabelFault;
 use tape_set::Want;
 
-/// Reads what stands behind the headers of the file's only section; then this is wanted.
+/// Reads what follows the headers of the file's only section; then this is expected.
 fn read_data(
     rt: &impl Abort,
     core: &mut ReaderCore,
@@ -56,7 +56,8 @@ fn a_lost_mark_gives_no_block_of_another_file(rt: HostRuntime) {
         (HDR1, HDR2),
         &[
             (Block(b"AAAA"), Passed),
-            // The mark behind the data: the trailers pass for data now, and their mark for it.
+            // The mark after the data is unreadable: the trailers count as data, and their mark as
+            // that mark.
             (Bad, Passed),
             (Block(&counted(EOF1, b"000001")), Passed),
             (Block(EOF2), Passed),
@@ -138,7 +139,7 @@ fn a_reel_that_ends_before_its_trailer_completes_nothing(rt: HostRuntime) {
     read_data(&rt, &mut core, "nothing comes twice", &again, None);
 }
 
-/// A section of one block, which leaves a record begun, is refused by its trailer.
+/// A section of one block that leaves a record unfinished is refused by its trailer.
 fn refused_trailer(rt: &impl Abort, name: &str, label: &[u8], answer: Reason) {
     let row = [
         (Block(b"10018abcdefghijklm".as_slice()), Deliver),

@@ -21,14 +21,14 @@ fn changed(label: &[u8; 80], place: usize, bytes: &[u8]) -> [u8; 80] {
     label
 }
 
-/// The answer to HDR1 of a reader, behind VOL1.
+/// The answer of a reader to HDR1, after VOL1.
 fn at_head1(core: &mut ReaderCore, label: &[u8]) -> Answer {
     core.mount();
     let _ = core.step(Block(VOL1));
     core.step(Block(label))
 }
 
-/// A reader of file 3 that awaits section 2 refuses this HDR1, and stays where it stands.
+/// A reader of file 3 that expects section 2 refuses this HDR1, and its position stays.
 fn refused_head1(rt: &impl Abort, name: &str, label: &[u8; 80], answer: Reason) {
     let at = Position::awaiting(2, 0);
     let mut core = reader(rt, 3);
@@ -70,7 +70,7 @@ fn first_headers_are_compared_in_order(rt: HostRuntime) {
     refused_numbers(&rt, "a later section", b"0003", b"0003", LaterSection);
 }
 
-/// The reader gives this answer to HDR2, behind VOL1 and HDR1 of section 2.
+/// The reader gives this answer to HDR2, after VOL1 and HDR1 of section 2.
 fn at_head2(rt: &impl Abort, name: &str, core: &mut ReaderCore, label: &[u8; 80], answer: Answer) {
     let _ = at_head1(core, &numbered(HDR1, b"0002", b"0001"));
     assert_eq!(rt; core.step(Block(label)), answer, "{name}");

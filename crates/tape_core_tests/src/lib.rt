@@ -1,4 +1,4 @@
-//! Tests of `tape_core`: what the reader answers at labels and blocks that are written out,
+//! Tests of `tape_core`: the reader's answers to labels and blocks that are written out,
 //! checkpoints, and the sinks.
 #![tactic(auto)]
 

@@ -11,7 +11,7 @@ use tape_core::{Answer, Checkpoint, ReaderCore};
 use tape_label::Format;
 use tape_set::{Position, Want};
 
-/// A reader that goes on inside the first block of the file takes it with this answer.
+/// A reader that continues inside the first block of the file answers it like this.
 fn at_block(
     rt: &impl Abort,
     number: usize,
@@ -32,8 +32,8 @@ fn at_block(
 /// Two records: `AB`, and an empty one.
 const TWO: &[u8] = b"0006AB0004^^^^^^^^";
 
-/// The checkpoint where of the block of two records the first was kept, with a weight of 5 and 2,
-/// and the second was refused.
+/// The checkpoint inside a block of two records, of which the first was kept, with a weight of 5
+/// and 2, and the second was refused.
 fn inside(rt: &impl Abort, core: &mut ReaderCore) -> Checkpoint {
     front(rt, core, "the block comes", HDR1, HDR2_D);
     let before = core.save(0).position();
@@ -41,7 +41,7 @@ fn inside(rt: &impl Abort, core: &mut ReaderCore) -> Checkpoint {
     core.save(0).inside_block(before, 1, false, 7)
 }
 
-/// Takes this block as the first of the file with this answer; then this is wanted.
+/// Processes this block as the first of the file with this answer; then this is expected.
 fn take(
     rt: &impl Abort,
     core: &mut ReaderCore,
@@ -80,7 +80,7 @@ fn a_block_has_more_parts_than_were_delivered(rt: HostRuntime) {
     }
 }
 
-/// A block of format S whose second part goes on with no record.
+/// A block of format S whose second part continues no record.
 const BROKEN: Answer = Useless(BadBlock(BlockFault {
     place: 6,
     cause: BlockCause::SpanBroken,
@@ -88,16 +88,16 @@ const BROKEN: Answer = Useless(BadBlock(BlockFault {
 
 const DIFFERS: Answer = Useless(SectionDiffers);
 
-/// Blocks of which one part was delivered: the answer where behind that part a record is begun, and
-/// where none is.
+/// Blocks of which one part was delivered: the answers if a record is unfinished after that part,
+/// and if none is.
 const SPANS: &[(&[u8], Answer, Answer)] = &[
     // The end of a record that began in an earlier block, and a whole one.
     (b"30006Z00006Y", DIFFERS, Deliver),
     // The middle of such a record, and its end.
     (b"20006Z30006Y", Deliver, DIFFERS),
-    // A whole record, and the front of one.
+    // A complete record, and the first piece of another.
     (b"00006Z10006Y", DIFFERS, Deliver),
-    // The front of a record, and then another: no block of any file.
+    // The first piece of a record, and then another first piece: no file has such a block.
     (b"10006Z00006Y", BROKEN, BROKEN),
 ];
 

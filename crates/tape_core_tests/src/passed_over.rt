@@ -1,4 +1,4 @@
-//! The reading table at sections that are passed over, row by row.
+//! The reading table at skipped sections, row by row.
 
 use crate::reels::{EOF1, EOF2, EOV1, HDR1, HDR2, HDR3, VOL1, counted, numbered};
 use crate::table::rows;
@@ -68,7 +68,7 @@ fn the_trailer_of_a_section_passed_over_is_expected(rt: HostRuntime) {
         &[
             (Block(EOF1), Passed),
             (Block(EOV1), Passed),
-            // Of a section passed over nothing is counted.
+            // In a skipped section nothing is counted.
             (Block(&counted(EOF1, b"000007")), Passed),
             (Block(&numbered(EOF1, b"0002", b"0001")), differs),
             (Block(&numbered(EOF1, b"0001", b"0002")), differs),

@@ -26,7 +26,7 @@ pub(crate) struct Planned {
 #[derive(Clone, Copy)]
 pub(crate) struct Style {
     pub(crate) format: Format,
-    /// Whether labels stand there that a reader passes by.
+    /// Whether there are labels that a reader skips.
     pub(crate) further: bool,
 }
 
@@ -39,7 +39,7 @@ impl Style {
         }
     }
 
-    /// What a reader knows of the record length: nothing where records tell their own.
+    /// What a reader knows of the record length: nothing if records contain their own.
     pub(crate) fn record_length(&self) -> u32 {
         match self.format {
             Format::Fixed => 4,
@@ -54,7 +54,7 @@ impl Style {
         }
     }
 
-    /// The n-th of so many blocks of a file, counted from 0. In format S they hold one record.
+    /// The n-th of this many blocks of a file, counted from 0. In format S they contain one record.
     fn block(&self, rt: &impl Abort, alloc: Global, n: u32, count: u32) -> BlockLayout {
         let whole = (Span::Whole, b"AB".as_slice());
         match self.format {
@@ -78,7 +78,7 @@ impl Style {
 
 pub(crate) const NO_MEMORY: &str = "no memory";
 
-/// Which piece of the one record the n-th of so many blocks holds, and the block.
+/// The piece of the one record that the n-th of this many blocks contains, and the block.
 fn span_at(n: u32, count: u32) -> (Span, &'static [u8]) {
     match (n == 0, n.saturating_add(1) == count) {
         (true, true) => (Span::Whole, b"00006A"),
@@ -92,7 +92,7 @@ fn bytes(rt: &impl Abort, alloc: Global, text: &[u8]) -> Sequence<u8> {
     Sequence::of_vec(text.to_vec(alloc).expect(rt, NO_MEMORY))
 }
 
-/// A block of these bytes, which holds these parts.
+/// A block with these bytes, which contains these parts.
 fn laid(rt: &impl Abort, alloc: Global, text: &[u8], contents: &[(Span, &[u8])]) -> BlockLayout {
     let mut parts = Vec::new(alloc);
     for (span, content) in contents {
@@ -205,7 +205,7 @@ pub(crate) fn layout(rt: &impl Abort, alloc: Global, style: Style, plan: &[Plann
     }
 }
 
-/// A section, as it is planned.
+/// A section as it is planned.
 pub(crate) fn on_volume(
     file: u16,
     sect: u16,

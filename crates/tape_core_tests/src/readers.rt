@@ -1,4 +1,4 @@
-//! Readers, and how they are given what comes from a reel.
+//! Readers, and how events are passed to them.
 
 use crate::reels::VOL1;
 use std::process::Abort;
@@ -12,13 +12,13 @@ pub(crate) fn set_id() -> Field<6> {
     Field::of_bytes(*b"ABC001")
 }
 
-/// What HDR1 and a second label of this format tell.
+/// The form in an HDR1 and a second label of this format.
 pub(crate) fn known(rt: &impl Abort, format: Format, rec_len: u32) -> Known {
     let file_id = Field::of_bytes(*b"PAYROLL          ");
     Known::from_parts(format, rec_len, 0, file_id).expect(rt, "no form")
 }
 
-/// A checkpoint of this position of the file, with this known.
+/// A checkpoint at this position of the file, with this form.
 pub(crate) fn point_at(
     rt: &impl Abort,
     file: u16,
@@ -40,7 +40,7 @@ pub(crate) fn go_to(rt: &impl Abort, core: &mut ReaderCore, point: &Checkpoint) 
     assert!(rt; went, "another file");
 }
 
-/// A reader of file 1 that goes on at this position, where something is known.
+/// A reader of file 1 that continues at this position, where the form is known.
 pub(crate) fn reader_at(
     rt: &impl Abort,
     position: Position,
@@ -56,7 +56,7 @@ pub(crate) fn reader_at(
     core
 }
 
-/// What is wanted of file 1.
+/// The part of file 1 that is expected next.
 pub(crate) fn wanted(sect: u16, block: u32, part: u32) -> Option<Want> {
     Some(Want {
         file: 1,
@@ -66,12 +66,12 @@ pub(crate) fn wanted(sect: u16, block: u32, part: u32) -> Option<Want> {
     })
 }
 
-/// The reader wants this.
+/// The reader expects this.
 pub(crate) fn wants(rt: &impl Abort, core: &ReaderCore, name: &str, want: Option<Want>) {
     assert_eq!(rt; core.want(), want, "{name}");
 }
 
-/// Takes what comes next from the reel that is mounted.
+/// Processes the next event of the mounted reel.
 pub(crate) fn go_on(
     rt: &impl Abort,
     core: &mut ReaderCore,
@@ -83,7 +83,7 @@ pub(crate) fn go_on(
     }
 }
 
-/// Mounts a reel, and takes what comes from it.
+/// Mounts a reel, and processes its events.
 pub(crate) fn play(
     rt: &impl Abort,
     core: &mut ReaderCore,
@@ -94,7 +94,7 @@ pub(crate) fn play(
     go_on(rt, core, name, row);
 }
 
-/// Mounts a reel, and reads a section's front, up to the mark behind its headers.
+/// Mounts a reel, and reads a section's beginning, up to the mark after its headers.
 pub(crate) fn front<'x>(
     rt: &impl Abort,
     core: &mut ReaderCore,
@@ -115,7 +115,7 @@ pub(crate) fn front<'x>(
     );
 }
 
-/// The same, and takes what comes behind the mark; then this is wanted.
+/// The same, and processes what follows the mark; then this is expected.
 pub(crate) fn read_section<'x>(
     rt: &impl Abort,
     core: &mut ReaderCore,

@@ -1,4 +1,4 @@
-//! Every reading of small volumes, beside a plain program that says where it leads.
+//! Every reading of small volumes, beside a simple program that says where it leads.
 
 use crate::readers::{go_to, known, point_at, reader};
 use crate::reels::{EOF1, EOF2, EOV1, HDR1, HDR2, VOL1, counted, numbered};
@@ -8,7 +8,7 @@ use tape_core::{Checkpoint, Event, ReaderCore};
 use tape_label::Format;
 use tape_set::Position;
 
-/// What stands at a place of a volume, as a section of it sees it.
+/// An item of a volume, as a section of it sees the item.
 #[derive(Clone, Copy)]
 enum Kind {
     /// A label or a mark before the section's data.
@@ -17,13 +17,13 @@ enum Kind {
     Passed,
     /// A data block of the section.
     Data,
-    /// The mark behind the data, and the trailer.
+    /// The mark after the data, and the trailer.
     Closing,
-    /// What stands behind the trailer.
+    /// What follows the trailer.
     Behind,
 }
 
-/// The position behind a section that was read up to this block: `closed` tells whether all of its
+/// The position after a section that was read up to this block: `closed` says whether all of its
 /// blocks and its trailer were read, `last` whether it ends its file.
 fn behind((sect, block): (u16, u32), closed: bool, last: bool) -> Position {
     if !closed {
@@ -35,9 +35,9 @@ fn behind((sect, block): (u16, u32), closed: bool, last: bool) -> Position {
     }
 }
 
-/// The position that a reading makes of the front of a block: `good` tells, from its lowest bit on,
-/// which of the items met were read well. `ends` tells whether the volume's section ends its file;
-/// it is `None` where the section awaited stands on another volume.
+/// The position after a reading of the beginning of a volume: `good` says, from its lowest bit on,
+/// which of the items were read well. `ends` says whether the volume's section ends its file; it is
+/// `None` if the expected section is on another volume.
 fn far(
     volume: &[(Event<'_>, Kind)],
     good: u32,
@@ -66,7 +66,7 @@ fn far(
     }
 }
 
-/// Reads the front of a volume in one way, from this position on.
+/// Reads the beginning of a volume in one way, from this position on.
 fn read_so(
     rt: &impl Abort,
     core: &mut ReaderCore,
@@ -165,7 +165,7 @@ fn each_of_second(
     )
 }
 
-/// The checkpoint of a position of this file of format F.
+/// The checkpoint at a position of this file of format F.
 fn point_of(rt: &impl Abort, file: u16, (sect, block): (u16, u32)) -> Checkpoint {
     let position = Position::awaiting(sect, block);
     let known = if position.is_start() {
@@ -185,7 +185,7 @@ fn each_from(rt: &impl Abort, at: (u16, u32)) {
     let first = each_of_first(rt, &mut core, &point, at, ends);
     let ends = if sect == 2 { Some(true) } else { None };
     let second = each_of_second(rt, &mut core, &point, at, ends);
-    // Two to the number of items met, for 0 to 10 items, and for 0 to 11.
+    // Two to the power of the number of items, for 0 to 10 items, and for 0 to 11.
     assert!(rt; first == 2_047 && second == 4_095, "{first}, {second}");
 }
 
@@ -197,7 +197,7 @@ fn each_reading_leads_where_it_should(rt: HostRuntime) {
     }
 }
 
-/// Reads from this block on a volume on which another file stands before.
+/// Reads from this block on a volume that begins with another file.
 fn each_behind(rt: &impl Abort, block: u32) {
     let head = numbered(HDR1, b"0001", b"0002");
     let end = counted(&numbered(EOF1, b"0001", b"0002"), b"000001");

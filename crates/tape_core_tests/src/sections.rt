@@ -20,7 +20,7 @@ use tape_set::{Position, Want};
 /// How many blocks the long section has.
 const MANY: u32 = 1_000_003;
 
-/// Reads a section of so many such items, each with this answer, and the mark behind them.
+/// Reads a section of this many such items, each with this answer, and the mark after them.
 fn read_many(rt: &impl Abort, core: &mut ReaderCore, event: Event<'_>, answer: Answer) {
     front(rt, core, "a long section", HDR1, HDR2);
     for n in 0..MANY {
@@ -58,7 +58,7 @@ fn a_long_section_is_counted_without_its_millions(rt: HostRuntime) {
     wants(&rt, &core, "a wrong count", wanted(1, MANY, 0));
 }
 
-/// The second section of file 1 comes, of these blocks, and completes the file.
+/// The second section of file 1 comes, with these blocks, and completes the file.
 fn complete_second(
     rt: &impl Abort,
     core: &mut ReaderCore,
@@ -75,7 +75,7 @@ fn complete_second(
     wants(rt, core, name, None);
 }
 
-/// Reads a first section without blocks, which tells nothing before its end.
+/// Reads a first section without blocks, whose form is known only after its end.
 fn read_empty_section(rt: &impl Abort, core: &mut ReaderCore) {
     front(rt, core, "no blocks", HDR1, HDR2);
     assert!(rt; core.shape().is_none());
@@ -86,7 +86,7 @@ fn read_empty_section(rt: &impl Abort, core: &mut ReaderCore) {
         &[
             (Mark, Passed),
             (Block(EOV1), SectionDone),
-            // The reading is over: nothing behind the trailer is looked at.
+            // The reading is over: nothing after the trailer is looked at.
             (Bad, Useless(ReelEnded)),
         ],
     );
@@ -114,7 +114,7 @@ fn a_first_section_without_blocks_tells_the_form(rt: HostRuntime) {
     complete_second(&rt, &mut core, "the same format", HDR2, &row, b"000001");
 }
 
-/// A reader that awaits section 9,999 takes one without blocks, with this trailer.
+/// A reader that expects section 9,999 reads one without blocks, with this trailer.
 fn read_last_section(
     rt: &impl Abort,
     name: &str,
@@ -146,7 +146,7 @@ fn changed_volume(place: usize, byte: u8) -> [u8; 80] {
     label
 }
 
-/// HDR2 of a system that uses what is left to it, with two spaces as buffer offset.
+/// HDR2 of a system that uses the reserved positions, with two spaces as buffer offset.
 fn odd_second_header() -> [u8; 80] {
     let mut odd = *HDR2;
     odd[15..52].copy_from_slice(b"whatever the system has put in here  ");
@@ -220,7 +220,7 @@ const MIDDLE: &[u8] = b"20018nopqrstuvwxyz";
 
 const LAST: &[u8] = b"300090123^^^^^^^^^";
 
-/// What is answered to a block that goes on with a record where none is begun, or the other way.
+/// The answers to a block that continues a record if none is unfinished, or the other way round.
 const fn span_broken() -> Answer {
     Useless(BadBlock(BlockFault {
         place: 0,
@@ -228,7 +228,7 @@ const fn span_broken() -> Answer {
     }))
 }
 
-/// Reads the first section, of format S, with these items; then this is wanted.
+/// Reads the first section, of format S, with these items; then this is expected.
 fn read_spanned(
     rt: &impl Abort,
     core: &mut ReaderCore,
@@ -280,7 +280,7 @@ fn read_first_volume(rt: &impl Abort, core: &mut ReaderCore) {
     read_section(rt, core, "volume 1", (HDR1, HDR2), &row, wanted(2, 0, 0));
 }
 
-/// A volume comes whose section is not the one awaited.
+/// A volume comes whose section is not the expected one.
 fn refuse_volume(rt: &impl Abort, core: &mut ReaderCore, name: &str, head: &[u8], answer: Answer) {
     play(
         rt,

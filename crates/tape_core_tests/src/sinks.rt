@@ -1,4 +1,4 @@
-//! Sinks: what they keep, give back and refuse.
+//! Sinks: what they keep, return and refuse.
 
 use crate::readers::reader;
 use std::alloc::Global;
@@ -26,12 +26,12 @@ fn fill(rt: &impl Abort, sink: &mut MemorySink) {
     put(rt, sink, THIRD);
 }
 
-/// The checkpoint of a front of this weight.
+/// The checkpoint after the first parts with this weight.
 fn front(rt: &impl Abort, staged: u32) -> Checkpoint {
     reader(rt, 1).save(u64::from(staged))
 }
 
-/// Cuts the sink to a front of this weight, at most its own.
+/// Cuts the sink to this weight, at most its own.
 fn cut(rt: &impl Abort, sink: &mut impl PartSink, staged: u32) -> Result<(), SinkFault> {
     let point = front(rt, staged);
     let (staged, weight) = (point.staged, sink.weight());
@@ -39,7 +39,7 @@ fn cut(rt: &impl Abort, sink: &mut impl PartSink, staged: u32) -> Result<(), Sin
     sink.cut_to(&point)
 }
 
-/// Notes a checkpoint of this weight, which is the sink's own.
+/// Saves a checkpoint with this weight, which is the sink's own.
 fn note(rt: &impl Abort, sink: &mut impl PartSink, staged: u32) -> Result<(), SinkFault> {
     let point = front(rt, staged);
     let (staged, weight) = (point.staged, sink.weight());
@@ -53,7 +53,7 @@ fn is_part(rt: &impl Abort, name: &str, part: Option<Part<'_>>, (span, bytes): (
     assert!(rt; part.span == span && part.bytes == bytes, "{name}");
 }
 
-/// It keeps so many parts, of this weight.
+/// It contains this many parts, with this weight.
 fn keeps(rt: &impl Abort, name: &str, sink: &MemorySink, count: usize, weight: u64) {
     assert!(rt; sink.count() == count && sink.weight() == weight, "{name}");
 }
@@ -68,7 +68,7 @@ fn parts_are_kept_and_weighed(rt: HostRuntime) {
     assert!(rt; sink.part(3).is_none());
 }
 
-/// Of three parts a cut to this weight keeps so many.
+/// A cut of three parts to this weight keeps this many.
 fn is_cut(rt: &impl Abort, alloc: Global, staged: u32, count: usize) {
     let mut sink = MemorySink::new(alloc);
     fill(rt, &mut sink);
@@ -131,7 +131,7 @@ fn parts_are_given_back_in_order(rt: HostRuntime) {
     walks(&rt, &mut sink);
 }
 
-/// A put of two bytes has this answer, and then the sink within has so many parts.
+/// A put of two bytes has this answer, and then the inner sink has this many parts.
 fn puts(
     rt: &impl Abort,
     name: &str,

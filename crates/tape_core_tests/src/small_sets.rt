@@ -1,4 +1,4 @@
-//! Readings of some hundred small sets, beside the plain calls that say where each leads.
+//! Readings of some hundred small sets, beside the simple calls that say where each leads.
 
 use crate::plans::{NO_MEMORY, Planned, Style, blocks_before, layout, on_volume};
 use crate::readers::{go_to, known, point_at, reader};
@@ -10,14 +10,14 @@ use tape_label::Format;
 use tape_set::{Layout, Position};
 use tape_set_tests::{EntryLayout, before, entries, far};
 
-/// Whether a record is begun before this block of a section.
+/// Whether a record is unfinished before this block of a section.
 fn is_begun(style: Style, plan: &[Planned], file: u16, sect: u16, block: u32) -> bool {
     let before = blocks_before(plan, file, sect).saturating_add(block);
     let count = blocks_before(plan, file, u16::MAX);
     style.format == Format::Spanned && before > 0 && before < count
 }
 
-/// The checkpoint of a position of the file, with what is known there.
+/// The checkpoint at a position of the file, with what is known there.
 fn point_in(
     rt: &impl Abort,
     set: &Set,
@@ -41,7 +41,8 @@ fn event_of(entry: &EntryLayout) -> Event<'_> {
     }
 }
 
-/// Reads the front of a volume, each item well or not, and gives the number of blocks delivered.
+/// Reads the beginning of a volume, each item well or not, and returns the number of blocks
+/// delivered.
 fn read(core: &mut ReaderCore, volume: &[EntryLayout], good: &[bool]) -> u32 {
     core.mount();
     let mut delivered = 0u32;
@@ -54,14 +55,14 @@ fn read(core: &mut ReaderCore, volume: &[EntryLayout], good: &[bool]) -> u32 {
     delivered
 }
 
-/// How many parts stand before the position.
+/// How many parts precede the position.
 fn parts_before(rt: &impl Abort, alloc: Global, set: &Set, position: &Position) -> usize {
     before(alloc, &set.layout, set.file, position)
         .expect(rt, NO_MEMORY)
         .len()
 }
 
-/// A reading led from one position to the other, and has to.
+/// A reading led from one position to the other, as it must.
 fn leads(
     rt: &impl Abort,
     alloc: Global,
@@ -87,7 +88,7 @@ fn gives(
 ) {
     let old = parts_before(rt, alloc, set, from);
     let new = parts_before(rt, alloc, set, to);
-    // Where the position moved, its block's first parts were there.
+    // If the position moved, its block's first parts were delivered.
     assert!(rt; new.saturating_sub(old) == parts_given(&set.style, from, delivered));
 }
 
@@ -109,7 +110,7 @@ fn compare(
     }
 }
 
-/// How many parts are given of so many blocks from the position on.
+/// How many parts this many blocks have, from the position on.
 fn parts_given(style: &Style, from: &Position, blocks: u32) -> usize {
     let first = match from {
         Position::Awaits { part, .. } if blocks > 0 => *part,
@@ -127,8 +128,8 @@ struct Set {
     style: Style,
 }
 
-/// Reads the front of a volume in every way: each of so many items well or not, with at most so
-/// many of them unreadable. Gives the number of readings.
+/// Reads the beginning of a volume in every way: each of the items well or not, with at most this
+/// many of them unreadable. Returns the number of readings.
 fn each_of_front(
     rt: &impl Abort,
     alloc: Global,
@@ -150,8 +151,8 @@ fn each_of_front(
     readings
 }
 
-/// Reads each front of a volume from the position, with at most two unreadable items where it is
-/// long. Gives the number of readings.
+/// Reads each prefix of a volume from the position, with at most two unreadable items if it is
+/// long. Returns the number of readings.
 fn each_reading(
     rt: &impl Abort,
     alloc: Global,
@@ -170,7 +171,7 @@ fn each_reading(
     readings
 }
 
-/// False where a bit is set.
+/// False if a bit is set.
 fn flags(bits: u32) -> [bool; 20] {
     let mut good = [true; 20];
     let mut left = bits;
@@ -235,7 +236,7 @@ fn each_file(rt: &impl Abort, alloc: Global, style: Style, plan: &[Planned]) -> 
 
 const FORMATS: [Format; 3] = [Format::Fixed, Format::Counted, Format::Spanned];
 
-/// Reads a file of one section, and with another section behind it that has none to two blocks.
+/// Reads a file of one section, alone and followed by another section with zero to two blocks.
 fn one_section_and_two(rt: &impl Abort, alloc: Global, style: Style, blocks: u32) -> u32 {
     let mut readings = each_file(rt, alloc, style, &[on_volume(1, 1, 1, blocks, true)]);
     for more in 0..3 {
@@ -261,7 +262,7 @@ fn files_of_one_section_and_of_two(rt: HostRuntime) {
     assert!(rt; readings > 100_000, "{readings}");
 }
 
-/// Reads two files, with so many blocks, on one volume, and where the first changes the volume.
+/// Reads two files, with this many blocks, on one volume, and with a volume change in the first.
 fn two_files(rt: &impl Abort, alloc: Global, style: Style, a: u32, b: u32) -> u32 {
     let two = [on_volume(1, 1, 1, a, true), on_volume(2, 1, 1, b, true)];
     let readings = each_file(rt, alloc, style, &two);

@@ -24,7 +24,7 @@ fn is_over(rt: &impl Abort, core: &mut ReaderCore, number: usize, stood: Positio
     assert!(rt; is_over, "row {number}");
 }
 
-/// One row: behind items that are all passed comes an event, and this is the answer.
+/// One row: after items that are all passed comes an event, with this answer.
 fn row(
     rt: &impl Abort,
     core: &mut ReaderCore,
@@ -41,7 +41,7 @@ fn row(
     }
 }
 
-/// The same for each event, of a new reader of this file.
+/// The same for each event, with a new reader of this file.
 pub(crate) fn rows(
     rt: &impl Abort,
     file: u16,
@@ -184,7 +184,7 @@ fn behind_two_blocks(rt: &impl Abort) -> ReaderCore {
     )
 }
 
-/// Where block 2 is awaited this comes in the place of the first block.
+/// If block 2 is expected, this comes in place of the first block.
 fn instead_of_first(rt: &impl Abort, number: usize, event: Event<'_>, answer: Answer) {
     let before = [Block(VOL1), Block(HDR1), Block(HDR2), Mark];
     row(

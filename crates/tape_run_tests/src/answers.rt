@@ -70,7 +70,7 @@ const SCRIPTS: &[Script<'_>] = &[
         1,
         &[Do::Reads(Reel::Defaced(2), Useless(IDENTIFIER), 0, Some((1, 0)))],
     ),
-    // Behind the data the block was delivered, and its trailer is awaited.
+    // After the data the block was delivered, and its trailer is expected.
     (
         "no trailer label",
         1,
@@ -91,7 +91,7 @@ fn reels_that_contradict_themselves(rt: HostRuntime) -> Result<(), Fail> {
     each_goes(&rt, SCRIPTS)
 }
 
-/// A volume of which the first data block begins with a reserved word.
+/// A volume whose first data block begins with a reserved word.
 pub fn with_reserved_word(alloc: Global) -> Result<Image, AllocError> {
     let mut image = Image::new(alloc);
     image.headers(&[VOL1, HDR1, HDR2])?;

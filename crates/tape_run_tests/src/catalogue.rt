@@ -13,16 +13,16 @@ use tape_run::{
     Catalogue, ImageLine, ImageStop, Lack, RunFault, SectionLine, SectionState, check_set,
 };
 
-/// A section that was met: the set, the file, the section, the volume, its blocks, and its state.
+/// A section that was found: the set, the file, the section, the volume, its blocks, and its state.
 type Found<'a> = (&'a [u8; 6], u16, u16, &'a [u8; 6], u32, SectionState);
 
-/// A section that is lacking: the set, the file and the section.
+/// A missing section: the set, the file and the section.
 type Missing<'a> = (&'a [u8; 6], u16, u16);
 
 /// The set, and its first volume.
 const ABC: &[u8; 6] = b"ABC001";
 
-/// The worked file in five blocks: with a bad one, cut behind the first, whole, and with another
+/// The worked file in five blocks: with a bad one, cut after the first, complete, and with another
 /// count.
 const ONE_BAD: Reel<'_> = Reel::Five(3, EOF_FIVE);
 
@@ -48,14 +48,14 @@ const FIRST: Reel<'_> = Reel::Section(
     "EOV1PAYROLL          ABC00100010001000100 00000 00000 000001",
 );
 
-/// Where the worked image is cut inside its last data block.
+/// The worked image, cut inside its last data block.
 const CUT_OFF: ImageStop = ImageStop::Fault(ImageFault {
     place: 1884,
     cause: ImageCause::Truncated,
 });
 
-/// A name; images, how many items each has, and where it stops; the lines of the catalogue; and
-/// what is lacking.
+/// A name; images, how many items each has, and how it ends; the lines of the catalogue; and what
+/// is missing.
 type Row<'a> = (
     &'a str,
     &'a [(Reel<'a>, u32, ImageStop)],
@@ -119,7 +119,7 @@ const ROWS: &[Row<'_>] = &[
         &[],
         &[],
     ),
-    // File 1 of set XYZ001 was never met, and section 2 of ABC001 neither.
+    // File 1 of set XYZ001 was not found, and neither was section 2 of ABC001.
     (
         "each set lacks its own",
         &[(STOCK, 9, Marked), (THIRD, 9, Marked), (FIRST, 9, Marked)],
@@ -138,7 +138,7 @@ const ROWS: &[Row<'_>] = &[
     ),
 ];
 
-/// Whether this is told of the image.
+/// Whether this is reported of the image.
 fn adds(
     alloc: Global,
     catalogue: &mut Catalogue,
@@ -167,7 +167,7 @@ fn are_lines(found: &[SectionLine], lines: &[Found<'_>]) -> bool {
     found.len() == lines.len()
 }
 
-/// Whether these are lacking.
+/// Whether these are missing.
 fn are_lacking(found: &[Lack], lacks: &[Missing<'_>]) -> bool {
     for (found, (set_id, file, sect)) in found.iter().zip(lacks) {
         let lack = Lack {
@@ -182,7 +182,7 @@ fn are_lacking(found: &[Lack], lacks: &[Missing<'_>]) -> bool {
     found.len() == lacks.len()
 }
 
-/// Whether these are the lines and the lacks of the catalogue.
+/// Whether these are the lines of the catalogue and the missing sections.
 fn reports(
     alloc: Global,
     catalogue: &Catalogue,
@@ -194,7 +194,7 @@ fn reports(
     Ok(are_lines(report.lines.as_slice(), lines) && lacks)
 }
 
-/// Whether all is told so of the images of a row.
+/// Whether all of this is reported of the images of a row.
 fn is_told(alloc: Global, row: &Row<'_>) -> Result<bool, Fail> {
     let (_, images, lines, lacks) = row;
     let mut catalogue = Catalogue::new(alloc);
@@ -217,8 +217,8 @@ fn images_and_sections_are_told(rt: HostRuntime) -> Result<(), Fail> {
     Ok(())
 }
 
-/// How many sections there are, and whether the one behind them alone is lacking, where all that a
-/// file can have were added, each of which goes on.
+/// How many sections there are, and whether only the one after them is missing, if all that a file
+/// can have were added, each of which continues.
 fn of_all_sections(alloc: Global) -> Result<(usize, bool), Fail> {
     let mut catalogue = Catalogue::new(alloc);
     for number in 1..10000u16 {

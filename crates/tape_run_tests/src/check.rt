@@ -52,7 +52,7 @@ fn three<'a>(first: &'a [u8], second: &'a [u8], third: &'a [u8]) -> [Option<&'a 
     [Some(first), Some(second), Some(third)]
 }
 
-/// The image has so many bytes.
+/// The image has this many bytes.
 fn is_long<A: Abort>(rt: &A, image: &Image, length: usize) {
     assert_eq!(rt; image.bytes.len(), length);
 }
@@ -166,7 +166,7 @@ fn other_set(alloc: Global) -> Result<Image, AllocError> {
     one_section(alloc, header, trailer)
 }
 
-/// Section 1 of file 1 of the set ABC001, which goes on.
+/// Section 1 of file 1 of the set ABC001, which continues.
 fn first_section(alloc: Global) -> Result<Image, AllocError> {
     let trailer = "EOV1PAYROLL          ABC00100010001000100 00000 00000 000001";
     one_section(alloc, HDR1, trailer)
@@ -179,8 +179,8 @@ fn third_section(alloc: Global) -> Result<Image, AllocError> {
     one_section(alloc, header, trailer)
 }
 
-/// Of set XYZ001 file 2 is there, and file 1 was never met; of ABC001 the section in the middle of
-/// file 1 is not there.
+/// File 2 of set XYZ001 is there, and file 1 was not found; the section in the middle of file 1 of
+/// ABC001 is missing.
 #[test]
 fn two_sets(rt: HostRuntime) -> Result<(), Fail> {
     let other = other_set(rt.alloc())?;
@@ -247,7 +247,7 @@ fn behind_unopened<'a>(first: &'a [u8], second: &'a [u8]) -> [Option<&'a [u8]>; 
     [None, Some(first), Some(second)]
 }
 
-/// Behind such images a whole one.
+/// After such images a complete one.
 #[test]
 fn faults_are_told_and_passed(rt: HostRuntime) -> Result<(), Fail> {
     let image = payroll(rt.alloc())?;
@@ -271,7 +271,7 @@ ALL SECTIONS FOUND
     check_one(&rt, unprinted(rt.alloc())?, true, lines)
 }
 
-/// Items behind the second mark are counted, and their sections are not met.
+/// Items after the second mark are counted, and their sections are not found.
 #[test]
 fn items_behind_the_second_mark(rt: HostRuntime) -> Result<(), Fail> {
     let lines = "IMAGE 1 14 PHYSICAL
@@ -281,7 +281,7 @@ ALL SECTIONS FOUND
     check_one(&rt, with_items_behind(rt.alloc())?, true, lines)
 }
 
-/// A reader that gives so many bytes, one a call, and then fails.
+/// A reader that returns this many bytes, one per call, and then fails.
 fn dribble(bytes: &[u8], left: usize) -> Dribble<'_> {
     Dribble {
         bytes,
@@ -290,7 +290,7 @@ fn dribble(bytes: &[u8], left: usize) -> Dribble<'_> {
     }
 }
 
-/// A reader that gives a byte a call, and fails in the first data block.
+/// A reader that returns one byte per call, and fails in the first data block.
 #[test]
 fn a_reader_that_fails(rt: HostRuntime) -> Result<(), Fail> {
     let image = payroll(rt.alloc())?;

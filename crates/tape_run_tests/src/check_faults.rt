@@ -17,7 +17,7 @@ ALL SECTIONS FOUND
 
 const WRITE_FAILED: Result<bool, EngineFault> = Err(EngineFault::WriteFailed);
 
-/// What a check of the worked image answers to this writer.
+/// What a check of the worked image returns with this writer.
 fn check_worked<W: Write>(
     alloc: Global,
     writer: &mut W,
@@ -27,7 +27,7 @@ fn check_worked<W: Write>(
     Ok(check_to(alloc, &mut images, writer))
 }
 
-/// Where the writer takes so many bytes and fails, these are a front of the report.
+/// If the writer accepts this many bytes and fails, these are a prefix of the report.
 fn stops_at<H: Abort + AllocGlobal>(rt: &H, left: usize) -> Result<(), Fail> {
     let mut narrow = Narrow::failing(rt.alloc(), left, Some(ErrorKind::Other), true);
     let answer = check_worked(rt.alloc(), &mut narrow)?;
@@ -37,7 +37,7 @@ fn stops_at<H: Abort + AllocGlobal>(rt: &H, left: usize) -> Result<(), Fail> {
     Ok(())
 }
 
-/// Whatever the byte at which the writer fails, what it took is a front of the report.
+/// At whichever byte the writer fails, what it accepted is a prefix of the report.
 #[test]
 fn a_writer_that_fails(rt: HostRuntime) -> Result<(), Fail> {
     for left in 0..REPORT.len() {
@@ -46,7 +46,7 @@ fn a_writer_that_fails(rt: HostRuntime) -> Result<(), Fail> {
     Ok(())
 }
 
-/// A flush that fails is a write that failed, and what was written stands: the line of the image.
+/// A failed flush is a failed write, and what was written remains: the line of the image.
 #[test]
 fn a_flush_that_fails(rt: HostRuntime) -> Result<(), Fail> {
     for (flushes, wanted, length) in [(true, Ok(true), REPORT.len()), (false, WRITE_FAILED, 18)] {
@@ -58,7 +58,7 @@ fn a_flush_that_fails(rt: HostRuntime) -> Result<(), Fail> {
     Ok(())
 }
 
-/// Counts what it takes, and keeps how much that was at each flush.
+/// Counts what it accepts, and records the count at each flush.
 #[derive(Drop)]
 struct Flushed {
     taken: usize,
@@ -77,7 +77,7 @@ impl Write for Flushed {
     }
 }
 
-/// The line of each image is passed on, and then the rest: 18 and 18 bytes, and 52 for the section
+/// The line of each image is flushed, and then the rest: 18 and 18 bytes, and 52 for the section
 /// and the last line.
 #[test]
 fn lines_are_passed_on_one_by_one(rt: HostRuntime) -> Result<(), Fail> {
@@ -94,7 +94,7 @@ fn lines_are_passed_on_one_by_one(rt: HostRuntime) -> Result<(), Fail> {
     Ok(())
 }
 
-/// A survey passes on the line of each image when it was read, 29 bytes each, and then the rest.
+/// A survey flushes the line of each image when it was read, 29 bytes each, and then the rest.
 #[test]
 fn lines_of_a_survey_are_passed_on_one_by_one(rt: HostRuntime) -> Result<(), Fail> {
     let image = payroll(rt.alloc())?;
@@ -113,7 +113,7 @@ fn lines_of_a_survey_are_passed_on_one_by_one(rt: HostRuntime) -> Result<(), Fai
     Ok(())
 }
 
-/// A write that failed is not made again, an interruption neither.
+/// A failed write is not repeated, nor is an interrupted one.
 #[test]
 fn no_second_try(rt: HostRuntime) -> Result<(), Fail> {
     for good in 0..3usize {

@@ -105,7 +105,7 @@ fn damaged_copies(rt: HostRuntime) -> Result<(), Fail> {
     each_goes(&rt, SCRIPTS)
 }
 
-/// Two files; in place of the mark that closes the first one stands a block that cannot be given.
+/// Two files; an unreadable block replaces the mark that closes the first one.
 pub fn without_a_mark(alloc: Global) -> Result<Image, AllocError> {
     let mut image = Image::new(alloc);
     image.headers(&[VOL1, HDR1, HDR2])?;

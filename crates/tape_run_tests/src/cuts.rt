@@ -19,7 +19,7 @@ fn blocks_before(cut: usize) -> u16 {
     }
 }
 
-/// What is awaited behind the first bytes of the volume: the next block, or, once the trailer label
+/// What is expected after the first bytes of the volume: the next block, or, once the trailer label
 /// that ends at 932 was read, the next section.
 fn awaited(cut: usize) -> Option<Want> {
     if cut >= 932 {
@@ -28,15 +28,15 @@ fn awaited(cut: usize) -> Option<Want> {
     wanted(1, blocks_before(cut) as u32)
 }
 
-/// Whether a session that read the volume up to a cut stands there, and so many of its readers
-/// failed.
+/// Whether a session that read the volume up to a cut has this position, and this many of its
+/// readers failed.
 fn stands_behind(session: &Session<MemorySink>, cut: usize, failed: u64) -> bool {
     session.want() == awaited(cut)
         && session.device_faults() == failed
         && holds_long(session.sink(), blocks_before(cut) as usize)
 }
 
-/// Whether a session stands there where the bytes end at the cut.
+/// Whether a session has this position if the bytes end at the cut.
 fn ends_at(alloc: Global, whole: &[u8], cut: usize) -> Result<bool, Fail> {
     let mut session = begun(alloc, 1)?;
     run(
@@ -48,8 +48,8 @@ fn ends_at(alloc: Global, whole: &[u8], cut: usize) -> Result<bool, Fail> {
     Ok(stands_behind(&session, cut, 0))
 }
 
-/// Whether it stands there where the reader fails at the cut. Behind the trailer label nothing is
-/// asked of the reader.
+/// Whether it has this position if the reader fails at the cut. After the trailer label nothing is
+/// requested from the reader.
 fn fails_at(alloc: Global, whole: &[u8], cut: usize) -> Result<bool, Fail> {
     let mut session = begun(alloc, 1)?;
     let mut failed = [false];
@@ -77,7 +77,7 @@ fn at_each_length(rt: HostRuntime) -> Result<(), Fail> {
     Ok(())
 }
 
-/// A reader of so many of the bytes, which then fails; of all where these are fewer.
+/// A reader of the first bytes, which then fails; of all bytes, if there are fewer.
 fn failing_behind(whole: &[u8], left: usize) -> Dribble<'_> {
     Dribble {
         bytes: whole,
@@ -103,7 +103,7 @@ fn tell_three(alloc: Global, whole: &[u8], failed: &mut [bool]) -> Result<(), Fa
 fn the_readers_that_failed(rt: HostRuntime) -> Result<(), Fail> {
     let image = long_first(rt.alloc())?;
     let whole = image.bytes.as_slice();
-    // As far as the row reaches, and what is behind them stays.
+    // As far as the slice reaches; the rest of it is unchanged.
     let mut two = [false; 2];
     tell_three(rt.alloc(), whole, &mut two)?;
     assert!(rt; two == [true, false]);

@@ -1,9 +1,9 @@
-//! Readers and writers that give and take little, or fail.
+//! Readers and writers that return and accept little, or fail.
 use std::alloc::Global;
 use std::io::{Error, ErrorKind, Read, Result, Write};
 use std::mem;
 
-/// Gives one byte a call, and fails once it has given as many as `left` says.
+/// Returns one byte per call, and fails once it has returned as many as `left` says.
 #[derive(Drop)]
 pub struct Dribble<'a> {
     pub bytes: &'a [u8],
@@ -43,8 +43,8 @@ impl Read for Zeros {
     }
 }
 
-/// Takes one byte a call, and after `left` of them takes none, or fails. A flush fails where it is
-/// told to.
+/// Accepts one byte per call, and after `left` of them accepts none, or fails. A flush fails if so
+/// configured.
 #[derive(Drop)]
 pub struct Narrow {
     pub taken: Vec<u8>,
@@ -54,12 +54,12 @@ pub struct Narrow {
 }
 
 impl Narrow {
-    /// A writer that takes so many bytes, and then none.
+    /// A writer that accepts this many bytes, and then none.
     pub fn new(alloc: Global, left: usize, flushes: bool) -> Narrow {
         Narrow::failing(alloc, left, None, flushes)
     }
 
-    /// A writer that takes so many bytes, and then fails, or takes none.
+    /// A writer that accepts this many bytes, and then fails, or accepts none.
     pub fn failing(alloc: Global, left: usize, kind: Option<ErrorKind>, flushes: bool) -> Narrow {
         Narrow {
             taken: Vec::new(alloc),
@@ -96,7 +96,7 @@ impl Write for Narrow {
     }
 }
 
-/// Fails once, when it was called so often, and takes everything else. It counts the calls.
+/// Fails once, at the call with this number, and accepts everything else. It counts the calls.
 #[derive(Drop)]
 pub struct FailsOnce {
     pub taken: Vec<u8>,
@@ -134,7 +134,7 @@ impl Write for FailsOnce {
     }
 }
 
-/// Keeps the last two texts that it is given.
+/// Stores the last two texts written to it.
 #[derive(Drop)]
 pub struct Tail {
     pub line: Vec<u8>,

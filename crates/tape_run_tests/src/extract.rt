@@ -1,4 +1,4 @@
-//! Files got back from images: what is reported, and what is written.
+//! Files recovered from images: what is reported, and what is written.
 use crate::devices::{Dribble, Narrow};
 use crate::image::{
     HDR1, HDR2, Image, blank, long_byte, long_first, long_second, payroll, payroll_with, set_id,
@@ -61,7 +61,7 @@ fn gives<H: Abort + AllocGlobal, R: Read + Drop>(
     Ok(())
 }
 
-/// The lines over these images, from which something is still wanted.
+/// The lines over these images, from which something is still missing.
 fn wants<H: Abort + AllocGlobal, R: Read + Drop>(
     rt: &H,
     file: u16,
@@ -76,7 +76,7 @@ fn wants<H: Abort + AllocGlobal, R: Read + Drop>(
     Ok(())
 }
 
-/// What is told where images are taken of which none completes file 1.
+/// What is reported for images none of which completes file 1.
 fn reports<H: Abort + AllocGlobal>(rt: &H, image: Image, lines: &str) -> Result<(), Fail> {
     wants(rt, 1, &mut [Some(image.bytes.as_slice())], lines)
 }
@@ -92,7 +92,7 @@ fn reports_both<H: Abort + AllocGlobal>(
     wants(rt, 1, &mut [Some(first), Some(second)], lines)
 }
 
-/// The worked file comes whole from this image and the worked one behind it.
+/// The worked file is complete from this image and the worked one after it.
 fn completes<H: Abort + AllocGlobal>(rt: &H, first: Image, lines: &str) -> Result<(), Fail> {
     let second = payroll(rt.alloc())?;
     let records = worked_records(rt.alloc(), b"\n")?;
@@ -125,7 +125,7 @@ fn an_empty_file(rt: HostRuntime) -> Result<(), Fail> {
     )
 }
 
-/// The long record comes whole from its first volume, between two copies of the second one.
+/// The long record is complete from its first volume, between two copies of the second one.
 #[test]
 fn sections_in_any_order(rt: HostRuntime) -> Result<(), Fail> {
     let first = long_first(rt.alloc())?;
@@ -150,7 +150,7 @@ fn sections_that_lack_others(rt: HostRuntime) -> Result<(), Fail> {
     reports_both(&rt, long_first(rt.alloc())?, long_first(rt.alloc())?, lines)
 }
 
-/// How much of the worked image is there, and what is told of it.
+/// How much of the worked image there is, and what is reported of it.
 const CUTS: &[(usize, &str)] = &[
     (2288, "REEL 1 REEL ENDED IMAGE 1 1884\nAWAITS 1 1 2\n"),
     (1885, "REEL 1 REEL ENDED IMAGE 1 1884\nAWAITS 1 1 2\n"),
@@ -167,7 +167,7 @@ fn reels_that_are_cut_off(rt: HostRuntime) -> Result<(), Fail> {
     completes(&rt, cut(rt.alloc(), 2292)?, lines)
 }
 
-/// Volumes of one block: the labels and the block, and what is told of it.
+/// Volumes of one block: the labels and the block, and what is reported of them.
 const GIVE_NOTHING: &[(&str, &str, &[u8], &str)] = &[
     (
         "HDR1PAYROLL          XYZ00100010001000100 00000 00000 000000",
@@ -234,7 +234,7 @@ fn damaged_copies(rt: HostRuntime) -> Result<(), Fail> {
     )
 }
 
-/// A section that is another one than that which was begun.
+/// A section that differs from the one that was begun.
 #[test]
 fn a_section_that_differs(rt: HostRuntime) -> Result<(), Fail> {
     let cut = cut(rt.alloc(), 1884)?;
@@ -244,7 +244,7 @@ fn a_section_that_differs(rt: HostRuntime) -> Result<(), Fail> {
     reports_both(&rt, cut, other, lines)
 }
 
-/// One that was not opened keeps its number, and none is read behind the completing one.
+/// One that was not opened keeps its number, and none is read after the completing one.
 #[test]
 fn images_that_are_not_read(rt: HostRuntime) -> Result<(), Fail> {
     let image = payroll(rt.alloc())?;
@@ -255,7 +255,7 @@ fn images_that_are_not_read(rt: HostRuntime) -> Result<(), Fail> {
     gives(&rt, Form::Lines, images, lines, records.as_slice())
 }
 
-/// A reader that fails is told in its line, at the place of the item that it was in.
+/// A reader that fails is reported on its line, with the offset of the item that it was in.
 #[test]
 fn a_reader_that_fails(rt: HostRuntime) -> Result<(), Fail> {
     let image = payroll(rt.alloc())?;
@@ -275,11 +275,11 @@ fn extract_worked(alloc: Global, out: &mut Narrow, report: &mut Narrow) -> Resul
     run(alloc, 1, Form::Lines, images, out, report)
 }
 
-/// The report where nothing fails.
+/// The report if nothing fails.
 const SAID: &[u8] = b"REEL 1 COMPLETE\nCOMPLETE 25\n";
 
-/// How many bytes the writers of the file and of the report take, and whether they can be flushed;
-/// and how much is told and written then.
+/// How many bytes the writers of the file and of the report accept, and whether they can be
+/// flushed; and how much is reported and written then.
 const NARROW: &[(usize, bool, usize, bool, usize, usize)] = &[
     (100, true, 100, true, 16, 100),
     (2025, false, 100, true, 16, 2025),
@@ -288,7 +288,7 @@ const NARROW: &[(usize, bool, usize, bool, usize, usize)] = &[
     (2025, true, 100, false, 28, 2025),
 ];
 
-/// Writers that fail: the fault, and what stands.
+/// Writers that fail: the fault, and what was written.
 #[test]
 fn writers_that_fail(rt: HostRuntime) -> Result<(), Fail> {
     for (row, (out_left, out_flushes, left, flushes, told, written)) in NARROW.iter().enumerate() {

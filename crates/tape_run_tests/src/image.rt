@@ -6,16 +6,16 @@ use tape_label::Field;
 /// An erase gap.
 pub const GAP: [u8; 4] = [0xFE, 0xFF, 0xFF, 0xFF];
 
-/// What stands on a tape, as the bytes of its image.
+/// The items of a tape, as the bytes of its image.
 #[derive(Drop)]
 pub struct Image {
     pub alloc: Global,
     pub bytes: Vec<u8>,
-    /// Whether an erase gap stands before each word.
+    /// Whether an erase gap precedes each word.
     gaps: bool,
 }
 
-/// So many of the bytes in front, or all of them where there are no more.
+/// The first bytes, or all of them if there are no more.
 pub fn front(bytes: &[u8], count: usize) -> &[u8] {
     if count <= bytes.len() {
         &bytes[..count]
@@ -71,7 +71,7 @@ impl Image {
         self.word([0xFF, 0xFF, 0xFF, 0xFF])
     }
 
-    /// The content between two words with this high byte, and a pad byte where its length is odd.
+    /// The content between two words with this high byte, and a pad byte if its length is odd.
     fn framed(&mut self, content: &[u8], high: u8) -> Result<(), AllocError> {
         let count = content.len();
         let word = [
@@ -97,12 +97,12 @@ impl Image {
         self.framed(content, 0x80)
     }
 
-    /// A block of 80 characters: the text, and spaces behind it.
+    /// A block of 80 characters: the text, padded with spaces.
     pub fn label(&mut self, text: &str) -> Result<(), AllocError> {
         self.label_of(text.as_bytes(), b' ')
     }
 
-    /// A block of 80 bytes: the front, and copies of another byte behind it.
+    /// A block of 80 bytes: its beginning, followed by copies of another byte.
     pub fn label_of(&mut self, front: &[u8], filler: u8) -> Result<(), AllocError> {
         let mut label = [filler; 80];
         for (slot, byte) in label.iter_mut().zip(front) {
@@ -119,13 +119,13 @@ impl Image {
         self.mark()
     }
 
-    /// The mark behind the data, and labels up to the mark behind them.
+    /// The mark after the data, and labels up to the mark after them.
     pub fn trailers(&mut self, labels: &[&str]) -> Result<(), AllocError> {
         self.mark()?;
         self.headers(labels)
     }
 
-    /// Records of 80 characters, of these numbers, in one block; bad blocks are as long as good
+    /// Records of 80 characters, with these numbers, in one block; bad blocks are as long as good
     /// ones.
     pub fn records(&mut self, from: u8, to: u8, good: bool) -> Result<(), AllocError> {
         let mut block = Vec::new(self.alloc);
@@ -178,7 +178,7 @@ pub fn payroll_with(alloc: Global, trailers: &[&str]) -> Result<Image, AllocErro
     payroll_on(Image::new(alloc), trailers)
 }
 
-/// The worked volume with these trailer labels, on an image of which nothing was written.
+/// The worked volume with these trailer labels, on an empty image.
 fn payroll_on(mut image: Image, trailers: &[&str]) -> Result<Image, AllocError> {
     image.headers(&[VOL1, HDR1, HDR2])?;
     image.records(0, 10, true)?;
@@ -234,8 +234,8 @@ fn segment(indicator: u8, from: usize) -> [u8; 18] {
 }
 
 /// The first volume of the long record: 22 blocks with 286 of its bytes, and an end of volume;
-/// 1,032 bytes. Its first data block begins at 268, each takes 26 bytes, and the closing mark
-/// stands at 840.
+/// 1,032 bytes. Its first data block begins at 268, each takes 26 bytes, and the closing mark is at
+/// 840.
 pub fn long_first(alloc: Global) -> Result<Image, AllocError> {
     let mut image = Image::new(alloc);
     image.headers(&[
@@ -276,7 +276,7 @@ pub fn long_second(alloc: Global) -> Result<Image, AllocError> {
     Ok(image)
 }
 
-/// The sink holds the records of 80 characters with the numbers from 0 on, so many.
+/// The sink contains this many records of 80 characters, with the numbers from 0 on.
 pub fn holds_records(sink: &MemorySink, count: u8) -> bool {
     sink.count() == count as usize
         && (0..count).all(|number| match sink.part(number as usize) {
@@ -285,7 +285,7 @@ pub fn holds_records(sink: &MemorySink, count: u8) -> bool {
         })
 }
 
-/// The sink holds so many bytes of the long record, in parts of 13 but for the last of the whole.
+/// The sink contains this many bytes of the long record, in parts of 13 except perhaps the last.
 pub fn holds_long(sink: &MemorySink, parts: usize) -> bool {
     let mut place = 0usize;
     for number in 0..sink.count() {

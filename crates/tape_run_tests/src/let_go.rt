@@ -1,4 +1,4 @@
-//! Images are let go: each before the next one is mounted, and the last one too.
+//! Images are closed: each before the next one is opened, and the last one too.
 ghost use Rattle.std.specs.Prelude.{⊤, length};
 
 use crate::image::set_id;
@@ -13,7 +13,7 @@ use tape_blocks::Form;
 use tape_core::MemorySink;
 use tape_run::{Session, Shelf, Wording, check_to, extract_to, files_on, survey_to};
 
-/// A reel that is out, as long as it is not let go.
+/// A reel that is in use until it is dropped.
 struct Lent<'a> {
     bytes: &'a [u8],
     out: &'a Cell<u8>,
@@ -32,14 +32,14 @@ impl Read for Lent<'_> {
     }
 }
 
-/// Reels of which is known how many are out.
+/// Reels that count how many of them are in use.
 #[derive(Drop)]
 struct Lender<'a> {
     reels: &'a [&'a [u8]],
     out: &'a Cell<u8>,
     /// How many were lent.
     lent: u8,
-    /// How many of them while another one was out.
+    /// How many of them were taken while another one was in use.
     held: u8,
 }
 
@@ -99,7 +99,7 @@ fn read(alloc: Global, engine: Engine, shelf: &mut Lender<'_>) -> Result<(), Fai
     Ok(())
 }
 
-/// Of these reels each is lent once, and none while another one is out.
+/// Each of these reels is lent once, and none while another one is in use.
 fn lets_go<H: Abort + AllocGlobal>(rt: &H, engine: Engine, reels: &[&[u8]]) -> Result<(), Fail> {
     let out = Cell::new(0);
     let mut shelf = Lender {

@@ -16,8 +16,8 @@ fn fault_at(place: u64, cause: ImageCause) -> ListFault {
     ListFault::Image(ImageFault { place, cause })
 }
 
-/// What this reader gives ends in the fault, behind so many lines of the worked listing. The case
-/// is told where it does not.
+/// Listing this reader ends in the fault, after this many lines of the worked listing. Otherwise
+/// the case is reported.
 fn check<H: Abort + AllocGlobal, R: Read>(
     rt: &H,
     reader: &mut R,
@@ -44,7 +44,7 @@ fn first_lines(count: usize) -> &'static [u8] {
     WORKED.as_bytes().get(..length).unwrap_or(&[])
 }
 
-/// The worked image, with these bytes in the place of those at a place.
+/// The worked image, with these bytes instead of those at an offset.
 fn worked_with(alloc: Global, place: usize, bytes: &[u8]) -> Result<Image, AllocError> {
     let mut image = payroll(alloc)?;
     for (slot, byte) in image.bytes.iter_mut().skip(place).zip(bytes) {
@@ -63,8 +63,8 @@ fn cut_images(rt: HostRuntime) -> Result<(), Fail> {
     Ok(())
 }
 
-/// Places, bytes that stand there, and what is wrong then. The first data block begins behind
-/// three labels and a mark.
+/// Offsets, the bytes to put there, and the resulting fault. The first data block follows three
+/// labels and a mark.
 const DAMAGED: &[(usize, &[u8], ImageCause)] = &[
     (1072, &[0x21], ImageCause::LengthsDiffer),
     (
@@ -94,8 +94,7 @@ const STARTS: [usize; 14] = [
     0, 88, 176, 264, 268, 1076, 1884, 2292, 2296, 2384, 2472, 2476, 2480, 2484,
 ];
 
-/// The place of the item under way when so many bytes were given, and the number of items before
-/// it.
+/// The offset of the item under way after this many bytes, and the number of items before it.
 fn under_way(given: usize) -> (u64, usize) {
     let mut found = (0, 0);
     for (items, start) in STARTS.iter().enumerate() {
@@ -106,7 +105,7 @@ fn under_way(given: usize) -> (u64, usize) {
     found
 }
 
-/// A reader that gives so many bytes of the image and fails.
+/// A reader that returns this many bytes of the image and fails.
 fn fails_after<H: Abort + AllocGlobal>(rt: &H, image: &Image, given: usize, kind: ErrorKind) {
     let mut reader = Dribble {
         bytes: image.bytes.as_slice(),
@@ -131,7 +130,7 @@ fn a_reader_fails(rt: HostRuntime) -> Result<(), Fail> {
     Ok(())
 }
 
-/// Where the writer takes so many bytes and fails, these are a front of the listing.
+/// If the writer accepts this many bytes and fails, these are a prefix of the listing.
 fn stops_at<H: Abort + AllocGlobal>(rt: &H, image: &Image, left: usize, kind: Option<ErrorKind>) {
     let mut out = Narrow::failing(rt.alloc(), left, kind, true);
     let answer = list_to(rt.alloc(), &mut image.bytes.as_slice(), &mut out);
@@ -161,7 +160,7 @@ fn fails_once<H: Abort + AllocGlobal>(rt: &H, image: &Image, good: usize, kind: 
     assert!(rt; told && answer == NOT_WRITTEN, "line {good}: {answer:?}");
 }
 
-/// A write that failed is not tried again, nor is anything written behind it.
+/// A failed write is not repeated, and nothing is written after it.
 #[test]
 fn a_writer_fails_once(rt: HostRuntime) -> Result<(), Fail> {
     let image = payroll(rt.alloc())?;
@@ -173,7 +172,7 @@ fn a_writer_fails_once(rt: HostRuntime) -> Result<(), Fail> {
     Ok(())
 }
 
-/// Where a write failed nothing was read behind the item whose line it was.
+/// If a write failed, nothing was read after the item whose line it was.
 #[test]
 fn what_was_read_when_a_write_failed(rt: HostRuntime) -> Result<(), Fail> {
     let worked = payroll(rt.alloc())?;
@@ -192,8 +191,8 @@ const CUT_OFF: Result<(), ListFault> = Err(ListFault::Image(ImageFault {
     cause: ImageCause::Truncated,
 }));
 
-/// How much of the worked image is there, how many lines that has, whether the writer can be
-/// flushed, and whether it is told that it could not. Else the fault of the image is.
+/// How much of the worked image there is, how many lines that has, whether the writer can be
+/// flushed, and whether the result is that failure, otherwise the fault of the image.
 const FLUSHES: &[(usize, usize, bool, Result<(), ListFault>)] = &[
     (2484, 13, true, Ok(())),
     (2484, 13, false, NOT_WRITTEN),
@@ -201,8 +200,8 @@ const FLUSHES: &[(usize, usize, bool, Result<(), ListFault>)] = &[
     (1885, 6, false, NOT_WRITTEN),
 ];
 
-/// The last flush fails, at the end of medium and at a fault of the image, where it is told in that
-/// fault's place.
+/// The last flush fails, at the end of the medium and at a fault of the image, and is then reported
+/// instead of that fault.
 #[test]
 fn the_last_flush(rt: HostRuntime) -> Result<(), Fail> {
     for (count, lines, flushes, wanted) in FLUSHES {
@@ -215,7 +214,7 @@ fn the_last_flush(rt: HostRuntime) -> Result<(), Fail> {
     Ok(())
 }
 
-/// A fault stands behind the gaps before it.
+/// A fault is located after the gaps before it.
 #[test]
 fn a_fault_behind_gaps(rt: HostRuntime) -> Result<(), Fail> {
     let mut image = Image::with_gaps(rt.alloc());

@@ -5,7 +5,7 @@ use std::process::Abort;
 use std::test::Fail;
 use tape_run::list_to;
 
-/// The line of one label, behind its number.
+/// The line of one label, after its number.
 fn check<H: Abort + AllocGlobal>(rt: &H, image: &Image, line: &str) -> Result<(), Fail> {
     let mut out = Vec::new(rt.alloc());
     list_to(rt.alloc(), &mut image.bytes.as_slice(), &mut out)?;
@@ -14,14 +14,14 @@ fn check<H: Abort + AllocGlobal>(rt: &H, image: &Image, line: &str) -> Result<()
     Ok(())
 }
 
-/// An image of one label: the front, and another byte behind it.
+/// An image of one label: its beginning, followed by another byte.
 fn image_of(alloc: Global, front: &[u8], filler: u8) -> Result<Image, AllocError> {
     let mut image = Image::new(alloc);
     image.label_of(front, filler)?;
     Ok(image)
 }
 
-/// The line of the label with this front, and another byte behind it.
+/// The line of the label with this beginning, followed by another byte.
 fn reads_as<H: Abort + AllocGlobal>(
     rt: &H,
     front: &[u8],
@@ -32,7 +32,7 @@ fn reads_as<H: Abort + AllocGlobal>(
     check(rt, &image, line)
 }
 
-/// Labels as text with spaces behind it, and their lines.
+/// Labels as text padded with spaces, and their lines.
 const KINDS: &[(&str, &str)] = &[
     ("VOL1A.C 01", "VOL1 A.C 01"),
     (

@@ -1,4 +1,4 @@
-//! Files of one volume, for which its image is mounted once.
+//! Files of one volume, for which its image is opened once.
 use crate::devices::Narrow;
 use crate::image::{HDR1, HDR2, Image, VOL1, set_id};
 use crate::now::Name;
@@ -26,7 +26,7 @@ fn two_files(alloc: Global) -> Result<Image, AllocError> {
     Ok(image)
 }
 
-/// What a file comes to, and the first byte of its records if it is complete.
+/// The outcome of a file, and the first byte of its records if it is complete.
 fn extracted<'a>(
     alloc: Global,
     shelf: &mut Vec<Option<&'a [u8]>>,
@@ -48,7 +48,7 @@ fn extracted<'a>(
     Ok((answer, first))
 }
 
-/// The files of the volume in this order, from a shelf that gives its image once.
+/// The files of the volume in this order, from a source that yields its image once.
 fn come_to<H: Abort + AllocGlobal>(
     rt: &H,
     files: &[u16],
@@ -69,8 +69,8 @@ fn come_to<H: Abort + AllocGlobal>(
     Ok(())
 }
 
-/// The second file is read on behind the first. Before the second there is no way back, and of a
-/// file that no label names there is no section.
+/// The second file is read after the first. There is no way back from the second to the first, and
+/// a file that no label names has no section.
 #[test]
 fn images_stay_mounted(rt: HostRuntime) -> Result<(), Fail> {
     let (first, second) = ((Some(1), Some(b'A')), (Some(1), Some(b'B')));

@@ -1,4 +1,4 @@
-//! A record that is longer than any buffer, into a sink that keeps no byte of it.
+//! A record that is longer than any buffer, into a sink that stores no byte of it.
 use crate::image::{HDR1, Image, VOL1, front, long_byte, set_id};
 use crate::readers::Counting;
 use std::alloc::{AllocError, Global};
@@ -6,7 +6,7 @@ use std::test::Fail;
 use tape_core::PartSink;
 use tape_run::{Session, Step, run};
 
-/// A block of this segment: its control word, and so many of the long record's bytes.
+/// A block with this segment: its control word, and this many of the long record's bytes.
 fn segment(alloc: Global, control: &[u8; 5], count: usize) -> Result<Vec<u8>, AllocError> {
     let mut block = Vec::new(alloc);
     block.extend_from_slice(control)?;
@@ -31,7 +31,7 @@ fn add_blocks(
 }
 
 /// One record of 3,000,000 bytes in format S: 301 blocks, of 9,999 bytes but the last, whose 1,800
-/// bytes of the record fill up what 300 times 9,994 lack.
+/// bytes of the record complete the 300 times 9,994 before.
 fn image(alloc: Global) -> Result<Image, AllocError> {
     let mut image = Image::new(alloc);
     image.headers(&[

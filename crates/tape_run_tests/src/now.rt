@@ -1,4 +1,4 @@
-//! Files whose records are written as they come, to writers and under names that fail.
+//! Files whose records are written as they come, to writers and names that fail.
 
 ghost use Rattle.std.specs.Prelude.{None};
 
@@ -13,7 +13,7 @@ use tape_core::SinkFault;
 use tape_run::{EngineFault, OutSink, Place, RunFault, Session, WriteFailed, extract_now};
 use tape_set::Want;
 
-/// A name, under which an output comes to stand where it is free.
+/// A name that an output is given if it is free.
 #[derive(Drop)]
 pub struct Name {
     pub is_free: bool,
@@ -32,9 +32,9 @@ impl Place<Narrow> for Name {
     }
 }
 
-/// How much of the worked image there is, how many bytes of its records are taken, whether they can
-/// be flushed, and whether their name is free; what is answered and reported then, and how many
-/// bytes stand under the name.
+/// How much of the worked image there is, how many bytes of its records are accepted, whether they
+/// can be flushed, and whether their name is free; what is returned and reported then, and how many
+/// bytes have the name.
 type Row<'a> = (
     usize,
     usize,
@@ -45,7 +45,7 @@ type Row<'a> = (
     Option<usize>,
 );
 
-/// The third block is wanted.
+/// The third block is missing.
 const THIRD: Option<Want> = Some(Want {
     file: 1,
     sect: 1,
@@ -53,7 +53,7 @@ const THIRD: Option<Want> = Some(Want {
     part: 0,
 });
 
-/// A record could not be written where the parts of its block came.
+/// A record could not be written when the parts of its block came.
 const REFUSED: Result<Option<Want>, EngineFault> = Err(EngineFault::Run(RunFault::Sink(
     SinkFault::Device,
 )));
@@ -85,7 +85,7 @@ const ROWS: &[Row<'_>] = &[
     (2484, 2025, true, false, FAILED, "REEL 1 COMPLETE\n", None),
 ];
 
-/// Whether it comes to what stands in the row.
+/// Whether the result is that of the row.
 fn comes_to(alloc: Global, row: &Row<'_>) -> Result<bool, Fail> {
     let (length, left, flushes, is_free, wanted, lines, there) = row;
     let image = cut(alloc, *length)?;
@@ -102,7 +102,7 @@ fn comes_to(alloc: Global, row: &Row<'_>) -> Result<bool, Fail> {
     Ok(answer == *wanted && report.as_slice() == lines.as_bytes() && stands == *there)
 }
 
-/// While something is wanted, and where something fails, nothing comes to stand under the name.
+/// While something is missing, and if something fails, nothing is given the name.
 #[test]
 fn outputs_that_fail(rt: HostRuntime) -> Result<(), Fail> {
     for (number, row) in ROWS.iter().enumerate() {

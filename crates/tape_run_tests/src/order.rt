@@ -1,4 +1,4 @@
-//! Reels in order, in any order, and reels that give nothing.
+//! Reels in order, in any order, and reels that yield nothing.
 use crate::image::{HDR2, Image, VOL1};
 use crate::scripts::{Do, Reel, Script, each_goes};
 use std::alloc::{AllocError, Global};
@@ -34,7 +34,7 @@ const SCRIPTS: &[Script<'_>] = &[
             Do::HoldsLong(23, None),
         ],
     ),
-    // The first volume again gives nothing again.
+    // The first volume again yields nothing again.
     (
         "the second volume first",
         1,
@@ -73,8 +73,8 @@ const SCRIPTS: &[Script<'_>] = &[
             Do::HoldsLong(23, None),
         ],
     ),
-    // The trailer that completes the file ends at 2,384; nothing behind it was read, and of the
-    // second reel nothing.
+    // The trailer that completes the file ends at 2,384; nothing after it was read, and nothing of
+    // the second reel.
     (
         "a complete file reads nothing",
         1,

@@ -1,4 +1,4 @@
-//! Listings that tell places.
+//! Listings with offsets.
 use crate::devices::Narrow;
 use crate::image::{Image, front};
 use std::alloc::{AllocError, Global};
@@ -22,7 +22,7 @@ const CUT_OFF: Result<(), ListFault> = Err(ListFault::Image(ImageFault {
     cause: ImageCause::Truncated,
 }));
 
-/// So many bytes of the image, what is answered and what is listed.
+/// The length of the image's prefix, the result and the listing.
 const LISTED: &[(usize, Result<(), ListFault>, &str)] = &[
     (
         60,
@@ -42,7 +42,7 @@ const LISTED: &[(usize, Result<(), ListFault>, &str)] = &[
     (43, CUT_OFF, "4 4 000001 MARK\n8 20 000002 BAD\n"),
 ];
 
-/// A writer that takes so many bytes has a front of the lines.
+/// A writer that accepts this many bytes contains a prefix of the lines.
 fn is_listed<H: Abort + AllocGlobal>(
     rt: &H,
     bytes: &[u8],

@@ -10,7 +10,7 @@ use tape_set::Position;
 
 const TWO: &[Step] = &[Step::Reel, Step::Reel];
 
-/// A note that was forgotten is gone back to in step 1.
+/// Step 1 rolls back to a checkpoint that was dropped.
 const NO_NOTE: Stopped = Stopped {
     step: 1,
     fault: RunFault::NoSuchPoint,
@@ -29,7 +29,7 @@ const NO_SECOND_REEL: Stopped = Stopped {
 };
 
 const SCRIPTS: &[Script<'_>] = &[
-    // Note 0 is behind two blocks; note 1 is forgotten with it.
+    // Checkpoint 0 is after two blocks; checkpoint 1 is dropped with it.
     (
         "back to a note and on",
         1,
@@ -51,7 +51,7 @@ const SCRIPTS: &[Script<'_>] = &[
             Do::Holds(25, None),
         ],
     ),
-    // A reel is asked for also where the file is complete.
+    // A reel is requested even if the file is complete.
     (
         "no note and no reel",
         1,
@@ -73,7 +73,7 @@ fn notes_and_restarts(rt: HostRuntime) -> Result<(), Fail> {
     each_goes(&rt, SCRIPTS)
 }
 
-/// Reads so many of the reel's bytes, and notes where this leads.
+/// Reads this many of the reel's bytes, and saves a checkpoint of the position.
 fn stopped(alloc: Global, bytes: &[u8]) -> Result<(Checkpoint, MemorySink), Fail> {
     let mut session = begun(alloc, 1)?;
     run(&mut session, &[Step::Reel], &mut [bytes], &mut [])?;
@@ -81,14 +81,14 @@ fn stopped(alloc: Global, bytes: &[u8]) -> Result<(Checkpoint, MemorySink), Fail
     Ok((point, session.into_sink()))
 }
 
-/// Where a session stands that read 500 bytes of the long record's first volume.
+/// The position of a session that read 500 bytes of the long record's first volume.
 const STOPPED: Position = Position::Awaits {
     sect: 1,
     block: 8,
     part: 0,
 };
 
-/// Whether a session that was stopped there goes on to the end of both volumes.
+/// Whether a session that was stopped there continues to the end of both volumes.
 fn goes_on(alloc: Global, first: &[u8], second: &[u8]) -> Result<bool, Fail> {
     let (point, sink) = stopped(alloc, front(first, 500))?;
     let stood = (point.position, point.begun, point.staged) == (STOPPED, true, 8 * 18);
@@ -112,13 +112,13 @@ fn is_whole(alloc: Global, first: &[u8], second: &[u8]) -> Result<bool, CoreFaul
     Ok(made == Ok(()) && session.want().is_none() && holds_long(session.sink(), 23))
 }
 
-/// Whether it is told that a reel lacks, and something of the file is wanted.
+/// Whether the error is a missing reel, and something of the file is missing.
 fn lacks_a_reel(alloc: Global, first: &[u8]) -> Result<bool, CoreFault> {
     let (session, made) = read_file(alloc, set_id(), 1, TWO, &mut [first])?;
     Ok(made == Err(NO_SECOND_REEL) && session.want().is_some())
 }
 
-/// Whether there is no file of this number.
+/// Whether there is no file with this number.
 fn is_no_file(alloc: Global, number: u16, first: &[u8]) -> bool {
     match read_file(alloc, set_id(), number, TWO, &mut [first]) {
         Ok(_) => false,

@@ -22,7 +22,7 @@ impl Read for Failing<'_> {
     }
 }
 
-/// Counts parts and their weight, and keeps none: no list of parts is held.
+/// Counts parts and their weight, and stores none: it contains no list of parts.
 #[derive(Drop)]
 pub struct Counting {
     pub parts: u64,

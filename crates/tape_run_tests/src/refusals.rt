@@ -8,7 +8,7 @@ use tape_core::{CoreFault, MemorySink, PartSink, Refusing, SinkFault};
 use tape_run::{RunFault, Session, Step, Stopped, run};
 use tape_set::Want;
 
-/// A session over a sink in memory whose call of this number is refused, counted from 0.
+/// A session over a sink in memory that refuses the call with this number, counted from 0.
 fn refusing(alloc: Global, call: usize) -> Result<Session<Refusing<MemorySink>>, CoreFault> {
     let sink = Refusing::new(MemorySink::new(alloc), call);
     Session::new(alloc, set_id(), 1, sink)
@@ -27,7 +27,7 @@ fn part_of(block: u32, part: u32) -> Option<Want> {
 /// The device of the sink failed.
 const FAILED: RunFault = RunFault::Sink(SinkFault::Device);
 
-/// The device of the sink failed in the step of this number, counted from 0.
+/// The device of the sink failed in the step with this number, counted from 0.
 fn failed_at(step: usize) -> Result<(), Stopped> {
     Err(Stopped {
         step,
@@ -37,16 +37,16 @@ fn failed_at(step: usize) -> Result<(), Stopped> {
 
 const ONE: &[Step] = &[Step::Reel];
 
-/// Whether so many of the worked records are held, and this is wanted.
+/// Whether the sink contains this many of the worked records, and this is missing.
 fn has(session: &Session<Refusing<MemorySink>>, count: u8, want: Option<Want>) -> bool {
     session.want() == want && holds_records(session.sink().inner(), count)
 }
 
-/// Whether the reel stops at the put that is refused, and completes the file when read again.
+/// Whether the reel stops at the put that is refused, and completes the file when it is read again.
 fn completes(alloc: Global, whole: &[u8], refused: u8) -> Result<bool, Fail> {
     let mut session = refusing(alloc, refused as usize)?;
     let failed = run(&mut session, ONE, &mut [whole], &mut []) == failed_at(0);
-    // Ten records stand in a block.
+    // Ten records are in a block.
     let place = part_of((refused / 10) as u32, (refused % 10) as u32);
     let stopped = failed && has(&session, refused, place);
     run(&mut session, ONE, &mut [whole], &mut [])?;
@@ -65,7 +65,7 @@ fn each_put_refused_in_turn(rt: HostRuntime) -> Result<(), Fail> {
     Ok(())
 }
 
-/// The same of both volumes of the long record, of which the first has 22 parts.
+/// The same for both volumes of the long record, of which the first has 22 parts.
 fn completes_long(alloc: Global, volumes: [&[u8]; 2], refused: usize) -> Result<bool, Fail> {
     let mut session = refusing(alloc, refused)?;
     let steps = [Step::Reel, Step::Reel];
@@ -86,8 +86,8 @@ fn each_put_of_a_long_record_refused_in_turn(rt: HostRuntime) -> Result<(), Fail
     Ok(())
 }
 
-/// Two readings of the worked volume, the first of them cut, with a note before each, and a third
-/// behind a restart.
+/// Two readings of the worked volume, the first of them cut, with a checkpoint before each, and a
+/// third after a restart.
 const SCRIPT: &[Step] = &[
     Step::Save,
     Step::Reel,
@@ -100,8 +100,8 @@ const SCRIPT: &[Step] = &[
 /// How many calls the script makes: 1 for each save and the restart, 20 puts, 5 puts, and 25 again.
 const CALLS: usize = 53;
 
-/// How the script ends where this call is refused: in the step that makes it. Going back, the sink
-/// answers Failed.
+/// How the script ends if this call is refused: in the step that makes it. In a rollback the sink
+/// returns Failed.
 fn end_at(call: usize) -> Result<(), Stopped> {
     match call {
         0 => failed_at(0),
@@ -117,9 +117,9 @@ fn end_at(call: usize) -> Result<(), Stopped> {
     }
 }
 
-/// Whether the script stops in the step of the refused call, and one reel more completes the file:
-/// the sink holds what lies before the place, and nothing is put twice. Behind the last call it is
-/// complete.
+/// Whether the script stops in the step of the refused call, and one more reel completes the file:
+/// the sink contains what precedes the position, and nothing is put twice. After the last call it
+/// is complete.
 fn completes_script(alloc: Global, whole: &[u8], refused: usize) -> Result<bool, Fail> {
     let mut session = refusing(alloc, refused)?;
     let mut reels = [front(whole, 1884), whole, whole];
@@ -148,15 +148,15 @@ fn save(session: &mut Session<Refusing<MemorySink>>) -> Result<(), RunFault> {
     Ok(())
 }
 
-/// Whether a save is refused, so that there is no note to go back to, and nothing changed.
+/// Whether a save is refused, so that there is no checkpoint to return to, and nothing changed.
 fn is_refused(session: &mut Session<Refusing<MemorySink>>) -> bool {
     save(session) == Err(FAILED)
         && session.restart(0) == Err(RunFault::NoSuchPoint)
         && has(session, 20, part_of(2, 0))
 }
 
-/// Whether a session stands where it stood behind a refused save, behind one that was not, and
-/// behind going back to that.
+/// Whether a session's position is unchanged after a refused save, after a successful one, and
+/// after a rollback to that.
 fn stands_still(alloc: Global, whole: &[u8]) -> Result<bool, Fail> {
     let mut session = refusing(alloc, 20)?;
     run(&mut session, ONE, &mut [front(whole, 1884)], &mut [])?;
@@ -188,7 +188,7 @@ fn two_records(alloc: Global) -> Result<Image, AllocError> {
     Ok(image)
 }
 
-/// Whether this is wanted, and so many parts of this weight are held.
+/// Whether this is missing, and the sink contains this many parts with this weight.
 fn weighs(
     session: &Session<Refusing<MemorySink>>,
     want: Option<Want>,

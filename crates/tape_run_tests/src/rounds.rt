@@ -1,4 +1,4 @@
-//! Files got back by going round the images.
+//! Files recovered in several passes over the images.
 ghost use Rattle.std.specs.Prelude.{⊤, length};
 
 use crate::extract::shelf_of;
@@ -11,7 +11,7 @@ use tape_blocks::Form;
 use tape_core::MemorySink;
 use tape_run::{Session, Shelf, extract_again};
 
-/// Reels of which each is given as often as it is mounted.
+/// Reels, each of which is returned as often as it is mounted.
 #[derive(Drop)]
 struct Kept<'a> {
     reels: &'a [&'a [u8]],
@@ -34,7 +34,7 @@ impl<'a> Shelf<&'a [u8]> for Kept<'a> {
     }
 }
 
-/// The worked volume, of which the first or the second block cannot be read.
+/// The worked volume, with its first or its second block unreadable.
 fn bad_at(alloc: Global, bad: u8) -> Result<Image, AllocError> {
     volume(
         alloc,
@@ -42,7 +42,7 @@ fn bad_at(alloc: Global, bad: u8) -> Result<Image, AllocError> {
     )
 }
 
-/// What a session with a note reports over these reels, and how many bytes it writes.
+/// What a session with a checkpoint reports over these reels, and how many bytes it writes.
 fn gives<H: Abort + AllocGlobal>(
     rt: &H,
     reels: &[&[u8]],
@@ -65,7 +65,7 @@ const VOLUMES: &str = "REEL 1 LATER SECTION\nREEL 2 SECTION DONE\nREEL 3 COMPLET
 
 const ALONE: &str = "REEL 1 BAD ITEM\nREEL 2 BAD ITEM\nAWAITS 1 1 1\n";
 
-/// The second one has a block less, and is taken back in each round.
+/// The second one has one block less, and is rolled back in each pass.
 const DOUBT: &str = "REEL 1 BAD ITEM\nREEL 2 BLOCK COUNT 3 2\nREEL 3 BAD ITEM
 REEL 4 BLOCK COUNT 3 2\nAWAITS 1 1 1\n";
 
@@ -83,7 +83,7 @@ fn rounds_until_nothing_comes(rt: HostRuntime) -> Result<(), Fail> {
     gives(&rt, &[], "AWAITS 1 1 0\n", 0)
 }
 
-/// A shelf that gives each reel once has none in the second round.
+/// A source that yields each reel once has none in the second pass.
 #[test]
 fn reels_that_are_given_once(rt: HostRuntime) -> Result<(), Fail> {
     let two = bad_at(rt.alloc(), 2)?;

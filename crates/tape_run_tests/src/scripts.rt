@@ -1,4 +1,4 @@
-//! Sessions, step by step: what is read of which image, what is answered, and what stands then.
+//! Sessions, step by step: what is read of which image, the answer, and the state afterwards.
 use crate::answers::{defaced, with_reserved_word};
 use crate::copies::without_a_mark;
 use crate::image::{
@@ -24,9 +24,9 @@ pub enum Reel<'a> {
     Cut(usize),
     /// The worked file in five blocks, of which this one is bad (5: none is), with this trailer.
     Five(u8, &'a str),
-    /// So many of the first bytes of that, with five good blocks and their count.
+    /// The first bytes of that, with five good blocks and their count.
     FiveCut(usize),
-    /// A volume with so many blocks of a byte, and this trailer.
+    /// A volume with this many blocks of one byte, and this trailer.
     Blocks(u32, &'a str),
     /// A volume with a section of one block of a byte: its header and its trailer.
     Section(&'a str, &'a str),
@@ -44,42 +44,42 @@ pub enum Reel<'a> {
     Foreign,
     /// Two files, without the mark that closes the first.
     WithoutMark,
-    /// A volume whose label of this number is none.
+    /// A volume on which the label with this number is not one.
     Defaced(usize),
-    /// A volume with a word that is reserved where its first data block begins.
+    /// A volume with a reserved word where its first data block begins.
     Reserved,
 }
 
-/// The block of which section is wanted, from its first part on, or nothing.
+/// The section's block that is missing, from its first part on, or nothing.
 pub type Wanted = Option<(u16, u32)>;
 
-/// What is done in a session, and what is to come of it.
+/// A step of a session, and its expected result.
 #[derive(Clone, Copy)]
 pub enum Do<'a> {
-    /// This reel is read, answers so, without a fault, and so many blocks of it are delivered; this
-    /// is wanted then.
+    /// This reel is read, with this answer, without a fault, and this many blocks of it are
+    /// delivered; this is missing then.
     Reads(Reel<'a>, Answer, u32, Wanted),
-    /// The same, where the image has a fault.
+    /// The same, with a fault of the image.
     Breaks(Reel<'a>, ReelAnswer, Wanted),
-    /// These steps are taken over these reels, and end so.
+    /// These steps are made over these reels, and end like this.
     Runs(&'a [Step], &'a [Reel<'a>], Result<(), Stopped>),
-    /// The first two of these reels were read by such steps, and of each so many bytes are left.
+    /// The first two of these reels were read by such steps, and this many bytes of each are left.
     Leaves(&'a [Step], &'a [Reel<'a>], [usize; 2]),
-    /// A note is taken of this position, where so much is staged.
+    /// A checkpoint is saved at this position, with this weight staged.
     Saves(Position, u64),
-    /// The note of this number is gone back to, which ends so.
+    /// The session rolls back to the checkpoint with this number, which ends like this.
     Restarts(usize, Result<(), RunFault>),
-    /// So many of the worked records are held, and this is wanted.
+    /// The sink contains this many of the worked records, and this is missing.
     Holds(u8, Wanted),
-    /// So many parts of the long record are held, and this is wanted.
+    /// The sink contains this many parts of the long record, and this is missing.
     HoldsLong(usize, Wanted),
-    /// What is held weighs so much, and so many readers failed.
+    /// The sink's contents have this weight, and this many readers failed.
     Weighs(u64, u64),
-    /// The image of this reel has so many bytes.
+    /// The image of this reel has this many bytes.
     IsLong(Reel<'a>, usize),
 }
 
-/// A script: its name, the file, and what is done.
+/// A script: its name, the file, and its steps.
 pub type Script<'a> = (&'a str, u16, &'a [Do<'a>]);
 
 /// Follows each script in a session of its own.
@@ -90,7 +90,7 @@ pub fn each_goes<H: Abort + AllocGlobal>(rt: &H, scripts: &[Script<'_>]) -> Resu
     Ok(())
 }
 
-/// Follows a script: each step comes to what it is to come to.
+/// Follows a script: each step has its expected result.
 fn goes<H: Abort + AllocGlobal>(
     rt: &H,
     name: &str,
@@ -107,7 +107,7 @@ fn goes<H: Abort + AllocGlobal>(
     Ok(())
 }
 
-/// Takes a step, and tells whether it came to what it was to come to.
+/// Takes a step, and returns whether it had its expected result.
 fn takes(
     alloc: Global,
     session: &mut Session<MemorySink>,
@@ -131,7 +131,7 @@ fn takes(
     }
 }
 
-/// Whether the session stands as the step says.
+/// Whether the session is in the state of the step.
 fn stands_so(session: &Session<MemorySink>, file: u16, step: Do<'_>) -> bool {
     let sink = session.sink();
     match step {
@@ -153,7 +153,7 @@ fn of_no_fault(answer: Answer, blocks: u32) -> ReelAnswer {
     }
 }
 
-/// Whether a note is taken of this position, where so much is staged.
+/// Whether a checkpoint is saved at this position, with this weight staged.
 fn saves(
     session: &mut Session<MemorySink>,
     position: Position,
@@ -163,7 +163,7 @@ fn saves(
     Ok((point.position, point.staged) == (position, staged))
 }
 
-/// Whether this is wanted of the file.
+/// Whether this is missing of the file.
 fn wants(session: &Session<MemorySink>, file: u16, wanted: Wanted) -> bool {
     let want = match wanted {
         Some((sect, block)) => Some(Want {
@@ -177,7 +177,7 @@ fn wants(session: &Session<MemorySink>, file: u16, wanted: Wanted) -> bool {
     session.want() == want
 }
 
-/// What the reel answers.
+/// The reel's answer.
 fn answers(
     alloc: Global,
     session: &mut Session<MemorySink>,
@@ -199,7 +199,7 @@ fn runs(
     Ok(run(session, steps, readers.as_mut_slice(), &mut []))
 }
 
-/// Whether these steps over two reels leave so much of each.
+/// Whether these steps over two reels leave this much of each.
 fn leaves(
     alloc: Global,
     session: &mut Session<MemorySink>,

@@ -39,7 +39,7 @@ pub fn one_section(alloc: Global, header: &str, trailer: &str) -> Result<Image, 
     Ok(image)
 }
 
-/// A volume with the section of this number alone, which goes on.
+/// A volume with only the section of this number, which continues.
 pub fn numbered(alloc: Global, number: u16) -> Result<Image, AllocError> {
     let header = with_number(
         b"HDR1PAYROLL          ABC00100000001000100 00000 00000 000000",
@@ -66,7 +66,7 @@ pub fn text(bytes: &[u8]) -> &str {
     std::str::from_utf8(bytes).unwrap_or("")
 }
 
-/// A section with so many blocks of a byte, and this trailer label.
+/// A section with this many blocks of one byte, and this trailer label.
 pub fn of_blocks(alloc: Global, count: u32, trailer: &str) -> Result<Image, AllocError> {
     let mut image = Image::new(alloc);
     image.headers(&[VOL1, HDR1, HDR2])?;

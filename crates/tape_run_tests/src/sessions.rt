@@ -1,4 +1,4 @@
-//! Sessions in memory, and what they want.
+//! Sessions in memory, and what they need next.
 use crate::image::set_id;
 use std::alloc::Global;
 use tape_core::{CoreFault, MemorySink};

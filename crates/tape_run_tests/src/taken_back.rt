@@ -1,4 +1,5 @@
-//! Reels whose trailers count other blocks, read by sessions that have a note and go back to it.
+//! Reels whose trailers count other blocks, read by sessions that have a checkpoint and roll back
+//! to it.
 use crate::extract::shelf_of;
 use crate::image::{EOF_THREE, HDR1, HDR2, Image, VOL1, payroll, set_id};
 use crate::volumes::{cut, records};
@@ -23,8 +24,8 @@ pub fn volume(alloc: Global, blocks: &[(u8, u8, bool)]) -> Result<Image, AllocEr
     Ok(image)
 }
 
-/// A session of the worked file that has a note where it begins, over these images: the lines, what
-/// is wanted then, and what is written.
+/// A session of the worked file that has a checkpoint at its start, over these images: the lines,
+/// what is missing then, and what is written.
 fn gives<H: Abort + AllocGlobal>(
     rt: &H,
     images: &mut [Option<&[u8]>],
@@ -43,7 +44,7 @@ fn gives<H: Abort + AllocGlobal>(
     Ok(())
 }
 
-/// The block of section 1 from which the worked file is wanted.
+/// The block of section 1 from which on the worked file is missing.
 fn from_block(block: u32) -> Option<Want> {
     Some(Want {
         file: 1,
@@ -53,7 +54,7 @@ fn from_block(block: u32) -> Option<Want> {
     })
 }
 
-/// Its second block was lost, and it tells so.
+/// Its second block was lost, and its trailer shows that.
 pub fn lost(alloc: Global) -> Result<Image, AllocError> {
     volume(alloc, &[(0, 10, true), (20, 25, true)])
 }
@@ -81,7 +82,7 @@ fn what_a_reel_gave_that_lost_a_block(rt: HostRuntime) -> Result<(), Fail> {
     )
 }
 
-/// What the reels before it gave stays, and of it nothing: the last one has no first block.
+/// What the reels before it yielded remains, and nothing of it: the last one has no first block.
 #[test]
 fn what_stood_before_such_a_reel(rt: HostRuntime) -> Result<(), Fail> {
     let all = records(rt.alloc(), b"\n")?;

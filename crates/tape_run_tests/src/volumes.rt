@@ -1,4 +1,4 @@
-//! Volumes of which the engines report.
+//! Volumes for reports.
 use crate::image::{HDR1, HDR2, Image, VOL1, payroll, record};
 use crate::sections::{text, with_number};
 use std::alloc::{AllocError, Global};
@@ -19,7 +19,7 @@ pub fn cut(alloc: Global, length: usize) -> Result<Image, AllocError> {
     Ok(image)
 }
 
-/// The 25 records of the worked volume, each with these bytes behind it.
+/// The 25 records of the worked volume, each followed by these bytes.
 pub fn records(alloc: Global, behind: &[u8]) -> Result<Vec<u8>, AllocError> {
     let mut bytes = Vec::new(alloc);
     for number in 0..25u8 {
@@ -33,7 +33,7 @@ pub fn records(alloc: Global, behind: &[u8]) -> Result<Vec<u8>, AllocError> {
 pub fn damaged(alloc: Global) -> Result<Image, AllocError> {
     let mut image = payroll(alloc)?;
     for (place, byte) in image.bytes.as_mut_slice().iter_mut().enumerate() {
-        // The last bytes of the words before and behind the block: 268 + 808 + 3, and 804 behind.
+        // The last bytes of the words before and after the block: 268 + 808 + 3, and 804 later.
         if place == 1079 || place == 1883 {
             *byte = 0x80;
         }
@@ -41,7 +41,7 @@ pub fn damaged(alloc: Global) -> Result<Image, AllocError> {
     Ok(image)
 }
 
-/// A volume of one section with the labels given, and one block between them.
+/// A volume of one section with the given labels, and one block between them.
 pub fn one_block(
     alloc: Global,
     head: &str,
@@ -57,7 +57,7 @@ pub fn one_block(
     Ok(image)
 }
 
-/// An empty section of this number, which goes on.
+/// An empty section with this number, which continues.
 fn empty_section(image: &mut Image, number: u16) -> Result<(), AllocError> {
     let header = b"HDR1PAYROLL          ABC00100000001000100 00000 00000 000000";
     let trailer = b"EOV1PAYROLL          ABC00100000001000100 00000 00000 000000";
@@ -66,7 +66,7 @@ fn empty_section(image: &mut Image, number: u16) -> Result<(), AllocError> {
     image.trailers(&[text(&with_number(trailer, number))])
 }
 
-/// Sections 1 to 9,999 of a file on one reel, of which the last one says that it goes on.
+/// Sections 1 to 9,999 of a file on one reel; even the last one says that it continues.
 pub fn all_sections(alloc: Global) -> Result<Image, AllocError> {
     let mut image = Image::new(alloc);
     image.label(VOL1)?;
@@ -77,7 +77,7 @@ pub fn all_sections(alloc: Global) -> Result<Image, AllocError> {
     Ok(image)
 }
 
-/// A volume of which the identifiers of the set and of the volume hold bytes that can't be printed.
+/// A volume with unprintable bytes in the identifiers of the set and of the volume.
 pub fn unprinted(alloc: Global) -> Result<Image, AllocError> {
     let mut volume = [b' '; 80];
     volume[..10].copy_from_slice(b"VOL1A\x07 ~\x7F\xE9");
@@ -95,7 +95,7 @@ pub fn unprinted(alloc: Global) -> Result<Image, AllocError> {
     Ok(image)
 }
 
-/// The worked volume, with two items behind its second mark.
+/// The worked volume, with two items after its second mark.
 pub fn with_items_behind(alloc: Global) -> Result<Image, AllocError> {
     let mut image = cut(alloc, 2480)?;
     image.block(HDR1.as_bytes())?;

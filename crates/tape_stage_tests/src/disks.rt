@@ -5,18 +5,18 @@ use std::alloc::{AllocError, Global};
 use std::test::*;
 use tape_stage::{Disk, DiskFault, MemoryDisk};
 
-/// Reads, where so many bytes are there.
+/// Reads, if there are enough bytes.
 fn read(disk: &mut MemoryDisk, place: usize, buf: &mut [u8]) -> bool {
     let len = disk.bytes().len();
     place <= len && buf.len() <= len - place && disk.read(place as u64, buf).is_ok()
 }
 
-/// Writes, where the place is there.
+/// Writes, if the offset is not past the end.
 fn write(disk: &mut MemoryDisk, place: usize, bytes: &[u8]) -> bool {
     place <= disk.bytes().len() && disk.write_at(place as u64, bytes).is_ok()
 }
 
-/// Cuts, where so many bytes are there.
+/// Cuts, if there are enough bytes.
 fn cut(disk: &mut MemoryDisk, len: usize) -> bool {
     len <= disk.bytes().len() && disk.cut(len as u64).is_ok()
 }
@@ -29,7 +29,7 @@ enum Step {
     Sync,
 }
 
-/// Whether the disk took the call.
+/// Whether the call succeeds.
 fn takes(disk: &mut MemoryDisk, step: Step) -> bool {
     match step {
         Step::Write(place, bytes) => write(disk, place, bytes),
@@ -38,7 +38,7 @@ fn takes(disk: &mut MemoryDisk, step: Step) -> bool {
     }
 }
 
-/// Whether the disk took all of these calls.
+/// Whether all of these calls succeed.
 fn takes_all(disk: &mut MemoryDisk, steps: &[Step]) -> bool {
     for step in steps {
         if !takes(disk, *step) {
@@ -48,12 +48,12 @@ fn takes_all(disk: &mut MemoryDisk, steps: &[Step]) -> bool {
     true
 }
 
-/// Whether the disk took the call, and has these bytes behind it.
+/// Whether the call succeeds, and leaves these bytes.
 fn becomes(disk: &mut MemoryDisk, step: Step, seen: &[u8]) -> bool {
     takes(disk, step) && disk.bytes() == seen && disk.len() == Ok(seen.len() as u64)
 }
 
-/// Calls in a row, and the bytes behind each.
+/// Consecutive calls, and the bytes after each.
 const CALLS: &[(Step, &[u8])] = &[
     (Step::Write(0, b"abcdef"), b"abcdef"),
     (Step::Write(4, b"XYZ"), b"abcdXYZ"),
@@ -79,14 +79,15 @@ fn a_read_fills_its_buffer(rt: HostRuntime) -> Result<(), AllocError> {
     Ok(())
 }
 
-/// Whether a disk that held `abcdef` has these bytes behind these calls, and a crash leaves those.
+/// Whether a disk that contained `abcdef` has these bytes after these calls, and a crash leaves
+/// those.
 fn leaves(alloc: Global, steps: &[Step], seen: &[u8], left: &[u8]) -> Result<bool, AllocError> {
     let mut disk = disk_of(alloc, b"abcdef")?;
     let stands = takes_all(&mut disk, steps) && disk.bytes() == seen;
     Ok(stands && disk.crash().bytes() == left)
 }
 
-/// Calls, what is there behind them, and what a crash leaves of it.
+/// Calls, the contents after them, and what a crash leaves.
 const CRASHES: &[(&[Step], &[u8], &[u8])] = &[
     (&[], b"abcdef", b"abcdef"),
     (
@@ -126,13 +127,13 @@ fn stands_still(disk: &mut MemoryDisk) -> bool {
     fails && &two == b".." && disk.bytes() == b"Xbcdef".as_slice()
 }
 
-/// Whether a disk that is to stop behind two calls, one of them a write, stops there.
+/// Whether a disk that should stop after two calls, one of them a write, does.
 fn stops(disk: &mut MemoryDisk) -> bool {
     disk.stop_after(2);
     disk.len() == Ok(6) && write(disk, 0, b"X") && stands_still(disk)
 }
 
-/// Whether what a crash left is another disk, which is not stopped, and can be.
+/// Whether what a crash left is another disk, which has not stopped, and can.
 fn goes_on(mut disk: MemoryDisk) -> bool {
     let stands = disk.bytes() == b"\xffbcdef".as_slice() && disk.len() == Ok(6);
     disk.stop_after(0);

@@ -8,7 +8,7 @@ use std::{fs, io};
 use tape_core::Checkpoint;
 use tape_stage::{Disk, DiskFault, FileDisk, HeldFile, Stage, held_file};
 
-/// A file that is there, or a new one, for reading and writing.
+/// An existing file, or a new one, for reading and writing.
 fn open(rt: &HostRuntime, path: &str) -> io::Result<File> {
     let mut options = OpenOptions::new();
     options.read(true).write(true).create(true);
@@ -26,7 +26,7 @@ fn made_in(rt: &HostRuntime, path: &str) -> Option<Stage<HeldFile<File>>> {
     }
 }
 
-/// The stage of a file that was made earlier.
+/// The stage of a file that was created earlier.
 fn opened_in(rt: &HostRuntime, path: &str) -> Option<(Stage<HeldFile<File>>, Checkpoint)> {
     let Ok(disk) = held_file(rt.alloc(), open(rt, path).ok()?) else {
         return None;
@@ -39,8 +39,8 @@ fn size_of(rt: &HostRuntime, path: &str) -> io::Result<usize> {
     Ok(fs::read(rt, path)?.len())
 }
 
-/// Leaves a file with a part that is acknowledged, and one behind it that is not. How many bytes it
-/// has while that is held, and once the parts were read.
+/// Leaves a file with one acknowledged part, and one after it that is not. Returns its length while
+/// the second part is buffered, and after the parts were read.
 fn leave_two_parts(
     rt: &HostRuntime,
     path: &str,
@@ -57,7 +57,7 @@ fn leave_two_parts(
     Ok(if done && read { Some(sizes) } else { None })
 }
 
-/// Whether the file opens with this checkpoint, and gives the part that it tells.
+/// Whether the file opens with this checkpoint, and returns the part that it counts.
 fn opens_with_one_part(rt: &HostRuntime, path: &str, one: &Checkpoint) -> bool {
     match opened_in(rt, path) {
         Some((mut stage, point)) => point == *one && holds(&mut stage, b"a"),
@@ -85,7 +85,7 @@ fn a_stage_in_a_file(rt: HostRuntime) -> Result<(), Fail> {
     Ok(())
 }
 
-/// Four bytes that are moved one in a call, so many times; every call behind these is interrupted.
+/// Four bytes that are moved one per call, this many times; every later call is interrupted.
 #[derive(Drop)]
 struct Slow {
     bytes: [u8; 4],
@@ -94,7 +94,7 @@ struct Slow {
 }
 
 impl Slow {
-    /// The place of the next byte, where a call is left.
+    /// The offset of the next byte, if a call is left.
     fn step(&mut self) -> io::Result<usize> {
         if self.left == 0 {
             return Err(io::Error::from(ErrorKind::Interrupted));
@@ -177,7 +177,7 @@ fn four_bytes(left: u8) -> Slow {
     }
 }
 
-/// The first bytes of such a file, where so many moves are left.
+/// The first bytes of such a file, if this many moves are left.
 fn read_slowly(left: u8, buf: &mut [u8]) -> bool {
     match FileDisk::new(four_bytes(left)) {
         Ok(mut disk) => read(&mut disk, 0, buf),
@@ -185,7 +185,7 @@ fn read_slowly(left: u8, buf: &mut [u8]) -> bool {
     }
 }
 
-/// The file behind a write to its second byte and a sync, where so many moves are left.
+/// The file after a write to its second byte and a sync, if this many moves are left.
 fn write_slowly(left: u8, bytes: &[u8]) -> Option<[u8; 4]> {
     let Ok(mut disk) = FileDisk::new(four_bytes(left)) else {
         return None;
@@ -211,7 +211,7 @@ fn interruptions_and_ends_are_failures(rt: HostRuntime) {
     let mut three = [0; 3];
     assert!(rt; !read_slowly(2, &mut three));
     assert!(rt; write_slowly(1, b"XY").is_none());
-    // The fifth byte is not taken.
+    // The fifth byte is not accepted.
     assert!(rt; write_slowly(9, b"WXYZ").is_none());
 }
 

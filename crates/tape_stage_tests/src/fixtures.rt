@@ -12,7 +12,7 @@ use tape_set::Position;
 use tape_stage::{Disk, MemoryDisk, Stage};
 
 // All 25 records of 80 bytes, in three blocks, were delivered, and the end of the section was not
-// met.
+// found.
 pub const PAYROLL_1: &[u8; 80] =
     b"TPCK1ABC00100010001000003R01F0008000PAYROLL          000000000002125            ";
 
@@ -87,7 +87,7 @@ pub fn start() -> Checkpoint
     }
 }
 
-/// The checkpoint in front of a block of section 1, where so much is staged.
+/// The checkpoint before a block of section 1, with this weight staged.
 pub fn in_front(block: u32, staged: u64) -> Option<Checkpoint> {
     let position = awaits(1, block, 0);
     Checkpoint::from_parts(
@@ -100,12 +100,12 @@ pub fn in_front(block: u32, staged: u64) -> Option<Checkpoint> {
     )
 }
 
-/// A stage on a disk that held nothing.
+/// A stage on an empty disk.
 pub fn made(alloc: Global) -> Option<Stage<MemoryDisk>> {
     Stage::create(alloc, MemoryDisk::new(alloc), &start()).ok()
 }
 
-/// A disk that holds these bytes.
+/// A disk with these bytes.
 pub fn disk_of(alloc: Global, bytes: &[u8]) -> Result<MemoryDisk, AllocError> {
     Ok(MemoryDisk::from_bytes(alloc, bytes.to_vec(alloc)?))
 }
@@ -138,12 +138,12 @@ pub fn put<D: Disk>(stage: &mut Stage<D>, record: u8) -> bool {
     stage.put(part).is_ok()
 }
 
-/// The checkpoint, saved where it tells the weight of what is staged.
+/// The checkpoint, saved if it has the weight of what is staged.
 pub fn save<D: Disk>(stage: &mut Stage<D>, point: &Checkpoint) -> bool {
     point.staged == stage.weight() && stage.save(point).is_ok()
 }
 
-/// Whether the stage gives these records of 80 bytes, each of one character, and no others.
+/// Whether the stage returns these records of 80 bytes, each of one character, and no others.
 pub fn holds<D: Disk>(stage: &mut Stage<D>, records: &[u8]) -> bool {
     let mut parts = stage.parts();
     for record in records {
@@ -159,7 +159,7 @@ pub fn holds<D: Disk>(stage: &mut Stage<D>, records: &[u8]) -> bool {
     matches!(parts.next(), Ok(None))
 }
 
-/// The bytes of each row stand at its place.
+/// The bytes of each row are at its offset.
 pub fn stand(rt: &impl Abort, bytes: &[u8], rows: &[(usize, &[u8])]) {
     for (place, there) in rows {
         let from = bytes.get(*place..).unwrap_or_default();
@@ -167,7 +167,7 @@ pub fn stand(rt: &impl Abort, bytes: &[u8], rows: &[(usize, &[u8])]) {
     }
 }
 
-/// Reads, where so many bytes are there.
+/// Reads, if there are enough bytes.
 pub fn read<D: Disk>(disk: &mut D, place: u64, buf: &mut [u8]) -> bool {
     match disk.len() {
         Ok(len) => {
@@ -177,7 +177,7 @@ pub fn read<D: Disk>(disk: &mut D, place: u64, buf: &mut [u8]) -> bool {
     }
 }
 
-/// Writes, where the place is there.
+/// Writes, if the offset is not past the end.
 pub fn write<D: Disk>(disk: &mut D, place: u64, bytes: &[u8]) -> bool {
     match disk.len() {
         Ok(len) => place <= len && disk.write_at(place, bytes).is_ok(),
@@ -185,7 +185,7 @@ pub fn write<D: Disk>(disk: &mut D, place: u64, bytes: &[u8]) -> bool {
     }
 }
 
-/// Cuts, where so many bytes are there.
+/// Cuts, if there are enough bytes.
 pub fn cut<D: Disk>(disk: &mut D, to: u64) -> bool {
     match disk.len() {
         Ok(len) => to <= len && disk.cut(to).is_ok(),
@@ -193,7 +193,7 @@ pub fn cut<D: Disk>(disk: &mut D, to: u64) -> bool {
     }
 }
 
-/// Whether the disk gives these bytes from a place on, 12 at most.
+/// Whether the disk returns these bytes from an offset on, at most 12.
 pub fn gives<D: Disk>(disk: &mut D, place: u64, bytes: &[u8]) -> bool {
     let mut buf = [0; 12];
     let size = bytes.len().min(12);

@@ -1,4 +1,4 @@
-//! A disk whose system forgets: it drops what a failed sync was to keep, and says nothing of that.
+//! A disk whose system forgets: it silently drops what a failed sync should have written.
 
 ghost use Rattle.std.specs.Prelude.{◌≡◌, false};
 ghost use Rattle.tape_core.specs.Weight.{Rose};
@@ -9,8 +9,8 @@ use std::test::*;
 use tape_core::Checkpoint;
 use tape_stage::{Disk, DiskFault, MemoryDisk, Stage};
 
-/// A disk of which one sync fails, and each later one answers Ok and keeps nothing. It meets what
-/// `Disk` asks, and can be believed up to that sync.
+/// A disk on which one sync fails, and each later one returns Ok and writes nothing. It satisfies
+/// the contract of `Disk`, and is honest up to that sync.
 #[derive(Drop)]
 struct Forgetful<D: Disk> {
     disk: D,
@@ -20,7 +20,7 @@ struct Forgetful<D: Disk> {
 }
 
 impl<D: Disk> Forgetful<D> {
-    /// Behind so many syncs one fails.
+    /// After this many syncs one fails.
     fn new(disk: D, syncs: u64) -> Forgetful<D> {
         Forgetful {
             disk,
@@ -121,7 +121,7 @@ fn saved_and_forgotten(alloc: Global) -> Option<(Checkpoint, MemoryDisk)> {
     Some((point, stage.into_disk().disk))
 }
 
-/// What comes back where a crash leaves the worst of an opened stage's disk.
+/// What remains if a crash leaves the worst of an opened stage's disk.
 fn behind_a_crash(alloc: Global, disk: MemoryDisk) -> Option<Checkpoint> {
     let (_, point) = Stage::open_disk(alloc, disk.crash()).ok()?;
     Some(point)

@@ -1,4 +1,4 @@
-//! Disks over files: what is held before it is written, and what is read ahead.
+//! Disks over files: write buffers and read-ahead.
 
 use crate::fixtures::{cut, gives, read, write};
 use std::alloc::{AllocError, Global};
@@ -10,7 +10,7 @@ use tape_stage::{
     Disk, DiskFault, FileDisk, HeldFile, MemoryDisk, ReadAhead, WriteBehind, held_file,
 };
 
-/// The most bytes that such a file gives or takes in one call.
+/// The most bytes that such a file returns or accepts in one call.
 const AT_ONCE: usize = 5_000;
 
 /// A file of a fixed length, in memory. It counts its reads and its writes, and one of its writes
@@ -26,7 +26,7 @@ struct Counting {
 }
 
 impl Counting {
-    /// So many bytes, all of them `.`.
+    /// This many bytes, all of them `.`.
     fn new(alloc: Global, size: usize, failing: u32) -> Result<Counting, AllocError> {
         let mut bytes = Vec::new(alloc);
         bytes.resize(size, b'.')?;
@@ -110,7 +110,7 @@ fn disk_counting(alloc: Global, size: usize, failing: u32) -> Option<HeldFile<Co
     held_file(alloc, Counting::new(alloc, size, failing).ok()?).ok()
 }
 
-/// The file behind the windows of a disk.
+/// The file of a disk with buffers.
 fn file_of(disk: HeldFile<Counting>) -> Counting {
     disk.into_disk().into_disk().into_file()
 }
@@ -118,7 +118,7 @@ fn file_of(disk: HeldFile<Counting>) -> Counting {
 /// How many bytes a small window has room for: fewer than some calls move.
 const SMALL: usize = 1_000;
 
-/// A disk over a new file, behind small windows.
+/// A disk over a new file, with small buffers.
 fn made_in(rt: &HostRuntime, path: &str) -> Option<HeldFile<File>> {
     let _ = fs::remove_file(rt, path);
     let mut options = OpenOptions::new();
@@ -134,7 +134,7 @@ fn record_of(number: u64) -> [u8; 85] {
     [number.to_be_bytes()[7]; 85]
 }
 
-/// Whether the disk gives such a record at its place.
+/// Whether the disk returns such a record at its offset.
 fn gives_record<D: Disk>(disk: &mut D, number: u64) -> bool {
     let mut bytes = [0; 85];
     number < 1_200 && read(disk, number * 85, &mut bytes) && bytes == record_of(number)
@@ -156,7 +156,7 @@ fn small_calls_are_put_together(rt: HostRuntime) {
     for record in 0..1_200u64 {
         assert!(rt; gives_record(&mut disk, record), "{record}");
     }
-    // In 32,768 bytes there are 385 records of 85: three times so many, which take seven calls of
+    // In 32,768 bytes there are 385 records of 85: three times that many, which take seven calls of
     // the file, and the rest.
     let file = file_of(disk);
     assert_eq!(rt; (file.writes, file.reads), (22, 22));
@@ -175,7 +175,7 @@ fn a_write_elsewhere_comes_behind_what_is_held(rt: HostRuntime) {
     assert!(rt; write(&mut disk, 5, b"fg") && gives(&mut disk, 0, b"aBCdefg.XY.."));
     assert!(rt; write(&mut disk, 11, b"Z"));
     let file = file_of(disk);
-    // The last one was not written: no sync kept it.
+    // The last one was not written: no sync promised to keep it.
     assert!(rt; file.bytes.as_slice() == b"aBCdefg.XY..".as_slice() && file.writes == 4);
 }
 
@@ -186,7 +186,7 @@ fn what_could_not_be_written_is_held_on(rt: HostRuntime) {
         return;
     };
     assert!(rt; write(&mut disk, 0, b"ab") && disk.sync() == Err(DiskFault::Device));
-    // It is read, and the next sync writes it before it says that all is kept.
+    // It is read, and the next sync writes it before it reports success.
     assert!(rt; gives(&mut disk, 0, b"ab..") && disk.sync() == Ok(()));
     let file = file_of(disk);
     assert!(rt; file.bytes.as_slice() == b"ab..........".as_slice() && file.writes == 2);
@@ -206,7 +206,7 @@ fn behind_a_failed_sync_nothing_is_kept(rt: HostRuntime) -> Result<(), Fail> {
     Ok(())
 }
 
-/// Whether the disk, which held nothing, forgets at a cut what it read ahead.
+/// Whether a cut makes the disk, which was empty, drop what it read ahead.
 fn forgets<D: Disk>(disk: &mut D) -> bool {
     let ahead = write(disk, 0, b"abcdef") && gives(disk, 0, b"ab");
     ahead && cut(disk, 3) && write(disk, 3, b"XYZ") && gives(disk, 0, b"abcXYZ")
@@ -219,7 +219,7 @@ fn a_cut_forgets_what_was_read_ahead(rt: HostRuntime) {
         return;
     };
     assert!(rt; forgets(&mut disk));
-    // What is held goes before the cut, which takes its end away again.
+    // The buffer is written before the cut, which removes its end again.
     assert!(rt; write(&mut disk, 6, b"gh") && cut(&mut disk, 7));
     let mut two = [0; 2];
     assert!(rt; !read(&mut disk, 6, &mut two));
@@ -234,7 +234,7 @@ fn reads_agree<A: Disk, B: Disk>(one: &mut A, two: &mut B, place: u64, size: usi
     first == read(two, place, &mut right[..size]) && left == right
 }
 
-/// Whether both disks answer the same to a write of so many bytes.
+/// Whether both disks answer the same to a write of this many bytes.
 fn writes_agree<A: Disk, B: Disk>(
     one: &mut A,
     two: &mut B,
@@ -249,7 +249,7 @@ fn writes_agree<A: Disk, B: Disk>(
     write(one, place, bytes) == write(two, place, bytes)
 }
 
-/// Whether both disks answer the same to a call that these bytes tell.
+/// Whether both disks answer the same to a call encoded by these bytes.
 fn calls_agree<A: Disk, B: Disk>(one: &mut A, two: &mut B, told: [u8; 8]) -> bool {
     let size = if told[0] < 12 {
         9_000

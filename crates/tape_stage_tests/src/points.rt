@@ -8,8 +8,8 @@ use tape_label::{Field, Format};
 use tape_set::Position;
 use tape_stage::{PointFault, read_point, write_point};
 
-/// A text, a position in it that is counted from 1, the characters that stand from there on in
-/// their place, and the fault of what comes of it, where it is no text of a checkpoint.
+/// A text, a position in it, counted from 1, the characters that replace those from there on, and
+/// the fault of the result, if it is not the text of a checkpoint.
 type Row<'r> = (&'r [u8; 80], usize, &'r str, Option<PointFault>);
 
 const RANGE: Option<PointFault> = Some(PointFault::Range);
@@ -36,7 +36,7 @@ fn answers(rt: &impl Abort, name: &str, rows: &[Row<'_>]) {
     }
 }
 
-/// Whether the checkpoint has this text in version 2, and is read of it.
+/// Whether the checkpoint has this text in version 2, and is read from it.
 fn is_text(point: &Checkpoint, text: &[u8; 80]) -> bool {
     write_point(point) == *text && read_point(text) == Ok(*point)
 }
@@ -122,7 +122,7 @@ const ROWS: &[(&str, &[Row<'_>])] = &[
             (PAYROLL_1, 5, "0", VERSION),
             (PAYROLL_1, 5, "3", VERSION),
             (PAYROLL_2, 5, " ABC001+", VERSION),
-            // The same characters behind the other version's digit are another text.
+            // The same characters after the other version's digit are another text.
             (PAYROLL_1, 5, "2", Some(PointFault::Field(20))),
             (PAYROLL_2, 5, "1", Some(PointFault::Field(26))),
         ],
@@ -190,7 +190,7 @@ const ROWS: &[(&str, &[Row<'_>])] = &[
             (WHOLE_2, 19, "1", RANGE),
             (WHOLE_2, 29, "1", RANGE),
             (WHOLE_2, 34, "1", RANGE),
-            // No record is begun behind it, not even in format S, and its file is known.
+            // No record is unfinished after it, not even in format S, and its file is known.
             (WHOLE_2, 36, "11S00000", RANGE),
             (START_2, 16, "0000000000000000000D", RANGE),
         ],
@@ -209,12 +209,12 @@ const ROWS: &[(&str, &[Row<'_>])] = &[
     (
         "what is said of a file",
         &[
-            // Nothing is said where nothing is known,
+            // No form although the form is not known,
             (START_1, 29, "F", RANGE),
             (START_1, 34, "1", RANGE),
             (START_1, 36, "1", RANGE),
             (START_1, 53, "X", RANGE),
-            // a format where something is known,
+            // a format if the form is known,
             (PAYROLL_1, 28, "0", RANGE),
             (PAYROLL_1, 29, " ", RANGE),
             // and a record length in format F alone.
@@ -244,8 +244,8 @@ fn what_is_read_of_a_text(rt: HostRuntime) {
     }
 }
 
-/// A text, a position in it, the characters that stand from there on in their place, and where such
-/// a checkpoint goes on: section, block and part; or nowhere.
+/// A text, a position in it, the characters that replace those from there on, and the position of
+/// such a checkpoint: section, block and part; or none.
 const GOES_ON: &[(&[u8; 80], usize, &str, Option<(u16, u32, u32)>)] = &[
     (PAYROLL_2, 20, "4294967295", Some((1, 4_294_967_295, 0))),
     // Six digits are all of version 1.
@@ -255,7 +255,7 @@ const GOES_ON: &[(&[u8; 80], usize, &str, Option<(u16, u32, u32)>)] = &[
     (WHOLE_2, 38, "S00000", None),
 ];
 
-/// Whether such a text goes on there.
+/// Whether such a text has that position.
 fn goes_on(
     text: &[u8; 80],
     position: usize,

@@ -1,4 +1,4 @@
-//! What remains of stages whose frames break off.
+//! What remains of damaged stages.
 
 use crate::fixtures::*;
 use std::alloc::{AllocError, Global};
@@ -11,7 +11,7 @@ use tape_stage::{MemoryDisk, Salvage, StageFault};
 const FOURTEEN_2: &[u8; 80] =
     b"TPCK2ABC00100010001000000000000002R01D0000000PAYROLL          000000000000014   ";
 
-/// Whether the walk gives these parts, each a whole record, and no others; and so again.
+/// Whether the walk returns these parts, each a complete record, and no others; and does so again.
 fn gives_parts(salvage: &mut Salvage<MemoryDisk>, parts: &[&[u8]]) -> bool {
     for _ in 0..2 {
         salvage.rewind();
@@ -32,7 +32,7 @@ fn gives_parts(salvage: &mut Salvage<MemoryDisk>, parts: &[&[u8]]) -> bool {
     true
 }
 
-/// Frames, the place where they break off, and the parts before it.
+/// Frames, the offset of the damage, and the parts before it.
 struct Row {
     name: &'static str,
     frames: &'static [u8],
@@ -97,7 +97,7 @@ const ROWS: &[Row] = &[
     },
 ];
 
-/// Whether of a stage with these frames this remains, and its bytes stay.
+/// Whether this remains of a stage with these frames, and its bytes are unchanged.
 fn remains(alloc: Global, row: &Row) -> Result<bool, AllocError> {
     let bytes = first_slot(alloc, b'O', FOURTEEN_2, row.frames)?;
     let Ok((mut salvage, point)) = Salvage::open_disk(alloc, disk_of(alloc, &bytes)?) else {

@@ -7,17 +7,17 @@ use tape_blocks::{Part, Span};
 use tape_core::{Checkpoint, PartSink, PartWalk};
 use tape_stage::{MemoryDisk, Stage};
 
-/// The checkpoint, kept by the sink where it tells the weight of what is staged.
+/// The checkpoint, kept by the sink if it has the weight of what is staged.
 fn keep(stage: &mut Stage<MemoryDisk>, point: &Checkpoint) -> bool {
     point.staged == stage.weight() && stage.keep(point).is_ok()
 }
 
-/// The sink cut to the checkpoint, where so much is staged.
+/// The sink cut to the checkpoint, with this weight staged.
 fn cut_to(stage: &mut Stage<MemoryDisk>, point: &Checkpoint) -> bool {
     point.staged <= stage.weight() && stage.cut_to(point).is_ok()
 }
 
-/// A sink with two records, kept under the checkpoint, and a third behind them.
+/// A sink with two records, kept under the checkpoint, and a third after them.
 fn with_three(alloc: Global, two: &Checkpoint) -> Option<Stage<MemoryDisk>> {
     let mut stage = made(alloc)?;
     let put_two = put(&mut stage, b'a') && put(&mut stage, b'b');
@@ -32,7 +32,7 @@ fn has_generations(bytes: &[u8]) -> bool {
         && bytes.get(128..144) == Some(b"O000000000000002".as_slice())
 }
 
-/// Whether the sink is cut to the first two of its three records at once.
+/// Whether the sink is cut at once to the first two of its three records.
 fn is_cut(stage: &mut Stage<MemoryDisk>, two: &Checkpoint) -> bool {
     stage.weight() == 255
         && cut_to(stage, two)
@@ -61,7 +61,7 @@ fn a_sink_cuts_at_once_down_to_what_was_saved(rt: HostRuntime) {
     assert!(rt; has_generations(stage.into_disk().bytes()));
 }
 
-/// Whether a walk from the first part gives the part `AB` and then, twice, none.
+/// Whether a walk from the first part returns the part `AB` and then, twice, none.
 fn walks_one_part(stage: &mut Stage<MemoryDisk>) -> bool {
     stage.rewind();
     let given = matches!(stage.next_part(), Ok(Some(part)) if part.bytes == b"AB".as_slice());

@@ -1,4 +1,4 @@
-//! The bytes of stages, and what is answered of other bytes.
+//! The bytes of stages, and the answers to other bytes.
 
 use crate::fixtures::*;
 use std::alloc::{AllocError, Global};
@@ -8,7 +8,7 @@ use tape_blocks::{Part, Span};
 use tape_core::{Checkpoint, PartSink};
 use tape_stage::{MemoryDisk, Stage, StageFault};
 
-/// The stage of so many records, saved under a checkpoint.
+/// The stage of this many records, saved under a checkpoint.
 fn saved(alloc: Global, records: u32, point: &Checkpoint) -> Option<Stage<MemoryDisk>> {
     let mut stage = made(alloc)?;
     for _ in 0..records {
@@ -23,7 +23,7 @@ fn saved(alloc: Global, records: u32, point: &Checkpoint) -> Option<Stage<Memory
     }
 }
 
-/// What stands in front of a stage of the whole file.
+/// The slots of a stage of the whole file.
 const SLOTS: &[(usize, &[u8])] = &[
     (0, b"O000000000000001"),
     (16, START_2),
@@ -33,7 +33,7 @@ const SLOTS: &[(usize, &[u8])] = &[
     (224, &[b' '; 32]),
 ];
 
-/// The front and the length of a part of 80 bytes.
+/// The span and the length of a part of 80 bytes.
 const FRAME: &[u8] = b"0\x00\x00\x00\x50";
 
 /// These are the bytes of a stage of 25 records.
@@ -54,7 +54,7 @@ fn a_stage_byte_by_byte(rt: HostRuntime) {
     }
 }
 
-/// What stands in a new stage.
+/// The contents of a new stage.
 const NEW_SLOTS: &[(usize, &[u8])] = &[
     (0, b"O000000000000001"),
     (16, START_2),
@@ -84,7 +84,7 @@ const PARTS: &[(Span, &[u8])] = &[
 
 const FRAMES: &[u8] = b"1\x00\x00\x00\x02AB2\x00\x00\x00\x01C3\x00\x00\x00\x000\x00\x00\x00\x00";
 
-/// Whether the stage takes the parts.
+/// Whether the stage accepts the parts.
 fn takes_parts(stage: &mut Stage<MemoryDisk>) -> bool {
     for (span, bytes) in PARTS {
         let part = Part {
@@ -144,7 +144,7 @@ fn fault_of_seven(
     fault_of(alloc, &bytes)
 }
 
-/// A name, the gate and the frames of such a stage, and the fault at which it opens, or none.
+/// A name, the gate and the frames of such a stage, and the fault with which it opens, or none.
 const SEVENS: &[(&str, u8, &[u8], Option<StageFault>)] = &[
     ("an open gate", b'O', b"0\x00\x00\x00\x02AB", None),
     (
@@ -185,7 +185,7 @@ fn gates_and_frames_of_a_stage(rt: HostRuntime) -> Result<(), AllocError> {
     Ok(())
 }
 
-/// What stands in such a stage that was saved.
+/// The contents of such a stage that was saved.
 const SAVED_AGAIN: &[(usize, &[u8])] = &[(16, START_1), (128, b"O000000000000002"), (144, START_2)];
 
 #[test]

@@ -1,4 +1,4 @@
-//! Disks that stop at each of their calls, and what is opened behind that.
+//! Disks that stop at each of their calls, and what is opened afterwards.
 
 use crate::fixtures::*;
 use std::alloc::{AllocError, Global};
@@ -7,7 +7,7 @@ use tape_blocks::{Part, Span};
 use tape_core::{Checkpoint, PartSink, PartWalk, SinkFault};
 use tape_stage::{MemoryDisk, Stage, StageFault};
 
-/// A new stage whose disk stops behind so many calls of its opening and what follows.
+/// A new stage whose disk stops after this many calls of its opening and what follows.
 fn stopping(alloc: Global, calls: u64) -> Option<(Stage<MemoryDisk>, Checkpoint)> {
     let mut disk = made(alloc)?.into_disk();
     disk.stop_after(calls);
@@ -36,7 +36,7 @@ fn a_failed_stage_refuses_until_it_is_opened_again(rt: HostRuntime) {
     assert!(rt; Stage::open_disk(rt.alloc(), stage.into_disk().crash()).is_ok());
 }
 
-/// Whether a save that its disk does not take is pending, and the stage gives no part then.
+/// Whether a save that its disk refuses is pending, and the stage then returns no part.
 fn is_pending(stage: &mut Stage<MemoryDisk>, point: &Checkpoint) -> bool {
     stage.pending().is_none()
         && !save(stage, point)
@@ -53,7 +53,7 @@ fn what_was_being_saved_when_the_disk_stopped(rt: HostRuntime) {
     assert!(rt; is_pending(&mut stage, &point));
 }
 
-/// What the parts are of this weight, in the run of `day`.
+/// The number of parts with this weight, in the run of `day`.
 fn records_of(staged: u64) -> &'static [u8] {
     match staged {
         0 => b"",
@@ -63,12 +63,12 @@ fn records_of(staged: u64) -> &'static [u8] {
     }
 }
 
-/// Goes back to the checkpoint, where so much is staged.
+/// Rolls back to the checkpoint, with this weight staged.
 fn restart(stage: &mut Stage<MemoryDisk>, point: &Checkpoint) -> bool {
     point.staged <= stage.weight() && stage.restart(point).is_ok()
 }
 
-/// A run with three saves, and a restart behind the second. It ends at the first refusal.
+/// A run with three saves, and a restart after the second. It ends at the first refusal.
 fn day(stage: &mut Stage<MemoryDisk>) -> bool {
     let (Some(two), Some(three), Some(four)) = (
         in_front(1, 170),
@@ -83,7 +83,7 @@ fn day(stage: &mut Stage<MemoryDisk>) -> bool {
     saved && put(stage, b'd') && put(stage, b'e') && save(stage, &four)
 }
 
-/// What may come back of a disk: the checkpoint that was acknowledged, or the one that was being
+/// What may be left of a disk: the checkpoint that was acknowledged, or the one that was being
 /// saved.
 #[derive(Drop)]
 struct Saved {
@@ -98,8 +98,7 @@ impl Saved {
     }
 }
 
-/// The run on a disk that stops behind so many of its calls: the disk, and what may come back of
-/// it.
+/// The run on a disk that stops after this many of its calls: the disk, and what may be left of it.
 fn stopped_after(alloc: Global, calls: u64) -> Option<(MemoryDisk, Saved)> {
     let mut disk = made(alloc)?.into_disk();
     disk.stop_after(calls);
@@ -122,7 +121,7 @@ fn stopped_after(alloc: Global, calls: u64) -> Option<(MemoryDisk, Saved)> {
     })
 }
 
-/// Whether a disk that a crash left opens with a checkpoint that may come back, and its parts.
+/// Whether a disk that a crash left opens with a checkpoint that may be left, and its parts.
 fn comes_back(alloc: Global, disk: MemoryDisk, saved: &Saved) -> bool {
     let Ok((mut stage, point)) = Stage::open_disk(alloc, disk) else {
         return false;
@@ -130,7 +129,7 @@ fn comes_back(alloc: Global, disk: MemoryDisk, saved: &Saved) -> bool {
     saved.has(point) && holds(&mut stage, records_of(point.staged))
 }
 
-/// The disk with these bytes, behind an opening that stopped after so many calls.
+/// The disk with these bytes, after an opening that stopped after this many calls.
 fn opened_until(alloc: Global, bytes: &[u8], calls: u64) -> Result<MemoryDisk, AllocError> {
     let mut disk = disk_of(alloc, bytes)?;
     disk.stop_after(calls);
@@ -140,7 +139,8 @@ fn opened_until(alloc: Global, bytes: &[u8], calls: u64) -> Result<MemoryDisk, A
     })
 }
 
-/// How many of the stops of an opening leave what opens, of what a crash left at a stop of the run.
+/// At how many of the stops of an opening, of what a crash left at a stop of the run, the rest can
+/// be opened.
 fn openings(alloc: Global, left: &[u8], saved: &Saved) -> Result<u64, AllocError> {
     let mut count = 0u64;
     for calls in 0..11 {
@@ -180,17 +180,17 @@ fn a_stop_at_each_call_of_opening_behind_each_stop(rt: HostRuntime) -> Result<()
     Ok(())
 }
 
-/// The weight that is acknowledged at last, where the run stops behind so many calls.
+/// The weight acknowledged last, if the run stops after this many calls.
 fn acknowledged_after(alloc: Global, calls: u64) -> Option<u64> {
     let (_, saved) = stopped_after(alloc, calls)?;
     Some(saved.acknowledged.staged)
 }
 
-/// Calls behind which the disk stops, and the weight that is acknowledged then.
+/// The calls after which the disk stops, and the weight acknowledged then.
 ///
 /// Opening makes 6: a sync, the length, both slots, the length, a cut and its sync. A part is put
 /// by 2. The first save makes 5, 3 of them syncs; each later one 6, since it closes a gate first.
-/// Going back makes 7, with its cut.
+/// Rolling back makes 7, with its cut.
 const WEIGHTS: &[(u64, u64)] = &[
     (14, 0),
     (15, 170),

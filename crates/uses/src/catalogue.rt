@@ -6,7 +6,7 @@ use std::test::Fail;
 use tape_label::Field;
 use tape_run::{Catalogue, Lack, RunFault, check_set};
 
-/// The first section that is not there whole, of all sets on the reels.
+/// The first incomplete section, of all sets on the reels.
 fn first_lack<R: Read>(alloc: Global, reels: &mut [R]) -> Result<Option<Lack>, RunFault> {
     let mut catalogue = Catalogue::new(alloc);
     for reel in reels {

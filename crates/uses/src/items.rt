@@ -4,7 +4,7 @@ use std::io::Read;
 use std::test::Fail;
 use tape_image::{ImageFault, ImageReader, Item};
 
-/// How many blocks, bad blocks and tape marks follow, up to the end of medium.
+/// Counts the blocks, bad blocks and tape marks that follow, up to the end of the medium.
 fn counted<R: Read>(image: &mut ImageReader<'_, R>) -> Result<(u64, u64, u64), ImageFault> {
     let (mut blocks, mut bad, mut marks) = (0u64, 0u64, 0u64);
     // An image has fewer items than this. A loop with no bound would need a proof that it ends.

@@ -5,7 +5,7 @@ use std::test::Fail;
 use tape_image::{ImageFault, ImageReader, Item};
 use tape_label::{Field, Label, read_label};
 
-/// The volume, and the file that stands first on it, if there is one.
+/// The volume, and the first file on it, if there is one.
 fn first_names<R: Read>(
     image: &mut ImageReader<'_, R>,
 ) -> Result<Option<(Field<6>, Field<17>)>, ImageFault> {

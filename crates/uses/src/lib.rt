@@ -1,6 +1,6 @@
-//! Uses of the crates, as a program that stands on them writes them: each file has a caller of
-//! public calls alone, and a test that runs it. They stand under `cfg(test)`, so that the gate
-//! proves them once, with their tests.
+//! Uses of the crates, as a program that depends on them contains them: each file has a caller of
+//! public calls only, and a test that runs it. They are under `cfg(test)`, so that CI proves them
+//! once, with their tests.
 #![tactic(auto)]
 
 #[cfg(test)]

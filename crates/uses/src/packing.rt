@@ -1,9 +1,9 @@
-//! A record packed into blocks, and the parts of these walked.
+//! A record packed into blocks, and a walk over the parts of these.
 use std::test::Fail;
 use tape_blocks::{BlockFault, Offer, Packer, Parts, Shape, check_block};
 use tape_label::Format;
 
-/// What was counted so far.
+/// The counts so far.
 #[derive(Clone, Copy, Debug, PartialEq, Eq)]
 struct Counts {
     records: u64,

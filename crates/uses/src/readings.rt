@@ -1,4 +1,4 @@
-//! A file got back from two damaged readings of its reel.
+//! A file recovered from two damaged readings of its reel.
 use super::reel::{FIRST_BAD, SECOND_BAD};
 use std::alloc::Global;
 use std::io::Read;
@@ -7,18 +7,18 @@ use tape_blocks::Form;
 use tape_label::Field;
 use tape_run::{EngineFault, Step, read_file};
 
-/// What came of two readings.
+/// The result of two readings.
 #[derive(Clone, Copy, PartialEq, Eq)]
 enum Outcome {
     /// All of the file was read.
     Written,
-    /// Something of it is wanted still.
+    /// Something of it is still missing.
     Wanting,
-    /// This reading could not be taken, counted from 0.
+    /// This reading could not be used, counted from 0.
     Stopped(usize),
 }
 
-/// The records of a file from two readings, a line feed behind each, where all of it was read.
+/// The records of a file from two readings, each followed by a line feed, if all of it was read.
 fn lines_of<R: Read>(
     alloc: Global,
     set_id: Field<6>,

@@ -9,7 +9,7 @@ use tape_label::Field;
 use tape_set::Position;
 use tape_stage::{Disk, MemoryDisk, Stage};
 
-/// How many bytes the first part has, `None` where no part is staged. The stage holds what it held.
+/// Returns the length of the first part, or `None` if no part is staged. The stage is unchanged.
 fn first_length<D: Disk>(stage: &mut Stage<D>) -> Result<Option<usize>, SinkFault>
     ensures stays { (parts : List Portion) → Holds stage.old parts → Holds stage.new parts }
     ensures empty { (parts : List Portion) → Holds stage.old parts → result ≡ Ok None
