@@ -1,5 +1,4 @@
--- What the definitions of surveys say of cases. The call `laws::cases` has them as its
--- contract.
+-- Examples for the definitions of surveys. They are the contract of the call `laws::cases`.
 use Rattle.std.specs.Prelude.{◌≡◌, ◌≢◌, ◌++◌, ◌+◌, ◌==◌, ◌≤◌, ◌&&◌, length, ℕ, Bool, true, false}
 use Rattle.std.specs.Prelude.{List, [], ◌∷◌, replicate, Option, Some, None, Ok, Err, codes, decimal}
 use Rattle.std.specs.List.{AllByRecursion}
@@ -57,7 +56,7 @@ use Rattle.tape_run.specs.SurveyRead.{Found, nothing_found, is_whole_sight, IsVi
 use Rattle.tape_run.specs.SurveySets.{standing_of, is_all}
 use Rattle.tape_run.specs.Survey.{image_texts, TellsSight, Surveys, SurveysInPart, summary_at}
 
--- an image that went so far and stopped so, with a file that is not read or without one
+-- an image that was read this far and ended like this, with a file that is not read or without one
 abbrev pub sight : Course → Option ℕ → ImageStop → Sight
 sight course unread stop =
     record { glance = record blank_glance { course = course; unread = unread }; stop = stop }
@@ -81,7 +80,7 @@ label file_id created generation = record {
 abbrev pub first_week : Head1
 first_week = label (codes "WEEKLY.BCK       ") (codes " 85100") (codes "0001")
 
--- what was found, where all images are whole and this was met
+-- what was found if all images are complete and this was found
 abbrev pub found : Bool → List Filed → Found
 found whole files =
     record {
@@ -101,11 +100,11 @@ pub record CasesOfGlances : Type 0 where
   pub begins_mark : first_of mark ≡ firsts.Mark
   pub ebcdic : is_ebcdic (229 ∷ 214 ∷ 211 ∷ 241 ∷ replicate 76 64) ≡ true
   pub short_ebcdic : is_ebcdic (229 ∷ 214 ∷ 211 ∷ 241 ∷ []) ≡ false
-  -- a volume label behind something else, the first of several
+  -- a volume label after something else, the first of several
   pub late : late_with None 1 bad ≡ None
   pub late_stays : (x : TapeItem) → or_else {T = ℕ} (Some 2) (Some 9) ≡ Some 2
   pub other_kind : is_kind_vol1 (Some kinds.Hdr1) ≡ false
-  -- an HDR2 that does not read is told by its file; one that does, or another label, is not
+  -- an HDR2 that does not read is reported with its file; one that does, or another label, is not
   pub unread : (f : LabelFault) → unread_with 2 (Err f) ≡ Some 2
   pub read : (h : Head2) → unread_with 2 (Ok h) ≡ None
   pub no_second_label : (b : List ℕ) → unread_by 2 None b ≡ None
@@ -117,11 +116,11 @@ pub record CasesOfGlances : Type 0 where
   pub blank_ends : course_with Blank 3 phases.Over mark phases.Over ≡ Ended
   pub one_mark : (b : List ℕ)
       → course_with Blank 3 phases.Over (block b) phases.Over ≡ Leaves 3 wanted.SecondMark
-  -- a second mark behind a section ends the volume, and nothing stands behind that
+  -- a second mark after a section ends the volume, and nothing follows it
   pub ends : (v : List ℕ) → course_with Follows 12 (phases.Next v) mark phases.Over ≡ Ended
   pub behind_the_end : (x : TapeItem)
       → course_with Ended 13 phases.Over x phases.Over ≡ Leaves 13 wanted.End
-  -- what is wanted where the order is left
+  -- what is expected where the order is left
   pub no_section : (v : List ℕ)
       → course_with Follows 2 (phases.Labels v) bad phases.Over ≡ Leaves 2 wanted.Section
   pub no_second : (m : Met)
@@ -138,7 +137,7 @@ pub record CasesOfGlances : Type 0 where
   pub followed : (has_left Ended ≡ false) × (has_left Blank ≡ false)
   pub marks : end_marks [] ≡ mark ∷ mark ∷ []
 
--- of what is whole, and of all
+-- of one complete image, and of all
 pub record CasesOfWholes : Type 0 where
   pub whole : is_whole_sight (sight Ended None Marked) ≡ true
   pub whole_too : is_whole_sight (sight Ended None Physical) ≡ true
@@ -155,7 +154,7 @@ pub record CasesOfWholes : Type 0 where
   pub other_generation : is_other first_week
       (label (codes "WEEKLY.BCK       ") (codes " 85100") (codes "0002")) ≡ true
   pub same : is_other first_week first_week ≡ false
-  -- the label met first is kept, and that another was met is not forgotten
+  -- the label found first is kept, and that another was found is not forgotten
   pub first_kept : with_head (with_head (with_head [] first_week)
       (label (codes "DAILY.BCK        ") (codes " 85100") (codes "0001"))) first_week
       ≡ (file_key (codes "BCK001") 1, record { head = first_week; differs = true }) ∷ []
@@ -169,7 +168,7 @@ pub record CasesOfWholes : Type 0 where
   pub behind : standing_of (met 1 1 false Good ∷ []) (codes "ABC001") 1
       ≡ Behind 2 (codes "ABC001")
   pub missing : standing_of (met 2 1 true Good ∷ []) (codes "ABC001") 1 ≡ Missing 1
-  -- all is there only where images are whole, something was met, and labels do not differ
+  -- nothing is missing only if images are complete, something was found, and labels do not differ
   pub all : is_all (found true []) ≡ true
   pub not_whole : is_all (found false []) ≡ false
   pub nothing_met : is_all nothing_found ≡ false
@@ -181,7 +180,7 @@ pub record CasesOfWholes : Type 0 where
   pub names : named 9 ∷ named 10 ∷ named 32 ∷ named 127 ∷ named 195 ∷ []
       ≡ 63 ∷ 63 ∷ 32 ∷ 63 ∷ 195 ∷ []
 
--- of the order of a volume, and of what is told
+-- of the order of a volume, and of what is reported
 pub record CasesOfSurveys : Type 0 where
   -- a section has its labels, of one section, and a volume its label and its sections
   pub section : (items : List TapeItem) (s : IsSectionInOrder items) → IsHead1 s.hdr1 s.head
@@ -192,12 +191,12 @@ pub record CasesOfSurveys : Type 0 where
       → IsVol1 b.vol1 b.label × AllByRecursion (λ l. is_volume_label l ≡ true) b.labels
       × AllByRecursion IsSectionInOrder sections
   pub no_volume : IsVolumeInOrder (mark ∷ []) → ⊥
-  -- the first item astray stands there, behind those that follow the order
+  -- the first item out of order follows those that are in order
   pub astray : (items : List TapeItem) (n : ℕ) (a : IsFirstAstray items n)
       → (items ≡ a.before ++ a.item ∷ a.behind) × (n ≡ length a.before + 1)
       × (has_left (course_of a.before) ≡ false)
       × (has_left (course_of (a.before ++ a.item ∷ [])) ≡ true)
-  -- an image has a line by its name, and one that was not opened is left over
+  -- an image has a line with its name, and one that was not opened was not read completely
   pub line : (y : Wording) (name : List ℕ) (s : Option Sight)
       → image_texts y (name ∷ name ∷ []) (s ∷ []) ≡ image_text y name s ++ []
   pub left_unopened : (c d : Found) → IsViewed None None c d
@@ -211,7 +210,7 @@ pub record CasesOfSurveys : Type 0 where
       × (d.files ≡ filed_in c.files v.1.items)
       × (d.locations ≡ located_in c.images c.sections c.locations v.1.items)
       × (d.whole ≡ (c.whole && is_whole_sight s)) × (d.images ≡ next_image c.images)
-  -- numbers that were not found are told before the next file that was
+  -- numbers that were not found are reported before the next file that was
   pub gap_of_one : gap_text Words (codes "ABC001") 1 2 ≡ codes "  file 1: not found\n"
   pub gap_of_many : gap_text Words (codes "ABC001") 1 9999 ≡ codes "  files 1-9998: not found\n"
   pub row_of_many : gap_text Rows (codes "ABC001") 2 5
@@ -242,10 +241,10 @@ pub record CasesOfSurveys : Type 0 where
   pub tells : (y : Wording) (reel : Reel) (name : List ℕ) (c d : Found)
       (old new : Option (List ℕ)) (t : TellsSight y reel name c d old new) → IsViewed reel t.0 c d
       × Appends old new (image_text y name t.0)
-  -- what stands behind the images follows where none is left
+  -- what follows the images is printed if none is left
   pub summary_last : (y : Wording) (d : Found) → summary_at y true d ≡ summary y d
   pub no_summary_before : (y : Wording) (d : Found) → summary_at y false d ≡ []
-  -- rows have each section, and no last line; their columns stand a tab apart
+  -- rows have each section, and no last line; a tab separates their columns
   pub sections_in_rows : (t : Told) → sections_text Rows (t ∷ []) ≡ section_row t ++ []
   pub no_end_in_rows : end_text Rows true ≡ []
   pub last_section : eof_cell true ≡ codes "EOF"
@@ -255,21 +254,21 @@ pub record CasesOfSurveys : Type 0 where
       ≡ codes "MISSING\t" ++ decimal n ++ codes "\t" ++ codes "ABC001"
   pub nothing_wanted : standing_cells Complete ≡ codes "COMPLETE\t\t"
   pub not_mixed : mixed_cell None ≡ codes "\t\n"
-  -- the survey that is written is that of the images viewed, each of them in its place
+  -- the survey that is written is that of the images read, each of them in its place
   pub surveyed : (y : Wording) (names : List (List ℕ)) (shelf left : Readers) (old new : Known)
       (all : Bool) (s : Surveys y Took (λ r. r) names shelf left old new all)
       → (length s.sights ≡ length names)
       × AreViewed Took (λ r. r) shelf 0 s.sights nothing_found left s.found
       × Appends old new (image_texts y names s.sights ++ summary y s.found)
       × (all ≡ is_all s.found)
-  -- at a fault a front of it is, of the first images, with the summary behind the last one
+  -- after a fault a prefix of it is, of the first images, with the summary after the last one
   pub surveyed_in_part : (y : Wording) (names : List (List ℕ)) (shelf : Readers) (old new : Known)
       (s : SurveysInPart y Took (λ r. r) names shelf old new)
       → (length s.sights ≤ length names)
       × AreViewed Took (λ r. r) shelf 0 s.sights nothing_found s.left s.found
       × AppendsFront old new
       (image_texts y names s.sights ++ summary_at y (length s.sights == length names) s.found)
-  -- what a caller draws from the laws of a glance
+  -- what a caller can conclude from the laws of a glance
   pub left_there : LeavesThere → (items : List TapeItem) (n : ℕ) (w : Wanted)
       → course_of items ≡ Leaves n w → IsFirstAstray items n
   pub ended_there : EndedIsVolume → (items : List TapeItem) → course_of items ≡ Ended

@@ -1,4 +1,4 @@
--- What `survey` tells of images.
+-- What `survey` prints of images.
 use Rattle.std.specs.Prelude.{◌≡◌, ◌⊎◌, ◌≤◌, ◌==◌, ℕ, Bool, true, false, List, [], ◌∷◌, ◌++◌}
 use Rattle.std.specs.Prelude.{length, Option}
 use Rattle.std.specs.Io.KnownBytes.{Appends}
@@ -24,14 +24,14 @@ abbrev pub TellsSight : Wording → Reel → List ℕ → Found → Found → Op
 TellsSight y reel name c d old new =
     (sight : Option Sight) × IsViewed reel sight c d × Appends old new (image_text y name sight)
 
--- A fault came at an image: nothing more was written, or the image was read and a front of its line
--- was written.
+-- A fault came at an image: nothing more was written, or the image was read and a prefix of its
+-- line was written.
 abbrev pub StopsAtSight : Wording → Reel → List ℕ → Found → Option (List ℕ) → Option (List ℕ)
     → Type 0
 StopsAtSight y reel name c old new = Appends old new [] ⊎ ((sight : Option Sight) × (d : Found)
     × IsViewed reel sight c d × AppendsFront old new (image_text y name sight))
 
--- the images of these names were read, and their lines were written
+-- the images with these names were read, and their lines were written
 pub record TellsSights {L R : Type 0} (y : Wording) (gives : Mounting L R)
     (remaining : R → Option (List ℕ))
     (names : List (List ℕ)) (shelf left : L) (d : Found) (old new : Option (List ℕ)) : Type 0 where
@@ -40,8 +40,8 @@ pub record TellsSights {L R : Type 0} (y : Wording) (gives : Mounting L R)
   pub viewed : AreViewed gives remaining shelf 0 sights nothing_found left d
   pub wrote : Appends old new (image_texts y names sights)
 
--- The survey of the images of a shelf that have these names, one after another, was written, and it
--- is told so whether nothing lacks and nothing is left over. Behind the images this was found.
+-- The survey of the images with these names, one after another, was written, and the result says
+-- whether nothing is missing and every image was read completely. After the images this was found.
 pub record Surveys {L R : Type 0} (y : Wording) (gives : Mounting L R)
     (remaining : R → Option (List ℕ))
     (names : List (List ℕ)) (shelf left : L) (old new : Option (List ℕ)) (all : Bool)
@@ -53,13 +53,13 @@ pub record Surveys {L R : Type 0} (y : Wording) (gives : Mounting L R)
   pub wrote : Appends old new (image_texts y names sights ++ summary y found)
   pub is_so : all ≡ is_all found
 
--- the summary follows where there are as many as that
+-- the summary follows if there are that many
 abbrev pub summary_at : Wording → Bool → Found → List ℕ
 summary_at y true d = summary y d
 summary_at y false d = []
 
--- The first images were read, and a front of their survey was written; its summary follows the line
--- of the last.
+-- The first images were read, and a prefix of their survey was written; its summary follows the
+-- line of the last.
 pub record SurveysInPart {L R : Type 0} (y : Wording) (gives : Mounting L R)
     (remaining : R → Option (List ℕ))
     (names : List (List ℕ)) (shelf : L) (old new : Option (List ℕ)) : Type 0 where

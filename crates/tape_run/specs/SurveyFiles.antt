@@ -26,7 +26,7 @@ abbrev pub is_other : Head1 → Head1 → Bool
 is_other a b = not (bytes_eq a.file_id b.file_id)
     || (not (bytes_eq a.created b.created) || not (bytes_eq a.generation b.generation))
 
--- what is known of a file of which this was known, behind one more label
+-- what is known of a file of which this was known, after one more label
 abbrev pub note_of : Option FileNote → Head1 → FileNote
 note_of None head = record { head = head; differs = false }
 note_of (Some note) head =
@@ -40,27 +40,27 @@ file_key set_id file = record { set_id = set_id; file = file }
 abbrev pub note_at : List Filed → FileKey → Option FileNote
 note_at files key = lookup (same_file key) files
 
--- the files behind one more header label: a new one goes last, and the label met first is kept
+-- the files after one more header label: a new one goes last, and the label found first is kept
 abbrev pub with_head : List Filed → Head1 → List Filed
 with_head files head =
     let key = file_key head.set_id head.sequence in
     insert_entry same_file files key (note_of (note_at files key) head)
 
--- behind a header label, if one was met
+-- after a header label, if one was found
 abbrev pub with_met : List Filed → Option Head1 → List Filed
 with_met files None = files
 with_met files (Some head) = with_head files head
 
--- behind the header labels that these items are, in this phase
+-- after the header labels among these items, in this phase
 abbrev pub with_all : List Filed → Phase → List TapeItem → List Filed
 with_all files p [] = files
 with_all files p (x ∷ xs) = with_all (with_met files (head_in p x)) (step p x).0 xs
 
--- behind those of an image
+-- after those of an image
 abbrev pub filed_in : List Filed → List TapeItem → List Filed
 filed_in files items = with_all files Volume items
 
--- different files were met under the numbers of one of these
+-- different files were found under the number of one of these
 abbrev pub any_differs : List Filed → Bool
 any_differs [] = false
 any_differs (f ∷ fs) = f.1.differs || any_differs fs

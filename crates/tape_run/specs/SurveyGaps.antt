@@ -38,11 +38,11 @@ abbrev pub gap_row : List ℕ → ℕ → ℕ → List ℕ
 gap_row set_id first file = codes "FILE\t" ++ trimmed_text set_id ++ codes "\t"
     ++ numbers_text first file ++ codes "\t\t\tMISSING\t1\t\t\n"
 
--- what is said of them
+-- the text for them
 abbrev pub gap_by : Wording → List ℕ → ℕ → ℕ → List ℕ
 gap_by Words set_id first file = gap_line first file
 gap_by Rows set_id first file = gap_row set_id first file
 
--- what is said of the numbers from the first one up to the one before a file, if there are some
+-- the text for the numbers from the first one up to the one before a file, if there are any
 abbrev pub gap_text : Wording → List ℕ → ℕ → ℕ → List ℕ
 gap_text y set_id first file = if nat_lt first file then gap_by y set_id first file else []

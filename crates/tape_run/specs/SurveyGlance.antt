@@ -61,17 +61,17 @@ is_vol1 (block b) = is_kind_vol1 (kind_at b)
 is_vol1 bad = false
 is_vol1 mark = false
 
--- the first of two that is there
+-- the first of two that exists
 abbrev pub or_else : {T : Type 0} → Option T → Option T → Option T
 or_else (Some x) second = Some x
 or_else None second = second
 
--- the number of the first volume label behind the first item
+-- the number of the first volume label after the first item
 abbrev pub late_with : Option ℕ → ℕ → TapeItem → Option ℕ
 late_with late number x =
     if not (number == 1) && is_vol1 x then or_else late (Some number) else late
 
--- what was read, where it could be
+-- what was read, if it could be
 abbrev pub head_by : Result Head1 LabelFault → Option Head1
 head_by (Ok head) = Some head
 head_by (Err _) = None
@@ -80,7 +80,7 @@ head_by (Err _) = None
 abbrev pub head_of : List ℕ → Option Head1
 head_of b = head_by (head1_at b)
 
--- the header label that a block is, where a section may begin
+-- the header label that a block is, if a section may begin there
 abbrev pub head_at : Phase → List ℕ → Option Head1
 head_at (phases.Labels v) b = head_of b
 head_at (phases.Next v) b = head_of b
@@ -92,17 +92,17 @@ head_in p (block b) = head_at p b
 head_in p bad = None
 head_in p mark = None
 
--- the file, where this is what its HDR2 reads as and that is nothing
+-- the file, if its HDR2 cannot be read as one
 abbrev pub unread_with : ℕ → Result Head2 LabelFault → Option ℕ
 unread_with file (Ok head) = None
 unread_with file (Err _) = Some file
 
--- the file of which a block of this kind is an HDR2 that is none that is read
+-- the file of which a block of this kind is an HDR2 that is not read
 abbrev pub unread_by : ℕ → Option Kind → List ℕ → Option ℕ
 unread_by file (Some kinds.Hdr2) b = unread_with file (head2_at b)
 unread_by file _ b = None
 
--- the same of a block, where a second label is wanted
+-- the same for a block, if a second label is expected
 abbrev pub unread_at : Phase → List ℕ → Option ℕ
 unread_at (phases.Second met) b = unread_by met.key.file (kind_at b) b
 unread_at _ b = None
@@ -113,7 +113,7 @@ unread_in p (block b) = unread_at p b
 unread_in p bad = None
 unread_in p mark = None
 
--- what is wanted in each phase
+-- what is expected in each phase
 abbrev pub wanted_in : Phase → Wanted
 wanted_in phases.Volume = wanted.Volume
 wanted_in (phases.Labels v) = wanted.Section
@@ -125,13 +125,13 @@ wanted_in (phases.Trailers v) = wanted.Mark
 wanted_in (phases.Next v) = wanted.Next
 wanted_in phases.Over = wanted.End
 
--- an item left the order where nothing is expected behind it
+-- an item left the order if nothing is expected after it
 abbrev pub left_by : ℕ → Phase → Phase → Course
 left_by number p phases.Over = Leaves number (wanted_in p)
 left_by number p _ = Follows
 
--- The course behind a tape mark, where all before it follow the order and the volume goes on:
--- behind the volume labels it may be that of a blank volume, and one more behind a section ends the
+-- The course after a tape mark, if all items before it follow the order and the volume continues:
+-- after the volume labels it may be that of a blank volume, and one more after a section ends the
 -- volume.
 abbrev pub behind_mark : ℕ → Phase → Phase → Course
 behind_mark number (phases.Labels v) next = Blank
@@ -144,13 +144,13 @@ behind number p mark next = behind_mark number p next
 behind number p bad next = left_by number p next
 behind number p (block b) next = left_by number p next
 
--- the course behind an item where a second tape mark is wanted
+-- the course after an item where a second tape mark is expected
 abbrev pub behind_blank : ℕ → TapeItem → Course
 behind_blank number mark = Ended
 behind_blank number bad = Leaves number wanted.SecondMark
 behind_blank number (block b) = Leaves number wanted.SecondMark
 
--- the course behind an item
+-- the course after an item
 abbrev pub course_with : Course → ℕ → Phase → TapeItem → Phase → Course
 course_with Follows number p x next = behind number p x next
 course_with Blank number p x next = behind_blank number x
@@ -163,7 +163,7 @@ is_bad (block b) = false
 is_bad bad = true
 is_bad mark = false
 
--- one, where it is so
+-- one, if this is so
 abbrev pub one_if : Bool → ℕ
 one_if b = if b then 1 else 0
 
@@ -185,7 +185,7 @@ blank_glance = record {
   course = Follows;
 }
 
--- the glance behind one more item, with this phase before it and behind it
+-- the glance after one more item, with the phases before and after it
 abbrev pub look_to : Glance → Phase → TapeItem → Phase → Glance
 look_to g p x next = record {
   items = g.items + 1;
@@ -198,7 +198,7 @@ look_to g p x next = record {
   course = course_with g.course (g.items + 1) p x next;
 }
 
--- the glance behind these items, in this phase
+-- the glance after these items, in this phase
 abbrev pub look_all : Glance → Phase → List TapeItem → Glance
 look_all g p [] = g
 look_all g p (x ∷ xs) = let next = (step p x).0 in look_all (look_to g p x next) next xs

@@ -1,4 +1,4 @@
--- What a glance at an image tells of its items.
+-- What a glance at an image says of its items.
 use Rattle.std.specs.Prelude.{◌≡◌, ◌≢◌, ℕ, ◌+◌, Bool, true, false, List, [], ◌∷◌, ◌++◌, length, map}
 use Rattle.std.specs.List.{AllByRecursion, flat_map}
 use Rattle.tape_image.specs.Tape.{TapeItem, block, mark}
@@ -48,7 +48,7 @@ pub record IsBegun (items : List TapeItem) (sections : List (List TapeItem)) : T
   pub further : AllByRecursion (λ b. is_volume_label b ≡ true) labels
   pub each : AllByRecursion IsSectionInOrder sections
 
--- what ends a volume of these sections: a mark, and one more where it has none
+-- what ends a volume of these sections: a mark, and one more if it has none
 abbrev pub end_marks : List (List TapeItem) → List TapeItem
 end_marks [] = mark ∷ mark ∷ []
 end_marks (section ∷ sections) = mark ∷ []
@@ -60,7 +60,7 @@ pub record IsVolumeInOrder (items : List TapeItem) : Type 0 where
   pub begun : IsBegun front sections
   pub stands : items ≡ front ++ end_marks sections
 
--- ---- what a glance tells
+-- ---- what a glance says
 
 -- how far items follow the order of a volume
 abbrev pub course_of : List TapeItem → Course
@@ -82,11 +82,11 @@ pub record IsFirstAstray (items : List TapeItem) (n : ℕ) : Type 0 where
   pub follow : has_left (course_of before) ≡ false
   pub leaves : has_left (course_of (before ++ item ∷ [])) ≡ true
 
--- Where a glance says that an item leaves the order, it is the first that does.
+-- If a glance says that an item leaves the order, it is the first that does.
 abbrev pub LeavesThere : Type 0
 LeavesThere = (items : List TapeItem) (n : ℕ) (w : Wanted) → course_of items ≡ Leaves n w
     → IsFirstAstray items n
 
--- Where a glance says that the volume ended, the items are a volume, and nothing stands behind it.
+-- If a glance says that the volume ended, the items are a volume, and nothing follows it.
 abbrev pub EndedIsVolume : Type 0
 EndedIsVolume = (items : List TapeItem) → course_of items ≡ Ended → IsVolumeInOrder items

@@ -44,7 +44,7 @@ abbrev pub written_text : List ℕ → List ℕ
 written_text system =
     if nat_lt 0 (trimmed_len system) then codes ", written by " ++ trimmed_text system else []
 
--- the same, where a header label tells it
+-- the same, if a header label says so
 abbrev pub system_text : Option Head1 → List ℕ
 system_text None = []
 system_text (Some head) = written_text head.implementation
@@ -61,7 +61,7 @@ bad_text n =
     if n == 0 then [] else if n == 1 then codes ", 1 block that cannot be read"
     else codes ", " ++ decimal n ++ codes " blocks that cannot be read"
 
--- where a volume label stands behind something else
+-- if a volume label follows something else
 abbrev pub late_text : Option ℕ → List ℕ
 late_text None = []
 late_text (Some n) = codes "; a VOL1 at item " ++ decimal n
@@ -72,7 +72,7 @@ unread_text None = []
 unread_text (Some file) =
     codes "; file " ++ decimal file ++ codes " has a record format that is not read"
 
--- what an image holds
+-- what an image contains
 abbrev pub glance_text : Glance → List ℕ
 glance_text g =
     first_text g.first ++ system_text g.head ++ files_text g.files ++ bad_text g.bad
@@ -94,7 +94,7 @@ abbrev pub is_told : Wanted → Bool
 is_told wanted.Volume = false
 is_told _ = true
 
--- where the items leave the order
+-- the item that leaves the order
 abbrev pub left_text : ℕ → Wanted → List ℕ
 left_text n w = if is_told w then codes "; item " ++ decimal n ++ wanted_text w else []
 
@@ -115,7 +115,7 @@ course_text Blank stop = early_text stop
 abbrev pub is_no_image : ImageFault → Bool
 is_no_image fault = (fault.place == 0) && nat_le (number_of fault.cause) 3
 
--- what it is likely to be then
+-- what it probably is then
 abbrev pub guess_text : ImageFault → List ℕ
 guess_text fault =
     if is_no_image fault then codes ": no SIMH image, or a compressed one (zcat)" else []
@@ -142,11 +142,11 @@ abbrev pub met_text : Option Sight → List ℕ
 met_text (Some s) = seen_text s
 met_text None = codes "not opened"
 
--- the end of an image's line, behind its name
+-- the end of an image's line, after its name
 abbrev pub sight_text : Option Sight → List ℕ
 sight_text s = codes ": " ++ met_text s ++ codes "\n"
 
--- a byte of a name: a question mark stands for one that moves the line
+-- a byte of a name: a question mark replaces one that would break the line
 abbrev pub named : ℕ → ℕ
 named byte = if nat_lt byte 32 || (byte == 127) then 63 else byte
 

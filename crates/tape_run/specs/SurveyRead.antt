@@ -17,8 +17,8 @@ use Rattle.tape_run.specs.SurveyFiles.{Filed, filed_in}
 use Rattle.tape_run.specs.SurveyGlance.{glance_of}
 use Rattle.tape_run.specs.SurveyLocations.{Located, located_in, next_image}
 
--- what is known of sections and of files, whether nothing on the images is left over, on which
--- image each section is, and how many images there were
+-- what is known of sections and of files, whether every image was read completely, on which image
+-- each section is, and how many images there were
 pub record Found : Type 0 where
   pub sections : List Told
   pub files : List Filed
@@ -26,7 +26,7 @@ pub record Found : Type 0 where
   pub locations : List Located
   pub images : ℕ
 
--- nothing was met
+-- nothing was found
 abbrev pub nothing_found : Found
 nothing_found =
     record { sections = []; files = []; whole = true; locations = []; images = 0 }
@@ -42,18 +42,18 @@ abbrev pub is_ended : Course → Bool
 is_ended Ended = true
 is_ended _ = false
 
--- nothing is there
+-- nothing was found
 abbrev pub is_none : Option ℕ → Bool
 is_none None = true
 is_none (Some n) = false
 
--- The items are a volume in its order, all of them, and each second header label reads.
+-- The items are a complete volume in its order, and each second header label can be read.
 abbrev pub is_whole_sight : Sight → Bool
 is_whole_sight s = is_ended s.glance.course && (is_none s.glance.unread && is_end s.stop)
 
--- All items that a reader of the image with this number gave were looked at, and the sections and
--- the header labels that they tell were noted, and where the sections are. Before the call the
--- reader had the bytes `before`, and then the bytes `after`.
+-- All items that a reader of the image with this number returned were looked at, and the sections
+-- and header labels in them were added, and where the sections are. Before the call the reader had
+-- the bytes `before`, and then the bytes `after`.
 pub record ViewsItems (before after : Option (List ℕ)) (image : ℕ) (sections : List Told)
     (files : List Filed) (located : List Located) (sight : Sight) (told : List Told)
     (filed : List Filed) (locations : List Located) : Type 0 where
@@ -64,7 +64,7 @@ pub record ViewsItems (before after : Option (List ℕ)) (image : ℕ) (sections
   pub named : filed ≡ filed_in files items
   pub places : locations ≡ located_in image sections located items
 
--- An image was read, and nothing is left over on it where it is whole; or it was not opened.
+-- An image was read, completely if it is a whole volume; or it was not opened.
 abbrev pub IsViewed : Reel → Option Sight → Found → Found → Type 0
 IsViewed None None c d = d ≡ record c { whole = false; images = next_image c.images }
 IsViewed (Some before) (Some sight) c d = (after : Option (List ℕ))

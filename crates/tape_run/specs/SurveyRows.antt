@@ -1,5 +1,5 @@
--- The rows of a survey, for scripts. The columns stand a tab apart, and none holds one: each byte
--- of a name or an identifier that is no character of a line stands as a question mark.
+-- The rows of a survey, for scripts. A tab separates the columns, and none contains one: each byte
+-- of a name or an identifier that is not printable is replaced by a question mark.
 use Rattle.std.specs.Prelude.{ℕ, Bool, if◌then◌else◌, List, [], ◌++◌, codes, decimal}
 use Rattle.std.specs.Prelude.{Option, Some, None}
 use Rattle.tape_label.specs.declared.values.Head1.{Head1}
@@ -18,16 +18,16 @@ use Rattle.tape_run.specs.SurveyLine.{trimmed_text, name_text, met_text}
 use Rattle.tape_run.specs.SurveyRead.{Found, is_whole_sight}
 use Rattle.tape_run.specs.SurveySets.{standing_of, is_mixed}
 
--- whether nothing is left over on an image
+-- whether an image was read completely
 abbrev pub whole_cell : Bool → List ℕ
 whole_cell whole = if whole then codes "WHOLE" else codes "PARTIAL"
 
--- the volume, where there is a volume label first
+-- the volume, if there is a volume label first
 abbrev pub volume_cell : First → List ℕ
 volume_cell (firsts.Volume label) = trimmed_text label.volume
 volume_cell _ = []
 
--- the set and the system, where a section was met
+-- the set and the system, if a section was found
 abbrev pub head_cells : Option Head1 → List ℕ
 head_cells (Some head) =
     trimmed_text head.set_id ++ codes "\t" ++ trimmed_text head.implementation
@@ -50,7 +50,7 @@ abbrev pub sight_cells : Option Sight → List ℕ
 sight_cells (Some s) = seen_cells s
 sight_cells None = codes "NOT OPENED\t\t\t\t\t\t\t"
 
--- what stands behind a name, but for the words at the end
+-- what follows a name, except the words at the end
 abbrev pub middle_cells : Option Sight → List ℕ
 middle_cells sight = codes "\t" ++ sight_cells sight ++ codes "\t"
 
@@ -90,14 +90,14 @@ abbrev pub wanted_cells : List ℕ → ℕ → List ℕ → List ℕ
 wanted_cells state sect volume =
     state ++ codes "\t" ++ decimal sect ++ codes "\t" ++ trimmed_text volume
 
--- what is to be said of a file
+-- what is reported of a file
 abbrev pub standing_cells : Standing → List ℕ
 standing_cells Complete = codes "COMPLETE\t\t"
 standing_cells (Damaged sect entry) = wanted_cells (state_text entry.state) sect entry.volume
 standing_cells (Behind sect volume) = wanted_cells (codes "MISSING") sect volume
 standing_cells (Missing sect) = wanted_cells (codes "MISSING") sect []
 
--- labels of different files were met under its number
+-- labels of different files were found under its number
 abbrev pub mixed_cell : Option FileNote → List ℕ
 mixed_cell note = if is_mixed note then codes "\tCONFLICT\n" else codes "\t\n"
 

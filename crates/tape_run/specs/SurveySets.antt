@@ -19,22 +19,22 @@ abbrev pub behind_by : ℕ → Option Entry → Standing
 behind_by sect (Some before) = Behind sect before.volume
 behind_by sect None = Missing sect
 
--- a section that is lacking, of which this is known, and this of the one before it
+-- a missing section, of which this is known, and this of the one before it
 abbrev pub wanted_by : ℕ → Option Entry → Option Entry → Standing
 wanted_by sect (Some entry) before = Damaged sect entry
 wanted_by sect None before = behind_by sect before
 
--- what is wanted of a file that lacks this section
+-- what is missing of a file without this section
 abbrev pub wanted_at : List Told → List ℕ → ℕ → ℕ → Standing
 wanted_at c set_id file sect = wanted_by sect (entry_at c (key_at set_id file sect))
     (entry_at c (key_at set_id file (sect - 1)))
 
--- what is to be said of a file that lacks this
+-- what is reported of a file with this missing section
 abbrev pub standing_by : List Told → List ℕ → ℕ → Option ℕ → Standing
 standing_by c set_id file None = Complete
 standing_by c set_id file (Some sect) = wanted_at c set_id file sect
 
--- what is to be said of a file: it is complete where the catalogue lacks nothing of it
+-- what is reported of a file: it is complete if nothing of it is missing from the catalogue
 abbrev pub standing_of : List Told → List ℕ → ℕ → Standing
 standing_of c set_id file = standing_by c set_id file (lack_of c set_id file)
 
@@ -44,7 +44,7 @@ known_text (Some note) =
     identifier_text note.head.file_id ++ codes "  " ++ identifier_text note.head.created
 known_text None = codes "(no label was met)"
 
--- a section that is wanted
+-- a missing section
 abbrev pub wanted_text : ℕ → List ℕ
 wanted_text sect = codes "wants section " ++ decimal sect
 
@@ -52,13 +52,13 @@ wanted_text sect = codes "wants section " ++ decimal sect
 abbrev pub missing_text : ℕ → List ℕ
 missing_text sect = wanted_text sect ++ codes ", of which nothing was met"
 
--- a section of which no copy is whole
+-- a section without a complete copy
 abbrev pub damaged_text : ℕ → Entry → List ℕ
 damaged_text sect entry =
     codes "section " ++ decimal sect ++ codes " is " ++ state_text entry.state ++ codes " on "
     ++ trimmed_text entry.volume ++ codes "; damaged copies together may have it: try extract"
 
--- what is to be said of a file
+-- the text for a file
 abbrev pub standing_text : Standing → List ℕ
 standing_text Complete = codes "complete"
 standing_text (Damaged sect entry) = damaged_text sect entry
@@ -66,12 +66,12 @@ standing_text (Behind sect volume) =
     wanted_text sect ++ codes ", on the volume behind " ++ trimmed_text volume
 standing_text (Missing sect) = missing_text sect
 
--- labels of different files were met
+-- labels of different files were found
 abbrev pub is_mixed : Option FileNote → Bool
 is_mixed (Some note) = note.differs
 is_mixed None = false
 
--- that labels of different files were met under one number
+-- that labels of different files were found under one number
 abbrev pub differs_text : Option FileNote → List ℕ
 differs_text note =
     if is_mixed note then codes "; labels of different files were met under its number" else []
@@ -87,8 +87,8 @@ file_line d set_id file =
 abbrev pub set_line : List ℕ → List ℕ
 set_line set_id = codes "Set " ++ trimmed_text set_id ++ codes "\n"
 
--- Nothing lacks and nothing is left over: all images are whole, each file that was met is complete,
--- and no two files were met under one number.
+-- Nothing is missing, and all was read completely: all images are complete, each file that was
+-- found is complete, and no two files were found under one number.
 abbrev pub is_all : Found → Bool
 is_all d = d.whole && (found_all d.sections && not (any_differs d.files))
 

@@ -22,8 +22,8 @@ abbrev pub found_text : Wording → Found → List ℕ → ℕ → List ℕ
 found_text Words d set_id file = file_line d set_id file
 found_text Rows d set_id file = file_row d set_id file
 
--- what is said of a file, and before it of the numbers since the last file that was found; of one
--- that was not found nothing is said here
+-- the text for a file, preceded by that for the numbers since the last file that was found; nothing
+-- if the file was not found
 abbrev pub file_text : Wording → Found → List ℕ → ℕ → List ℕ
 file_text y d set_id file =
     if is_found d set_id file
@@ -36,7 +36,7 @@ file_texts y d set_id file zero = []
 file_texts y d set_id file (suc n) =
     file_text y d set_id file ++ file_texts y d set_id (file + 1) n
 
--- in front of the files of a set
+-- the heading of a set
 abbrev pub set_front : Wording → List ℕ → List ℕ
 set_front Words set_id = set_line set_id
 set_front Rows set_id = []
@@ -49,11 +49,11 @@ set_text y d x = set_front y x.0 ++ file_texts y d x.0 1 x.1
 abbrev pub set_texts : Wording → Found → List SetFiles → List ℕ
 set_texts y d sets = flat_map (set_text y d) sets
 
--- all sets that were met, in the order in which they were met first
+-- all sets that were found, in the order in which they were found first
 abbrev pub sets_text : Wording → Found → List ℕ
 sets_text y d = set_texts y d (sets_from [] d.sections)
 
--- in front of the sets: in rows each section that was met
+-- what precedes the sets: in rows, each section that was found
 abbrev pub sections_text : Wording → List Told → List ℕ
 sections_text Words c = []
 sections_text Rows c = flat_map section_row c
@@ -63,6 +63,6 @@ abbrev pub end_text : Wording → Bool → List ℕ
 end_text Words all = last_text all
 end_text Rows all = []
 
--- what stands behind the images
+-- what follows the images
 abbrev pub summary : Wording → Found → List ℕ
 summary y d = sections_text y d.sections ++ (sets_text y d ++ end_text y (is_all d))

@@ -1,4 +1,4 @@
-//! `survey`: what images are, by their names, and what is known of the sets and files on them.
+//! `survey`: describes images, by their names, and the sets and files on them.
 ghost use Rattle.std.specs.Prelude.{◌≡◌, map, option_map, IfOk, OnOk, OnErr, IfErr};
 ghost use Rattle.std.specs.Io.KnownBytes.{Appends};
 ghost use Rattle.tape_run.specs.Checked.{IsCheckFault};
@@ -33,27 +33,27 @@ use std::io::{Read, Write};
 use texts::{sections_text, sets_text};
 use view::{Findings, Sight};
 
-/// How a survey is told.
+/// How a survey is printed.
 #[derive(Clone, Copy)]
 pub enum Wording {
     /// In words, for people.
     Words,
-    /// In rows for scripts, whose columns stand a tab apart.
+    /// In rows for scripts, with a tab between columns.
     Rows,
 }
 
-/// Tells what the images of a shelf are, by their names: a line for each, as soon as it was read;
-/// then each set that was met, with its files, and a last line where nothing lacks and nothing on
-/// the images is left over. In rows each section stands in front of the files, and there is no last
-/// line. It answers whether nothing lacks and nothing is left over.
+/// Describes images, by their names: a line for each, as soon as it was read; then each set that
+/// was found, with its files, and a last line if nothing is missing and every image was read
+/// completely. In rows, each section precedes the files, and there is no last line. Returns whether
+/// nothing is missing and every image was read completely.
 ///
-/// Images are mounted in the order of their names, each read to its end or to a fault, and then let
-/// go. It takes memory for the reader of one image and for a line, and else for the sections and
-/// files that were met alone.
+/// Images are opened in the order of their names, each read to its end or to a fault, and then
+/// closed. Allocates for the reader of one image and for a line, and otherwise only for the
+/// sections and files that were found.
 ///
 /// # Errors
 ///
-/// `WriteFailed` where the report could not be written, and `Run(OutOfMemory)`.
+/// Returns `WriteFailed` if the report could not be written, and `Run(OutOfMemory)`.
 pub fn survey_to<R: Read + Drop, L: Shelf<R>, P: Write>(
     alloc: Global,
     images: &mut L,
@@ -61,10 +61,11 @@ pub fn survey_to<R: Read + Drop, L: Shelf<R>, P: Write>(
     wording: Wording,
     report: &mut P,
 ) -> Result<bool, EngineFault>
-    // Success is the whole survey, and tells whether nothing lacks and nothing is left over.
+    // On success the whole survey was written, and the result says whether nothing is missing and
+    // every image was read completely.
     ensures ok { IfOk result (Surveys wording L.gives R.remaining (map (λ n. n.now) names.now)
         images.old images.new (P.contents report.old) (P.contents report.new)) }
-    // Whatever the fault, a front of a survey was written: of the images that were read.
+    // On any error a prefix of a survey of the images that were read was written.
     ensures front { OnErr result (SurveysInPart wording L.gives R.remaining
         (map (λ n. n.now) names.now) images.old (P.contents report.old) (P.contents report.new)) }
     ensures fault { IfErr result IsCheckFault }
@@ -74,7 +75,7 @@ pub fn survey_to<R: Read + Drop, L: Shelf<R>, P: Write>(
     sum_up(alloc, &findings, wording, report)
 }
 
-/// Reads the images of these names, and writes a line for each.
+/// Reads the images with these names, and writes a line for each.
 fn survey_images<R: Read + Drop, L: Shelf<R>, P: Write>(
     alloc: Global,
     findings: &mut Findings,
@@ -99,7 +100,7 @@ fn survey_images<R: Read + Drop, L: Shelf<R>, P: Write>(
     Ok(())
 }
 
-/// Reads the image of this name, if it was opened, and writes its line.
+/// Reads the image with this name, if it was opened, and writes its line.
 fn survey_image<R: Read + Drop, P: Write>(
     alloc: Global,
     findings: &mut Findings,
@@ -124,7 +125,7 @@ fn survey_image<R: Read + Drop, P: Write>(
     Ok(())
 }
 
-/// What is said of the image of this name.
+/// The description of the image with this name.
 fn image_text(
     alloc: Global,
     wording: Wording,
@@ -139,7 +140,7 @@ fn image_text(
     }
 }
 
-/// The row of the image of this name.
+/// The row of the image with this name.
 fn image_row(alloc: Global, name: &str, sight: &Option<Sight>) -> Result<Vec<u8>, AllocError>
     ensures { IfOk result (λ row. row.items ≡ image_row name.now sight.now) }
 {
@@ -153,7 +154,7 @@ fn image_row(alloc: Global, name: &str, sight: &Option<Sight>) -> Result<Vec<u8>
     Ok(row)
 }
 
-/// The line of the image of this name.
+/// The line of the image with this name.
 fn image_line(alloc: Global, name: &str, sight: &Option<Sight>) -> Result<Vec<u8>, AllocError>
     ensures { IfOk result (λ line. line.items ≡ image_line name.now sight.now) }
 {
@@ -174,7 +175,7 @@ pub(crate) fn name_text(alloc: Global, name: &str) -> Result<Vec<u8>, AllocError
     Ok(line)
 }
 
-/// A byte of a name: a question mark stands for one that moves the line.
+/// A byte of a name: a question mark replaces one that would break the line.
 fn named(byte: u8) -> u8
     ensures { result ≡ named byte }
 {
@@ -185,8 +186,8 @@ fn named(byte: u8) -> u8
     }
 }
 
-/// Writes what stands behind the lines of the images, and answers whether nothing lacks and nothing
-/// is left over.
+/// Writes what follows the lines of the images, and returns whether nothing is missing and every
+/// image was read completely.
 fn sum_up<P: Write>(
     alloc: Global,
     findings: &Findings,
@@ -209,7 +210,7 @@ fn sum_up<P: Write>(
     Ok(all)
 }
 
-/// What stands behind the lines of the images.
+/// What follows the lines of the images.
 fn summary(
     alloc: Global,
     findings: &Findings,
@@ -226,7 +227,7 @@ fn summary(
     Ok(text)
 }
 
-/// What stands behind the sets.
+/// What follows the sets.
 fn end_text(wording: Wording, all: bool) -> &'static [u8]
     ensures { result.now ≡ end_text wording all }
 {

@@ -1,4 +1,4 @@
-//! Surveys of images: the lines that each gives.
+//! Surveys of images: the lines for each.
 use crate::image::{HDR1, HDR2, Image, VOL1, blank, five_blocks, payroll};
 use crate::sections::{first_of_two, one_section, second_of_two};
 use crate::volumes::{EOF_FOUR, EOF_ONE, cut, with_items_behind};
@@ -7,7 +7,7 @@ use std::process::Abort;
 use std::test::Fail;
 use tape_run::{Wording, survey_to};
 
-/// The survey of images of these names.
+/// The survey of images with these names.
 fn told<H: Abort + AllocGlobal>(
     rt: &H,
     images: &[Option<&[u8]>],
@@ -35,7 +35,7 @@ fn survey<H: Abort + AllocGlobal>(
     told(rt, images, names, Wording::Words, all, lines)
 }
 
-/// The survey of one image, which is not all that is wanted.
+/// The survey of one image, with which something is missing.
 fn one<H: Abort + AllocGlobal>(rt: &H, image: &Image, lines: &str) -> Result<(), Fail> {
     survey(
         rt,
@@ -73,7 +73,7 @@ fn behind_noise(alloc: Global) -> Result<Image, AllocError> {
     Ok(image)
 }
 
-/// A file, and where the next one begins a block that could not be read.
+/// A file followed by an unreadable block where the next one would begin.
 fn second_unread(alloc: Global) -> Result<Image, AllocError> {
     let mut image = Image::new(alloc);
     image.headers(&[VOL1, HDR1, HDR2])?;

@@ -7,7 +7,7 @@ ghost use Rattle.tape_run.specs.SurveyGlance.{behind_blank, course_with};
 use crate::passing::Phase;
 use tape_image::Item;
 
-/// What stands next in the order of a volume.
+/// What is expected next in the order of a volume.
 #[derive(Clone, Copy)]
 pub enum Wanted {
     /// `VOL1`.
@@ -31,17 +31,17 @@ pub enum Wanted {
 /// How far the items follow the order of a volume.
 #[derive(Clone, Copy)]
 pub enum Course {
-    /// They do, and the volume goes on.
+    /// They do, and the volume continues.
     Follows,
-    /// Behind the volume labels stands one tape mark: the volume is blank if a second one follows.
+    /// One tape mark follows the volume labels: the volume is blank if a second one follows.
     Blank,
     /// They do, up to the volume's end.
     Ended,
-    /// The item with this number, counted from 1, is the first that is not as wanted.
+    /// The item with this number, counted from 1, is the first that was not expected.
     Leaves(u32, Wanted),
 }
 
-/// What is wanted in a phase.
+/// What is expected in a phase.
 fn wanted_in(phase: Phase) -> Wanted
     ensures { result ≡ wanted_in phase }
 {
@@ -56,8 +56,8 @@ fn wanted_in(phase: Phase) -> Wanted
     }
 }
 
-/// The course behind an item that follows the order or leaves it, with this number and this phase
-/// before it and behind it.
+/// The course after an item that follows the order or leaves it, with this number and the phases
+/// before and after it.
 fn left_by(number: u32, phase: Phase, next: Phase) -> Course
     ensures { result ≡ left_by number phase next }
 {
@@ -67,7 +67,7 @@ fn left_by(number: u32, phase: Phase, next: Phase) -> Course
     }
 }
 
-/// The course behind a tape mark, where all before it follow the order and the volume goes on.
+/// The course after a tape mark, if all items before it follow the order and the volume continues.
 fn behind_mark(number: u32, phase: Phase, next: Phase) -> Course
     ensures { result ≡ behind_mark number phase next }
 {
@@ -78,7 +78,7 @@ fn behind_mark(number: u32, phase: Phase, next: Phase) -> Course
     }
 }
 
-/// The course behind an item, where all before it follow the order and the volume goes on.
+/// The course after an item, if all items before it follow the order and the volume continues.
 fn behind(number: u32, phase: Phase, item: Item<'_>, next: Phase) -> Course
     ensures { result ≡ behind number phase (tape_item item.entry) next }
 {
@@ -88,7 +88,7 @@ fn behind(number: u32, phase: Phase, item: Item<'_>, next: Phase) -> Course
     }
 }
 
-/// The course behind an item where a second tape mark is wanted.
+/// The course after an item where a second tape mark is expected.
 fn behind_blank(number: u32, item: Item<'_>) -> Course
     ensures { result ≡ behind_blank number (tape_item item.entry) }
 {
@@ -98,7 +98,7 @@ fn behind_blank(number: u32, item: Item<'_>) -> Course
     }
 }
 
-/// The course behind an item.
+/// The course after an item.
 pub(crate) fn course_with(
     course: Course,
     number: u32,

@@ -1,4 +1,4 @@
-//! The files whose header labels were met, by the numbers of these.
+//! The files whose header labels were found, by their numbers.
 ghost use Rattle.std.specs.Result.{IsOkUnless};
 ghost use Rattle.std.specs.Prelude.{◌≡◌, ◌<◌, ◌+◌, ◌||◌, OnOk, length, take};
 ghost use Rattle.std.specs.Map.{lookup};
@@ -17,12 +17,12 @@ pub struct FileKey {
     pub file: u16,
 }
 
-/// What header labels tell of a file.
+/// What header labels say of a file.
 #[derive(Clone, Copy)]
 pub struct FileNote {
-    /// The label that was met first.
+    /// The label that was found first.
     pub head: Head1,
-    /// Whether one was met of another file.
+    /// Whether a label of another file was found.
     pub differs: bool,
 }
 
@@ -39,7 +39,7 @@ fn is_other(first: &Head1, second: &Head1) -> bool
         || first.generation != second.generation
 }
 
-/// What is known of a file behind one more label of it.
+/// What is known of a file after one more of its labels.
 fn note_of(files: &Files, key: &FileKey, head: Head1) -> FileNote
     ensures { result ≡ note_of (lookup (same_file key.now) files.now.entries) head }
 {
@@ -71,7 +71,7 @@ fn note_head(files: &mut Files, head: Head1) -> Result<(), RunFault>
     }
 }
 
-/// Notes the header label that was met, if one was.
+/// Adds the header label that was found, if there was one.
 pub(crate) fn note_met(files: &mut Files, head: Option<Head1>) -> Result<(), RunFault>
     ensures fault { IsOkUnless result faults.OutOfMemory }
     ensures ok { OnOk result (files.new.entries ≡ with_met files.old.entries head) }
@@ -82,7 +82,7 @@ pub(crate) fn note_met(files: &mut Files, head: Option<Head1>) -> Result<(), Run
     }
 }
 
-/// Whether the file at a place was met with labels of different files.
+/// Whether labels of different files were found for the file at an index.
 fn differs_at(files: &Files, place: usize) -> bool
     requires { place < length files.now.entries }
     ensures { any_differs (take (place + 1) files.now.entries)
@@ -94,7 +94,7 @@ fn differs_at(files: &Files, place: usize) -> bool
     note.differs
 }
 
-/// Whether labels of different files were met under the numbers of one.
+/// Whether labels of different files were found under the number of any file.
 pub(crate) fn any_differs(files: &Files) -> bool
     ensures { result ≡ any_differs files.now.entries }
 {

@@ -96,7 +96,7 @@ fn gap_row(set_id: Field<6>, first: u16, file: u16) -> Text
     text
 }
 
-/// What is said of the numbers from the first one up to the one before a file.
+/// The text for the numbers from the first one up to the one before a file.
 pub(crate) fn gap_text(wording: Wording, set_id: Field<6>, first: u16, file: u16) -> Text
     ensures { result.items ≡ gap_text wording set_id first file }
 {

@@ -39,7 +39,7 @@ pub struct Glance {
     pub items: u32,
     /// What it begins with.
     pub first: First,
-    /// The number of the first item behind the first that is a volume label.
+    /// The number of the first item after the first item that is a volume label.
     pub late: Option<u32>,
     /// The first section's `HDR1`.
     pub head: Option<Head1>,
@@ -47,7 +47,7 @@ pub struct Glance {
     pub files: u32,
     /// How many blocks could not be read.
     pub bad: u32,
-    /// The number of the first file whose `HDR2` is none that is read.
+    /// The number of the first file whose `HDR2` is not one that is read.
     pub unread: Option<u16>,
     /// How far it follows the order of a volume.
     pub course: Course,
@@ -108,7 +108,7 @@ fn first_other(bytes: &[u8]) -> First
     First::Block(bytes.len() as u64)
 }
 
-/// What an image begins with, where this item has this number.
+/// What an image begins with, given the item with this number.
 fn first_with(first: &First, number: u32, item: Item<'_>) -> First
     ensures { result ≡ first_with first.now number (tape_item item.entry) }
 {
@@ -138,7 +138,7 @@ fn begins_volume(bytes: &[u8]) -> bool
     }
 }
 
-/// The header label that an item is, where a section may begin.
+/// The header label that an item is, if a section may begin there.
 pub(crate) fn head_in(phase: &Phase, item: Item<'_>) -> Option<Head1>
     ensures { result ≡ head_in phase.now (tape_item item.entry) }
 {
@@ -148,7 +148,7 @@ pub(crate) fn head_in(phase: &Phase, item: Item<'_>) -> Option<Head1>
     }
 }
 
-/// The header label that a block is, where a section may begin.
+/// The header label that a block is, if a section may begin there.
 fn head_at(phase: &Phase, bytes: &[u8]) -> Option<Head1>
     ensures { result ≡ head_at phase.now bytes.now }
 {
@@ -168,7 +168,7 @@ fn head_of(bytes: &[u8]) -> Option<Head1>
     }
 }
 
-/// The file of which this item is an `HDR2` that is none that is read.
+/// The file of which this item is an `HDR2` that is not read.
 fn unread_in(phase: &Phase, item: Item<'_>) -> Option<u16>
     ensures { result ≡ unread_in phase.now (tape_item item.entry) }
 {
@@ -178,7 +178,7 @@ fn unread_in(phase: &Phase, item: Item<'_>) -> Option<u16>
     }
 }
 
-/// The file of which this block is an `HDR2` that is none that is read.
+/// The file of which this block is an `HDR2` that is not read.
 fn unread_at(phase: &Phase, bytes: &[u8]) -> Option<u16>
     ensures { result ≡ unread_at phase.now bytes.now }
 {
@@ -188,7 +188,7 @@ fn unread_at(phase: &Phase, bytes: &[u8]) -> Option<u16>
     }
 }
 
-/// The same, where a second label of this file is wanted.
+/// The same, if a second label of this file is expected.
 fn unread_by(file: u16, bytes: &[u8]) -> Option<u16>
     ensures { result ≡ unread_by file (kind_at bytes.now) bytes.now }
 {
@@ -198,7 +198,7 @@ fn unread_by(file: u16, bytes: &[u8]) -> Option<u16>
     }
 }
 
-/// The file, if this `HDR2` of it is none that is read.
+/// The file, if this `HDR2` of it is not one that is read.
 fn unread_head(file: u16, bytes: &[u8]) -> Option<u16>
     ensures { result ≡ unread_with file (head2_at bytes.now) }
 {
@@ -218,7 +218,7 @@ fn is_bad(item: Item<'_>) -> bool
     }
 }
 
-/// One, where it is so.
+/// One, if this is so.
 fn one_if(so: bool) -> u32
     ensures exact { result ≡ one_if so }
     ensures most { result ≤ 1 }
@@ -237,7 +237,7 @@ fn one_head(head: &Option<Head1>) -> u32
     }
 }
 
-/// The first of two that is there.
+/// The first of two that exists.
 fn or_else<T: Copy>(first: Option<T>, second: Option<T>) -> Option<T>
     ensures { result ≡ or_else first second }
 {
@@ -247,7 +247,7 @@ fn or_else<T: Copy>(first: Option<T>, second: Option<T>) -> Option<T>
     }
 }
 
-/// The glance behind one more item, with this phase before it and behind it.
+/// The glance after one more item, with the phases before and after it.
 pub(crate) fn look(glance: &Glance, phase: &Phase, item: Item<'_>, next: &Phase) -> Glance
     requires items { glance.now.items < image_limit }
     requires files { glance.now.files ≤ glance.now.items }
@@ -270,7 +270,7 @@ pub(crate) fn look(glance: &Glance, phase: &Phase, item: Item<'_>, next: &Phase)
     }
 }
 
-/// The number of the first volume label behind the first item, behind the item with this number.
+/// The number of the first volume label after the first item, given the item with this number.
 fn late_with(late: Option<u32>, number: u32, item: Item<'_>) -> Option<u32>
     ensures { result ≡ late_with late number (tape_item item.entry) }
 {

@@ -15,7 +15,7 @@ use crate::text::{Text, put, put_decimal, put_trimmed, trimmed_len};
 use tape_image::ImageFault;
 use tape_label::{Field, Head1};
 
-/// What an image is, or that it was not opened, behind its name.
+/// Returns what an image is, or that it was not opened, after its name.
 pub(crate) fn sight_text(sight: &Option<Sight>) -> Text
     ensures { result.items ≡ sight_text sight.now }
 {
@@ -49,7 +49,7 @@ fn put_sight(text: &mut Text, sight: &Sight)
     put_stop(text, &sight.stop);
 }
 
-/// What an image holds.
+/// What an image contains.
 fn put_glance(text: &mut Text, glance: &Glance)
     requires room { array_vec_len text.old ≤ 2 }
     ensures items { text.new.items ≡ text.old.items ++ glance_text glance.now }
@@ -144,7 +144,7 @@ fn put_bad(text: &mut Text, bad: u32)
     }
 }
 
-/// Where a volume label stands behind something else.
+/// If a volume label follows something else.
 fn put_late(text: &mut Text, late: Option<u32>)
     requires room { array_vec_len text.old ≤ 250 }
     ensures items { text.new.items ≡ text.old.items ++ late_text late }
@@ -194,7 +194,7 @@ fn put_early(text: &mut Text, stop: &ImageStop)
     }
 }
 
-/// Where it leaves the order.
+/// The item that leaves the order.
 fn put_left(text: &mut Text, number: u32, wanted: Wanted)
     requires room { array_vec_len text.old ≤ 500 }
     ensures items { text.new.items ≡ text.old.items ++ left_text number wanted }
@@ -207,7 +207,7 @@ fn put_left(text: &mut Text, number: u32, wanted: Wanted)
     }
 }
 
-/// Whether it is to be said what was wanted; that no volume label was met is said before.
+/// Whether to say what was expected; that no volume label was found is said before.
 fn is_told(wanted: Wanted) -> bool
     ensures { result ≡ is_told wanted }
 {
@@ -217,7 +217,7 @@ fn is_told(wanted: Wanted) -> bool
     }
 }
 
-/// What the item is not that leaves the order.
+/// What the item that leaves the order is not.
 fn wanted_text(wanted: Wanted) -> &'static [u8]
     ensures text { result.now ≡ wanted_text wanted }
     ensures short { length result.now ≤ 100 }

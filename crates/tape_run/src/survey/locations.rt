@@ -11,8 +11,8 @@ use crate::sections::Sections;
 use indexmap::IndexMap;
 use tape_label::Head1;
 
-/// For each section the number of an image on which it begins: the first one on which it is whole,
-/// or, if it is whole on none, the last one.
+/// For each section the number of an image on which it begins: the first one on which it is
+/// complete or, if it is complete on none, the last one.
 pub type Locations = IndexMap<SectionKey, usize>;
 
 /// Notes the image on which a section begins, unless that section is known as whole already.

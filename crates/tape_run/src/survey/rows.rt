@@ -74,7 +74,7 @@ fn put_seen(text: &mut Text, sight: &Sight)
     put(text, &stop_text(&sight.stop));
 }
 
-/// Whether nothing is left over on it.
+/// Whether it was read completely.
 fn whole_cell(whole: bool) -> &'static [u8]
     ensures text { result.now ≡ whole_cell whole }
     ensures short { length result.now ≤ 9 }
@@ -82,7 +82,7 @@ fn whole_cell(whole: bool) -> &'static [u8]
     if whole { b"WHOLE" } else { b"PARTIAL" }
 }
 
-/// The volume, where there is a volume label first.
+/// The volume, if there is a volume label first.
 fn put_volume(text: &mut Text, first: &First)
     requires room { array_vec_len text.old ≤ 20 }
     ensures items { text.new.items ≡ text.old.items ++ volume_cell first.now }
@@ -94,7 +94,7 @@ fn put_volume(text: &mut Text, first: &First)
     }
 }
 
-/// The set and the system, where a section was met.
+/// The set and the system, if a section was found.
 fn put_head(text: &mut Text, head: &Option<Head1>)
     requires room { array_vec_len text.old ≤ 40 }
     ensures items { text.new.items ≡ text.old.items ++ head_cells head.now }
@@ -210,7 +210,7 @@ fn put_known(text: &mut Text, note: Option<&FileNote>)
     }
 }
 
-/// What is to be said of a file.
+/// What is reported of a file.
 fn put_standing(text: &mut Text, standing: &Standing)
     requires room { array_vec_len text.old ≤ 160 }
     ensures items { text.new.items ≡ text.old.items ++ standing_cells standing.now }
@@ -240,7 +240,7 @@ fn put_wanted(text: &mut Text, state: &[u8], sect: u16, volume: &Field<6>)
     put_trimmed(text, volume);
 }
 
-/// Whether labels of different files were met under its number.
+/// Whether labels of different files were found under its number.
 fn mixed_cell(note: Option<&FileNote>) -> &'static [u8]
     ensures text { result.now ≡ mixed_cell (option_map (λ n. n.now) note.entry) }
     ensures short { length result.now ≤ 10 }

@@ -18,12 +18,12 @@ use crate::text::{Text, put, put_decimal, put_identifier, put_trimmed};
 use std::alloc::{AllocError, Global};
 use tape_label::Field;
 
-/// What is to be said of a file.
+/// What is reported of a file.
 #[derive(Clone, Copy)]
 pub(crate) enum Standing {
-    /// All its sections are there whole.
+    /// All its sections are complete.
     Complete,
-    /// This section is there, and no copy of it is whole.
+    /// This section was found, and no copy of it is complete.
     Damaged(u16, Entry),
     /// This section is not there; the one before it is on this volume.
     Behind(u16, Field<6>),
@@ -31,7 +31,7 @@ pub(crate) enum Standing {
     Missing(u16),
 }
 
-/// What is wanted of a file that lacks this section.
+/// What is missing of a file without this section.
 fn wanted_at(sections: &Sections, set_id: Field<6>, file: u16, sect: u16) -> Standing
     ensures { result ≡ wanted_at sections.now.entries set_id file sect }
 {
@@ -47,7 +47,7 @@ fn wanted_at(sections: &Sections, set_id: Field<6>, file: u16, sect: u16) -> Sta
     }
 }
 
-/// Where to look for a section that is not there, behind the one before it.
+/// Where to look for a missing section: after the one before it.
 fn behind_at(sections: &Sections, before: &SectionKey, sect: u16) -> Standing
     ensures { result ≡ behind_by sect (entry_at sections.now.entries before.now) }
 {
@@ -57,7 +57,7 @@ fn behind_at(sections: &Sections, before: &SectionKey, sect: u16) -> Standing
     }
 }
 
-/// What is to be said of a file.
+/// What is reported of a file.
 pub(crate) fn standing_of(sections: &Sections, set_id: Field<6>, file: u16) -> Standing
     ensures { result ≡ standing_of sections.now.entries set_id file }
 {
@@ -84,7 +84,7 @@ fn put_known(text: &mut Text, note: Option<&FileNote>)
     }
 }
 
-/// What is to be said of a file.
+/// The text for a file.
 fn put_standing(text: &mut Text, standing: &Standing)
     requires room { array_vec_len text.old ≤ 110 }
     ensures items { text.new.items ≡ text.old.items ++ standing_text standing.now }
@@ -112,7 +112,7 @@ fn put_missing(text: &mut Text, sect: u16)
     put(text, b", of which nothing was met");
 }
 
-/// A section that is wanted.
+/// A missing section.
 fn put_wanted(text: &mut Text, sect: u16)
     requires room { array_vec_len text.old ≤ 110 }
     ensures items { text.new.items ≡ text.old.items ++ wanted_text sect }
@@ -122,7 +122,7 @@ fn put_wanted(text: &mut Text, sect: u16)
     put_decimal(text, u64::from(sect));
 }
 
-/// A section of which no copy is whole.
+/// A section without a complete copy.
 fn put_damaged(text: &mut Text, sect: u16, entry: &Entry)
     requires room { array_vec_len text.old ≤ 110 }
     ensures items { text.new.items ≡ text.old.items ++ damaged_text sect entry.now }
@@ -137,7 +137,7 @@ fn put_damaged(text: &mut Text, sect: u16, entry: &Entry)
     put(text, b"; damaged copies together may have it: try extract");
 }
 
-/// That header labels of different files were met.
+/// That header labels of different files were found.
 fn put_differs(text: &mut Text, note: Option<&FileNote>)
     requires room { array_vec_len text.old ≤ 300 }
     ensures items { text.new.items
@@ -152,7 +152,7 @@ fn put_differs(text: &mut Text, note: Option<&FileNote>)
     }
 }
 
-/// Whether header labels of different files were met.
+/// Whether header labels of different files were found.
 pub(crate) fn is_mixed(note: Option<&FileNote>) -> bool
     ensures { result ≡ is_mixed (option_map (λ n. n.now) note.entry) }
 {
@@ -191,7 +191,7 @@ pub(crate) fn set_line(set_id: Field<6>) -> Text
     text
 }
 
-/// Whether something was met, and nothing lacks.
+/// Whether something was found, and nothing is missing.
 fn is_complete(alloc: Global, sections: &Sections) -> Result<bool, AllocError>
     ensures { IfOk result (λ found. found ≡ found_all sections.now.entries) }
 {
@@ -201,7 +201,7 @@ fn is_complete(alloc: Global, sections: &Sections) -> Result<bool, AllocError>
     Ok(found)
 }
 
-/// Whether nothing lacks, and nothing on the images is left over.
+/// Whether nothing is missing, and every image was read completely.
 pub(crate) fn is_all(alloc: Global, findings: &Findings) -> Result<bool, AllocError>
     ensures { IfOk result (λ all. all ≡ is_all findings.now) }
 {

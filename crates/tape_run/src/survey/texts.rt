@@ -1,4 +1,4 @@
-//! What a survey says behind its images: of sections, sets and files, in words or in rows.
+//! What a survey says after its images: of sections, sets and files, in words or in rows.
 ghost use Rattle.std.specs.List.{flat_map};
 ghost use Rattle.std.specs.Prelude.{◌≡◌, ◌<◌, ◌+◌, ◌-◌, ◌++◌, length, take, IfOk, OnOk};
 ghost use Rattle.tape_run.specs.SurveyGaps.{gap_first, gap_text};
@@ -19,7 +19,7 @@ use crate::text::Text;
 use std::alloc::{AllocError, Global};
 use tape_label::Field;
 
-/// Returns what is said of a file of which a label was found.
+/// Returns the text for a file of which a label was found.
 fn found_text(findings: &Findings, wording: Wording, set_id: Field<6>, file: u16) -> Text
     ensures { result.items ≡ found_text wording findings.now set_id file }
 {
@@ -29,7 +29,7 @@ fn found_text(findings: &Findings, wording: Wording, set_id: Field<6>, file: u16
     }
 }
 
-/// What stands in front of the files of a set.
+/// The heading of a set.
 fn set_front(wording: Wording, set_id: Field<6>) -> Text
     ensures { result.items ≡ set_front wording set_id }
 {
@@ -39,7 +39,7 @@ fn set_front(wording: Wording, set_id: Field<6>) -> Text
     }
 }
 
-/// Adds what is said of a file to what is said of those before it.
+/// Appends the text for a file.
 fn add_file(
     texts: &mut Vec<u8>,
     findings: &Findings,
@@ -77,7 +77,7 @@ fn add_found(
     texts.extend_from_slice(&text)
 }
 
-/// Adds what is said of the files of a set, up to the greatest number of a file.
+/// Appends the texts for the files of a set, up to the greatest number of a file.
 fn add_files(
     texts: &mut Vec<u8>,
     findings: &Findings,
@@ -94,7 +94,7 @@ fn add_files(
     Ok(())
 }
 
-/// Adds what is said of a set, and of its files.
+/// Appends the text for a set and its files.
 fn add_set(
     texts: &mut Vec<u8>,
     findings: &Findings,
@@ -111,7 +111,7 @@ fn add_set(
     Ok(())
 }
 
-/// Adds what is said of the set at a place to what is said of those before it.
+/// Appends the text for the set at an index.
 fn add_place(
     texts: &mut Vec<u8>,
     findings: &Findings,
@@ -131,7 +131,7 @@ fn add_place(
     Ok(())
 }
 
-/// What is said of sets, in the order in which they were met first.
+/// The texts for sets, in the order in which they were found first.
 fn texts_of(
     alloc: Global,
     findings: &Findings,
@@ -147,7 +147,7 @@ fn texts_of(
     Ok(texts)
 }
 
-/// Adds the row of a section to those before it.
+/// Appends the row of a section.
 fn put_row(rows: &mut Vec<u8>, key: &SectionKey, entry: &Entry) -> Result<(), AllocError>
     ensures { OnOk result (rows.new.items ≡ rows.old.items ++ section_row (key.now, entry.now)) }
 {
@@ -155,7 +155,7 @@ fn put_row(rows: &mut Vec<u8>, key: &SectionKey, entry: &Entry) -> Result<(), Al
     rows.extend_from_slice(&row)
 }
 
-/// Adds the row of the section at a place to those before it.
+/// Appends the row of the section at an index.
 fn add_row(rows: &mut Vec<u8>, sections: &Sections, place: usize) -> Result<(), AllocError>
     requires { place < length sections.now.entries }
     ensures { OnOk result (rows.old.items ≡ flat_map section_row (take place sections.now.entries)
@@ -179,7 +179,7 @@ fn rows_of(alloc: Global, sections: &Sections) -> Result<Vec<u8>, AllocError>
     Ok(rows)
 }
 
-/// What stands in front of the sets.
+/// What precedes the sets.
 pub(crate) fn sections_text(
     alloc: Global,
     wording: Wording,
@@ -193,7 +193,7 @@ pub(crate) fn sections_text(
     }
 }
 
-/// What is said of all sets that were met.
+/// The texts for all sets that were found.
 pub(crate) fn sets_text(
     alloc: Global,
     findings: &Findings,

@@ -30,13 +30,13 @@ pub struct Sight {
     pub stop: ImageStop,
 }
 
-/// What was met on the images of a survey.
+/// What was found on the images of a survey.
 #[derive(Drop)]
 pub(crate) struct Findings {
     pub(crate) alloc: Global,
     pub(crate) sections: Sections,
     pub(crate) files: Files,
-    /// Whether nothing on the images is left over.
+    /// Whether every image was read completely.
     pub(crate) whole: bool,
     /// The image on which each section is.
     pub(crate) locations: Locations,
@@ -44,8 +44,8 @@ pub(crate) struct Findings {
     images: usize,
 }
 
-// In contracts findings are what is known of sections and files, whether all images are whole,
-// where the sections are, and how many images there were.
+// Contracts see findings as what is known of sections and files, whether all images were read
+// completely, where the sections are, and how many images there were.
 impl Model for Findings {
     ghost use Rattle.tape_run.specs.SurveyRead.{Found};
 
@@ -70,7 +70,7 @@ fn is_ended(course: Course) -> bool
     }
 }
 
-/// Whether nothing is there.
+/// Whether nothing was found.
 fn is_none(file: Option<u16>) -> bool
     ensures { result ≡ is_none file }
 {
@@ -91,7 +91,7 @@ fn is_end(stop: ImageStop) -> bool
 }
 
 impl Sight {
-    /// Whether the items are a volume in its order, all of them, whose files can be read.
+    /// Whether the items are a complete volume in its order, whose files can be read.
     pub(crate) fn is_whole(&self) -> bool
         ensures { result ≡ is_whole_sight self.now }
     {
@@ -100,7 +100,7 @@ impl Sight {
 }
 
 impl Findings {
-    /// Nothing was met. It takes no memory.
+    /// Returns empty findings. Does not allocate.
     pub(crate) fn new(alloc: Global) -> Findings
         ensures { result ≡ nothing_found }
     {
@@ -114,7 +114,7 @@ impl Findings {
         }
     }
 
-    /// Reads an image to its end or to a fault, if it was opened, and notes what it tells.
+    /// Reads an image to its end or to a fault, if it was opened, and adds what is found on it.
     pub(crate) fn read<R: Read + Drop>(
         &mut self,
         image: Option<R>,
@@ -135,7 +135,7 @@ impl Findings {
         Ok(Some(sight))
     }
 
-    /// The same of one that was opened, whatever is left over on it.
+    /// The same for an image that was opened, whatever of it remains unread.
     fn read_items<R: Read>(&mut self, reader: &mut R) -> Result<Sight, RunFault>
         ensures fault { IsOkUnless result faults.OutOfMemory }
         ensures ok { IfOk result (λ sight. ViewsItems (R.remaining reader.old)
@@ -154,13 +154,13 @@ impl Findings {
             self.images,
             &mut image,
         );
-        // What the reader has left is its caller's again.
+        // The rest of the reader is its caller's again.
         image.into_device();
         viewed
     }
 }
 
-/// Looks at the items of an image of which nothing was read yet, and notes what they tell.
+/// Looks at the items of an image of which nothing was read yet, and adds what is found in them.
 fn view_items<R: Read>(
     sections: &mut Sections,
     files: &mut Files,
@@ -204,7 +204,7 @@ fn view_items<R: Read>(
     }
 }
 
-/// Notes what an item tells, and says what is expected behind it.
+/// Adds what an item says, and returns what is expected next.
 fn take_behind(sections: &mut Sections, phase: &Phase, item: Item<'_>) -> Result<Phase, RunFault>
     requires { blocks_of phase.now < most_blocks }
     ensures fault { IsOkUnless result faults.OutOfMemory }
@@ -215,7 +215,7 @@ fn take_behind(sections: &mut Sections, phase: &Phase, item: Item<'_>) -> Result
     take(sections, *phase, item)
 }
 
-/// Notes the section that is under way where the items end, if one is.
+/// Adds the section that is being read when the items end, if there is one.
 fn close_behind(sections: &mut Sections, phase: &Phase) -> Result<(), RunFault>
     ensures fault { IsOkUnless result faults.OutOfMemory }
     ensures ok { OnOk result (sections.new.entries
