@@ -193,28 +193,28 @@ const NO_IMAGE: &str = "  This does not look like a .tap image. Nothing was list
 
 /// The merged image would be longer than an image may be.
 const MERGED_TOO_LONG: &str =
-    "  Merged, the images would have more than 4,294,967,295 bytes. Nothing was
-  created. Leave out the image that has good blocks in place of short bad ones.
+    "  The merged image would have more than 4,294,967,295 bytes. Nothing was
+  created. Leave out an image whose good blocks replace short bad ones.
 ";
 
 const IMAGE: &[&str] = &[
     "  The image ends in the middle of a block: it was cut off. The items listed are
-  what it contains before that. Copy the image again from its source, or use
+  those before that block. Copy the image again from its source, or use
   'extract' with this and other copies.
 ",
     "  The lengths before and after a block differ: the image is damaged, or remains
-  of an older recording follow the end. The items listed precede that place.
+  of an older recording follow the end. The items listed come before that.
   Copy the image again, or use 'extract' with other copies too.
 ",
     "  The bytes there are not a record length: the image is damaged, or remains of
-  an older recording follow the end. The items listed precede that place.
+  an older recording follow the end. The items listed come before that.
   Copy the image again, or use 'extract' with other copies too.
 ",
     "  The image is longer than 4,294,967,295 bytes; tape reads no further.
-  The items listed precede that place.
+  The items listed come before that.
 ",
     "  The image could not be read there: is it a directory, or is the disk failing?
-  The items listed, if any, precede that place.
+  The items listed, if any, come before that.
   If the disk is failing, copy the image to another disk and use the copy.
 ",
     NO_MEMORY,

@@ -46,9 +46,9 @@ pub const EXPLAIN: &str = "Explain errors: what happened, what was kept, what to
 
 /// Help after the list of commands.
 pub const AFTER: &str =
-    "Errors are one line on standard error: 'tape: KIND fault NUMBER', for images
-with the byte offset ('tape: image fault 1 at 1884'). With --explain, or if the
-environment variable TAPE_EXPLAIN is set and not empty, an explanation follows.
+    "An error is one line on standard error: 'tape: KIND fault NUMBER', followed for
+images by the byte offset ('tape: image fault 1 at 1884'). With --explain, or if
+the environment variable TAPE_EXPLAIN is not empty, an explanation follows.
 
 Image faults:
   1  the image ends inside a block     copy it again from its source

@@ -18,8 +18,8 @@ pub const FILE_OF_IMAGES: &[&str] = &[
   if any, are no longer blank.
 ",
     "  An image or an input could not be opened or created. Does DIR exist, and may
-  you read and write there? Images that were started before it, if any, are no
-  longer blank: remove them before you try again.
+  you read and write there? Images that were started, if any, are no longer
+  blank: remove them before you try again.
 ",
     "  An input or an existing image could not be read: is it a directory, or is the
   disk failing? Images that were started, if any, are no longer blank: remove
@@ -36,7 +36,7 @@ pub const FILE_OF_LINES: &[&str] = &[
     NEVER,
     NEVER,
     "  Output failed: the disk is full, or the pipe was closed (by 'head', say).
-  What was printed before it is right, and what was created is kept.
+  Everything printed so far is correct, and files created so far remain.
 ",
 ];
 

@@ -26,7 +26,7 @@ pub const NUL_IN_LINES: &str = "the names in the list end with NUL: add --null";
 pub const ODD_LINES: &str = "the lines of the list end with a carriage return too, or it begins
 with a byte order mark, as lists of Windows do: make another one by
   tr -d '\\r' < LIST | sed '1s/^\\xef\\xbb\\xbf//' > NEW
-Where names do begin or end so, list them with a NUL behind each, and give --null";
+If names really begin or end like this, end each with a NUL and add --null";
 
 /// A name in a list is no text; before it stands which one.
 pub const NO_TEXT_IN_LIST: &str = "of the list is not valid UTF-8. Find the file with

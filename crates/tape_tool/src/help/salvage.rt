@@ -8,7 +8,7 @@ pub const OUT_OF_SALVAGE: &str = "New file for the recovered records (never an e
 
 /// What the form is.
 pub const FORM_OF_SALVAGED: &str =
-    "lines: end each record with a line feed; raw: do not; blocks: whole blocks, as they are";
+    "lines: end each record with a line feed; raw: do not; blocks: copy whole blocks";
 
 /// Too many images.
 pub const TOO_MANY_TO_SALVAGE: &str =
@@ -21,23 +21,23 @@ pub const AFTER_SALVAGE: &str = "Examples:
   tape salvage ABC001 2 ../out/dump.bin old.tap --form blocks
 
 Try 'tape extract --again' first: it writes a file only if nothing is missing.
-'salvage' writes the records of every block that could be read, in order, and
-prints a line for each gap. A record with a missing part is left out. With
---form blocks each block is written as it is, also for files in a record format
-that is not read and for volumes without HDR2.
+'tape salvage' writes all records whose blocks are readable, in order, and prints
+a line for each gap. A record with a missing part is left out. With --form blocks
+it copies each readable block unchanged, even if tape does not read the record
+format or the volume has no HDR2.
 
-The lines name a section (from 1), its blocks (from 0), and how many records
-were written before:
+The lines give a section (counted from 1), its blocks (from 0) and the number
+of records written so far:
   IMAGE 2 NOT OPENED  the second image could not be opened
   SECTION 1 2 40      section 1 is read from the second image, which has 40
                       data blocks of it, unreadable ones included
   GAP 1 5 7 120       blocks 5 to 7 of section 1 are missing, after record 120
-  GAP 1 30 - 700      all blocks from 30 on are missing; their number is unknown
+  GAP 1 30 - 700      all blocks from 30 on are missing, number unknown
   GAP 2 - - 700       section 2 was not found on any image
   NO FORM 2 700       no label records the form of section 2: use --form blocks
-  TORN 1 8 120        a record that is cut at the start of block 8 is left out
-  REFUSED 1 9 3 0 120 block 9 holds no records in the file's form: block fault
-                      3 at byte 0; it counts as missing
+  TORN 1 8 120        a record interrupted at block 8 is left out
+  REFUSED 1 9 3 0 120 block 9 does not fit the record format (block fault 3 at
+                      byte 0) and counts as missing
   UNSURE 1 30 38      items 30 to 38 may be blocks or labels, and are left out
   COUNT 1 40 39       the trailer label counts 40 blocks, but there are 39
 The last line is COMPLETE and the number of records if nothing is missing, and
@@ -46,5 +46,5 @@ lines beside it: OUT itself does not show where something is missing.
 
 Each image is opened twice, so a pipe such as '<(zcat NAME)' does not work.
 
-Exit status: 0 nothing is missing, 1 a fault, 2 wrong arguments, 3 something is
-missing.";
+Exit status: 0 nothing is missing, 1 error, 2 usage error, 3 something is
+missing";
