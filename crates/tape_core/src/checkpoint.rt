@@ -179,7 +179,7 @@ pub struct Known {
     pub file_id: Field<17>,
 }
 
-// In contracts it is the form of the file.
+// Contracts see it as the form of the file.
 impl Model for Known {
     ghost use Rattle.tape_set.specs.Lawful.{FileForm};
     ghost use Rattle.tape_core.specs.Known.{IsForm};
@@ -237,7 +237,7 @@ fn length_in_range(format: Format, rec_len: u32) -> bool
 /// The greatest weight of staged parts.
 pub(crate) const MOST_STAGED: u64 = 999_999_999_999_999;
 
-/// Whether these are the numbers and flags of a checkpoint.
+/// Whether these can be the numbers and flags of a checkpoint.
 pub(crate) fn is_in_range(
     file: u16,
     position: Position,
@@ -256,7 +256,7 @@ pub(crate) fn is_in_range(
         && staged <= MOST_STAGED
 }
 
-/// Whether the position's numbers have their digits.
+/// Whether the position's numbers are in range.
 fn position_in_range(position: Position) -> bool
     ensures { result ≡ position_in_range position }
 {
@@ -283,7 +283,7 @@ fn may_begin(known: &Option<Known>, position: Position) -> bool
     may_span(known) && !matches!(position, Position::Finished)
 }
 
-/// Whether the records of the file may run on from block to block.
+/// Whether the records of the file may continue in the next block.
 pub(crate) fn may_span(known: &Option<Known>) -> bool
     ensures { result ≡ may_span known.now }
 {

@@ -13,7 +13,7 @@ use thiserror::Error;
 pub enum Event<'a> {
     /// A block that was read well.
     Block(&'a [u8]),
-    /// A block, or a tape mark in its place, that could not be read.
+    /// An unreadable block, or an unreadable mark, which looks the same.
     Bad,
     /// A tape mark.
     Mark,
@@ -32,7 +32,7 @@ pub enum Answer {
     Deliver,
     /// The section is complete, and the file continues in the next section.
     SectionDone,
-    /// The file is whole.
+    /// The file is complete.
     Complete,
     /// This reading yields nothing more. The position is unchanged.
     Useless(Reason),
@@ -44,26 +44,26 @@ pub enum Reason {
     /// The reel does not begin with VOL1, further volume labels and HDR1 (ECMA-13, 4th edition,
     /// label groups).
     NotLabelled,
-    /// HDR1 names another file set.
+    /// HDR1 has another file set identifier.
     OtherSet,
-    /// The file's later sections do not begin on this reel: a later file does, or no other.
+    /// No later section of the file is on this reel: a later file begins, or none.
     NotOnReel,
     /// A later section of the file begins here.
     LaterSection,
     /// An earlier section of the file begins here.
     EarlierSection,
-    /// An item that is needed could not be read.
+    /// An item that is needed is unreadable.
     BadItem,
     /// The reel ended, or no reading is under way.
     ReelEnded,
     /// The expected block does not contain records as the labels describe them, or not those that
     /// come next in the file.
     BadBlock(BlockFault),
-    /// The trailer label counts other blocks than were seen. Nothing is read until a restart.
+    /// The trailer label counts other blocks than were seen. Nothing is read before a restart.
     BlockCount {
-        /// The count of the label, which has the last six digits alone.
+        /// The count of the label, which has only the last six digits.
         label: u32,
-        /// The data blocks of the section, those included that could not be read.
+        /// The data blocks of the section, including unreadable ones.
         seen: u32,
     },
     /// The file's last section ends inside a record.
@@ -75,7 +75,7 @@ pub enum Reason {
     /// A block that should be a label cannot be read as one. For a tape mark in its place the cause
     /// is `Identifier`.
     BadLabel(LabelFault),
-    /// After a `BlockCount` nothing is read until a restart.
+    /// After a `BlockCount` nothing is read before a restart.
     Broken,
 }
 
@@ -85,7 +85,7 @@ pub enum CoreFault {
     /// Files are numbered from 1 to 9,999.
     #[error("the file number is not 1 to 9,999")]
     FileNumber,
-    /// The checkpoint is one of another file set or file.
+    /// The checkpoint is one of another file or file set.
     #[error("the checkpoint is one of another file")]
     OtherFile,
 }

@@ -24,7 +24,7 @@ use tape_blocks::Part;
 pub struct MemorySink {
     /// The bytes of all parts, one part after another.
     bytes: Vec<u8>,
-    /// For each part its entry, in order.
+    /// The entry of each part, in order.
     entries: Vec<Entry>,
     /// How many calls were refused.
     refused: u64,
@@ -106,7 +106,7 @@ impl MemorySink {
         5 * number as u64 + self.end_of(number) as u64
     }
 
-    /// How many of the first parts weigh together at most so much.
+    /// How many of the first parts fit within this weight.
     fn front(&self, most: u64) -> usize
         ensures within { result ≤ length (portions self.now) }
         ensures light { weight_of (take result (portions self.now)) ≤ most }

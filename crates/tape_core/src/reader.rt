@@ -163,7 +163,7 @@ impl ReaderCore {
             → arrival event.entry ≡ Some item → IsAt set self.old
             → IsForeignAt set.set_id (item ∷ rest) self.old.position self.old.phase
             → Unmoved set rest self.old (result, self.new) }
-        // Complete is answered at the end of the file alone.
+        // Complete is answered only at the end of the file.
         ensures complete { result ≡ Answer.Complete → self.new.position ≡ Position.Finished }
         // For any input: a delivered block was checked, and contains the expected part.
         ensures checked { result ≡ Answer.Deliver

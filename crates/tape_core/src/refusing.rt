@@ -21,7 +21,7 @@ pub struct Refusing<S> {
 }
 
 impl<S: PartSink> Refusing<S> {
-    /// Refuses the call after the next `left`, and no other.
+    /// Creates a sink that refuses the call after the next `left`, and no other.
     pub fn new(inner: S, left: usize) -> Self
         ensures inner { result.inner ≡ inner }
         ensures left { result.left ≡ left }
@@ -41,7 +41,7 @@ impl<S: PartSink> Refusing<S> {
         &self.inner
     }
 
-    /// Whether this call is the one.
+    /// Whether this call is the one to refuse.
     fn is_refused(&mut self) -> bool
         ensures inner { self.new.inner ≡ self.old.inner }
         ensures due { IsTrue result ↔ (self.old.left ≡ 0) }

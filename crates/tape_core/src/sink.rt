@@ -51,7 +51,7 @@ impl SinkFault {
     }
 }
 
-/// Takes the parts of a file, in order.
+/// Receives the parts of a file, in order.
 ///
 /// Receives the parts of a file, in order. `holds` relates a sink to its contents. An untrusted
 /// sink holds no list of parts; then only its weight and its count of refused calls are specified.
@@ -136,7 +136,7 @@ pub trait PartSink {
     ghost returned_now: { (sink : Self) (t : ℕ) (back : Point) (there : List Portion)
         → (crashes sink).returns back there → (crashes sink).returned t back there };
 
-    /// What survived each crash since a moment survives one now.
+    /// What survived every crash since a moment survives one now.
     ghost survived_now: { (sink : Self) (t : ℕ) → (crashes sink).survived t
         → (crashes sink).survives };
 }
@@ -153,10 +153,10 @@ pub trait PartWalk: PartSink {
     /// An upper bound of what is still to come, for any sink.
     ghost left: { Self → ℕ };
 
-    /// Why a call that would lend a part was refused with this fault, by the sink before and after.
+    /// If a call is refused with this fault, its cause, by the sink before and after.
     ghost refuses: { Self → SinkFault → Self → Type 0 };
 
-    /// Begins again at the first part.
+    /// Starts the walk again at the first part.
     fn rewind(&mut self)
         ensures keeps { (parts : List Portion) → Self.holds self.old parts
             → Self.holds self.new parts }

@@ -25,7 +25,7 @@ pub struct Catalogue {
     pub(crate) sections: Sections,
 }
 
-// In contracts a catalogue is the list of its sections.
+// Contracts see a catalogue as the list of its sections.
 impl Model for Catalogue {
     ghost use Rattle.std.specs.Prelude.{List};
     ghost use Rattle.tape_run.specs.Passing.{Told};
@@ -112,7 +112,7 @@ fn add_items<R: Read>(
     }
 }
 
-/// The end of medium as a stop.
+/// The end of the medium as a way to stop.
 pub(crate) fn stop_at(ending: Ending) -> ImageStop
     ensures { result ≡ stop_at ending }
 {

@@ -1,5 +1,5 @@
-//! Laws of the definitions that the catalogue's contracts cite: calls that do nothing, whose
-//! contract is the law.
+//! Laws of the definitions that the catalogue's contracts cite, as contracts of calls that do
+//! nothing.
 
 ghost use Rattle.tape_run.specs.Lacks.{LackIsFirst};
 ghost use Rattle.tape_run.specs.OneEntry.{OneEntryASection};
@@ -18,7 +18,7 @@ pub fn whole_volumes_make_sections_good()
     ensures { WholeVolumeIsGood }
 {}
 
-/// Whole copies of all volumes of a lawful set, in any order and with repeats, make each of its
+/// Complete copies of all volumes of a valid set, in any order and with repeats, make each of its
 /// sections good.
 pub fn whole_sets_are_good()
     ensures { WholeSetIsGood }
@@ -46,7 +46,7 @@ pub fn whole_copies_are_added()
     ensures { WholeCopiesAreAdded }
 {}
 
-/// Whatever images are added to a catalogue, it has one entry a section, and a report one line.
+/// Whatever images are added to a catalogue, it has one entry per section, and a report one line.
 pub fn one_entry_a_section()
     ensures { OneEntryASection }
 {}

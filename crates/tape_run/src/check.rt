@@ -1,4 +1,5 @@
-//! `check`: which file sections are on any images, which are whole, and which are missing.
+//! `check`: which file sections are on any images, which of them are complete, and which are
+//! missing.
 
 ghost use Rattle.std.specs.Prelude.{◌≡◌, [], List, map, option_map, IfOk, IfErr, OnOk, OnErr};
 ghost use Rattle.std.specs.List.{flat_map};

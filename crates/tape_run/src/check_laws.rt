@@ -1,4 +1,4 @@
-//! Laws of what `check` reports: calls that do nothing, whose contract is the law.
+//! Laws of what `check` reports, as contracts of calls that do nothing.
 
 ghost use Rattle.tape_run.specs.CheckExamples.{ReportIsWorked};
 ghost use Rattle.tape_run.specs.WholeReels.{WholeSetIsTold, GoodWasSeen};

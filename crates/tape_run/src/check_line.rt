@@ -1,4 +1,4 @@
-//! The lines of `check`, built without taking memory.
+//! The lines of `check`, built without allocating.
 ghost use Rattle.std.specs.Prelude.{◌≡◌, ◌≤◌, ◌++◌, length};
 ghost use Rattle.arrayvec.specs.ArrayVec.{array_vec_len};
 ghost use Rattle.tape_run.specs.CheckLine.{stop_fault, stop_text, items_text, met_text, lack_line};
@@ -10,7 +10,7 @@ use arrayvec::ArrayVec;
 use tape_image::ImageFault;
 use tape_label::Field;
 
-/// Room for the longest line, which is that of an image with a fault.
+/// The length of the longest line, which is that of an image with a fault.
 pub type CheckLine = ArrayVec<u8, 256>;
 
 /// Returns the line of the image with this number, counted from 1: what was found on it, or that it
@@ -39,7 +39,7 @@ fn put_met(line: &mut CheckLine, met: &Option<ImageLine>)
     }
 }
 
-/// The number of an image's items, and how it stopped.
+/// The number of an image's items, and how it ended.
 fn put_items(line: &mut CheckLine, met: &ImageLine)
     requires room { array_vec_len line.old ≤ 50 }
     ensures items { line.new.items ≡ line.old.items ++ items_text met.now }
@@ -50,7 +50,7 @@ fn put_items(line: &mut CheckLine, met: &ImageLine)
     put_stop(line, &met.stop);
 }
 
-/// How an image stopped, without a line around it.
+/// How an image ended, without the rest of its line.
 pub(crate) fn stop_text(stop: &ImageStop) -> CheckLine
     ensures text { result.items ≡ stop_text stop.now }
     ensures short { array_vec_len result ≤ 190 }
@@ -60,7 +60,7 @@ pub(crate) fn stop_text(stop: &ImageStop) -> CheckLine
     line
 }
 
-/// How an image stopped.
+/// How an image ended.
 fn put_stop(line: &mut CheckLine, stop: &ImageStop)
     requires room { array_vec_len line.old ≤ 91 }
     ensures items { line.new.items ≡ line.old.items ++ stop_text stop.now }
@@ -73,7 +73,7 @@ fn put_stop(line: &mut CheckLine, stop: &ImageStop)
     }
 }
 
-/// The fault of an image: the number of its cause, and its place.
+/// The fault of an image: the number of its cause, and its offset.
 fn put_fault(line: &mut CheckLine, fault: &ImageFault)
     requires room { array_vec_len line.old ≤ 91 }
     ensures items { line.new.items ≡ line.old.items ++ stop_fault fault.now }

@@ -1,5 +1,5 @@
-//! What `extract` does, over any images, sink and writers; and the records of a sink,
-//! counted and written.
+//! The work of `extract`, over any images, sink and writers; and the records of a sink, counted and
+//! written.
 
 mod again;
 mod front;

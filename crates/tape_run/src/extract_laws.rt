@@ -1,7 +1,7 @@
-//! A law of what `extract` writes and reports: a call that does nothing, whose contract is the law.
+//! A law of what `extract` writes and reports, as the contract of a call that does nothing.
 ghost use Rattle.tape_run.specs.ExtractExamples.{ExtractIsWorked};
 
-/// What `extract` writes and reports, worked out.
+/// Examples of what `extract` writes and reports.
 pub fn extract_is_worked()
     ensures { ExtractIsWorked }
 {}

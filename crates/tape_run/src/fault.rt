@@ -20,7 +20,7 @@ pub enum RunFault {
     /// There is no checkpoint with this number. Nothing changed.
     #[error("no such point was saved")]
     NoSuchPoint,
-    /// A reel is asked for, and no reader is left. Nothing changed.
+    /// A reel is requested, and no reader is left. Nothing changed.
     #[error("too few reels")]
     TooFewReels,
     /// There was no memory for the reader's buffer or for a checkpoint. Nothing changed.
@@ -63,7 +63,7 @@ pub struct Stopped {
 #[error("a write failed")]
 pub struct WriteFailed;
 
-/// What ends an engine that reports of reels.
+/// What ends a report of reels.
 #[derive(Clone, Copy, Debug, PartialEq, Eq, Error)]
 pub enum EngineFault {
     /// A session or a catalogue could not continue.

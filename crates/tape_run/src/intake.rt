@@ -35,7 +35,7 @@ use tape_set::Position;
 pub struct ReelAnswer {
     /// The last answer of the reading: the one that ended it.
     pub answer: Answer,
-    /// The fault of the image that ended the reading, if one did.
+    /// The fault of the image that ended the reading, if there was one.
     pub fault: Option<ImageFault>,
     /// How many blocks of the file were delivered.
     pub blocks: u32,

@@ -1,4 +1,4 @@
-//! Laws of runs, each as the contract of a call that does nothing.
+//! Laws of runs, as contracts of calls that do nothing.
 
 ghost use Rattle.tape_run.specs.GoesBehind.{LeavesBehind, LeavesBehindAgain};
 ghost use Rattle.tape_run.specs.GoesBehind.{PassesFiles, LeadsOverAll, ReadsByHistory};
@@ -63,7 +63,7 @@ pub fn worked_history()
     ensures days { DaysAreWorked }
 {}
 
-/// Whatever bytes the readers have, they begin with items, and with these alone.
+/// Any bytes that readers have begin with items, and with these only.
 pub fn items_are_there()
     ensures { ItemsAreThere }
 {}

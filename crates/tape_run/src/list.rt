@@ -30,7 +30,7 @@ pub fn list_to<R: Read, W: Write>(
     reader: &mut R,
     writer: &mut W,
 ) -> Result<(), ListFault>
-    // Success is the end of medium, and the whole listing.
+    // On success the medium ended, and the whole listing was written.
     ensures ok { OnOk result (IfKnown (R.remaining reader.old) (R.remaining reader.new)
         (ListsToEnd (W.contents writer.old) (W.contents writer.new))) }
     // A fault of the image is caused by the image, its reader or lack of memory; if a write failed,
@@ -49,7 +49,7 @@ pub fn list_to<R: Read, W: Write>(
     listed
 }
 
-/// Reserves the image reader's buffer, before the reader is lent to it.
+/// Allocates the image reader's buffer before the reader is lent to it.
 pub fn reserve(alloc: Global) -> Result<ImageBuffer, ImageFault>
     ensures { IfErr result
         (λ fault. (fault.place ≡ 0) × (fault.cause ≡ ImageCause.OutOfMemory)) }

@@ -1,15 +1,15 @@
-//! Laws of what `list` prints: calls that do nothing, whose contract is the law.
+//! Laws of what `list` prints, as contracts of calls that do nothing.
 
 ghost use Rattle.tape_run.specs.ListExamples.{ListingIsWorked, OutcomesSay};
 ghost use Rattle.tape_run.specs.Listing.{OneListing};
 ghost use Rattle.tape_run.specs.PlacedExamples.{PlacesSay};
 
-/// Whatever the bytes of an image are, it has a listing, and no other.
+/// Any bytes of an image have exactly one listing.
 pub fn each_image_has_one_listing()
     ensures { OneListing }
 {}
 
-/// A listing, worked out.
+/// A worked listing.
 pub fn listings_are_worked()
     ensures { ListingIsWorked }
 {}
@@ -19,8 +19,8 @@ pub fn outcomes_say()
     ensures { OutcomesSay }
 {}
 
-/// A listing with places, worked out; its items are those that the bytes begin with, and its places
-/// are the only ones, and those of the first words of blocks and marks.
+/// A worked listing with offsets: its items are those that the bytes begin with, and its offsets
+/// are the only possible ones, and those of the first words of blocks and marks.
 pub fn places_say()
     ensures { PlacesSay }
 {}

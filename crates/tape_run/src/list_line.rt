@@ -1,4 +1,4 @@
-//! The line of one item, built without taking memory.
+//! The line of one item, built without allocating.
 
 ghost use Rattle.std.specs.Prelude.{◌≡◌, ◌<◌, ◌≤◌, ◌+◌, ◌-◌, ◌^◌, ◌++◌, [], ◌∷◌, ℕ, List, length};
 ghost use Rattle.std.specs.Prelude.{codes, map};
@@ -21,10 +21,10 @@ use arrayvec::ArrayVec;
 use tape_image::Item;
 use tape_label::{Head1, Head2, Kind, Label, Trail1, Vol1, digits_of};
 
-/// Room for the longest line, which is that of a trailer.
+/// The length of the longest line, which is that of a trailer.
 pub type Line = ArrayVec<u8, 64>;
 
-/// The line of the item with this number, counted from 1.
+/// Returns the line of the item with this number, counted from 1.
 pub fn line_of(number: u64, item: Item<'_>) -> Line
     requires number { number < 10 ^ 10 }
     requires item { IsTapeItem (tape_item item) }
@@ -96,7 +96,7 @@ fn put_label(line: &mut Line, label: &Label)
     }
 }
 
-/// A block that reads as no label.
+/// A block that cannot be read as a label.
 fn put_plain(line: &mut Line, bytes: &[u8])
     requires room { array_vec_len line.old ≤ 11 }
     requires fits { length bytes.now ≤ longest_block }
@@ -128,7 +128,7 @@ fn put_head1(line: &mut Line, label: &Head1)
     put_head(line, label);
 }
 
-/// A first trailer label: as the header, and the number of blocks.
+/// A first trailer label: like the header, followed by the number of blocks.
 fn put_trail1(line: &mut Line, label: &Trail1)
     requires room { array_vec_len line.old ≤ 11 }
     requires fits { TrailFits label.now }

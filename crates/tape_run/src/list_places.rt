@@ -25,7 +25,7 @@ use tape_image::{Ending, ImageReader, Item};
 ///
 /// # Errors
 ///
-/// Those of `list_to`, in the same cases.
+/// The errors are those of `list_to`, in the same cases.
 pub fn list_places_to<R: Read, W: Write>(
     alloc: Global,
     reader: &mut R,
@@ -119,7 +119,7 @@ fn extent_of(item: Item<'_>) -> Option<u64>
     }
 }
 
-/// Room for the longest line, with its two numbers.
+/// The length of the longest line, with its two numbers.
 type PlacedLine = ArrayVec<u8, 192>;
 
 /// The line, after its offset and its size.

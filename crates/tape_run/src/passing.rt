@@ -36,7 +36,7 @@ pub(crate) enum Phase {
     Over,
 }
 
-/// Behind the first block.
+/// After the first block.
 fn volume_phase(block: &[u8]) -> Phase
     ensures { result ≡ volume_phase block.now }
 {

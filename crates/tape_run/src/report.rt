@@ -45,7 +45,7 @@ fn line_of(key: &SectionKey, entry: &Entry) -> SectionLine
     }
 }
 
-/// Adds the line of the section at a place to those before it.
+/// Appends the line of the section at an index.
 fn add_line(
     lines: &mut Vec<SectionLine>,
     sections: &Sections,

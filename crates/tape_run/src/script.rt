@@ -28,7 +28,7 @@ use tape_core::PartSink;
 /// One step of a script.
 #[derive(Clone, Copy)]
 pub enum Step {
-    /// The next reader's reel is read.
+    /// Reads the next reader's reel.
     Reel,
     /// Saves a checkpoint.
     Save,
@@ -60,7 +60,7 @@ pub fn run<S: PartSink, R: Read>(
         × IfTold R.remaining reels.old (λ bytes.
         (run : HasRun old steps.now bytes (map R.remaining reels.new) new)
         × (failed.new ≡ written run.which failed.old))))) }
-    // The same of a session that has read nothing of its file.
+    // The same for a session that has read nothing of its file.
     ensures start { OnOk result ((set_id : List ℕ) (file : ℕ) → S.holds session.old.sink []
         → IsStart set_id file (seen S.PartSink session.old [])
         → IsSeen S.PartSink session.new (λ new. IfTold R.remaining reels.old (λ bytes.

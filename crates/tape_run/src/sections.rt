@@ -21,7 +21,7 @@ use tape_image::Item;
 pub(crate) type Sections = IndexMap<SectionKey, Entry>;
 
 impl SectionState {
-    /// Whether the section is whole.
+    /// Whether the section is complete.
     pub fn is_good(&self) -> bool
         ensures { result ≡ is_good self.now }
     {

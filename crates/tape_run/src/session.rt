@@ -205,8 +205,8 @@ impl<S: PartSink> Session<S> {
     ///
     /// # Errors
     ///
-    /// `OutOfMemory` if the list could not grow, before the sink is asked; `Sink` if the sink
-    /// refused. Both leave the session as it was.
+    /// Returns `OutOfMemory` if the list could not grow, before the sink is called; `Sink` if the
+    /// sink refused. Both leave the session unchanged.
     pub fn save(&mut self) -> Result<Checkpoint, RunFault>
         ensures ok { OnOk result (IfSeen S.PartSink self.old (λ old.
             IsSeen S.PartSink self.new (λ new. (IsKept old → IsKept new) × Saved old new))) }
@@ -256,7 +256,7 @@ impl<S: PartSink> Session<S> {
     ///
     /// # Errors
     ///
-    /// `OutOfMemory` if the list could not grow: nothing changed.
+    /// Returns `OutOfMemory` if the list could not grow: nothing changed.
     pub fn note(&mut self) -> Result<(), RunFault>
         ensures sink { self.new.sink ≡ self.old.sink }
         ensures ok { OnOk result ((held : List Portion) → S.holds self.old.sink held
@@ -329,7 +329,7 @@ impl<S: PartSink> Session<S> {
         self.intake.core.want()
     }
 
-    /// How many reels were not read to their end because their reader failed.
+    /// Returns how many reels were not read to their end because their reader failed.
     pub fn device_faults(&self) -> u64
         ensures { result ≡ self.now.failures }
     {

@@ -25,7 +25,7 @@ pub trait Disk {
     /// may end that.
     ghost is_honest: { Self → Type 0 };
 
-    /// How many bytes there are.
+    /// The length in bytes.
     ghost length_of: { Self → ℕ };
 
     /// The bytes that reads return.
@@ -40,10 +40,10 @@ pub trait Disk {
     /// What a crash at any moment since `t` might have left, during a call or between two calls.
     ghost left_since: { Self → ℕ → List ℕ → Type 0 };
 
-    /// How often the disk has failed.
+    /// The number of failures so far.
     ghost faults: { Self → ℕ };
 
-    /// How many bytes there are.
+    /// Returns the length in bytes.
     ///
     /// # Errors
     ///
@@ -59,7 +59,7 @@ pub trait Disk {
         ensures honest { SameFact (is_honest self.old) (is_honest self.new) }
         ensures stays { is_honest self.old → NoMore (may_leave self.new) (may_leave self.old) };
 
-    /// Fills the buffer with the bytes from a place on.
+    /// Reads bytes from an offset on, and fills the buffer.
     ///
     /// # Errors
     ///
@@ -152,7 +152,7 @@ pub trait Disk {
     ghost counts_now: { (disk : Self) (t : ℕ) (c : List ℕ) → is_honest disk → t ≤ moment disk
         → may_leave disk c → left_since disk t c };
 
-    /// Since this moment there is no other.
+    /// No later moment began since.
     ghost only_now: { (disk : Self) (c : List ℕ) → is_honest disk → left_since disk (moment disk) c
         → may_leave disk c };
 }

@@ -1,4 +1,4 @@
-//! Laws about the texts of checkpoints and the bytes of stages, each as the contract of a call.
+//! Laws about the texts of checkpoints and the bytes of stages, as contracts of calls.
 
 ghost use Rattle.std.specs.Prelude.{◌≡◌, Ok, ℕ, List};
 ghost use Rattle.tape_stage.specs.Cases.{CasesOfCrashes, CasesOfMoments, CasesOfFiles};
@@ -21,18 +21,18 @@ pub fn point_again(point: &Checkpoint) -> Result<Checkpoint, PointFault>
     read_point(&write_point(point))
 }
 
-/// A text is that of one checkpoint at most, in one version.
+/// A text belongs to at most one checkpoint, in one version.
 pub fn points_have_texts_of_their_own()
     ensures { IsTextOfOne }
 {}
 
-/// A version has one text of 80 characters for a checkpoint.
+/// A version has one text of 80 characters for each checkpoint.
 pub fn points_are_spelled_once()
     ensures { IsTextOnce }
 {}
 
-/// A checkpoint before the millionth block of a section, and at no part but the first, has a text
-/// in each version.
+/// A checkpoint before the millionth block of a section, with no part delivered, has a text in each
+/// version.
 pub fn early_points_have_both_texts()
     ensures { HasBothTexts }
 {}
@@ -42,8 +42,8 @@ pub fn stands_once()
     ensures { (bytes : List ℕ) → StandsOnce bytes }
 {}
 
-/// Of the bytes of a stage whose frames break off one generation, checkpoint and list of parts
-/// remain at most, and they break off at one place.
+/// At most one generation, checkpoint and list of parts remain of a damaged stage, and the damage
+/// is at one place.
 pub fn remains_once()
     ensures { (bytes : List ℕ) → RemainsOnce bytes }
 {}

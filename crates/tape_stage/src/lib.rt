@@ -1,4 +1,4 @@
-//! Checkpoints as text, and parts of a file staged on a disk so that they survive a stop at any
+//! Checkpoints as text, and parts of a file staged on a disk so that they survive a crash at any
 //! moment.
 #![tactic(auto)]
 

@@ -1,4 +1,4 @@
-//! Checkpoints read and written: their fields, and the rules that these keep together.
+//! Reading and writing checkpoints: their fields, and the rules that connect these.
 
 pub mod text;
 
@@ -22,7 +22,7 @@ use tape_set::Position;
 /// The versions of the text.
 #[derive(Clone, Copy)]
 pub enum Version {
-    /// With a block of six digits, and no part. It is read, and not written any more.
+    /// With a block of six digits, and no part. It is read, but no longer written.
     One,
     /// With a block of ten digits and a part.
     Two,
@@ -44,7 +44,7 @@ pub struct Flags {
     pub done: bool,
     /// Whether a record is unfinished.
     pub begun: bool,
-    /// Whether anything is known of the file.
+    /// Whether the form of the file is known.
     pub known: bool,
 }
 
@@ -76,7 +76,7 @@ pub struct Fields {
     pub flags: Flags,
     /// The fields of the file's form.
     pub form: Form,
-    /// The weight of the parts that are staged.
+    /// The weight of the staged parts.
     pub staged: u64,
 }
 
@@ -99,7 +99,7 @@ pub fn read_point(text: &[u8]) -> Result<Checkpoint, PointFault>
     point_at(text)
 }
 
-/// The checkpoint of the text, or the first test that fails.
+/// Returns the checkpoint of the text, or the first test that fails.
 #[tactic(auto, unfolding(crate::specs::Reading::reading))]
 fn point_at(text: &[u8]) -> Result<Checkpoint, PointFault>
     ensures { result ≡ reading text.now }
@@ -111,7 +111,7 @@ fn point_at(text: &[u8]) -> Result<Checkpoint, PointFault>
     }
 }
 
-/// Writes a checkpoint, in version 2. It is read again as it was.
+/// Writes a checkpoint, in version 2. Reading the text yields the same checkpoint.
 pub fn write_point(point: &Checkpoint) -> [u8; 80]
     ensures { IsPointText Two result point.now }
 {
@@ -258,7 +258,7 @@ fn known_by(form: &Form, known: bool) -> Option<Option<Known>>
     }
 }
 
-/// The checkpoint that has these fields, if one has them.
+/// Returns the checkpoint with these fields, if there is one.
 pub(crate) fn checkpoint_of(fields: &Fields) -> Option<Checkpoint>
     requires { Fit Two fields.now }
     ensures right { is_some result ≡ is_right fields.now }

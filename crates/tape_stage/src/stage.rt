@@ -10,8 +10,8 @@
 //! | 129-255 | its generation, checkpoint and spaces |
 //! | from 256 | frames, one for each part: its span (1 byte), its length (4 bytes), its bytes |
 //!
-//! Of two slots that count the one with the greater generation is meant. To save is to write the
-//! other one, in an order that leaves one of the two whole at any moment:
+//! If both slots are valid, the one with the greater generation is current. Saving writes the other
+//! one, in an order that leaves at least one of the two intact at any moment:
 //!
 //! 1. its gate is closed if it is open; sync, which also makes the frames durable
 //! 2. its generation and its checkpoint are written; sync
@@ -119,7 +119,7 @@ pub struct Stage<D: Disk> {
     pub(crate) acknowledged: Checkpoint,
     /// The checkpoint that was being saved when the disk failed.
     pub(crate) pending: Option<Checkpoint>,
-    /// What all staged parts weigh.
+    /// The weight of all staged parts.
     pub(crate) weight: u64,
     /// Whether the disk failed.
     pub(crate) failed: bool,
@@ -127,7 +127,7 @@ pub struct Stage<D: Disk> {
     pub(crate) buffer: Vec<u8>,
     /// The weight of the parts that a walk has lent.
     pub(crate) walked: u64,
-    /// How many calls were refused to it as a sink.
+    /// How many calls to it as a sink were refused.
     pub(crate) refused: u64,
     ghost long: { failed ≡ false → 256 + weight ≤ D.length_of disk },
     ghost settled: { failed ≡ false → pending ≡ None },

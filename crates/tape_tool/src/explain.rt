@@ -1,4 +1,4 @@
-//! What a fault means, in words: after its one line, if `--explain` asks for them.
+//! Explanations of faults, printed after the line of the fault if `--explain` asks for them.
 mod files;
 mod reason;
 
@@ -13,10 +13,10 @@ use tape_image::{ImageCause, ImageFault};
 use tape_run::RunFault;
 use tape_writer::Prefix;
 
-/// What the program worked on when a fault came, as far as it knows that.
+/// What the program was working on when a fault occurred, as far as it knows.
 #[derive(Clone, Copy, PartialEq, Eq)]
 pub enum Site<'a> {
-    /// It does not know.
+    /// Unknown.
     Unknown,
     /// Its lines on standard output.
     Lines,
@@ -26,7 +26,7 @@ pub enum Site<'a> {
     Image(&'a str),
     /// The image of the volume with this number in this directory.
     Volume(&'a str, Prefix, u16),
-    /// The input that this word of `write` names.
+    /// The input that this argument of `write` names.
     Input(&'a str),
     /// The images that `write` writes into this directory.
     Images(&'a str),
@@ -62,7 +62,7 @@ impl fmt::Display for Site<'_> {
 }
 
 impl<'a> Site<'a> {
-    /// What kind of thing it is, and its name.
+    /// The kind of the site, and its name.
     fn named(&self) -> (&'static str, &'a str) {
         match *self {
             Site::Unknown | Site::Volume(_, _, _) | Site::Listed(_) => ("", ""),
@@ -78,12 +78,12 @@ impl<'a> Site<'a> {
     }
 }
 
-/// A fault, where it came and the system's reason, as lines of text.
+/// A fault, its site and the system's reason, as lines of text.
 #[derive(Clone, Copy)]
 pub struct Explanation<'a> {
     pub fault: ToolFault,
     pub site: Site<'a>,
-    /// What the system says of the file, if it says something.
+    /// The system's message about the file, if there is one.
     pub reason: Option<io::Error>,
 }
 
@@ -102,7 +102,7 @@ impl fmt::Display for Explanation<'_> {
     }
 }
 
-/// Where it came: the directory of `unpack` has a stage for each file.
+/// The site of a fault: the directory of `unpack` has a stage for each file.
 fn site_of<'a>(fault: ToolFault, site: Site<'a>) -> Site<'a> {
     let is_stage = matches!(
         fault,
@@ -114,7 +114,7 @@ fn site_of<'a>(fault: ToolFault, site: Site<'a>) -> Site<'a> {
     }
 }
 
-/// Whether the fault is one of the file that was under way.
+/// Whether the fault is one of the file being worked on.
 fn is_at(fault: ToolFault, site: Site<'_>) -> bool {
     match (fault, site) {
         (ToolFault::Run(_), Site::Stage(_)) => true,
@@ -123,7 +123,7 @@ fn is_at(fault: ToolFault, site: Site<'_>) -> bool {
     }
 }
 
-/// What the fault is, what was kept, and what to do next.
+/// Returns the explanation: what happened, what was kept, and what to do next.
 pub fn text_of(fault: ToolFault, site: Site<'_>) -> &'static str {
     match fault {
         ToolFault::Image(_) if matches!(site, Site::New(_) | Site::Lines) => MERGED_TOO_LONG,
@@ -148,7 +148,7 @@ fn image_text(fault: ImageFault) -> &'static str {
     }
 }
 
-/// The texts of a file's faults there.
+/// The texts for faults of a file, by its site.
 fn files_at(site: Site<'_>) -> &'static [&'static str] {
     match site {
         Site::Stdin | Site::Image(_) | Site::Listed(_) => FILE_OF_IMAGE,
@@ -175,9 +175,9 @@ fn nth(texts: &'static [&'static str], number: u8) -> &'static str {
 /// The stage of the file at which `unpack` ended, by the line of that file.
 const STAGE_OF_FAILED: &str = "the path reported as FAILED, with .stage after it";
 
-// The texts of each kind of fault, in the order of its numbers.
+// The texts for each kind of fault, in the order of its numbers.
 
-/// What the program never reports.
+/// For faults that the program never reports.
 const NEVER: &str = "  This should never happen: it is a bug in tape.
   CONTRIBUTING.md says what to include in a report.
 ";
@@ -186,12 +186,12 @@ const NO_MEMORY: &str = "  Out of memory. What was written before it remains.
   Close other programs and try again.
 ";
 
-/// The first bytes are not those of an image.
+/// For an image whose first bytes are not valid.
 const NO_IMAGE: &str = "  This does not look like a .tap image. Nothing was listed.
   Is it compressed (try 'zcat NAME | tape list'), or a different kind of file?
 ";
 
-/// The merged image would be longer than an image may be.
+/// For a merged image that would be too long.
 const MERGED_TOO_LONG: &str =
     "  The merged image would have more than 4,294,967,295 bytes. Nothing was
   created. Leave out an image whose good blocks replace short bad ones.

@@ -49,7 +49,7 @@ pub fn number_of_write(fault: WriteFault) -> u8
 pub enum ToolFault {
     /// An image could not be read on.
     Image(ImageFault),
-    /// A text is no field of a label.
+    /// A text cannot be the field of a label.
     Label(LabelFault),
     /// A set could not be written.
     Write(WriteFault),
@@ -59,7 +59,7 @@ pub enum ToolFault {
     Run(RunFault),
     /// A stage could not be opened or created.
     Stage(StageFault),
-    /// Another run has the stage open.
+    /// Another run is using the stage.
     StageInUse,
 }
 

@@ -35,7 +35,7 @@ pub use volumes::{
     RECORD, RECORD_WANTED, WRONG_PREFIX,
 };
 
-/// No command is named. The parser says so itself.
+/// No command is named. The parser reports this itself.
 pub const NO_COMMAND: &str = "name a command, for example 'tape list'";
 
 /// What the program does.
@@ -171,15 +171,15 @@ Examples:
   tape check *.tap
   find . -name '*.tap' -print0 | tape check --files-from - --null";
 
-/// `list` was given the word '-'.
+/// `list` was called with the argument '-'.
 pub const DASH: &str = "'-' is not an image: omit IMAGE to read standard input,
 or write './-' for a file of that name";
 
-/// `list` was given several images.
+/// `list` was called with several images.
 pub const ONE_IMAGE: &str = "list takes one image; to list several:
   for f in *.tap; do echo \"$f\"; tape list \"$f\"; done";
 
-/// The words are no text.
+/// The arguments are not text.
 pub const NO_TEXT: &str = "error: a name on the command line is not valid UTF-8. Find it with
   ls | grep -axv '.*'
 and rename it, or use 'tape list < NAME'\n";

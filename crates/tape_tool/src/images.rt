@@ -1,4 +1,4 @@
-//! Which images: those that words and lists name, opened one at a time.
+//! The images that arguments and lists name, opened one at a time.
 
 ghost use Rattle.std.specs.Prelude.{⊤, length, ◌≡◌, ◌++◌, ◌∷◌, [], true, false, map, IfOk, OnOk};
 ghost use Rattle.std.specs.Prelude.{IfSome};
@@ -15,10 +15,10 @@ use std::rt::Runtime;
 use tape_label::Field;
 use tape_run::{SectionKey, Shelf, ShelfFiles};
 
-/// What names the images of a run.
+/// The source of the names of a run's images.
 #[derive(Drop)]
 pub struct Named<'a> {
-    /// The names among the words.
+    /// The names among the arguments.
     pub words: Vec<&'a str>,
     pub list: Option<List<'a>>,
 }
@@ -28,7 +28,7 @@ pub struct Named<'a> {
 pub struct List<'a> {
     /// Its file, unless it is standard input.
     pub file: Option<&'a str>,
-    /// Whether each name ends with a NUL, and not with a line feed.
+    /// Whether each name ends with a NUL instead of a line feed.
     pub null: bool,
 }
 
@@ -66,7 +66,7 @@ fn read_list<R: Runtime + AllocGlobal>(rt: &R, list: List<'_>) -> Result<String,
             let place = error.utf8_error().valid_up_to();
             Err(Unfit::NoText(list.null, number_at(error.as_bytes(), list.null, place)))
         }
-        // No name of a file has one.
+        // No file name contains one.
         Ok(text) if !list.null && text.as_str().contains('\0') => {
             Err(Unfit::Words(help::NUL_IN_LINES))
         }
@@ -107,7 +107,7 @@ fn read_all<D: Read>(alloc: Global, device: &mut D) -> Result<Vec<u8>, Unfit>
     }
 }
 
-/// The number of the name that this place of a list is in, from 1, with those that are empty.
+/// The number of the name at this offset of a list, from 1, counting empty ones.
 fn number_at(list: &[u8], null: bool, place: usize) -> usize {
     let end = end_of(null);
     let mut number = 1usize;
@@ -165,7 +165,7 @@ fn end_of(null: bool) -> char
     if null { '\0' } else { '\n' }
 }
 
-/// A growth was refused.
+/// An allocation was refused.
 fn no_memory() -> Unfit {
     Unfit::Faulted(OUT_OF_MEMORY)
 }
@@ -219,7 +219,7 @@ fn take_name<'n>(
 /// The greatest number of a section.
 const LAST_SECTION: u16 = 9_999;
 
-/// How many bytes of an image are read ahead, at most.
+/// The maximum number of bytes of an image that are read ahead.
 pub const READ_AHEAD: usize = 32_768;
 
 /// An open image, with a read buffer.

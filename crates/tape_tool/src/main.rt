@@ -1,7 +1,7 @@
 //! `tape`: reads labelled magnetic tape volumes in SIMH `.tap` images.
 #![tactic(auto)]
 
-// A run, from its words to its exit status.
+// A run, from its arguments to its exit status.
 mod program;
 mod words;
 
@@ -14,7 +14,7 @@ mod explain;
 mod help;
 mod outline;
 
-// A folder a command: what its words ask for, and its runner.
+// One directory per command: its arguments, and its runner.
 mod check;
 mod extract;
 mod init;

@@ -1,9 +1,8 @@
-//! The word of a command line that is no text.
+//! The command line argument that is not text.
 use std::env::{Env, FillError};
 use std::{fmt, str};
 
-/// The line that names a word of the command line which is not UTF-8 text: its number, from 1, and
-/// its bytes.
+/// The line for an argument that is not UTF-8: its number, from 1, and its bytes.
 #[derive(Clone, Copy, Drop)]
 pub struct OddWord<'a> {
     number: usize,
@@ -24,7 +23,7 @@ impl fmt::Display for OddWord<'_> {
     }
 }
 
-/// Room for a word.
+/// The buffer for an argument.
 pub type Room = [u8; 4096];
 
 /// Finds the first argument that is not UTF-8. Returns `None` if it is longer than the buffer.

@@ -11,7 +11,7 @@ use std::alloc::{AllocError, Global};
 /// A command: its texts, and its arguments.
 pub struct Outline {
     pub name: &'static str,
-    /// As usage names it.
+    /// Its name in the usage line.
     pub called: &'static str,
     pub about: &'static str,
     /// What the long help says after the arguments.
@@ -37,7 +37,7 @@ pub enum Kind {
     TextsOr(&'static str),
     /// Any number of texts.
     AnyTexts,
-    /// An option by itself.
+    /// An option without a value.
     Flag,
     /// An option with a text, whose value help shows under this name.
     FlagOf(&'static str),
@@ -49,7 +49,7 @@ pub enum Kind {
     NameOption(&'static str, &'static [&'static str], &'static [&'static str]),
 }
 
-/// The command of an outline.
+/// Returns the command of an outline.
 pub fn command_of<'a>(alloc: Global, outline: &Outline) -> Result<Command<'a>, AllocError> {
     let mut command = bare(alloc, outline)?;
     for word in outline.words {
@@ -61,7 +61,7 @@ pub fn command_of<'a>(alloc: Global, outline: &Outline) -> Result<Command<'a>, A
     }
 }
 
-/// The command with its texts alone.
+/// The command with only its texts.
 fn bare<'a>(alloc: Global, outline: &Outline) -> Result<Command<'a>, AllocError> {
     Command::new(alloc, outline.name)
         .about(outline.about)
@@ -69,7 +69,7 @@ fn bare<'a>(alloc: Global, outline: &Outline) -> Result<Command<'a>, AllocError>
         .bin_name(outline.called)
 }
 
-/// The argument of a word or an option.
+/// The parser's argument for an argument or an option.
 fn argument<'a>(alloc: Global, word: &Word) -> Result<Arg<'a>, AllocError> {
     let Word(name, kind, help) = word;
     let arg = Arg::new(alloc, *name).help(*help);
@@ -93,14 +93,14 @@ fn is_option(kind: Kind) -> bool {
     )
 }
 
-/// The argument of a word.
+/// The parser's argument for a positional argument.
 fn word_argument<'a>(arg: Arg<'a>, kind: Kind) -> Arg<'a> {
     arg.required(!matches!(kind, Kind::AnyTexts))
         .num_args(count_of(kind))
         .value_parser(parser_of(kind))
 }
 
-/// The argument of an option with a value.
+/// The parser's argument for an option with a value.
 fn option_argument<'a>(long: Arg<'a>, kind: Kind) -> Arg<'a> {
     long.value_name(value_name_of(kind))
         .value_parser(parser_of(kind))
@@ -126,7 +126,7 @@ fn parser_of(kind: Kind) -> ValueParser<'static> {
     }
 }
 
-/// What help calls the value of an option.
+/// The name of an option's value in help.
 fn value_name_of(kind: Kind) -> &'static str {
     match kind {
         Kind::TextOption(name) | Kind::NameOption(name, _, _) => name,
@@ -134,7 +134,7 @@ fn value_name_of(kind: Kind) -> &'static str {
     }
 }
 
-/// The value of an option that is left out, if it has one.
+/// The default value of an option, if it has one.
 fn defaults_of(kind: Kind) -> &'static [&'static str] {
     match kind {
         Kind::NumberOption(_, default) | Kind::NameOption(_, _, default) => default,

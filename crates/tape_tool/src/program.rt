@@ -1,4 +1,4 @@
-//! How a run of the program goes and ends.
+//! Runs of the program and their ends.
 
 ghost use Rattle.std.specs.Prelude.{◌≡◌, ◌≢◌, Bool, true, false, None, IsSome, IfErr};
 ghost use Rattle.clap.specs.Words.{kind_of};
@@ -40,7 +40,7 @@ pub enum End {
     Done,
     /// An error, which is reported on one line.
     Faulted(ToolFault),
-    /// The command line asks for nothing that there is.
+    /// The command line is invalid.
     WrongWords,
     /// It did what it was asked for, and something is missing.
     Incomplete,
@@ -60,7 +60,7 @@ impl End {
     }
 }
 
-/// How a command ends that answered this.
+/// How a command ends with this result.
 pub fn end_of(done: Result<(), ToolFault>) -> End
     ensures { result ≡ end_of done }
 {
@@ -70,7 +70,7 @@ pub fn end_of(done: Result<(), ToolFault>) -> End
     }
 }
 
-/// How a check ends, which found all or did not.
+/// How a check ends that found all sections or did not.
 pub fn check_end(checked: Result<bool, EngineFault>) -> End
     ensures { result ≡ check_end checked }
 {
@@ -114,7 +114,7 @@ pub fn damaged_end(answer: Result<StageEnding, ToolFault>) -> End
     }
 }
 
-/// How a run ends for which the parser of words has only a text, which was printed or was not.
+/// How a run ends for which the argument parser has only a text, which was printed or was not.
 pub fn words_end(kind: ErrorKind, printed: bool) -> End
     ensures { result ≡ words_end kind printed }
 {
@@ -160,7 +160,7 @@ pub fn finish<R: Eprint>(rt: &R, end: End) -> u8
 
 /// Runs the program, reports a fault, and returns the exit status.
 pub fn run<R: Host>(rt: &R) -> u8 {
-    // Kept open to the end of the run.
+    // Kept open until the run ends.
     let _kept = match keep_numbers(rt) {
         Ok(kept) => kept,
         Err(fault) => return finish(rt, End::Faulted(fault)),
@@ -171,7 +171,8 @@ pub fn run<R: Host>(rt: &R) -> u8 {
     }
 }
 
-/// The words of the command line, the program's own name first; or how a run without them ends.
+/// Returns the arguments of the command line, beginning with the program's name; or how a run
+/// without them ends.
 fn words_of<R: Host>(rt: &R) -> Result<Vec<String>, End>
     ensures { IfErr result (λ end. end ≢ End.Done) }
 {
@@ -224,7 +225,7 @@ fn tell<R: Host>(rt: &R, outcome: Outcome<'_>) -> u8
     status
 }
 
-/// Ends a run whose words could not be had.
+/// Ends a run whose arguments could not be obtained.
 pub fn without_words<R: Eprint>(rt: &R, kind: io::ErrorKind) -> End
     ensures { result ≡ no_words_end kind }
 {

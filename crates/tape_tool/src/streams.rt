@@ -8,7 +8,7 @@ use std::os::fd::AsRawFd;
 /// The number of standard error, the last of them.
 const LAST: i32 = 2;
 
-/// The number of the error of a process that has as many files open as it may.
+/// The number of the error of a process that has reached its limit of open files.
 const EMFILE: i32 = 24;
 
 /// Keeps files open under the numbers of closed standard streams. Otherwise the next file that is
@@ -18,7 +18,8 @@ const EMFILE: i32 = 24;
 ///
 /// # Errors
 ///
-/// `File` with `NotOpened` if no file can be opened although a number is free, `OUT_OF_MEMORY`.
+/// Returns `File` with `NotOpened` if no file can be opened although a number is free, or
+/// `OUT_OF_MEMORY`.
 pub fn keep_numbers<R: Host>(rt: &R) -> Result<Vec<File>, ToolFault> {
     let mut kept = Vec::new(rt.alloc());
     for _ in 0..=LAST {

@@ -1,4 +1,4 @@
-//! `survey`: what images are.
+//! `survey`: describes images.
 mod run;
 pub mod words;
 

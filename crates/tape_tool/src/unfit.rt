@@ -8,18 +8,19 @@ use std::fs::{Files, Metadata};
 use std::os::unix::fs::MetadataExt;
 use tape_writer::system::found;
 
-/// Why files may not be used as the words ask for.
+/// Why files may not be used as the arguments ask.
 #[derive(Clone, Copy)]
 pub enum Unfit {
-    /// The words ask for what would be lost by it, or for nothing that there is.
+    /// The arguments would destroy a file, or name nothing that exists.
     Words(&'static str),
-    /// The name with this number, from 1, in a list is no text. It ends with a NUL, or is a line.
+    /// The name with this number, from 1, in a list is not text. Whether it ends with a NUL, or is
+    /// a line.
     NoText(bool, usize),
     /// What has this name is unusable, or cannot be looked at.
     Faulted(ToolFault),
 }
 
-/// A file is left as it is, for this reason.
+/// Refuses, with this fault, to touch a file.
 pub fn refused(fault: FileFault) -> Unfit {
     Unfit::Faulted(ToolFault::File(fault))
 }
@@ -28,7 +29,7 @@ pub fn refused(fault: FileFault) -> Unfit {
 ///
 /// # Errors
 ///
-/// `Faulted` with `NotOpened` if the look failed: something may be there.
+/// Returns `Faulted` with `NotOpened` if the lookup failed: something may exist there.
 pub fn look<R: Files>(files: &R, path: &str) -> Result<Option<Metadata>, Unfit> {
     match found(fs::metadata(files, path)) {
         Ok(there) => Ok(there),
@@ -36,8 +37,8 @@ pub fn look<R: Files>(files: &R, path: &str) -> Result<Option<Metadata>, Unfit> 
     }
 }
 
-/// Whether both are one file, whatever names or links led there. Of a file system that numbers no
-/// files nothing is known.
+/// Returns whether both are the same file, whatever names or links led to it. On a file system
+/// without file numbers, returns false.
 pub fn same_file(one: &Metadata, other: &Metadata) -> bool {
     one.ino() != 0 && one.dev() == other.dev() && one.ino() == other.ino()
 }
@@ -68,7 +69,7 @@ impl FileId {
         }
     }
 
-    /// Whether it is this file, which may have other bytes now.
+    /// Returns whether it is this file, whose contents may have changed.
     pub fn is_same(&self, other: &FileId) -> bool {
         self.device == other.device && self.number == other.number
     }
@@ -82,9 +83,9 @@ impl FileId {
 /// How a new file takes a name.
 #[derive(Clone, Copy, PartialEq, Eq)]
 pub enum Taking {
-    /// Only if nothing has it.
+    /// Only if nothing has the name.
     New,
-    /// From the file that has it.
+    /// Replacing the file that has it.
     Over,
 }
 
@@ -93,8 +94,8 @@ pub enum Taking {
 ///
 /// # Errors
 ///
-/// `Exists` if another file has the name now, or the same with other bytes; `NotOpened` if it
-/// could not be looked at.
+/// Returns `Exists` if another file has the name now, or the same file with other contents;
+/// `NotOpened` if it could not be looked at.
 pub fn way_to_take(
     before: Option<FileId>,
     now: Result<Option<FileId>, FileFault>,

@@ -63,7 +63,7 @@ pub fn flag_of(matches: &ArgMatches<'_>, name: &str) -> bool
     matches.get_flag(name)
 }
 
-/// The form that was asked for.
+/// The form that was requested.
 pub fn form_of(matches: &ArgMatches<'_>) -> Form
     ensures { IsForm (rows_of (found_of matches.now)) result }
 {
@@ -122,7 +122,7 @@ pub fn named<'a>(
     })
 }
 
-/// The list that the words name, if they do.
+/// The list that the arguments name, if they do.
 fn list_of<'a>(matches: &ArgMatches<'a>) -> Option<List<'a>>
     ensures { IsListIn (rows_of (found_of matches.now)) result }
 {
@@ -155,17 +155,17 @@ pub struct Call<'a> {
 pub enum Order<'a> {
     /// List the image at this path, or that on standard input.
     List(Listing<'a>),
-    /// Make images of volumes without files.
+    /// Create images of volumes without files.
     Init(Init<'a>),
-    /// Tell which sections are on images.
+    /// Report the sections on images.
     Check(Named<'a>),
-    /// Tell what images are.
+    /// Describe images.
     Survey(Survey<'a>),
-    /// Write files on volumes.
+    /// Write files to volumes.
     Write(WriteOrder<'a>),
-    /// Get a file back from images.
+    /// Recover a file from images.
     Extract(Extract<'a>),
-    /// Get every file back from images.
+    /// Recover every file on images.
     Unpack(Unpack<'a>),
     /// Recover what is readable of a file.
     Salvage(SalvageOrder<'a>),
@@ -193,7 +193,7 @@ enum Verb {
     Compare,
 }
 
-/// The program. Usage names it as its user does, whatever the file is called.
+/// The program. Its usage has the name that users know, whatever the file is called.
 const TAPE: Outline = Outline {
     name: "tape",
     called: "tape",
@@ -207,7 +207,7 @@ const TAPE: Outline = Outline {
 ///
 /// # Errors
 ///
-/// The error of a wrong command line, of a call for help, or of memory refused. It has its text.
+/// A usage error, a call for help, or an allocation that was refused, with its text.
 pub fn call_of<'a>(alloc: Global, words: &'a [String]) -> Result<Call<'a>, Error> {
     let matches = command(alloc)?.try_get_matches_from(words)?;
     call_in(alloc, &matches)
@@ -238,7 +238,7 @@ fn order_of<'a>(alloc: Global, matches: &ArgMatches<'a>) -> Result<Order<'a>, Er
     }
 }
 
-/// What these words of the command with this name ask for.
+/// Returns what these arguments of the command with this name ask for.
 fn order_by<'a>(alloc: Global, name: &str, words: &ArgMatches<'a>) -> Result<Order<'a>, Error>
     ensures ok { IfOk result (IsOrderOf name.now (rows_of (found_of words.now))) }
     ensures err { IfErr result (RefusedFor (IsNoOrderOf name.now (rows_of (found_of words.now)))) }
@@ -290,7 +290,7 @@ fn verb_of(name: &str) -> Option<Verb>
     }
 }
 
-/// The program with its commands and their words.
+/// The program with its commands and their arguments.
 fn command<'a>(alloc: Global) -> Result<Command<'a>, AllocError> {
     let explain = Arg::new(alloc, "explain")
         .long("explain")

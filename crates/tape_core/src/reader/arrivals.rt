@@ -117,7 +117,7 @@ impl ReaderCore {
         }
     }
 
-    /// An item that could not be read.
+    /// An unreadable item.
     fn at_bad(&mut self) -> Answer
         ensures table { (result, self.new) ≡ Table.at_bad self.old self.old.phase }
         ensures silent { result ≢ Answer.Deliver }
@@ -310,7 +310,7 @@ pub(crate) fn begun_before(known: &Known, part: u32, begun: bool, block: &[u8]) 
     }
 }
 
-/// Whether the two are not the same.
+/// Whether the two differ.
 fn differs(a: bool, b: bool) -> bool
     ensures { result ≡ not (bool_eq a b) }
 {

@@ -141,7 +141,7 @@ impl ReaderCore {
         }
     }
 
-    /// EOF1: the file is whole.
+    /// EOF1: the file is complete.
     fn at_file_end(&mut self, form: Known) -> Answer
         ensures table { (result, self.new) ≡ Table.at_end self.old form true }
         ensures silent { result ≢ Answer.Deliver }
@@ -155,7 +155,7 @@ impl ReaderCore {
         Answer::Complete
     }
 
-    /// EOV1: the section is whole. A record may run on into the next one.
+    /// EOV1: the section is complete. A record may continue in the next one.
     fn at_section_end(&mut self, form: Known) -> Answer
         requires told { ToldFits self.old.begun (Some form) }
         ensures table { (result, self.new) ≡ Table.at_end self.old form false }
@@ -194,7 +194,7 @@ pub(crate) fn heading_of(head: &Head1) -> Heading
     }
 }
 
-/// Whether something is known, and this is another file identifier.
+/// Whether the form is known, with another file identifier.
 pub(crate) fn other_file_id(known: &Option<Known>, file_id: &Field<17>) -> bool
     ensures { result ≡ Labels.other_file_id known.now file_id.now }
 {
@@ -204,7 +204,7 @@ pub(crate) fn other_file_id(known: &Option<Known>, file_id: &Field<17>) -> bool
     }
 }
 
-/// Whether something is known, and these are another format, record length or offset.
+/// Whether the form is known, with another format, record length or offset.
 pub(crate) fn other_shape(known: &Option<Known>, form: &Known) -> bool
     ensures { result ≡ Labels.other_shape known.now form.now }
 {

@@ -1,4 +1,4 @@
-//! `extract` that goes round its images.
+//! `extract` in several passes over its images.
 
 ghost use Rattle.std.specs.Prelude.{◌≡◌, ◌≢◌, ◌⊎◌, None, OnOk, IfOk, OnErr, IfErr};
 ghost use Rattle.std.specs.Bool.{OnTrue, OnFalse};
@@ -27,7 +27,7 @@ use tape_set::Want;
 ///
 /// # Errors
 ///
-/// As those of `extract_to`.
+/// The errors are those of `extract_to`.
 pub fn extract_again<S: PartWalk, R: Read + Drop, L: Shelf<R>, W: Write, P: Write>(
     session: &mut Session<S>,
     images: &mut L,
@@ -80,7 +80,7 @@ fn read_rounds<S: PartSink, R: Read + Drop, L: Shelf<R>, P: Write>(
             return Ok(());
         }
         lines += count as u64;
-        // The lines of another round would have no numbers.
+        // The lines of another pass would have no numbers.
         if u64::MAX - lines < count as u64 {
             return Ok(());
         }

@@ -22,7 +22,7 @@ use tape_core::{PartWalk, SinkFault};
 pub struct Front {
     /// How many parts were written, each of which is a record.
     pub records: u64,
-    /// Whether these are all.
+    /// Whether these are all parts.
     pub all: bool,
 }
 

@@ -18,19 +18,19 @@ use std::alloc::AllocError;
 use std::io::{Read, Write};
 use tape_core::{Answer, PartSink, Reason};
 
-/// Images on a shelf, each mounted by its number.
+/// A source of images, each of which is opened by its number.
 pub trait Shelf<R: Read> {
-    /// How many there are.
+    /// The number of images.
     ghost size: { Self → ℕ };
 
     /// What opening the image with this number yields, and the source then.
     ghost gives: { Mounting Self R };
 
-    /// How many images there are.
+    /// Returns the number of images.
     fn count(&self) -> usize
         ensures { result ≡ size self.now };
 
-    /// Mounts the image with this number, counted from 0. `None` is one that is not there.
+    /// Opens the image with this number, counted from 0. Returns `None` if it cannot be opened.
     ///
     /// # Errors
     ///
@@ -243,7 +243,7 @@ fn note<S: PartSink>(
     Ok(true)
 }
 
-/// Whether the reel's trailer label counted other blocks, or that of a reel before it did.
+/// Whether the trailer label of the reel, or of a reel before it, counted other blocks.
 fn is_doubtful(answer: &ReelAnswer) -> bool
     ensures { result ≡ is_doubtful answer.now.answer }
 {

@@ -13,7 +13,8 @@ use tape_core::{Answer, Reason};
 use tape_image::ImageFault;
 use tape_set::Want;
 
-/// The line of the image with this number: what its reading answered, or that it was not opened.
+/// Returns the line of the image with this number: the answer of its reading, or that it was not
+/// opened.
 #[derive(Clone, Copy)]
 pub struct ReelLine {
     pub number: u64,
@@ -106,7 +107,7 @@ impl fmt::Display for EndText {
     }
 }
 
-/// Room for the longest last line.
+/// The length of the longest last line.
 pub type ReportLine = ArrayString<256>;
 
 /// Returns the last line: what is missing, or that the file is complete, with this many records.

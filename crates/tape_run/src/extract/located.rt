@@ -196,7 +196,7 @@ fn read_on<S: PartSink, R: Read + Drop>(
     Ok(None)
 }
 
-/// Whether a reading ended a section well.
+/// Whether a reading completed a section.
 fn ends_section(answer: &ReelAnswer) -> bool
     ensures { OnTrue result (EndsSection answer.now.answer) }
 {

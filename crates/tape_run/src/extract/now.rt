@@ -1,4 +1,4 @@
-//! `extract` without a stage: the records are written as the images are read.
+//! `extract` without a stage: the records are written while the images are read.
 
 ghost use Rattle.std.specs.Prelude.{◌≡◌, ◌≢◌, ℕ, List, Option, None, OnOk, IfOk, OnErr, IfErr};
 ghost use Rattle.tape_run.specs.Causes.{IsExtractFault};
@@ -60,7 +60,7 @@ pub fn extract_now<W: Write + Drop, R: Read + Drop, L: Shelf<R>, O: Place<W>, P:
     ensures err { OnErr result (StopsNow ⟦<OutSink<W> as PartSink>⟧ L.size L.gives R.remaining
         session images.old images.new form (TellsAlways W.contents) O.stands out.old out.new
         (P.contents report.old) (P.contents report.new)) }
-    // The sink refused, or there was no memory, or a write failed: no other fault is answered.
+    // The sink refused, or memory ran out, or a write failed: no other fault is possible.
     ensures cause { IfErr result IsExtractFault }
 {
     let mut session = session;

@@ -27,7 +27,7 @@ const MOST_STAGED: u64 = 999_999_999_999_999;
 
 /// Writes the records of a file as its parts come. Does not allocate, and nothing survives a crash.
 ///
-/// Once a write failed every call is refused.
+/// After a failed write every call is refused.
 #[derive(Drop)]
 pub struct OutSink<W> {
     /// The writer of the records.
@@ -58,7 +58,7 @@ fn with_end(span: Span, records: u64) -> u64
 }
 
 impl<W: Write> OutSink<W> {
-    /// A sink without parts, over a writer to which nothing was written.
+    /// Creates a sink without parts, over a writer to which nothing was written.
     pub fn new(out: W, form: Form) -> OutSink<W>
         ensures empty { (TellsAlways W.contents → W.contents out ≡ Some [])
             → HasTaken W.contents form result.out result.weight result.records result.begun
@@ -136,7 +136,7 @@ impl<W: Write> PartSink for OutSink<W> {
             → most_staged < self.old.weight + (5 + length part.entry.bytes.now) }
         ensures cause { OnErr result (Rose self.old.refused self.new.refused) }
         ensures calm { OnOk result (self.new.refused ≡ self.old.refused) }
-        // Only a write that fails, in this call or before, is a reason beside the weight.
+        // A put is refused only because of the weight, or because a write failed now or before.
         ensures device { result ≡ Err SinkFault.Device
             → (self.old.failed ≡ false) × (self.new.failed ≡ true) }
         ensures failed { result ≡ Err SinkFault.Failed → self.old.failed ≡ true }

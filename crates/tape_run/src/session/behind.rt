@@ -27,7 +27,7 @@ impl<S: PartSink> Session<S> {
     ///
     /// # Errors
     ///
-    /// As those of `reel`.
+    /// The errors are those of `reel`.
     pub fn reel_behind<R: Read>(&mut self, device: &mut R) -> Result<ReelAnswer, RunFault>
         ensures ok { IfOk result (λ answer. IfSeen S.PartSink self.old (λ old.
             IsSeen S.PartSink self.new (λ new. IsFront old.parts new.parts
@@ -76,7 +76,7 @@ impl<S: PartSink> Session<S> {
         }
     }
 
-    /// Which file it reads: the identifier of its set, and its number.
+    /// Identifies its file: the identifier of the set, and the number.
     pub(crate) fn file_key(&self) -> FileKey
         ensures set_id { result.set_id ≡ self.now.core.set_id }
         ensures file { result.file ≡ self.now.core.file }

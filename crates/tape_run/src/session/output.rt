@@ -20,7 +20,7 @@ impl<S: PartWalk> Session<S> {
     ///
     /// # Errors
     ///
-    /// As those of `write_file`.
+    /// The errors are those of `write_file`.
     pub fn write_file<W: Write>(&mut self, form: Form, out: &mut W) -> Result<u64, EngineFault>
         ensures ok { IfOk result (λ records. (parts : List Portion) → S.holds self.old.sink parts
             → IsWritten None records form (W.contents out.old) (W.contents out.new) parts) }

@@ -10,7 +10,7 @@ use crate::fault::RunFault;
 use indexmap::IndexMap;
 use tape_label::{Field, Head1};
 
-/// Which file it is: its file set, and its number there.
+/// Identifies a file: its file set, and its number there.
 #[derive(Clone, Copy, PartialEq, Eq, Hash)]
 pub struct FileKey {
     pub set_id: Field<6>,
@@ -29,7 +29,7 @@ pub struct FileNote {
 /// What is known of each file.
 pub(crate) type Files = IndexMap<FileKey, FileNote>;
 
-/// Whether header labels of one number are those of different files: by the file identifier, the
+/// Whether header labels with one number belong to different files: by the file identifier, the
 /// creation date and the generation.
 fn is_other(first: &Head1, second: &Head1) -> bool
     ensures { result ≡ is_other first.now second.now }
@@ -55,7 +55,7 @@ fn note_of(files: &Files, key: &FileKey, head: Head1) -> FileNote
     }
 }
 
-/// Notes a header label.
+/// Adds a header label.
 fn note_head(files: &mut Files, head: Head1) -> Result<(), RunFault>
     ensures fault { IsOkUnless result faults.OutOfMemory }
     ensures ok { OnOk result (files.new.entries ≡ with_head files.old.entries head) }

@@ -18,7 +18,7 @@ use tape_label::{Head1, Kind, Vol1, kind, read_head1, read_head2, read_vol1};
 /// What an image begins with.
 #[derive(Clone, Copy)]
 pub enum First {
-    /// It has no item.
+    /// It has no items.
     Nothing,
     /// A volume label.
     Volume(Vol1),
@@ -26,7 +26,7 @@ pub enum First {
     Ebcdic,
     /// Another block, of this length.
     Block(u64),
-    /// A block that could not be read.
+    /// An unreadable block.
     Bad,
     /// A tape mark.
     Mark,
@@ -35,7 +35,7 @@ pub enum First {
 /// What an image is, at a glance.
 #[derive(Clone, Copy)]
 pub struct Glance {
-    /// How many items it has.
+    /// The number of its items.
     pub items: u32,
     /// What it begins with.
     pub first: First,
@@ -43,9 +43,9 @@ pub struct Glance {
     pub late: Option<u32>,
     /// The first section's `HDR1`.
     pub head: Option<Head1>,
-    /// How many sections begin in it.
+    /// How many sections begin on it.
     pub files: u32,
-    /// How many blocks could not be read.
+    /// How many blocks are unreadable.
     pub bad: u32,
     /// The number of the first file whose `HDR2` is not one that is read.
     pub unread: Option<u16>,
@@ -77,7 +77,7 @@ fn is_ebcdic(block: &[u8]) -> bool
     block.len() == 80 && &block[..4] == b"\xE5\xD6\xD3\xF1".as_slice()
 }
 
-/// What an image begins with whose first item this is.
+/// What an image with this first item begins with.
 fn first_of(item: Item<'_>) -> First
     ensures { result ≡ first_of (tape_item item.entry) }
 {
@@ -88,7 +88,7 @@ fn first_of(item: Item<'_>) -> First
     }
 }
 
-/// What an image begins with whose first block this is.
+/// What an image with this first block begins with.
 fn first_block(bytes: &[u8]) -> First
     ensures { result ≡ first_block bytes.now }
 {
@@ -98,7 +98,7 @@ fn first_block(bytes: &[u8]) -> First
     }
 }
 
-/// The same of a block that is no volume label that is read.
+/// The same for a block that is not a supported volume label.
 fn first_other(bytes: &[u8]) -> First
     ensures { result ≡ first_other bytes.now }
 {
@@ -208,7 +208,7 @@ fn unread_head(file: u16, bytes: &[u8]) -> Option<u16>
     }
 }
 
-/// Whether an item is a block that could not be read.
+/// Whether an item is an unreadable block.
 fn is_bad(item: Item<'_>) -> bool
     ensures { result ≡ is_bad (tape_item item.entry) }
 {

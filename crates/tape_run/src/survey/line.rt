@@ -98,7 +98,7 @@ fn put_system(text: &mut Text, head: &Option<Head1>)
     }
 }
 
-/// What wrote it, unless that is spaces.
+/// The system that wrote it, unless the label has spaces there.
 fn put_written(text: &mut Text, system: &Field<13>)
     requires room { array_vec_len text.old ≤ 90 }
     ensures items { text.new.items ≡ text.old.items ++ written_text system.now }
@@ -127,7 +127,7 @@ fn put_files(text: &mut Text, files: u32)
     }
 }
 
-/// How many blocks could not be read.
+/// How many blocks are unreadable.
 fn put_bad(text: &mut Text, bad: u32)
     requires room { array_vec_len text.old ≤ 170 }
     ensures items { text.new.items ≡ text.old.items ++ bad_text bad }
@@ -234,7 +234,7 @@ fn wanted_text(wanted: Wanted) -> &'static [u8]
     }
 }
 
-/// By which fault it stops.
+/// The fault with which it ends.
 fn put_stop(text: &mut Text, stop: &ImageStop)
     requires room { array_vec_len text.old ≤ 700 }
     ensures items { text.new.items ≡ text.old.items ++ stop_text stop.now }
@@ -246,7 +246,7 @@ fn put_stop(text: &mut Text, stop: &ImageStop)
     }
 }
 
-/// A fault, with its place.
+/// A fault, with its offset.
 fn put_fault(text: &mut Text, fault: &ImageFault)
     requires room { array_vec_len text.old ≤ 700 }
     ensures items { text.new.items ≡ text.old.items ++ fault_text fault.now }
@@ -266,7 +266,7 @@ fn is_no_image(fault: &ImageFault) -> bool
     fault.place == 0 && fault.cause.number() <= 3
 }
 
-/// What an image is likely to be that stops before its first item.
+/// What an image that stops before its first item probably is.
 fn put_guess(text: &mut Text, fault: &ImageFault)
     requires room { array_vec_len text.old ≤ 840 }
     ensures items { text.new.items ≡ text.old.items ++ guess_text fault.now }

@@ -1,4 +1,4 @@
-//! On which image each section is.
+//! The image on which each section is.
 ghost use Rattle.std.specs.Result.{IsOkUnless};
 ghost use Rattle.std.specs.Prelude.{◌≡◌, OnOk};
 ghost use Rattle.tape_run.specs.SurveyLocations.{with_location};
@@ -15,7 +15,8 @@ use tape_label::Head1;
 /// complete or, if it is complete on none, the last one.
 pub type Locations = IndexMap<SectionKey, usize>;
 
-/// Notes the image on which a section begins, unless that section is known as whole already.
+/// Records the image on which a section begins, unless a complete copy of that section was found
+/// before.
 pub(crate) fn note_location(
     locations: &mut Locations,
     sections: &Sections,

@@ -1,4 +1,4 @@
-//! The rows of a survey, for scripts: columns a tab apart.
+//! The rows of a survey, for scripts, with a tab between columns.
 ghost use Rattle.std.specs.Prelude.{◌≡◌, ◌≤◌, ◌+◌, ◌++◌, length, decimal, codes, option_map};
 ghost use Rattle.arrayvec.specs.ArrayVec.{array_vec_len};
 ghost use Rattle.tape_run.specs.SurveyRows.{whole_cell, volume_cell, head_cells, count_cells};
@@ -152,7 +152,7 @@ pub(crate) fn section_row(key: &SectionKey, entry: &Entry) -> Text
     text
 }
 
-/// Which section it is.
+/// The numbers of the section.
 fn put_key(text: &mut Text, key: &SectionKey)
     requires room { array_vec_len text.old ≤ 20 }
     ensures items { text.new.items

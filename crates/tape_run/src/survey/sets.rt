@@ -25,9 +25,9 @@ pub(crate) enum Standing {
     Complete,
     /// This section was found, and no copy of it is complete.
     Damaged(u16, Entry),
-    /// This section is not there; the one before it is on this volume.
+    /// This section is missing; the one before it is on this volume.
     Behind(u16, Field<6>),
-    /// This section is not there, and the one before it is not known.
+    /// This section is missing, and the one before it is not known.
     Missing(u16),
 }
 

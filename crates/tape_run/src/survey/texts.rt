@@ -57,7 +57,8 @@ fn add_file(
     Ok(())
 }
 
-/// Adds the text of a file, and before it that of the numbers since the last file that was found.
+/// Appends the text for a file, preceded by that for the numbers since the last file that was
+/// found.
 fn add_found(
     texts: &mut Vec<u8>,
     findings: &Findings,

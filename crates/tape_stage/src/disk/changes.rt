@@ -6,7 +6,7 @@ ghost use Rattle.tape_stage.specs.Same.{SameContent, DidCall};
 use crate::disk::content::{Call, Content};
 use std::alloc::{AllocError, Global};
 
-/// The old bytes with others over them from a place on.
+/// The old bytes, overwritten from an offset on.
 fn written(alloc: Global, old: &[u8], place: usize, bytes: &[u8]) -> Result<Vec<u8>, AllocError>
     requires { place ≤ length old.now }
     ensures { IfOk result (λ v. v.items ≡ take place old.now ++ bytes.now ++ drop
@@ -20,7 +20,7 @@ fn written(alloc: Global, old: &[u8], place: usize, bytes: &[u8]) -> Result<Vec<
     Ok(next)
 }
 
-/// So many bytes that may be anything: 255 each.
+/// This many bytes that may be anything: 255 each.
 fn unknown(alloc: Global, count: usize) -> Result<Vec<u8>, AllocError>
     ensures { IfOk result (λ v. v.items ≡ replicate count 255) }
 {
@@ -60,7 +60,7 @@ impl Content {
         Ok(())
     }
 
-    /// Notes a call that changes nothing.
+    /// Records a call that changes nothing.
     pub fn look(&mut self) -> Result<(), AllocError>
         ensures ok { OnOk result (DidCall Call.Look self.old self.new) }
         ensures err { OnErr result (SameContent self.old self.new) }

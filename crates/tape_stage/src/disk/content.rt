@@ -4,7 +4,7 @@ ghost use Rattle.tape_stage.specs.Calls.{kept_or, IsRight, right_one_way};
 
 use std::alloc::Global;
 
-/// A call that was answered.
+/// A successful call.
 #[derive(Drop)]
 pub enum Call {
     Look,

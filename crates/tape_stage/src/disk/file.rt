@@ -56,7 +56,7 @@ impl<F: Seek + Drop> FileDisk<F> {
 }
 
 impl<F> FileDisk<F> {
-    /// Hands the file back.
+    /// Returns the file.
     pub fn into_file(self) -> F
         ensures { result ≡ self.file }
     {
@@ -75,7 +75,7 @@ impl<F> FileDisk<F> {
 }
 
 impl<F: Read + Write + Seek + OpenFile> FileDisk<F> {
-    /// Fills the buffer from a place on.
+    /// Reads bytes from an offset on, and fills the buffer.
     fn look(&mut self, place: u64, buf: &mut [u8]) -> Result<(), DiskFault>
         ensures same_size { length buf.new ≡ length buf.old }
         ensures same_length { self.new.len ≡ self.old.len }
@@ -89,7 +89,7 @@ impl<F: Read + Write + Seek + OpenFile> FileDisk<F> {
         read_from(&mut self.file, place, buf)
     }
 
-    /// Writes bytes from a place on.
+    /// Writes bytes at an offset.
     fn put(&mut self, place: u64, bytes: &[u8]) -> Result<(), DiskFault>
         ensures same_length { self.new.len ≡ self.old.len }
         ensures same_count { self.new.failed ≡ self.old.failed }
@@ -234,7 +234,8 @@ impl<F: Read + Write + Seek + OpenFile> Disk for FileDisk<F> {
     }
 }
 
-/// Fills the buffer from a place on. An end before that, or an interruption, is a failure.
+/// Reads bytes from an offset on, and fills the buffer. An early end is a failure, and so is an
+/// interruption.
 pub(crate) fn read_from<R: Read + Seek>(
     file: &mut R,
     place: u64,
@@ -248,7 +249,7 @@ pub(crate) fn read_from<R: Read + Seek>(
     }
 }
 
-/// Reads on until the buffer is full.
+/// Continues to read until the buffer is full.
 fn read_whole<R: Read>(file: &mut R, buf: &mut [u8]) -> Result<(), DiskFault>
     ensures same_size { length buf.new ≡ length buf.old }
 {
@@ -263,7 +264,7 @@ fn read_whole<R: Read>(file: &mut R, buf: &mut [u8]) -> Result<(), DiskFault>
     Ok(())
 }
 
-/// Writes all bytes from a place on.
+/// Writes all bytes at an offset.
 pub(crate) fn write_from<W: Write + Seek>(
     file: &mut W,
     place: u64,

@@ -99,7 +99,7 @@ impl MemoryDisk {
         }
     }
 
-    /// A call that found no memory fails.
+    /// A call that ran out of memory fails.
     pub(crate) fn fail(&mut self) -> DiskFault
         ensures content { self.new.content ≡ self.old.content }
         ensures counted { Rose self.old.failed self.new.failed }

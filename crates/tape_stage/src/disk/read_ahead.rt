@@ -1,4 +1,4 @@
-//! Bytes that are read ahead of a disk.
+//! Read-ahead for disks.
 ghost use Rattle.std.specs.Prelude.{◌≡◌, ◌+◌, ◌≤◌, length, take, slice_range, OnOk, OnErr, IfOk};
 ghost use Rattle.std.specs.Prelude.{List, ℕ};
 ghost use Rattle.std.specs.Bool.{OnTrue};
@@ -40,7 +40,7 @@ fn read_front<D: Disk>(
 }
 
 impl<D: Disk> ReadAhead<D> {
-    /// Nothing is read ahead. The room is for as many bytes as it has now, whatever they are.
+    /// Creates a disk with nothing read ahead. The buffer keeps its length, whatever it contains.
     pub fn over(disk: D, room: Vec<u8>) -> ReadAhead<D>
         ensures disk { result.disk ≡ disk }
         ensures none { result.held ≡ 0 }
@@ -55,7 +55,7 @@ impl<D: Disk> ReadAhead<D> {
         }
     }
 
-    /// Hands the disk back.
+    /// Returns the disk.
     pub fn into_disk(self) -> D
         ensures { result ≡ self.disk }
     {
@@ -112,7 +112,7 @@ impl<D: Disk> ReadAhead<D> {
         }
     }
 
-    /// Fills the buffer from a place on.
+    /// Reads bytes from an offset on, and fills the buffer.
     fn look(&mut self, place: u64, buf: &mut [u8]) -> Result<(), DiskFault>
         requires there { place + length buf.old ≤ D.length_of self.old.disk }
         ensures bytes { D.is_honest self.old.disk → OnOk result (buf.new

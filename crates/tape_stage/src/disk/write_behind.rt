@@ -21,7 +21,7 @@ use crate::disk::{Disk, DiskFault};
 pub struct WriteBehind<D: Disk> {
     pub(crate) disk: D,
     pub(crate) start: u64,
-    /// Its capacity is the room. It never grows.
+    /// The buffer, whose capacity is the limit. It never grows.
     pub(crate) bytes: Vec<u8>,
     pub(crate) failed: u64,
     ghost within: { start ≤ D.length_of disk },

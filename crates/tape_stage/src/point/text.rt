@@ -17,7 +17,7 @@ use arrayvec::ArrayVec;
 use tape_label::{Field, Format, digits_of, digits_value};
 use thiserror::Error;
 
-/// Why a text is no checkpoint. Positions are counted from 1.
+/// Why a text is not a checkpoint. Positions are counted from 1.
 #[derive(Clone, Copy, Debug, PartialEq, Eq, Error)]
 pub enum PointFault {
     /// The text does not have 80 characters.
@@ -32,7 +32,7 @@ pub enum PointFault {
     /// A character of the field that begins at this position is not allowed there.
     #[error("the field at position {0} has a wrong character")]
     Field(u8),
-    /// Each field is one by itself, but together they are those of no checkpoint.
+    /// Each field is valid, but together they are not those of a checkpoint.
     #[error("the fields are those of no checkpoint")]
     Range,
 }
@@ -54,7 +54,7 @@ impl PointFault {
 
 const SPACES: [u8; 12] = [b' '; 12];
 
-/// The number in digits at these positions.
+/// Returns the number in digits at these positions.
 pub(crate) fn number_at(text: &[u8], first: u8, last: u8) -> Result<u64, PointFault>
     requires first { 1 ≤ first }
     requires order { first ≤ last }
@@ -123,7 +123,7 @@ pub(crate) fn field_at<const N: usize>(text: &[u8], first: u8) -> Field<N>
     Field::of_bytes(characters)
 }
 
-/// The version that a digit names.
+/// Returns the version with this digit.
 fn version_by(digit: u8) -> Result<Version, PointFault>
     ensures { result ≡ version_by digit }
 {
@@ -248,7 +248,7 @@ pub(crate) fn staged_at(text: &[u8], first: u8) -> Result<u64, PointFault>
     Ok(staged)
 }
 
-/// Adds a piece that fits.
+/// Appends a piece that fits.
 pub(crate) fn put<const N: usize>(text: &mut ArrayVec<u8, N>, piece: &[u8])
     requires { array_vec_len text.old + length piece.now ≤ N }
     ensures items { text.new.items ≡ text.old.items ++ piece.now }

@@ -23,10 +23,10 @@ use crate::stage::{Stage, StageFault};
 use tape_blocks::Span;
 use tape_core::{Checkpoint, SinkFault};
 
-/// The most bytes of a part.
+/// The maximum number of bytes of a part.
 const LONGEST_PART: u32 = 99_999;
 
-/// The span that a digit names.
+/// Returns the span with this digit.
 fn span_by(digit: u8) -> Option<Span>
     ensures { MatchOption result ((span : Span) → digit ≡ indicator span → ⊥)
         (λ span. digit ≡ indicator span) }

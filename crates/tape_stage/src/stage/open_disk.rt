@@ -55,14 +55,14 @@ pub(crate) fn read_body(body: &[u8]) -> Option<(u64, Checkpoint)>
 
 const ROOM: usize = 100_000;
 
-/// The buffer that parts are lent from.
+/// The buffer from which parts are lent.
 pub(crate) fn buffer_of(alloc: Global) -> Result<Vec<u8>, AllocError>
     ensures room { IfOk result (λ buffer. longest_part ≤ length buffer.items) }
 {
     Vec::from_elem(alloc, 0u8, ROOM)
 }
 
-/// Writes and syncs. At a crash the range may hold anything until that is done.
+/// Writes and syncs. If a crash comes before that is done, the range may contain anything.
 pub(crate) fn write_kept<D: Disk>(disk: &mut D, place: u64, bytes: &[u8]) -> Result<(), DiskFault>
     requires { place ≤ D.length_of disk.old }
     ensures written { D.is_honest disk.old
@@ -121,7 +121,7 @@ fn recover<D: Disk>(alloc: Global, disk: &mut D) -> Result<(Found, Vec<u8>), Sta
         → D.length_of disk.new ≡ D.length_of disk.old) }
     ensures ends { EndsFinding D.Disk disk.old result disk.new }
 {
-    // The buffer before the cut: a refusal leaves the disk as it was.
+    // The buffer is allocated before the cut, so a refusal leaves the disk unchanged.
     let found = look(disk)?;
     let buffer = buffer_of(alloc)?;
     cut_kept(disk, 256 + found.staged())?;
@@ -243,7 +243,7 @@ impl<D: Disk> Stage<D> {
     ///
     /// # Errors
     ///
-    /// `OutOfMemory`; `Device`. Each hands the disk back.
+    /// Returns `OutOfMemory` or `Device`. Each returns the disk.
     pub fn create(
         alloc: Global,
         disk: D,
@@ -263,7 +263,7 @@ impl<D: Disk> Stage<D> {
             → (back ≡ point.now) × (there ≡ [])) }
         ensures not_full { IfErr result (λ refused. refused.fault ≡ StageFault.Full → ⊥) }
         ensures not_failed { IfErr result (λ refused. refused.fault ≡ StageFault.Failed → ⊥) }
-        // Nothing is read that could be no stage.
+        // Nothing is read that might not be a stage.
         ensures not_none { IfErr result (λ refused. SaysNone refused.fault → ⊥) }
     {
         let mut disk = disk;
@@ -291,7 +291,7 @@ impl<D: Disk> Stage<D> {
         })
     }
 
-    /// Hands the disk back.
+    /// Returns the disk.
     pub fn into_disk(self) -> D
         ensures { result ≡ self.disk }
     {

@@ -1,4 +1,4 @@
-//! How a stage is found again on a disk.
+//! Finding a stage on a disk.
 
 ghost use Rattle.std.specs.Prelude.{◌≡◌, ◌+◌, ◌≤◌, ◌==◌, ◌⊎◌, ℕ, List, length, OnOk};
 ghost use Rattle.std.specs.Prelude.{IfOk, IfErr, IfSome, MatchOption, None, Some, false};
@@ -46,7 +46,7 @@ fn slot(bytes: &[u8], second: bool) -> Option<(u64, Checkpoint)>
     read_slot(bytes[0], &bytes[1..128])
 }
 
-/// The slot that is meant, and the other one's gate.
+/// The current slot, and the other one's gate.
 fn found_in(bytes: &[u8], in_second: bool, generation: u64, point: Checkpoint) -> Found
     requires size { length bytes.now ≡ 256 }
     requires says { slot_at in_second bytes.now ≡ Some (generation, point) }
@@ -64,7 +64,7 @@ fn found_in(bytes: &[u8], in_second: bool, generation: u64, point: Checkpoint) -
     }
 }
 
-/// The slot that is meant: the one with the greater generation, the first of two equal ones.
+/// The current slot: the one with the greater generation, or the first if both are equal.
 fn find(bytes: &[u8]) -> Option<Found>
     requires { length bytes.now ≡ 256 }
     ensures found { MatchOption result

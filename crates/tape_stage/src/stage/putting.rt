@@ -45,7 +45,7 @@ fn header(span: Span, size: u32) -> [u8; 5]
     [digit(span), n[0], n[1], n[2], n[3]]
 }
 
-/// Writes a part's frame at a place.
+/// Writes a part's frame at an offset.
 fn write_frame<D: Disk>(disk: &mut D, place: u64, part: Part<'_>) -> Result<(), DiskFault>
     requires there { place ≤ D.length_of disk.old }
     requires short { length part.bytes.now ≤ longest_part }
@@ -113,7 +113,7 @@ impl<D: Disk> Stage<D> {
     }
 }
 
-/// The fault of a sink; opening alone has others.
+/// The fault of a sink; only opening has others.
 fn sink_fault(fault: StageFault) -> SinkFault
     ensures { result ≡ sink_fault_of fault }
 {

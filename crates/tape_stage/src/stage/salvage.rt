@@ -18,7 +18,7 @@ pub struct Salvage<D: Disk> {
     pub(crate) buffer: Vec<u8>,
     /// The weight of the parts that a walk has lent.
     pub(crate) walked: u64,
-    /// How many calls were refused to it as a sink.
+    /// How many calls to it as a sink were refused.
     pub(crate) refused: u64,
     ghost long: { 256 + weight ≤ D.length_of disk },
     ghost behind: { walked ≤ weight },
@@ -35,7 +35,7 @@ impl<D: Disk> Salvage<D> {
         self.broken
     }
 
-    /// Hands the disk back.
+    /// Returns the disk.
     pub fn into_disk(self) -> D
         ensures { result ≡ self.disk }
     {

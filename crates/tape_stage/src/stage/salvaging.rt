@@ -1,4 +1,4 @@
-//! A stage that is opened for reading alone, its frames whole or not.
+//! A stage that is opened for reading only, intact or damaged.
 
 ghost use Rattle.std.specs.Prelude.{◌≡◌, ◌≤◌, ◌+◌, ◌-◌, ℕ, List, IfOk, IfErr};
 ghost use Rattle.std.specs.Prelude.{IfSome, Err, false};
@@ -25,7 +25,7 @@ use std::alloc::Global;
 use tape_blocks::Part;
 use tape_core::{Checkpoint, PartSink, PartWalk, SinkFault};
 
-/// What frames weigh that should weigh so much, and break off there.
+/// The weight of the intact frames, given the full weight and the place of the damage.
 fn standing(staged: u64, broken: Option<u64>) -> u64
     requires low { IfSome broken (λ place. 256 ≤ place) }
     ensures { result ≡ standing staged broken }
@@ -76,7 +76,7 @@ impl<D: Disk> Salvage<D> {
         ensures not_failed { IfErr result (λ refused. refused.fault ≡ StageFault.Failed → ⊥) }
         ensures cause { IfErr result (λ refused. refused.fault ≡ StageFault.Device
             → Rose (D.faults disk) (D.faults refused.disk)) }
-        // Nothing is written to any disk, and no length is another.
+        // Nothing is written to any disk, and no length changes.
         ensures reads { IfOk result (λ opened. OnlyReads D.Disk disk opened.0.disk) }
         ensures refused { IfErr result (λ refused. OnlyReads D.Disk disk refused.disk) }
     {
@@ -128,7 +128,7 @@ impl<D: Disk> PartSink for Salvage<D> {
 
     ghost survived_now = { λ s t none. none };
 
-    // Of each change the trait alone would allow an Ok.
+    // The trait alone would allow each of these changes to succeed.
     fn put(&mut self, _part: Part<'_>) -> Result<(), SinkFault>
         ensures refused { result ≡ Err SinkFault.Failed }
         ensures same { (parts : List Portion) → HoldsRest self.old parts

@@ -1,4 +1,4 @@
-//! How a stage acknowledges: slots, their gates, and the order of writes and syncs.
+//! Saving: slots, their gates, and the order of writes and syncs.
 
 ghost use Rattle.std.specs.Prelude.{◌≡◌, ◌≤◌, ◌<◌, ◌+◌, ℕ, List, false, not, OnOk, IfOk, IfErr};
 ghost use Rattle.std.specs.Prelude.{IsErrOf, Some, None, ◌⊎◌, ◌^◌, Bool, length};
@@ -87,7 +87,7 @@ impl<D: Disk> Stage<D> {
         }
     }
 
-    /// The checkpoint that was acknowledged last: by making, opening, saving or going back.
+    /// The checkpoint that was acknowledged last: by creating, opening, saving or rolling back.
     pub fn acknowledged(&self) -> Checkpoint
         ensures value { result ≡ self.now.acknowledged }
         // Whatever a crash leaves now represents the checkpoint and its parts.
@@ -227,7 +227,7 @@ pub(crate) fn fill_slot<D: Disk>(
     write_kept(disk, gate_place(!in_second) + 1, &body)
 }
 
-/// Opens the gate of the slot that was filled.
+/// Opens the gate of the slot that was written.
 pub(crate) fn open_gate<D: Disk>(disk: &mut D, in_second: bool) -> Result<(), DiskFault>
     requires { 256 ≤ D.length_of disk.old }
     ensures opened { D.is_honest disk.old

@@ -1,4 +1,5 @@
-//! What the faults of a file mean, by what the file is for: each list in the order of its numbers.
+//! The meaning of faults of a file, by the purpose of the file: each list is in the order of its
+//! numbers.
 use super::NEVER;
 
 /// An input of `write` that was not found.

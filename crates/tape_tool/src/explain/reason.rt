@@ -1,4 +1,4 @@
-//! What the system says of a file at which a fault came.
+//! The system's message about a file with a fault.
 use super::Site;
 use crate::fault::{FileFault, ToolFault};
 use crate::write::run::split;
@@ -9,8 +9,8 @@ use std::{fs, io};
 use tape_image::ImageCause;
 use tape_writer::system::folder_of;
 
-/// Asks the system again for the file at which this fault came, and returns what it says. Returns
-/// `None` if it says nothing now, and for faults that are not those of a file that can be read.
+/// Accesses the file with this fault again, and returns the system's error. Returns `None` if there
+/// is no error now, and for faults that are not those of a file that can be read.
 pub fn reason_of<R: Runtime>(rt: &R, fault: ToolFault, site: Site<'_>) -> Option<io::Error> {
     match fault {
         ToolFault::File(FileFault::NotOpened | FileFault::ReadFailed) => {}
@@ -26,12 +26,13 @@ pub fn reason_of<R: Runtime>(rt: &R, fault: ToolFault, site: Site<'_>) -> Option
     }
 }
 
-/// Why nothing is found at this path.
+/// Why there is nothing at this path.
 fn not_there<R: Runtime>(rt: &R, path: &str) -> Option<io::Error> {
     fs::metadata(rt, path).err()
 }
 
-/// Why the file at this path cannot be read. A pipe or a device is not opened: that might wait.
+/// Why the file at this path cannot be read. A pipe or a device is not opened, since that might
+/// block.
 fn unread<R: Runtime>(rt: &R, path: &str) -> Option<io::Error> {
     match fs::metadata(rt, path) {
         Ok(found) if found.is_file() || found.is_dir() => {}

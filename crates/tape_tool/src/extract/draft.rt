@@ -178,7 +178,7 @@ pub struct Draft<'a, R: Host> {
     pub file: DraftFile,
 }
 
-/// So many names of drafts are tried, at most.
+/// The maximum number of draft names that are tried.
 const MOST_DRAFTS: u16 = 9_999;
 
 impl<'a, R: Host> Draft<'a, R> {
@@ -288,7 +288,7 @@ fn remove_left<R: Host>(rt: &R, path: &str) -> bool {
     file.try_lock().is_ok() && has_name(rt, &file, path) && rt.remove_file(path).is_ok()
 }
 
-/// Whether the open file is the one that has this name.
+/// Whether the open file is the one with this name.
 fn has_name<R: Host>(rt: &R, file: &File, path: &str) -> bool {
     match (file.metadata(), fs::symlink_metadata(rt, path)) {
         (Ok(open), Ok(named)) => FileId::of(&open).is_same(&FileId::of(&named)),

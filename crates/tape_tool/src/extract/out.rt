@@ -116,7 +116,7 @@ fn way_to_new<R: Runtime>(rt: &R, out: &str, stage: Option<&str>) -> Result<Way,
     way_to(rt, out, None)
 }
 
-/// Whether both paths are one name in one folder.
+/// Whether both paths are the same name in the same directory.
 fn is_one_name<R: Runtime>(rt: &R, one: &str, other: &str) -> Result<bool, Unfit> {
     if one == other {
         return Ok(true);
@@ -152,7 +152,7 @@ fn differs<R: Runtime>(
     }
 }
 
-/// Refuses a file that may keep a tape.
+/// Refuses a file that might be a tape.
 fn keeps_no_tape<R: Runtime + AllocGlobal>(rt: &R, path: &str) -> Result<(), Unfit> {
     let Ok(mut file) = File::open(rt, path) else {
         return Err(refused(FileFault::NotOpened));
@@ -167,7 +167,7 @@ fn keeps_no_tape<R: Runtime + AllocGlobal>(rt: &R, path: &str) -> Result<(), Unf
     holds_no_image(rt, path)
 }
 
-/// Whether a name ends as those of images do, in whatever case.
+/// Whether a name ends like those of images, in upper or lower case.
 fn is_named_image(path: &str) -> bool {
     let name = path.as_bytes();
     let end = name.len().saturating_sub(4);
@@ -181,7 +181,7 @@ fn begins_as_kept(front: &[u8]) -> bool {
         .is_some_and(|there| there.starts_with(*bytes)))
 }
 
-/// Refuses a file that begins as an image does.
+/// Refuses a file that begins like an image.
 fn holds_no_image<R: Runtime + AllocGlobal>(rt: &R, path: &str) -> Result<(), Unfit> {
     let Ok(mut file) = File::open(rt, path) else {
         return Err(refused(FileFault::NotOpened));
@@ -198,7 +198,7 @@ fn holds_no_image<R: Runtime + AllocGlobal>(rt: &R, path: &str) -> Result<(), Un
 ///
 /// # Errors
 ///
-/// `Device` and `OutOfMemory`: it can't be seen.
+/// `Device` and `OutOfMemory`: it cannot be determined.
 fn begins_as_image<R: Read>(alloc: Global, device: &mut R) -> Result<bool, ImageCause> {
     let mut image = match ImageReader::new(alloc, device) {
         Ok(image) => image,

@@ -1,4 +1,4 @@
-//! The program around the engines of `extract`: images, memory, the file.
+//! `extract` as the program runs it: images, memory, the output.
 
 use crate::explain::Site;
 use crate::extract::draft::Draft;
@@ -101,7 +101,7 @@ pub fn extract_file<'a, R: Host, P: Write>(
     }
 }
 
-/// Gets the file back over the stage at this path.
+/// Recovers the file over the stage at this path.
 fn on_stage<'a, R: Host, P: Write>(
     rt: &R,
     task: &Task<'a>,
@@ -178,7 +178,7 @@ fn at_once<'a, R: Host, P: Write>(
     }
 }
 
-/// Gathers the file in memory, and writes it in place.
+/// Recovers the file in memory, and writes it in place.
 fn from_memory<R: Host, P: Write>(
     rt: &R,
     task: &Task<'_>,

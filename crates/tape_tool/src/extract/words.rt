@@ -30,7 +30,7 @@ pub struct Task<'a> {
     pub form: Form,
     /// Where recovered data is saved.
     pub stage: Option<&'a str>,
-    /// Whether the images are read round by round.
+    /// Whether the images are read repeatedly.
     pub again: bool,
 }
 

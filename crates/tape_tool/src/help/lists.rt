@@ -1,6 +1,6 @@
 //! The texts of help for lists of images.
 
-/// `check` was given too many images.
+/// `check` was called with too many images.
 pub const TOO_MANY_TO_CHECK: &str =
     "check takes up to 256 IMAGEs, and any number of names from a list:
   find . -name '*.tap' -print0 | tape check --files-from - --null";
@@ -19,7 +19,7 @@ pub const NULL: &str = "Names in LIST end with NUL, as 'find -print0' writes the
 /// No image is named, and the list is empty.
 pub const NO_IMAGE: &str = "the list contains no image names";
 
-/// A line of a list holds a NUL, which no name of a file does.
+/// A line of a list contains a NUL, which no file name does.
 pub const NUL_IN_LINES: &str = "the names in the list end with NUL: add --null";
 
 /// The list was made on another system.
@@ -28,7 +28,7 @@ with a byte order mark, as lists of Windows do: make another one by
   tr -d '\\r' < LIST | sed '1s/^\\xef\\xbb\\xbf//' > NEW
 If names really begin or end like this, end each with a NUL and add --null";
 
-/// A name in a list is no text; before it stands which one.
+/// A name in a list is not text; the message begins with its number.
 pub const NO_TEXT_IN_LIST: &str = "of the list is not valid UTF-8. Find the file with
   find . | grep -axv '.*'
 and rename it";

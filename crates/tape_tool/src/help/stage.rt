@@ -12,7 +12,7 @@ pub const OUT_OF_STAGE: &str = "Output file for the records recovered so far";
 /// What `--damaged` does.
 pub const DAMAGED: &str = "Accept a damaged stage, and use what precedes the damage";
 
-/// `stage` was given several outputs.
+/// `stage` was called with several outputs.
 pub const ONE_OUT: &str = "stage takes one stage and at most one OUT";
 
 /// Help after the arguments of `stage`.

@@ -14,7 +14,7 @@ pub const TOO_MANY_TO_UNPACK: &str =
     "unpack takes up to 256 IMAGEs, and any number of names from a list:
   find . -name '*.tap' -print0 | tape unpack DIR --files-from - --null";
 
-/// DIR is no folder.
+/// DIR is not a directory.
 pub const DIR_IS_NO_FOLDER: &str = "DIR is not a directory. It comes before the images:
   mkdir ../out; tape unpack ../out *.tap";
 

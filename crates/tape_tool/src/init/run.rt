@@ -21,7 +21,7 @@ pub fn init<'a, R: Host>(rt: &R, order: &Init<'a>, site: &mut Site<'a>) -> End {
     tell(rt, order.count)
 }
 
-/// Makes the image of a volume.
+/// Creates the image of a volume.
 fn make<R: Host>(rt: &R, order: &Init<'_>, number: u16) -> Result<(), ToolFault> {
     let Ok(path) = image_path(rt.alloc(), order.folder, order.prefix, number) else {
         return Err(OUT_OF_MEMORY);
@@ -43,7 +43,7 @@ fn tell<R: Print + AllocGlobal>(rt: &R, count: u16) -> End {
     }
 }
 
-/// Writes a text, and has the writer pass it on.
+/// Writes a text, and flushes.
 fn say<W: Write>(writer: &mut W, text: &str) -> Result<(), WriteFailed> {
     write_text(writer, text.as_bytes())?;
     flush(writer)

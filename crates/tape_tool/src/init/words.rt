@@ -10,7 +10,7 @@ use clap::{ArgMatches, Error};
 use std::alloc::Global;
 use tape_writer::Prefix;
 
-/// What `init` makes: images of the volumes from 1 to the count, in a folder.
+/// What `init` creates: images of the volumes from 1 to the count, in a directory.
 #[derive(Clone, Copy)]
 pub struct Init<'a> {
     pub folder: &'a str,

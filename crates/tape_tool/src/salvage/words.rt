@@ -111,7 +111,7 @@ fn content_in(matches: &ArgMatches<'_>) -> Content
     }
 }
 
-/// How records are written. Blocks are joined.
+/// How records are written. Blocks are written without terminators.
 fn form_with(matches: &ArgMatches<'_>, content: Content) -> Form
     ensures { content ≡ Records → IsForm (rows_of (found_of matches.now)) result }
 {

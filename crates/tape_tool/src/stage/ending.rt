@@ -6,6 +6,6 @@ use tape_set::Want;
 pub enum StageEnding {
     /// All frames are intact; this is missing of the file, if anything.
     Whole(Option<Want>),
-    /// The frames break off at this place of the stage.
+    /// The frames are damaged at this offset of the stage.
     Broken(u64),
 }

@@ -166,8 +166,7 @@ fn show_parts<S: PartWalk, W: Write, P: Write>(
     }
 }
 
-/// The fault of writing the records: parts that could not be walked over are a stage that could not
-/// be read.
+/// The fault of writing the records: if the parts could not be read, it is one of the stage.
 fn as_read(fault: EngineFault) -> ToolFault
     ensures { EndsInPart result }
 {
@@ -193,7 +192,7 @@ fn tell<P: Write>(
     flush(report)
 }
 
-/// Room for both lines.
+/// The length of both lines.
 type Lines = ArrayVec<u8, 512>;
 
 /// The line of the stage, and that of what follows its parts.
@@ -217,7 +216,7 @@ fn put_ending(lines: &mut Lines, ending: StageEnding, records: u64)
     }
 }
 
-/// The line of a break.
+/// The line for the damage.
 fn put_break(lines: &mut Lines, place: u64)
     requires { array_vec_len lines.old ≤ 200 }
     ensures { lines.new.items ≡ lines.old.items ++ break_line place }

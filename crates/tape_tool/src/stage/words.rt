@@ -16,7 +16,7 @@ pub struct StageOrder<'a> {
     pub stage: &'a str,
     pub out: Option<&'a str>,
     pub form: Form,
-    /// Whether its frames may break off.
+    /// Whether a damaged stage is accepted.
     pub damaged: bool,
 }
 

@@ -23,7 +23,7 @@ pub fn end_of<H: Host>(rt: &H, line: &str) -> Result<End, Fail> {
     Ok(perform(rt, words.as_slice()).end)
 }
 
-/// The line ends so.
+/// The line ends like this.
 pub fn ends<H: Host + Abort>(rt: &H, line: &str, wanted: End) -> Result<(), Fail> {
     let end = end_of(rt, line)?;
     assert!(rt; end == wanted, "{line}: {end:?}");
@@ -62,9 +62,9 @@ pub fn each_is_wrong<H: Host + Abort>(rt: &H, lines: &[&str]) -> Result<(), Fail
 /// A step of a test: an action and its expected result.
 #[derive(Clone, Copy)]
 pub enum Step<'a> {
-    /// The program is called by this line, and ends so.
+    /// The program is called with this line, and ends like this.
     Ends(&'a str, End),
-    /// The program is called by this line, and ends with this fault.
+    /// The program is called with this line, and ends with this fault.
     Fails(&'a str, ToolFault),
     /// Creates a directory.
     Folder(&'a str),
@@ -90,7 +90,7 @@ pub enum Step<'a> {
     IsWorked(&'a str),
     /// The file has this many bytes.
     HasLength(&'a str, usize),
-    /// The file has this text at this place.
+    /// The file has this text at this offset.
     HasText(&'a str, usize, &'a [u8]),
     /// There is no such file.
     IsMissing(&'a str),
@@ -190,7 +190,7 @@ fn has_length<H: Runtime + AllocGlobal>(rt: &H, path: &str, length: usize) -> Re
     Ok(found.len() == length)
 }
 
-/// Whether the file has this text at this place.
+/// Whether the file has this text at this offset.
 fn has_text<H: Runtime + AllocGlobal>(
     rt: &H,
     path: &str,

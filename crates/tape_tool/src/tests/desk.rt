@@ -271,7 +271,7 @@ pub fn called(rt: &HostRuntime, line: &str, takes: bool) -> Result<Seen, Fail> {
     called_oddly(rt, line, takes, Odd::Nothing)
 }
 
-/// The same, on a system that is odd in this way.
+/// The same, on a system with this peculiarity.
 pub fn called_oddly(rt: &HostRuntime, line: &str, takes: bool, odd: Odd<'_>) -> Result<Seen, Fail> {
     let words = words_of(rt.alloc(), line)?;
     let out = RefCell::new(String::new(rt.alloc()));
@@ -287,7 +287,7 @@ pub fn called_oddly(rt: &HostRuntime, line: &str, takes: bool, odd: Odd<'_>) -> 
         opened: &opened,
     });
     let opened = opened.into_inner();
-    // First of all the numbers of the standard streams are looked after.
+    // First of all the numbers of the standard streams are checked.
     let Some(opened) = opened.as_str().strip_prefix("/ ") else {
         return Err(Fail::from("the root is opened first"));
     };

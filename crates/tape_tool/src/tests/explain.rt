@@ -1,4 +1,4 @@
-//! What `--explain` tells behind the line of a fault.
+//! What `--explain` prints after the line of a fault.
 
 use super::calls::{Step, take_all};
 use super::words::words_of;
@@ -43,7 +43,7 @@ const TLD: Prefix = Prefix {
     characters: *b"TLD",
 };
 
-/// Lines that end by a fault, and where it is told to have come.
+/// Lines that end with a fault, and its site.
 const SITES: &[(&str, Option<Site<'_>>)] = &[
     ("list told_cut.tap", None),
     (
@@ -83,7 +83,7 @@ const SITES: &[(&str, Option<Site<'_>>)] = &[
     ("unpack lost told.tap --explain", Some(Site::Folder("lost"))),
 ];
 
-/// The line ends by a fault, which is told to have come there.
+/// The line ends with a fault, which has this site.
 fn is_at<H: Host + Abort>(rt: &H, line: &str, site: Option<Site<'_>>) -> Result<(), Fail> {
     let words = words_of(rt.alloc(), line)?;
     let outcome = perform(rt, words.as_slice());
@@ -120,7 +120,7 @@ const NO_MEMORY: ToolFault = ToolFault::Image(ImageFault {
     cause: ImageCause::OutOfMemory,
 });
 
-/// Faults, where they came, and the first line that is told of them, or the second.
+/// Faults, their sites, and the first line that is printed for them, or the second.
 const TOLD: &[(ToolFault, Site<'_>, &str)] = &[
     (
         CUT_OFF,

@@ -1,4 +1,4 @@
-//! `extract` as it is called: words, files, ends.
+//! `extract` as it is called: arguments, files, ends.
 use super::calls::{Step, each_is_wrong, ends, take_all, with_images};
 use super::words::words_of;
 use crate::extract::words::Extract;
@@ -121,7 +121,7 @@ fn tapes_are_never_the_output(rt: HostRuntime) -> Result<(), Fail> {
     take_all(&rt, NEVER_OUT)
 }
 
-/// Beginnings of what may keep a tape: images, compressed files, archives and stages.
+/// Beginnings of files that might be tapes: images, compressed files, archives and stages.
 const KEPT: &[&[u8]] = &[
     b"\0\0\0\0",
     b"\xff\xff\xff\xff",
@@ -137,7 +137,7 @@ const KEPT: &[&[u8]] = &[
       ------------------------------------------------TPCK2",
 ];
 
-/// Beginnings that are as those but for a byte, and are written over.
+/// Beginnings that differ from those in one byte, and are overwritten.
 const PLAIN: &[&[u8]] = &[
     b"\xff\xff\xff",
     b"\x1f",
@@ -180,7 +180,7 @@ const HELD: &str = "extract ABC001 1 kept.bin held.tap";
 const DRAFTS: &[Step<'_>] = &[
     Step::PutWorked("whole.tap", 2484),
     Step::PutWorked("front.tap", 2288),
-    // One of a run that was killed goes.
+    // The draft of a run that was killed is removed.
     Step::Put(".tape-1.part", b"another"),
     Step::Put("kept.txt", b"kept"),
     // The permissions are kept, except set-user-ID.
@@ -212,7 +212,7 @@ fn outputs_take_their_names_at_the_end(rt: HostRuntime) -> Result<(), Fail> {
     take_all(&rt, DRAFTS)
 }
 
-/// Lines that are no call of `extract`.
+/// Lines that are not calls of `extract`.
 const WRONG: &[&str] = &[
     "extract",
     "extract ABC001 1 out.txt",

@@ -79,7 +79,7 @@ const ROWS: &[Row<'_>] = &[
         "guard.txt",
         KEPT,
     ),
-    // A file that fails does not keep the others from being unpacked.
+    // If a file fails, the others are still unpacked.
     (
         Odd::Look("guard/GRD001.1.ONE", LOST),
         "unpack guard GRD001.tap",

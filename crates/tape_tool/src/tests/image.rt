@@ -2,7 +2,7 @@
 use super::volumes::{FIXED, HDR1, VOL1, labels};
 use std::alloc::{AllocError, Global};
 
-/// A tape mark and the end of medium.
+/// A tape mark and the end-of-medium marker.
 pub const MARK: [u8; 4] = [0, 0, 0, 0];
 
 pub const END: [u8; 4] = [0xFF, 0xFF, 0xFF, 0xFF];

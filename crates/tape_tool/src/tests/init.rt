@@ -4,7 +4,7 @@ use crate::fault::{FileFault, ToolFault};
 use crate::program::End;
 use std::test::Fail;
 
-/// The first volume without files: its label, two tape marks and the end of medium.
+/// The first volume without files: its label, two tape marks and the end-of-medium marker.
 const BLANK: &[u8] = b"\
     P\0\0\0VOL1ABC001                                                                     4P\0\0\0\
     \0\0\0\0\0\0\0\0\xFF\xFF\xFF\xFF";

@@ -6,7 +6,7 @@ use std::test::Fail;
 
 const EXISTS: ToolFault = ToolFault::File(FileFault::Exists);
 
-/// Two readings with different unreadable blocks make a whole image, in either order.
+/// Two readings with different unreadable blocks make a complete image, in either order.
 const MENDED: &[Step<'_>] = &[
     Step::PutDamaged("merge1.tap", 1),
     Step::PutDamaged("merge2.tap", 2),
@@ -36,7 +36,7 @@ const MENDED: &[Step<'_>] = &[
     ),
 ];
 
-/// OUT is a new name, whatever has it.
+/// OUT must be a new name, whatever has it.
 const NEW_NAME: &[Step<'_>] = &[
     Step::PutWorked("name1.tap", 2484),
     Step::Put("name2.tap", b""),
@@ -49,7 +49,7 @@ const NEW_NAME: &[Step<'_>] = &[
     Step::IsMissing("name1.tap.part"),
 ];
 
-/// Readings that differ, and a reading that lost a block together with itself.
+/// Readings that differ, and a reading that lost a block, with itself.
 const DIFFERENT: &[Step<'_>] = &[
     Step::PutWorked("other1.tap", 2484),
     Step::PutLost("other2.tap"),
@@ -67,7 +67,7 @@ const DIFFERENT: &[Step<'_>] = &[
     Step::HasText("merge_counted.tap", 4, b"VOL1"),
 ];
 
-/// A reading that ends with a fault, and one of no items.
+/// A reading that ends with a fault, and one without items.
 const CUT: &[Step<'_>] = &[
     Step::PutWorked("cut1.tap", 2000),
     Step::PutWorked("cut2.tap", 2484),

@@ -29,7 +29,7 @@ const CUT_OFF: End = End::Faulted(ToolFault::Image(ImageFault {
     cause: ImageCause::Truncated,
 }));
 
-/// A fault at the greatest place.
+/// A fault at the greatest offset.
 const LAST: End = End::Faulted(ToolFault::Image(ImageFault {
     place: 18_446_744_073_709_551_615,
     cause: ImageCause::OutOfMemory,

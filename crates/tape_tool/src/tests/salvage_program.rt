@@ -4,7 +4,7 @@ use crate::fault::{FileFault, ToolFault};
 use crate::program::End;
 use std::test::Fail;
 
-/// With nothing missing it is the file, and an existing file is never written over.
+/// If nothing is missing it is the file, and an existing file is never overwritten.
 const COMPLETE: &[Step<'_>] = &[
     Step::PutWorked("salvage1.tap", 2484),
     Step::Ends("salvage ABC001 1 salvaged.txt salvage1.tap", End::Done),
@@ -28,7 +28,7 @@ const COMPLETE: &[Step<'_>] = &[
     Step::HasLength("salvaged.blocks", 2000),
 ];
 
-/// The records of the blocks that can be read: the first ten, and the last ten.
+/// The records of the readable blocks: the first ten, and the last ten.
 const DAMAGED: &[Step<'_>] = &[
     Step::PutDamaged("salvage2.tap", 2),
     Step::Ends(

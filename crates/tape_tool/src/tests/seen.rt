@@ -49,7 +49,7 @@ const ROWS: &[Row<'_>] = &[
         "",
         Some("seen2.tap lost.tap? seen1.tap "),
     ),
-    // A section that is missing, and an image that is not there.
+    // A missing section, and an image that does not exist.
     (
         "check seen1.tap lost.tap",
         3,
@@ -210,7 +210,7 @@ fn called_with_all(rt: &HostRuntime, line: &str) -> Result<Seen, Fail> {
     called(rt, line.as_str(), true)
 }
 
-/// No image is left out, however many words and lines of a list name them.
+/// No image is left out, however many arguments and lines of a list name them.
 #[test]
 fn many_images(rt: HostRuntime) -> Result<(), Fail> {
     let mut names = Vec::new(rt.alloc());

@@ -7,7 +7,7 @@ use std::test::Fail;
 use tape_run::RunFault;
 use tape_stage::StageFault;
 
-/// The call of a run that finds another one at its stage.
+/// The call of a run whose stage another one is using.
 const SECOND: &str = "extract ABC001 1 second.txt first.tap --stage first.stage";
 
 const FIRST: &[Step<'_>] = &[
@@ -54,7 +54,7 @@ const DAYS: &[Step<'_>] = &[
     Step::HasLength("days.stage", 2381),
     Step::HasLength("days.txt", 2025),
     Step::HasText("days.txt", 1944, b"0025  "),
-    // A stage that is complete reads no image.
+    // With a complete stage no image is read.
     Step::Ends(
         "extract ABC001 1 days_again.txt lost.tap --stage days.stage",
         End::Done,

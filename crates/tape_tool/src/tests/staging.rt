@@ -77,7 +77,7 @@ fn a_damaged_volume_over_two_days(rt: HostRuntime) -> Result<(), Fail> {
     Ok(())
 }
 
-/// The fault at which there is no session for this file over a disk, and the disk.
+/// The fault with which there is no session for this file over a disk, and the disk.
 fn fault_of(
     alloc: Global,
     disk: MemoryDisk,
@@ -152,7 +152,7 @@ fn session_in(rt: &HostRuntime, path: &str) -> io::Result<Option<FileSession>> {
 /// The file of the stage.
 const PATH: &str = "the_worked_volume.stage";
 
-/// A stage of the worked file at its start: its length, and texts at their places.
+/// A stage of the worked file at its start: its length, and texts at their offsets.
 const BEGUN: &[Step<'_>] = &[
     Step::HasLength(PATH, 256),
     Step::HasText(PATH, 0, b"O000000000000001TPCK2ABC001"),
@@ -191,7 +191,7 @@ fn the_worked_volume_in_a_stage_file(rt: HostRuntime) -> Result<(), Fail> {
     assert!(rt; reads_worked(rt.alloc(), &mut session)?);
     drop(session);
     take_all(&rt, DONE)?;
-    // Another day nothing more is read.
+    // On another day nothing more is read.
     let Some(mut session) = session_in(&rt, PATH)? else {
         return Err(Fail::from("the stage again"));
     };

@@ -36,7 +36,7 @@ const DAY_BY_DAY: &[Step<'_>] = &[
     Step::Ends("unpack days day1.tap --form raw", End::Done),
     Step::HasLength("days/ABC001.1.PAYROLL", 2000),
     Step::IsMissing("days/ABC001.1.PAYROLL.stage"),
-    // On one day both copies mend each other, in either order.
+    // On one day both copies complete each other, in either order.
     Step::Remove("days/ABC001.1.PAYROLL"),
     Step::Ends("unpack days day1.tap day2.tap", End::Done),
     Step::HasText("days/ABC001.1.PAYROLL", 1944, b"0025  "),
@@ -68,7 +68,7 @@ const FAILED: &[Step<'_>] = &[
     Step::IsMissing("failed/ABC001.1.PAYROLL"),
 ];
 
-/// Two sets of one identifier, and a blank volume.
+/// Two sets with one identifier, and a blank volume.
 const MISSED: &[Step<'_>] = &[
     Step::Folder("missed"),
     Step::Folder("missed1"),
@@ -114,7 +114,7 @@ fn every_file_is_unpacked(rt: HostRuntime) -> Result<(), Fail> {
     )
 }
 
-/// A volume with the second file of its set alone, which has no records.
+/// A volume with only the second file of its set, which has no records.
 fn second_alone(alloc: Global) -> Result<Image, AllocError> {
     let mut image = Image::new(alloc);
     let header = "HDR1LEDGER           ABC00100010002000100 00000 00000 000000";

@@ -1,4 +1,4 @@
-//! Volumes of the worked file set, whole and damaged, written label by label.
+//! Volumes of the worked file set, complete and damaged, written label by label.
 use super::image::{END, Image, MARK, payroll};
 use std::alloc::{AllocError, Global};
 
@@ -34,7 +34,7 @@ pub fn labels(image: &mut Image, texts: &[&str]) -> Result<(), AllocError> {
     image.word(&MARK)
 }
 
-/// The second mark of a volume, and the end word.
+/// The second mark of a volume, and the end-of-medium marker.
 fn end(image: &mut Image) -> Result<(), AllocError> {
     image.word(&MARK)?;
     image.word(&END)
@@ -48,7 +48,7 @@ fn close(image: &mut Image, texts: &[&str]) -> Result<(), AllocError> {
 }
 
 /// A volume with one section: its header labels, data blocks of 400 characters with these high
-/// bytes in their words, so that 0x80 is a bad one, and its trailer labels.
+/// bytes in their length words, so that 0x80 is a bad one, and its trailer labels.
 fn reel(
     alloc: Global,
     headers: &[&str],

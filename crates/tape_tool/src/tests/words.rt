@@ -75,7 +75,7 @@ const SAID: &[(&str, i32, &str)] = &[
     ),
 ];
 
-/// The line is answered with this status and text.
+/// The line ends with this status and text.
 fn is_answered<H: Abort + AllocGlobal>(
     rt: &H,
     line: &str,

@@ -28,7 +28,7 @@ const WORKED_VOLUME: &[Step<'_>] = &[
     Step::Ends("list worked/ABC001.tap", End::Done),
 ];
 
-/// What cannot be read as a file is no image that could be written over.
+/// What cannot be read as a file cannot be an image to overwrite.
 const FOLDER: &[Step<'_>] = &[
     Step::Put("beside.txt", b"AB\n"),
     Step::Folder("TFF001.tap"),
@@ -38,7 +38,8 @@ const FOLDER: &[Step<'_>] = &[
     ),
 ];
 
-/// What would be lost by a slip, or is no file, and is found before anything is written.
+/// Files that a slip would destroy, or that are not plain files, are found before anything is
+/// written.
 const UNFIT: &[Step<'_>] = &[
     Step::Put("apart.txt", b"AB\n"),
     Step::Ends("init . UNF 2", End::Done),
@@ -80,7 +81,7 @@ const SECOND: &[Step<'_>] = &[
     Step::Holds("SND002.tap", b"kept"),
 ];
 
-/// All inputs are looked for before anything is written: one that is missing, and a folder.
+/// All inputs are looked for before anything is written: a missing one, and a directory.
 const LOOKED_FOR: &[Step<'_>] = &[
     Step::Put("here.txt", b"AB\n"),
     Step::Fails(
@@ -107,7 +108,7 @@ fn files_are_written(rt: HostRuntime) -> Result<(), Fail> {
     follow_all(&rt, SCRIPTS)
 }
 
-/// Lines that are no call of `write`.
+/// Lines that are not calls of `write`.
 const WRONG: &[&str] = &[
     "write",
     "write . WRD 100000",
@@ -132,7 +133,7 @@ fn words_of_write(rt: HostRuntime) -> Result<(), Fail> {
     ends(&rt, "write --help", End::Done)
 }
 
-/// Faults, in the order in which they are looked for.
+/// Faults, in the order in which they are checked.
 const FAULTS: &[(&str, ToolFault)] = &[
     (
         "write none FLT 0 a=none --pad-full --format S",

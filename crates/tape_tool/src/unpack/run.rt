@@ -1,4 +1,4 @@
-//! `unpack` as the program runs it: from files into a folder.
+//! `unpack` as the program runs it: from files into a directory.
 
 use super::last_line::LastLine;
 use super::paths::{Paths, paths_of};
@@ -120,7 +120,7 @@ fn unpack_all<R: Host, P: Write>(
     }
 }
 
-/// How the unpacking of a file ends, or as an error how the run ends with it.
+/// How the unpacking of a file ends or, as an error, how the run ends with it.
 type Ended = Result<End, End>;
 
 /// Returns the number after that of the previous file, if this one belongs to its set, otherwise 1.
@@ -247,7 +247,7 @@ fn gather<R: Host>(
         let end = extract_whole(rt, &at_once, images, &mut shelf.mounted, locations, last);
         if end != End::Incomplete {
             if end != End::Done {
-                // Of an image that a fault left mounted nothing is proved.
+                // Nothing is proved of an image that a fault left open.
                 shelf.mounted = None;
             }
             return end;
@@ -266,7 +266,7 @@ fn gather<R: Host>(
     extract_file(rt, &staged, images, Way::New, last, &mut site)
 }
 
-/// Reports what became of a file, and ends so.
+/// Prints the outcome of a file, and ends like this.
 fn tell<R: Host, P: Write>(
     rt: &R,
     file: &SetFile,
@@ -284,7 +284,7 @@ fn tell<R: Host, P: Write>(
     }
 }
 
-/// Reports that a file failed, and by which fault.
+/// Reports that a file failed, and with which fault.
 fn tell_failed<R: Host, P: Write>(
     rt: &R,
     file: &SetFile,

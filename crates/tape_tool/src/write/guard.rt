@@ -1,4 +1,4 @@
-//! What `write` looks at before it writes: no input of a set is one of its images.
+//! Checks of `write` before it writes: no input of a set is one of its images.
 use crate::fault::{FileFault, OUT_OF_MEMORY};
 use crate::help;
 use crate::unfit::{Unfit, look, refused, same_file};
@@ -80,7 +80,7 @@ fn plain(found: Metadata) -> Result<Option<Metadata>, Unfit> {
     }
 }
 
-/// A growth was refused.
+/// An allocation was refused.
 fn no_memory() -> Unfit {
     Unfit::Faulted(OUT_OF_MEMORY)
 }

@@ -10,7 +10,7 @@ use tape_run::text::{put, put_decimal};
 use tape_run::{WriteFailed, flush, write_text};
 use tape_writer::system::Ended;
 
-/// Room for the longest line, which is that of all.
+/// The length of the longest line, which is the last one.
 type Line = ArrayVec<u8, 64>;
 
 /// Prints a line for each volume, and one with the numbers of files and volumes.
@@ -45,7 +45,7 @@ fn volume_line(ended: &Ended) -> Line
     line
 }
 
-/// The line of all.
+/// The last line.
 fn files_line(files: u64, volumes: u64) -> Line
     ensures { result.items ≡ files_line files volumes }
 {

@@ -1,4 +1,4 @@
-//! `write` as the program runs it: files of the words, on volumes of a folder.
+//! `write` as the program runs it: the files of the arguments, to volumes in a directory.
 
 ghost use Rattle.std.specs.Prelude.{◌≡◌, ◌==◌, IfOk, IfErr};
 ghost use Rattle.std.specs.List.{before_first, after_first};
@@ -119,7 +119,7 @@ fn check_ids<'a>(order: &WriteOrder<'a>, site: &mut Site<'a>) -> Result<(), Tool
     Ok(())
 }
 
-/// The head of the file that this word is for.
+/// The head of the file that this argument names.
 fn head_for(word: &str) -> Result<Head1, ToolFault> {
     let (id, _) = split(word);
     match Field::new(id) {
@@ -171,7 +171,7 @@ fn find_inputs<'r, 'a: 'r, R: Runtime + AllocGlobal>(
     Ok(inputs)
 }
 
-/// The input that this word is for.
+/// The input that this argument names.
 fn input_of<'a, R: Runtime>(
     rt: &'a R,
     word: &'a str,

@@ -19,7 +19,7 @@ use tape_writer::Prefix;
 /// The names of record formats.
 const FORMATS: &[&str] = &["F", "D", "S"];
 
-/// The greatest number that a block or a record length, or a capacity, can be.
+/// The maximum of a block length, a record length and a capacity.
 const MOST: u64 = 4_294_967_295;
 
 /// What `write` writes: the files of these arguments, each `ID=PATH`, to volumes in a directory.
@@ -158,7 +158,7 @@ fn wrong(order: &WriteOrder<'_>) -> Option<&'static str>
     }
 }
 
-/// The format with this name. Any other name is that of D.
+/// The format with this name. Any other name means D.
 fn format_of(name: &str) -> Format
     ensures fixed { (result ≡ Format.Fixed) ↔ (name.now ≡ codes "F") }
     ensures counted { name.now ≡ codes "D" → result ≡ Format.Counted }
