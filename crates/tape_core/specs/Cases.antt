@@ -72,7 +72,7 @@ pub record CasesOfForeign : Type 0 where
   pub own_labelled : begins_set (block vol1 ∷ block user_label ∷ block user_label
       ∷ block later_hdr1 ∷ []) ≡ true
   pub other_set : begins_set (block vol1 ∷ block user_label ∷ block other_hdr1 ∷ []) ≡ false
-  -- with nothing on it, or with a mark, a bad item or no volume label first
+  -- a reel without items, or with a mark, a bad item or no volume label first
   pub nothing : (id : List ℕ) → starts_set id [] ≡ false
   pub mark_first : (id : List ℕ) (rest : List TapeItem) → starts_set id (mark ∷ rest) ≡ false
   pub bad_first : (id : List ℕ) (rest : List TapeItem) → starts_set id (bad ∷ rest) ≡ false
@@ -168,7 +168,7 @@ pub record CasesOfPlaces : Type 0 where
 
 -- of steps, restarts and shapes
 pub record CasesOfSteps : Type 0 where
-  -- what changes nothing leaves the position, and delivers nothing
+  -- what changes nothing leaves the position unchanged, and delivers nothing
   pub idle_stays : (set : FileSet) (p : Position) (k : ℕ) (good : List Bool) (core : State)
       (out : Outcome) → Idle set p k good core out → IsReading set p k good out.1
       × (out.1.file ≡ core.file) × (out.1.position ≡ core.position) × (out.0 ≢ Deliver)

@@ -40,7 +40,7 @@ are_laid_one_way start (e ∷ es) finish = Prim.hlevel (props, are_laid_one_way 
 pub laid_one_way : (es : List Entry) (bytes : List ℕ) → IsProp (IsLaid es bytes)
 laid_one_way es bytes = are_laid_one_way 0 es (length bytes)
 
--- the part that is lent, if one is
+-- the part that is lent, if there is one
 abbrev pub viewed : Option Part → Option Portion
 viewed (Some part) = Some (view part)
 viewed None = None

@@ -88,7 +88,7 @@ abbrev pub Tells : Option FileForm → Section → Type 0
 Tells None s = Unit {0}
 Tells (Some form) s = TellsForm form s
 
--- ---- a reading that lost its way
+-- ---- a reading that lost its position on the reel
 
 -- The block reads as a trailer with the header's numbers.
 abbrev pub FitsHeading : Heading → List ℕ → Type 0
@@ -143,7 +143,7 @@ module _ (set : FileSet) (file sect block part k : ℕ) where
     pub chosen : IsChosen wanted x
     pub left : Left set k good (rest ++ to_come later)
 
-  -- All before the section's data was read, and then these.
+  -- Everything before the section's data was read, and then these items.
   pub record Reached (s : Section) (good seen : List Bool) : Type 0 where
     pub fine : passes good (before_data set file sect s) ≡ true
     pub rest : drop (length (before_data set file sect s)) good ≡ seen

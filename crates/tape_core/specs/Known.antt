@@ -23,7 +23,7 @@ abbrev pub known_of : Format → ℕ → ℕ → List ℕ → FileForm
 known_of format rec_len offset file_id =
     record { file_id = file_id; format = format; rec_len = rec_len; offset = offset }
 
--- whether records may run on from block to block
+-- whether records may continue in the next block
 abbrev pub is_spanned : Format → Bool
 is_spanned Fixed = false
 is_spanned Counted = false

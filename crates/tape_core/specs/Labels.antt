@@ -10,7 +10,7 @@ use Rattle.tape_label.specs.Formats.{letter}
 use Rattle.tape_set.specs.Lawful.{FileForm, binding_len}
 use Rattle.tape_core.specs.declared.event.Heading.{Heading}
 
--- the fault of a block that is not of the kind that is expected
+-- the fault of a block that is not of the expected kind
 abbrev pub not_of_kind : List ℕ → LabelFault
 not_of_kind block = if length block == 80 then faults.Identifier else faults.NotEighty
 
@@ -28,7 +28,7 @@ form_at heading g =
       offset = g.offset;
     }
 
--- something is known of the file, and this is another file identifier
+-- the form is known, with another file identifier
 abbrev pub other_file_id : Option FileForm → List ℕ → Bool
 other_file_id None file_id = false
 other_file_id (Some known) file_id = not (bytes_eq known.file_id file_id)
@@ -38,7 +38,7 @@ abbrev pub same_shape : FileForm → FileForm → Bool
 same_shape a b = (letter a.format == letter b.format) && (a.rec_len == b.rec_len)
     && (a.offset == b.offset)
 
--- something is known of the file, and these are another format, record length or offset
+-- the form is known, with another format, record length or offset
 abbrev pub other_shape : Option FileForm → FileForm → Bool
 other_shape None form = false
 other_shape (Some known) form = not (same_shape known form)

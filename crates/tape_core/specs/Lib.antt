@@ -22,5 +22,5 @@ pub mod Parts
 pub mod Table
 pub mod Behind
 pub mod Faults
--- Cases, which hold the definitions from below.
+-- Examples, which keep the definitions from saying too little.
 pub mod Cases

@@ -35,7 +35,7 @@ known_where_due (Some form) position = not (is_start position)
 abbrev pub may_begin : Option FileForm → Position → Bool
 may_begin known position = may_span known && not (is_finished position)
 
--- the numbers and flags are those of a checkpoint
+-- the numbers and flags can be those of a checkpoint
 abbrev pub in_range : Point → Bool
 in_range point =
     nat_le 1 point.file && nat_le point.file 9999 && position_in_range point.position

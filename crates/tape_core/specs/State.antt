@@ -15,7 +15,7 @@ pub record State : Type 0 where
   pub known : Option FileForm
   pub phase : Phase
 
--- whether nothing is read until a restart
+-- whether nothing is read before a restart
 abbrev pub is_broken : Phase → Bool
 is_broken Broken = true
 is_broken _ = false

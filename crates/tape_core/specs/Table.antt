@@ -57,7 +57,7 @@ in_phase core phase = record core { phase = phase }
 abbrev pub passed : State → Phase → Outcome
 passed core phase = (Passed, in_phase core phase)
 
--- the reading is over, at the position as it is
+-- the reading is over, and the position stays
 abbrev pub useless : State → Reason → Outcome
 useless core why = (Useless why, in_phase core Over)
 
@@ -225,7 +225,7 @@ at_mark core (TrailerWanted heading form) = useless core (BadLabel faults.Identi
 at_mark core Trailers = passed core NextFile
 at_mark core NextFile = useless core NotOnReel
 
--- an item that could not be read
+-- an unreadable item
 abbrev pub at_bad : State → Phase → Outcome
 at_bad core Over = useless core ReelEnded
 at_bad core Broken = broken core reasons.Broken
@@ -280,7 +280,7 @@ mounted _ (Awaits sect b part) = Volume
 abbrev pub mount_of : State → State
 mount_of core = in_phase core (mounted core.phase core.position)
 
--- the shape binds a reader as the form does
+-- the reader's shape of blocks is that of the form
 pub record IsShapeOf (form : FileForm) (shape : Shape) : Type 0 where
   pub format : shape.format ≡ form.format
   pub rec_len : shape.rec_len ≡ form.rec_len

@@ -46,7 +46,8 @@ pub enum Reason {
     NotLabelled,
     /// HDR1 has another file set identifier.
     OtherSet,
-    /// No later section of the file is on this reel: a later file begins, or none.
+    /// The section needed is not on this reel: the header of a later file, or the volume's end,
+    /// comes first.
     NotOnReel,
     /// A later section of the file begins here.
     LaterSection,

@@ -13,7 +13,7 @@ use Rattle.tape_run.specs.declared.passing.Phase.TheVariants.{Volume}
 use Rattle.tape_run.specs.Passing.{Told, told_from, met_in}
 use Rattle.tape_run.specs.Noted.{noted_all, KeepsPlaces, GoodIsShown}
 
--- the end of medium as a stop
+-- the end of the medium as a way to stop
 abbrev pub stop_at : Ending → ImageStop
 stop_at endings.Marked = Marked
 stop_at endings.Physical = Physical

@@ -1,4 +1,4 @@
--- The images of a whole set.
+-- The images of a complete set.
 use Rattle.std.specs.Prelude.{◌≡◌, ◌<◌, ℕ, ◌+◌, List, [], ◌∷◌, length}
 use Rattle.tape_image.specs.Begins.{Stop, Begins}
 use Rattle.tape_set.specs.Layout.{FileSet, items}

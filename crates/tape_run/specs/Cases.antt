@@ -323,7 +323,7 @@ pub record CasesOfCrashes : Type 0 where
       × (steps ≡ done ++ c.rest) × AreGivenBy c.which bytes left given
   pub resumed : (c : Point) (ps : List Portion) (s : Seen) → IsResumed c ps s
       → (s.place ≡ place_of c) × (s.parts ≡ ps) × (s.notes ≡ []) × (s.failures ≡ 0)
-  -- a life that saved, and was cut off in its next reel, has a history
+  -- a run that saved, and was interrupted in its next reel, has a history
   pub saved_life : (set : FileSet) (s : Seen) → AreHistories set (record {
     began = s;
     steps = Save ∷ Reel ∷ [];

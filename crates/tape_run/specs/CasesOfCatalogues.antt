@@ -167,7 +167,7 @@ pub record CasesOfReports : Type 0 where
   pub report : (reels : List Reel) (text : List ℕ) (found : Bool) (r : IsReport reels text found)
       → AddsImages reels r.lines [] r.sections
       × (text ≡ image_lines 1 r.lines ++ summary r.sections) × (found ≡ found_all r.sections)
-  -- each image has a line, and one that was not opened another than one that was
+  -- each image has a line, and one that was not opened has another than one that was
   pub a_line_each : (reel : Reel) (c d : List Told) → AddsImages (reel ∷ []) [] c d → ⊥
   pub no_more_lines : (line : Option ImageLine) (c d : List Told)
       → AddsImages [] (line ∷ []) c d → ⊥
@@ -185,7 +185,7 @@ pub record CasesOfReports : Type 0 where
   -- a prefix of a report ends with a summary only if no image is left
   pub no_summary_before : (left : ℕ) (d : List Told) → summary_behind (suc left) d ≡ []
   pub summary_last : (d : List Told) → summary_behind zero d ≡ summary d
-  -- and at most one image was mounted that was not read
+  -- and at most one image was opened that was not read
   pub in_part : (a b : Option (Option (List ℕ))) (left : List (Option (Option (List ℕ))))
       (old new : Option (List ℕ))
       (r : ReportsInPart length Took (λ x. x) (a ∷ b ∷ []) left old new)
@@ -193,6 +193,6 @@ pub record CasesOfReports : Type 0 where
       × AddsImages r.first r.lines [] r.sections
   pub first_mounted : (a b : Option (Option (List ℕ))) (left : List (Option (Option (List ℕ))))
       → AreMounted Took (IsReel (λ x. x)) (a ∷ b ∷ []) 0 (a ∷ []) left → left ≡ None ∷ b ∷ []
-  -- no other fault than a failed write, or want of memory
+  -- no other fault than a failed write, or out of memory
   pub other_fault : IsCheckFault (Run NoSuchPoint) → ⊥
   pub faults : IsCheckFault WriteFailed × IsCheckFault (Run OutOfMemory)

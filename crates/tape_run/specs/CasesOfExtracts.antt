@@ -252,7 +252,7 @@ pub record CasesOfOutputs : Type 0 where
       (s : StopsListedNow session shelf left form out now said says) → (length s.more ≤ 1)
       × AppendsFront said says
       (reel_lines 1 (map answer_of s.turns ++ s.more) ++ last_line s.want s.records)
-  -- these are turns of the first of the images
+  -- these are turns of the first images
   pub stopped_turns : (session behind : Listed) (shelf left : Readers) (form : Form)
       (out now said says : Known) (s : StopsListed session behind shelf left form out now said says)
       → (length s.turns + length s.more ≤ length shelf)

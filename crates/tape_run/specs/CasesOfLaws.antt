@@ -131,7 +131,7 @@ pub record CasesOfCatalogueLaws : Type 0 where
   pub a_listing : OneListing → (bytes : List ℕ) → (text : List ℕ) × IsListing bytes text
   pub one_listing : OneListing → (bytes text other : List ℕ) → IsListing bytes text
       → IsListing bytes other → text ≡ other
-  -- one entry a section: of two sections each, and not two of one
+  -- one entry per section: of two sections each, and not two of one
   pub two_entries : HasOneEach (met 1 1 false Good ∷ met 1 2 true Cut ∷ [])
   pub twice : HasOneEach (met 1 1 false Good ∷ met 1 1 false Cut ∷ []) → ⊥
   pub one_entry : OneEntryASection → (before after : Option (List ℕ)) (new : List Told)

@@ -43,7 +43,7 @@ pub record CasesOfRounds : Type 0 where
   pub is_wanted : (core : State) → core.position ≡ Awaits 1 2 0
       → wanted core ≡ Some (record { file = core.file; sect = 1; block = 2; part = 0 })
   pub nothing_wanted : (core : State) → core.position ≡ Finished → wanted core ≡ None
-  -- each round begins with the first image, on the shelf that the one before it left
+  -- each pass begins with the first image of the source that the pass before left
   pub each_from_the_first : (a b : Option Known) (s t : Turn) (p q : State)
       (left : Readers)
       → AreRounds Took (λ r. r) (a ∷ b ∷ []) (record { turns = s ∷ []; behind = p }
@@ -80,7 +80,7 @@ pub record CasesOfRounds : Type 0 where
       × TellsEnd (AppendsFront said says []) s.want s.records (seen as_sink session session.sink)
       × ((now ≡ out)
       ⊎ ((session.core.position ≡ Finished) × AppendsFront out now (output_of form session.sink)))
-  -- the lines are those of all rounds, counted on
+  -- the lines are those of all passes, numbered continuously
   pub again : (session behind : Listed) (shelf left : Readers) (form : Form)
       (out now said says : Known) (want : Option Want)
       (e : AgainListed session behind shelf left form out now said says want)

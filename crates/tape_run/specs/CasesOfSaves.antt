@@ -20,7 +20,7 @@ use Rattle.tape_core.specs.Weight.{IsFront}
 abbrev pub brings : List Portion → Point → Point → List Portion → Type 0
 brings ps c back there = (back ≡ c) × (there ≡ ps)
 
--- of a crash now alone, and since a moment alone
+-- after a crash now only, and since a moment only
 abbrev pub comes_now : List Portion → Point → Crashes
 comes_now ps c = record {
   returns = brings ps c;
@@ -48,7 +48,7 @@ weighing crashes = record {
   crashes = crashes;
 }
 
--- the same of one that cannot be believed
+-- the same of one that cannot be trusted
 abbrev pub holding_none : (Point → Crashes) → Ghosts Point
 holding_none crashes = record {
   holds = λ s parts. ⊥;
@@ -126,7 +126,7 @@ pub record CasesOfSaved : Type 0 where
   pub no_fewer_at_a_fault : (old new : Story Point) (held : List Portion) (now : Seen)
       → LeavesSaved (holding_none (comes_since [])) old held now new
       → length old.notes ≤ length now.notes
-  -- whether nothing but reels was read since the last save
+  -- whether only reels were read since the last save
   pub read_since : is_saved false (Reel ∷ Save ∷ Reel ∷ []) ≡ true
   pub went_back_since : is_saved true (Save ∷ Restart 0 ∷ Reel ∷ []) ≡ false
   pub never_saved : is_saved false (Reel ∷ Reel ∷ []) ≡ false

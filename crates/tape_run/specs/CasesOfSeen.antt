@@ -73,8 +73,8 @@ pub record CasesOfSeen : Type 0 where
   pub not_kept : (back : Bool) (old new : Story Point)
       → ((was : Seen) → was.notes ≡ old.notes → IsKeptFor back was → ⊥)
       → Carries (weighing (comes_now [])) back old new (λ was is. ⊥)
-  -- a reel is not read since the sink refused, or memory did and nothing changed, and for no other
-  -- reason
+  -- a reel is not read because the sink refused, or memory was refused and nothing changed, and for
+  -- no other reason
   pub reel_refused : (cause : SinkFault) (old new : Story ℕ)
       → Refuses counting (Sink cause) old new
       → (new.failures ≡ old.failures) × Rose old.sink new.sink

@@ -111,7 +111,7 @@ pub record CasesOfGlances : Type 0 where
   -- a mark first leaves the order at once
   pub mark_first : course_of (mark ∷ []) ≡ Leaves 1 wanted.Volume
   pub bad_first : course_of (bad ∷ mark ∷ []) ≡ Leaves 1 wanted.Volume
-  -- a volume of its label and two marks is blank; with one mark it is not ended
+  -- a volume of its label and two marks is blank; with one mark it has not ended
   pub blank : (v : List ℕ) → course_with Follows 2 (phases.Labels v) mark phases.Over ≡ Blank
   pub blank_ends : course_with Blank 3 phases.Over mark phases.Over ≡ Ended
   pub one_mark : (b : List ℕ)
@@ -174,7 +174,7 @@ pub record CasesOfWholes : Type 0 where
   pub nothing_met : is_all nothing_found ≡ false
   pub mixed : is_all (found true
       ((file_key (codes "ABC001") 1, record { head = first_week; differs = true }) ∷ [])) ≡ false
-  -- spaces at the end are left out, and nothing in a name moves the line
+  -- spaces at the end are left out, and nothing in a name breaks the line
   pub trimmed : trimmed_text (codes "A B   ") ≡ codes "A B"
   pub all_spaces : trimmed_text (codes "      ") ≡ []
   pub names : named 9 ∷ named 10 ∷ named 32 ∷ named 127 ∷ named 195 ∷ []
@@ -227,7 +227,7 @@ pub record CasesOfSurveys : Type 0 where
       → file_text y d set_id 1 ≡ []
   pub first_found : (y : Wording) (d : Found) (set_id : List ℕ) → is_found d set_id 1 ≡ true
       → file_text y d set_id 1 ≡ found_text y d set_id 1
-  -- a section is on the image on which its label was found, unless it is known as good by then
+  -- a section is on the image on which its label was found, unless a good copy was found before
   pub no_location : (c : List Told) (l : List Located) (image : ℕ)
       → with_location c l image None ≡ l
   pub location : (c : List Told) (image : ℕ) (h : Head1)

@@ -38,7 +38,7 @@ ExtractFails g back (Run OutOfMemory) old new = g.refusals new.sink ≡ g.refusa
 ExtractFails g back (Run OtherFile) old new = ⊥
 ExtractFails g back WriteFailed old new = g.refusals new.sink ≡ g.refusals old.sink
 
--- The sink refused, there was no memory, or a write failed.
+-- The sink refused, memory ran out, or a write failed.
 abbrev pub IsExtractFault : EngineFault → Type 0
 IsExtractFault (Run (Sink cause)) = ⊤
 IsExtractFault (Run NoSuchPoint) = ⊥

@@ -1,4 +1,4 @@
--- Worked lines of a report: they hold the definitions.
+-- Worked lines of a report.
 use Rattle.std.specs.Prelude.{◌≡◌, true, false, [], ◌∷◌, ◌++◌, codes, Option, Some, None}
 use Rattle.tape_image.specs.declared.item.ImageCause.TheVariants.{Truncated}
 use Rattle.tape_run.specs.declared.section.ImageStop.TheVariants.{Marked, Physical, Fault}
@@ -47,7 +47,7 @@ pub record SummaryIsWorked : Type 0 where
       ≡ (section_line s ++ []) ++ (lack_line l ++ []) ++ []
   pub last : summary_of [] [] true ≡ codes "ALL SECTIONS FOUND\n"
 
--- lines of a report, worked out
+-- a worked report
 pub record ReportIsWorked : Type 0 where
   pub images : ImagesAreWorked
   pub sections : SectionsAreWorked

@@ -11,12 +11,12 @@ use Rattle.tape_run.specs.declared.section.SectionLine.{SectionLine}
 use Rattle.tape_run.specs.declared.section.Lack.{Lack}
 use Rattle.tape_run.specs.Identifier.{identifier_text}
 
--- a fault of an image: the number of its cause, and its place
+-- a fault of an image: the number of its cause, and its offset
 abbrev pub stop_fault : ImageFault → List ℕ
 stop_fault fault =
     codes "FAULT " ++ decimal (number_of fault.cause) ++ codes " " ++ decimal fault.place
 
--- how an image stopped
+-- how an image ended
 abbrev pub stop_text : ImageStop → List ℕ
 stop_text Marked = codes "MARKED"
 stop_text Physical = codes "PHYSICAL"
@@ -26,7 +26,7 @@ stop_text (Fault fault) = stop_fault fault
 abbrev pub image_front : ℕ → List ℕ
 image_front n = codes "IMAGE " ++ decimal n ++ codes " "
 
--- the number of an image's items, and how it stopped
+-- the number of an image's items, and how it ended
 abbrev pub items_text : ImageLine → List ℕ
 items_text line = decimal line.items ++ codes " " ++ stop_text line.stop
 

@@ -20,7 +20,7 @@ use Rattle.tape_run.specs.Reeling.{Mounting, AreMounted}
 abbrev pub Reel : Type 0
 Reel = Option (Option (List ℕ))
 
--- an image that was mounted, or was not there, is this one
+-- an image that was opened, or could not be, is this one
 abbrev pub IsReel : {R : Type 0} → (R → Option (List ℕ)) → Option R → Reel → Type 0
 IsReel remaining image reel = reel ≡ option_map remaining image
 
@@ -58,8 +58,8 @@ abbrev pub TellsImage : Reel → ℕ → List Told → List Told → Option (Lis
 TellsImage reel n c d old new =
     (line : Option ImageLine) × AddsImage reel line c d × Appends old new (image_line n line)
 
--- All images of a shelf were mounted and read, one after another, and their lines were written.
--- Behind them the catalogue has these sections.
+-- All images of a source were opened and read, one after another, and their lines were written.
+-- After them the catalogue has these sections.
 pub record TellsImages {L R : Type 0} (size : L → ℕ) (gives : Mounting L R)
     (remaining : R → Option (List ℕ)) (shelf left : L) (sections : List Told)
     (old new : Option (List ℕ)) : Type 0 where
@@ -85,7 +85,7 @@ pub record IsReport (reels : List Reel) (text : List ℕ) (found : Bool) : Type 
   pub told : text ≡ image_lines 1 lines ++ summary sections
   pub all : found ≡ found_all sections
 
--- All images of a shelf were mounted, one after another, and their report was written.
+-- All images of a source were opened, one after another, and their report was written.
 pub record Reports {L R : Type 0} (size : L → ℕ) (gives : Mounting L R)
     (remaining : R → Option (List ℕ)) (shelf left : L) (old new : Option (List ℕ)) (found : Bool)
     : Type 0 where
@@ -116,6 +116,6 @@ pub record ReportsInPart {L R : Type 0} (size : L → ℕ) (gives : Mounting L R
   pub read : AddsImages first lines [] sections
   pub wrote : AppendsFront old new (image_lines 1 lines ++ summary_behind unread sections)
 
--- a write failed, or there was no memory
+-- a write failed, or memory ran out
 abbrev pub IsCheckFault : EngineFault → Type 0
 IsCheckFault fault = (fault ≡ WriteFailed) ⊎ (fault ≡ Run run.OutOfMemory)

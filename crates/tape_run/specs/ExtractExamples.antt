@@ -1,4 +1,4 @@
--- Worked examples of what `extract` reports and writes: they hold the definitions.
+-- Worked examples of what `extract` reports and writes.
 use Rattle.std.specs.Prelude.{◌≡◌, ℕ, List, [], ◌∷◌, ◌++◌, Option, Some, None, codes, decimal}
 use Rattle.tape_image.specs.declared.item.ImageCause.TheVariants.{Truncated}
 use Rattle.tape_blocks.specs.declared.parts.Span.TheVariants.{Whole, First, Middle, Last}

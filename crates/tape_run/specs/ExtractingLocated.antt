@@ -30,7 +30,7 @@ use Rattle.tape_run.specs.declared.survey.files.FileKey.{FileKey}
 
 -- ---- an image that stays open
 
--- The session of every later file of the set passes these items over.
+-- The session of every later file of the set skips these items.
 abbrev pub ArePassed : FileKey → List TapeItem → Type 0
 ArePassed key front = (core : State) → core.set_id ≡ key.set_id → key.file < core.file
     → is_finished core.position ≡ false → core.phase ≢ Broken → PassedOver core front
@@ -91,13 +91,13 @@ AreTapesOf (s ∷ ss) (g ∷ given) (xs ∷ tapes) = IsSome s.whole
     × AreTapesOf ss given tapes
 AreTapesOf ss given tapes = ⊥
 
--- The tapes are these mounts: copies of the set's volumes, or reels of others.
+-- The tapes are these mounts: copies of the set's volumes, or reels of other sets.
 abbrev pub AreMountsOf : FileSet → List (List TapeItem) → List Happening → Type 0
 AreMountsOf set [] [] = ⊤
 AreMountsOf set (xs ∷ tapes) (h ∷ hs) = IsMount set xs h × AreMountsOf set tapes hs
 AreMountsOf set tapes hs = ⊥
 
--- the position that mounts, one after another, make of p
+-- the position after these mounts, one after another, from p
 abbrev pub reached : FileSet → ℕ → Position → List Happening → Position
 reached set file p [] = p
 reached set file p (h ∷ hs) = reached set file (after_mount set file p h) hs
@@ -142,7 +142,7 @@ AreFrom gives remaining whole shelf (s ∷ ss) last = IsPartOf s
     ⊎ ((number : ℕ) × (device : _) × (next : _) × gives shelf number (Some device) next
     × (s.whole ≡ remaining device) × AreFrom gives remaining s.whole next ss last))
 
--- the bytes of the image that is mounted after these stretches
+-- the bytes of the image that is open after these stretches
 abbrev pub held_behind : Option (List ℕ) → List Stretch → Option (List ℕ)
 held_behind whole [] = whole
 held_behind whole (s ∷ ss) = held_behind s.whole ss
@@ -169,7 +169,7 @@ ReadsLocated g gives remaining old new shelf left whole after =
     × ReadsPart g remaining (remaining device) old new after)
     ⊎ ((number : ℕ) × gives shelf number None left × (new ≡ old) × (after ≡ None)))
 
--- Stretches of images were read, one after another, and this image is mounted then.
+-- Stretches of images were read, one after another, and this image is open then.
 pub record ReadsSections {S L R : Type 0} (g : Ghosts S) (gives : Mounting L R)
     (remaining : R → Option (List ℕ)) (old new : Story S) (shelf left : L)
     (whole : Option (List ℕ)) (after : Option (Mounted R)) : Type 0 where

@@ -29,7 +29,7 @@ use Rattle.tape_run.specs.declared.fault.RunFault.TheVariants.{OutOfMemory, Othe
 use Rattle.tape_run.specs.Given.{IsGiven, counted}
 use Rattle.tape_run.specs.Seen.{Seen}
 
--- the answer ends a section well
+-- the answer completes a section
 abbrev pub EndsSection : Answer → Type 0
 EndsSection answer = (answer ≡ SectionDone) ⊎ (answer ≡ Complete)
 
@@ -89,7 +89,7 @@ pub record CutBehind (bytes : List ℕ) (old new : Seen) : Type 0 where
   pub table : (xs : List TapeItem) (end : ℕ) (stop : Stop) → Begins 0 bytes xs end stop
       → IsCutAt xs (behind_of old.place) new.place old.parts new.parts
 
--- why a reel was not read on to its end: memory was refused before, or the sink refused a part
+-- why a reel was not continued to its end: memory was refused before, or the sink refused a part
 abbrev pub ReelFailsBehind : List ℕ → RunFault → Seen → Seen → Type 0
 ReelFailsBehind bytes (Sink cause) old new = CutBehind bytes old new
 ReelFailsBehind bytes NoSuchPoint old new = ⊥

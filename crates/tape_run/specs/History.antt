@@ -1,4 +1,4 @@
--- Histories, and the position that they define.
+-- Histories, and the position that they lead to.
 use Rattle.std.specs.Prelude.{◌≡◌, ℕ, ◌+◌, ◌<◌, List, [], ◌∷◌, ◌++◌, map, take, Option, Some, None}
 use Rattle.std.specs.Prelude.{slice_get, ⊤}
 use Rattle.tape_set.specs.Layout.{FileSet}

@@ -96,7 +96,7 @@ abbrev pub LeadsBy : Seen → List Step → List (List ℕ) → Seen → Type 0
 LeadsBy old steps given new = (t : Lead) (reels : List (List TapeItem)) → AreItems given reels
     → StandsThere t old → StandsThere (lead t steps reels) new
 
--- Whatever bytes there are, they begin with items, and with these alone.
+-- Any bytes begin with items, and with these only.
 abbrev pub ItemsAreThere : Type 0
 ItemsAreThere = (given : List (List ℕ)) → (reels : List (List TapeItem)) × AreItems given reels
     × ((others : List (List TapeItem)) → AreItems given others → others ≡ reels)

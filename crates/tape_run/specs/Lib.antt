@@ -17,7 +17,7 @@ pub mod Steps
 pub mod Runs
 pub mod Crash
 pub mod Lives
--- Of private functions alone.
+-- Of private functions only.
 pub mod Under
 pub mod Made
 pub mod Puts
@@ -28,7 +28,7 @@ pub mod Noted
 pub mod Added
 pub mod Lacks
 pub mod WholeSet
--- Kept item by item, and by laws what those above say.
+-- Preserved item by item, and what laws say of those above.
 pub mod Passing
 -- Readings cut short, and one history that satisfies every premise.
 pub mod Fronts
@@ -36,7 +36,7 @@ pub mod WorkedHistory
 pub mod WorkedDays
 -- Writers, and identifiers as they are printed: of the reports below.
 pub mod Identifier
--- Listings of images: to be believed, in this order.
+-- Listings of images: definitions to believe, in this order.
 pub mod ListLine
 pub mod Listing
 pub mod Listed
@@ -49,7 +49,7 @@ pub mod Checked
 pub mod WholeReels
 pub mod OneEntry
 pub mod CheckExamples
--- Surveys of images: to be believed, in this order.
+-- Surveys of images: definitions to believe, in this order.
 pub mod SurveyGaps
 pub mod SurveyGlance
 pub mod SurveyFiles
@@ -61,7 +61,7 @@ pub mod SurveyRows
 pub mod SurveyWording
 pub mod Survey
 pub mod SurveyLaws
--- Files unpacked: to be believed, in this order.
+-- Files unpacked: definitions to believe, in this order.
 pub mod Unpacking
 pub mod UnpackLine
 pub mod UnpackLaws
@@ -78,7 +78,7 @@ pub mod ExtractingAgain
 pub mod ExtractingLocated
 pub mod ExtractingNow
 pub mod ExtractExamples
--- Readings of one tape, merged: to be believed, in this order.
+-- Readings of one tape, merged: definitions to believe, in this order.
 pub mod Merging
 pub mod MergeSteps
 pub mod MergeCalls
@@ -97,7 +97,7 @@ pub mod SalvageImage
 pub mod Salvaging
 pub mod SalvageWhole
 pub mod SalvageSections
--- Cases, which hold the definitions from below.
+-- Examples, which keep the definitions from saying too little.
 pub mod Cases
 pub mod CasesOfRuns
 pub mod CasesOfReels

@@ -14,7 +14,7 @@ use Rattle.tape_image.specs.Written.{AppendsFront}
 use Rattle.tape_run.specs.Listed.{ListsToEnd, ListsToFault, ListsInPart, StopsWriting, FitsFault}
 use Rattle.tape_run.specs.Listed.{FitsCause}
 
--- a listing, worked out
+-- a worked listing
 pub record ListingIsWorked : Type 0 where
   pub listing : listing_of (mark ∷ bad ∷ []) (ends Marked)
       ≡ codes "000001 MARK\n000002 BAD\nEND MARKED\n"

@@ -63,7 +63,7 @@ label_text (labels.Head1 label) = head1_text label
 label_text (labels.Second kind label) = head2_text kind label
 label_text (labels.Trail1 label) = trail1_text label
 
--- a block that reads as no label
+-- a block that cannot be read as a label
 abbrev pub plain_text : List ℕ → List ℕ
 plain_text bytes = codes "BLOCK " ++ digits 5 (length bytes)
 

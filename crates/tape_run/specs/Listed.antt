@@ -26,8 +26,8 @@ pub record ListsToEnd (old new : Option (List ℕ)) (bytes left : List ℕ) : Ty
   pub listed : IsListing bytes (listing_of items (ends ending))
   pub wrote : Appends old new (listing_of items (ends ending))
 
--- The items before the fault were read, and their lines were written. The fault has its cause in
--- the bytes, and then these lines are the listing of the image; or the reader failed there.
+-- The items before the fault were read, and their lines were written. Either the fault is caused by
+-- the bytes, and then these lines are the listing of the image, or the reader failed there.
 pub record ListsToFault (fault : ImageFault) (old new : Option (List ℕ)) (bytes left : List ℕ) :
     Type 0 where
   pub items : List TapeItem
@@ -52,12 +52,12 @@ pub data StopsWriting (old new : Option (List ℕ)) (bytes left : List ℕ) : Ty
       → Walks 0 bytes (done ++ item ∷ []) place left
       → AppendsInto old new (lines_from 1 done) (line_of (length done + 1) item)
       → StopsWriting old new bytes left
-  -- at the last line, or as it was passed on
+  -- at the last line, or when it was flushed
   at_end : (items : List TapeItem) (ending : Ending) (place : ℕ)
       → TakesEnd 0 items ending place bytes left
       → AppendsInto old new (lines_from 1 items) (end_line ending)
       → StopsWriting old new bytes left
-  -- as the lines before a fault of the image were passed on
+  -- when the lines before a fault of the image were flushed
   at_fault : (items : List TapeItem) (fault : ImageFault)
       → TakesFault 0 items fault bytes left
       → Appends old new (lines_from 1 items)

@@ -81,7 +81,7 @@ LivesOn c ps steps bytes left old new = OnlyThis c ps old → (back : Point) (th
     → (life : Life) × (life.steps ≡ steps) × (life.bytes ≡ bytes) × (life.left ≡ left)
     × Outlives c ps (life ∷ []) back there
 
--- a history for each life
+-- a history for each run
 abbrev pub AreHistories : FileSet → List Life → List (List Happening) → Type 0
 AreHistories set [] hss = hss ≡ []
 AreHistories set (life ∷ lives) [] = ⊥

@@ -1,4 +1,4 @@
--- What may be mounted, and the position that a mount makes.
+-- What may be mounted, and the position after a mount.
 use Rattle.std.specs.Prelude.{◌≡◌, ◌≢◌, ℕ, true, false, List, [], ◌++◌, length, take}
 use Rattle.tape_image.specs.Tape.{TapeItem}
 use Rattle.tape_image.specs.Begins.{Stop, Begins}
@@ -43,7 +43,7 @@ cut n foreign_reel = foreign_reel
 cut n saves = saves
 cut n (restarts m) = restarts m
 
--- the position that a mount makes of p
+-- the position after a mount, from p
 abbrev pub after_mount : FileSet → ℕ → Position → Happening → Position
 after_mount set file p (reads r) = far set file p r
 after_mount set file p _ = p

@@ -15,7 +15,7 @@ use Rattle.tape_run.specs.Shown.{Shown}
 abbrev pub same_key : SectionKey → SectionKey → Bool
 same_key a b = bytes_eq a.set_id b.set_id && ((a.file == b.file) && (a.sect == b.sect))
 
--- whether the section is whole
+-- whether the section is complete
 abbrev pub is_good : SectionState → Bool
 is_good Good = true
 is_good Bad = false

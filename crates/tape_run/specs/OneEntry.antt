@@ -1,4 +1,4 @@
--- A catalogue has one entry a section.
+-- A catalogue has one entry per section.
 use Rattle.std.specs.Prelude.{◌≢◌, ⊤, ℕ, Bool, List, [], ◌∷◌, Option}
 use Rattle.std.specs.List.{AllByRecursion}
 use Rattle.tape_run.specs.declared.section.ImageLine.{ImageLine}

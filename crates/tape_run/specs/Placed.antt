@@ -91,12 +91,12 @@ pub data StopsPlacing (old new : Option (List ℕ)) (bytes left : List ℕ) : Ty
       → Places 0 (done ++ x ∷ []) at bytes left
       → AppendsInto old new (placed_lines 1 done) (placed_line (length done + 1) x)
       → StopsPlacing old new bytes left
-  -- at the last line, or as it was passed on
+  -- at the last line, or when it was flushed
   at_end : (items : List PlacedItem) (at : ℕ) (rest : List ℕ) (ending : Ending) (place : ℕ)
       → Places 0 items at bytes rest → TakesEnd at [] ending place rest left
       → AppendsInto old new (placed_lines 1 items) (placed_end ending place)
       → StopsPlacing old new bytes left
-  -- as the lines before a fault of the image were passed on
+  -- when the lines before a fault of the image were flushed
   at_fault : (fault : ImageFault) → PlacesToFault fault old new bytes left
       → StopsPlacing old new bytes left
 

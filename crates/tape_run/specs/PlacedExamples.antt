@@ -15,12 +15,12 @@ use Rattle.tape_run.specs.Placed.{PlacedItem, Places, item_size, placed_lines, p
 use Rattle.tape_run.specs.Placed.{PlacesToEnd, PlacesToFault, StopsPlacing, FitsPlaces}
 use Rattle.tape_run.specs.Placed.{FitsPlacesCause}
 
--- a gap, a mark, a gap and a bad block of nine bytes, and an end word
+-- a gap, a mark, a gap and a bad block of nine bytes, and an end-of-medium marker
 abbrev pub some_items : List PlacedItem
 some_items = record { item = mark; from = 0; behind = 8 }
     ∷ record { item = bad; from = 8; behind = 30 } ∷ []
 
--- a listing, worked out
+-- a worked listing
 abbrev pub PlacesAreWorked : Type 0
 PlacesAreWorked = placed_lines 1 some_items ++ placed_end Marked 34
     ≡ codes "4 4 000001 MARK\n8 22 000002 BAD\n30 4 END MARKED\n"

@@ -46,13 +46,13 @@ answer_text SectionDone = codes "SECTION DONE"
 answer_text Complete = codes "COMPLETE"
 answer_text (Useless reason) = reason_text reason
 
--- the fault of the image that ended the reading, if one did
+-- the fault of the image that ended the reading, if there was one
 abbrev pub end_text : Option ImageFault → List ℕ
 end_text None = []
 end_text (Some fault) =
     two_numbers (codes " IMAGE ") (image_faults.number_of fault.cause) fault.place
 
--- what became of an image: it was read, or it was not opened
+-- the outcome of an image: it was read, or it was not opened
 abbrev pub outcome_text : Option ReelAnswer → List ℕ
 outcome_text None = codes "NOT OPENED"
 outcome_text (Some answer) = answer_text answer.answer ++ end_text answer.fault

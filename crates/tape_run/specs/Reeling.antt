@@ -1,4 +1,4 @@
--- What `extract` makes of images, one after another.
+-- The work of `extract` on images, one after another.
 use Rattle.std.specs.Prelude.{◌≡◌, ◌≢◌, ◌⊎◌, ℕ, zero, suc, ◌+◌, ◌<◌, ◌≤◌, List, [], ◌∷◌, ◌++◌}
 use Rattle.std.specs.Prelude.{length, map, Option, get_or, set}
 use Rattle.std.specs.Prelude.{Some, None, IfSome, IsSome, ⊤, Bool, true, false}
@@ -43,7 +43,7 @@ pub record Opened : Type 0 where
   pub answer : ReelAnswer
   pub noted : Bool
 
--- what became of an image: it was read, or it was not opened
+-- the outcome of an image: it was read, or it was not opened
 abbrev pub Turn : Type 0
 Turn = Option Opened
 
@@ -76,19 +76,20 @@ AreMounted gives is shelf number [] last = last ≡ shelf
 AreMounted gives is shelf number (t ∷ ts) last = (image : Option _) × (next : _)
     × gives shelf number image next × is image t × AreMounted gives is next (number + 1) ts last
 
--- The images of a shelf from this number on, mounted one after another, are these turns.
+-- The images of a source from this number on, opened one after another, are these turns.
 abbrev pub AreTurns : {L R : Type 0} → Mounting L R → (R → Option (List ℕ)) → L → ℕ → List Turn → L
     → Type 0
 AreTurns gives remaining = AreMounted gives (IsTurn remaining)
 
--- The first images of a shelf are these turns, and no other but the next may have been mounted.
+-- The first images of a source are these turns, and of the others only the next may have been
+-- opened.
 abbrev pub AreFirstTurns : {L R : Type 0} → Mounting L R → (R → Option (List ℕ)) → L → List Turn → L
     → Type 0
 AreFirstTurns gives remaining shelf turns last = (mid : _)
     × AreTurns gives remaining shelf 0 turns mid
     × ((last ≡ mid) ⊎ ((image : Option _) × gives mid (length turns) image last))
 
--- whether the trailer label of a reel counted other blocks, or that of one before it did
+-- whether the trailer label of the reel, or of a reel before it, counted other blocks
 abbrev pub is_doubtful : Answer → Bool
 is_doubtful (Useless (BlockCount label seen)) = true
 is_doubtful (Useless Broken) = true
@@ -206,7 +207,7 @@ Carries g back old new so = IfSeen g old (λ was. IsKeptFor back was
     → IsSeen g new (λ is. IsKeptFor back is × so was is
     × KeepsLast g old was.parts new is.parts))
 
--- The image with this number was read, or passed, and its line was reported.
+-- The image with this number was read, or skipped, and its line was reported.
 pub record Takes {S R : Type 0} (g : Ghosts S) (remaining : R → Option (List ℕ))
     (back spares : Bool) (old new : Story S) (image : Option R) (number : ℕ)
     (said says : Option (List ℕ)) : Type 0 where

@@ -1,4 +1,4 @@
--- What `extract` makes of images, round by round.
+-- The work of `extract` on images, in several passes.
 use Rattle.std.specs.Prelude.{◌≡◌, ◌≢◌, ◌⊎◌, ℕ, ◌+◌, ◌<◌, List, [], ◌∷◌, ◌++◌, length, map, Option}
 use Rattle.std.specs.Prelude.{None, ⊤, Bool, true}
 use Rattle.std.specs.Io.KnownBytes.{Appends}
@@ -31,7 +31,7 @@ core_behind core (r ∷ rounds) = core_behind r.behind rounds
 abbrev pub wanted : State → Option Want
 wanted core = want_at core.file core.position
 
--- Each round mounted the images of a shelf from the first one on.
+-- Each pass opened the images of a source from the first one on.
 abbrev pub AreRounds : {L R : Type 0} → Mounting L R → (R → Option (List ℕ)) → L → List Round → L
     → Type 0
 AreRounds gives remaining shelf [] last = last ≡ shelf

@@ -65,7 +65,7 @@ pub record StopsFor {S : Type 0} (g : Ghosts S) (steps : List Step) (n : ℕ) (f
   pub calm : IsCalm g old mid
   pub refuses : RefusesStep g step fault mid new
 
--- the sink refused, or memory was wanting
+-- the sink refused, or memory ran out
 abbrev pub IsRefusal : RunFault → Type 0
 IsRefusal (Sink cause) = ⊤
 IsRefusal NoSuchPoint = ⊥

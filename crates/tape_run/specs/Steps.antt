@@ -27,8 +27,8 @@ use Rattle.tape_run.specs.Story.{Story}
 
 -- ---- steps that succeeded
 
--- A mount that began at p was read to its end: the reader is at the position that it makes, with
--- the parts before it.
+-- A mount that began at p was read to its end: the reader's position is the one after it, with the
+-- parts before that.
 pub record ReadBy (set : FileSet) (file : ℕ) (p : Position) (h : Happening) (place : State)
     (parts : List Portion) : Type 0 where
   pub at : IsPlaced set place parts
@@ -101,7 +101,7 @@ pub record CutShort (bytes : List ℕ) (old new : Seen) : Type 0 where
   pub table : (xs : List TapeItem) (end : ℕ) (stop : Stop) → Begins 0 bytes xs end stop
       → IsCutAt xs (mount_of old.place) new.place old.parts new.parts
 
--- the session as before, but for the count of refused calls
+-- the session as before, except for the count of refused calls
 pub record Unmoved (old new : Seen) : Type 0 where
   pub place : new.place ≡ old.place
   pub parts : new.parts ≡ old.parts

@@ -21,7 +21,7 @@ Filed = FileKey × FileNote
 abbrev pub same_file : FileKey → FileKey → Bool
 same_file a b = bytes_eq a.set_id b.set_id && (a.file == b.file)
 
--- labels of one number are those of different files
+-- labels with one number belong to different files
 abbrev pub is_other : Head1 → Head1 → Bool
 is_other a b = not (bytes_eq a.file_id b.file_id)
     || (not (bytes_eq a.created b.created) || not (bytes_eq a.generation b.generation))

@@ -27,7 +27,7 @@ use Rattle.tape_run.specs.Passing.{step}
 unfoldable pub is_ebcdic : List ℕ → Bool
 is_ebcdic b = (length b == 80) && bytes_eq (positions b 1 4) (229 ∷ 214 ∷ 211 ∷ 241 ∷ [])
 
--- a first block that is no VOL1 that is read
+-- a first block that is not a supported VOL1
 abbrev pub first_other : List ℕ → First
 first_other b = if is_ebcdic b then firsts.Ebcdic else firsts.Block (length b)
 
@@ -157,7 +157,7 @@ course_with Blank number p x next = behind_blank number x
 course_with Ended number p x next = Leaves number wanted.End
 course_with (Leaves n w) number p x next = Leaves n w
 
--- an item is a block that could not be read
+-- an item is an unreadable block
 abbrev pub is_bad : TapeItem → Bool
 is_bad (block b) = false
 is_bad bad = true

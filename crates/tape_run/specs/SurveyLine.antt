@@ -22,7 +22,7 @@ use Rattle.tape_run.specs.Identifier.{printed}
 abbrev pub is_space : ℕ → Bool
 is_space byte = byte == 32
 
--- how long bytes are without the spaces at their end
+-- the length of bytes without the spaces at their end
 abbrev pub trimmed_len : List ℕ → ℕ
 trimmed_len bytes = length bytes - suffix_len is_space bytes
 
@@ -39,7 +39,7 @@ first_text (firsts.Block n) = codes "no labels; its first block has " ++ decimal
 first_text firsts.Bad = codes "does not begin with a label"
 first_text firsts.Mark = codes "begins with a tape mark"
 
--- the system that wrote it, unless that is spaces
+-- the system that wrote it, unless the label has spaces there
 abbrev pub written_text : List ℕ → List ℕ
 written_text system =
     if nat_lt 0 (trimmed_len system) then codes ", written by " ++ trimmed_text system else []
@@ -55,7 +55,7 @@ files_text n =
     if n == 0 then [] else if n == 1 then codes ", 1 file"
     else codes ", " ++ decimal n ++ codes " files"
 
--- how many blocks could not be read
+-- how many blocks are unreadable
 abbrev pub bad_text : ℕ → List ℕ
 bad_text n =
     if n == 0 then [] else if n == 1 then codes ", 1 block that cannot be read"
@@ -78,7 +78,7 @@ glance_text g =
     first_text g.first ++ system_text g.head ++ files_text g.files ++ bad_text g.bad
     ++ late_text g.late ++ unread_text g.unread
 
--- what an item is not that leaves the order
+-- what the item that leaves the order is not
 abbrev pub wanted_text : Wanted → List ℕ
 wanted_text wanted.Volume = []
 wanted_text wanted.Section = codes " is no HDR1: not read further"
@@ -120,13 +120,13 @@ abbrev pub guess_text : ImageFault → List ℕ
 guess_text fault =
     if is_no_image fault then codes ": no SIMH image, or a compressed one (zcat)" else []
 
--- a fault, with its place
+-- a fault, with its offset
 abbrev pub fault_text : ImageFault → List ℕ
 fault_text fault =
     codes "; image fault " ++ decimal (number_of fault.cause) ++ codes " at " ++ decimal fault.place
     ++ guess_text fault
 
--- by which fault it stops
+-- the fault with which it ends
 abbrev pub stop_text : ImageStop → List ℕ
 stop_text (Fault fault) = fault_text fault
 stop_text Marked = []

@@ -1,4 +1,4 @@
--- What of images was read for a survey.
+-- What was read of images for a survey.
 use Rattle.std.specs.Prelude.{◌≡◌, ℕ, ◌+◌, ◌&&◌, Bool, true, false, List, [], ◌∷◌, Option, Some}
 use Rattle.std.specs.Prelude.{None}
 use Rattle.tape_image.specs.Tape.{TapeItem}
@@ -31,7 +31,7 @@ abbrev pub nothing_found : Found
 nothing_found =
     record { sections = []; files = []; whole = true; locations = []; images = 0 }
 
--- the image does not stop by a fault
+-- the image does not end with a fault
 abbrev pub is_end : ImageStop → Bool
 is_end Marked = true
 is_end Physical = true
@@ -73,7 +73,7 @@ IsViewed (Some before) (Some sight) c d = (after : Option (List ℕ))
     × (d.whole ≡ (c.whole && is_whole_sight sight)) × (d.images ≡ next_image c.images)
 IsViewed _ _ c d = ⊥
 
--- Images of a shelf from this number on, mounted one after another, were read.
+-- Images of a source from this number on, opened one after another, were read.
 abbrev pub AreViewed : {L R : Type 0} → Mounting L R → (R → Option (List ℕ)) → L → ℕ
     → List (Option Sight) → Found → L → Found → Type 0
 AreViewed gives remaining shelf number [] c last d = (last ≡ shelf) × (d ≡ c)

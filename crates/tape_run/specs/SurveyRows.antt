@@ -63,7 +63,7 @@ abbrev pub image_row : List ℕ → Option Sight → List ℕ
 image_row name sight =
     codes "IMAGE\t" ++ name_text name ++ middle_cells sight ++ words_cell sight
 
--- which section it is
+-- the numbers of the section
 abbrev pub key_cells : List ℕ → ℕ → ℕ → List ℕ
 key_cells set_id file sect =
     trimmed_text set_id ++ codes "\t" ++ decimal file ++ codes "\t" ++ decimal sect

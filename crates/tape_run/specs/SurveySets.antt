@@ -14,7 +14,7 @@ use Rattle.tape_run.specs.SurveyLine.{trimmed_text}
 use Rattle.tape_run.specs.SurveyFiles.{note_at, file_key, any_differs}
 use Rattle.tape_run.specs.SurveyRead.{Found}
 
--- a section that is not there, and this is known of the one before it
+-- a missing section, with what is known of the one before it
 abbrev pub behind_by : ℕ → Option Entry → Standing
 behind_by sect (Some before) = Behind sect before.volume
 behind_by sect None = Missing sect

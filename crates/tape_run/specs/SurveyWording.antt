@@ -58,7 +58,7 @@ abbrev pub sections_text : Wording → List Told → List ℕ
 sections_text Words c = []
 sections_text Rows c = flat_map section_row c
 
--- the last line, which rows have not
+-- the last line, which rows do not have
 abbrev pub end_text : Wording → Bool → List ℕ
 end_text Words all = last_text all
 end_text Rows all = []

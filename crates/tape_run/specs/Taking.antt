@@ -1,4 +1,4 @@
--- What an intake did with one item, and with the items of a reel.
+-- The effect of an intake on one item, and on the items of a reel.
 use Rattle.std.specs.Prelude.{◌≡◌, ℕ, ◌+◌, ◌<◌, Bool, List, length, Option, slice_get}
 use Rattle.std.specs.Prelude.{Some, None, Result, Ok, Err}
 use Rattle.tape_blocks.specs.Block.{Portion}
@@ -46,7 +46,7 @@ TakesItem item answer old new held now = (set : FileSet) (p : Position) (xs : Li
     → is_under old set p xs i h → i < length xs → item ≡ slice_get xs i
     → Taken set p xs i h answer new now
 
--- for every lawful set and every mount under way a part of the block at i was refused
+-- for every valid set and every mount under way a part of the block at i was refused
 abbrev pub RefusesItem : Option TapeItem → State → State → List Portion → List Portion → Type 0
 RefusesItem item old new held now = (set : FileSet) (p : Position) (xs : List TapeItem) (i : ℕ)
     (h : Happening) → IsLawful set → IsMount set xs h → IsPlaced set (rest_of old) held
@@ -77,7 +77,7 @@ RefusesImage old new held now bytes = (set : FileSet) (p : Position) (xs : List 
     → IsPlaced set (rest_of old) held → is_under old set p xs 0 h
     → StoppedBy set (rest_of new).file p xs h (rest_of new) now
 
--- Whatever the image is, a part of one of the blocks was refused that the table delivers.
+-- For any image, the refused part is one of those that the table delivers.
 abbrev pub CutsTable : State → State → List Portion → List Portion → List ℕ → Type 0
 CutsTable old new held now bytes = (xs : List TapeItem) (end : ℕ) (stop : Stop)
     → Begins 0 bytes xs end stop → IsCutAt xs old new held now

@@ -51,7 +51,7 @@ abbrev pub set_of : Option Sight → Option (List ℕ)
 set_of None = None
 set_of (Some sight) = option_map (λ head. head.set_id) sight.glance.head
 
--- All images of a shelf were mounted and read, one after another, and this was found.
+-- All images of a source were opened and read, one after another, and this was found.
 pub record ViewsAll {L R : Type 0} (size : L → ℕ) (gives : Mounting L R)
     (remaining : R → Option (List ℕ)) (shelf left : L) (found : Found)
     (sets : List (Option (List ℕ))) : Type 0 where

@@ -1,4 +1,4 @@
--- Laws of what `check` reports, in the words of reels and sections.
+-- Laws of what `check` reports, for reels and sections.
 use Rattle.std.specs.Prelude.{◌≡◌, ⊤, ℕ, Bool, true, List, [], ◌∷◌, ◌++◌, Option, Some, IsSome}
 use Rattle.std.specs.List.{AllByRecursion, flat_map}
 use Rattle.tape_image.specs.Tape.{TapeItem}
@@ -18,7 +18,7 @@ use Rattle.tape_run.specs.WholeSet.{key_in, HasEach, IsWholeCopy, IsNoDevice}
 use Rattle.tape_run.specs.CheckLine.{image_lines, section_line, found_line}
 use Rattle.tape_run.specs.Checked.{Reel, IsReport}
 
--- Each image is a whole copy of the volume with this number, and its reader did not fail.
+-- Each image is a complete copy of the volume with this number, and its reader did not fail.
 abbrev pub AreWholeCopies : FileSet → List Reel → List (Option ImageLine) → List ℕ → Type 0
 AreWholeCopies set [] [] [] = ⊤
 AreWholeCopies set (Some (Some bytes) ∷ reels) (Some line ∷ lines) (k ∷ ks) =
@@ -54,7 +54,7 @@ WholeSetIsTold =
     → (report : IsReport reels text found) → AreWholeCopies set reels report.lines ks
     → IsToldWhole set report.lines text found
 
--- one of the images shows the section whole, in the items that its bytes begin with
+-- one of the images shows that the section is complete, in the items that its bytes begin with
 pub record IsShownOn (reels : List Reel) (told : Told) : Type 0 where
   pub front : List Reel
   pub before : Option (List ℕ)

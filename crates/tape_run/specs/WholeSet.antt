@@ -1,4 +1,4 @@
--- What whole copies of a lawful set's volumes leave in a catalogue.
+-- What complete copies of a valid set's volumes leave in a catalogue.
 use Rattle.std.specs.Prelude.{◌≡◌, true, ℕ, List, [], ◌∷◌, Option, None, Some, IsSome, ◌≢◌, ⊤}
 use Rattle.std.specs.List.{AllByRecursion}
 use Rattle.tape_set.specs.Layout.{FileSet, Placed, nth, file_of, sections, on, items}
@@ -33,7 +33,7 @@ HasEach set ks = (k : ℕ) → IsSome (nth set.volumes k) → StandsIn ks k
 abbrev pub AreAllGood : FileSet → List Told → List Placed → Type 0
 AreAllGood set c xs = AllByRecursion (λ x. IsGoodAt c (key_in set x)) xs
 
--- A whole copy of a volume makes each section on it good.
+-- A complete copy of a volume makes each section on it good.
 abbrev pub WholeVolumeIsGood : Type 0
 WholeVolumeIsGood = (set : FileSet) (k : ℕ) (c : List Told)
     → IsLawful set → IsSome (nth set.volumes k)
@@ -56,7 +56,7 @@ WholeSetIsFound = (set : FileSet) (ks : List ℕ)
     → IsLawful set → HasEach set ks → IsSome (file_of set 1)
     → found_all (behind_copies set [] ks) ≡ true
 
--- The bytes are a whole copy of volume k: they begin with its items, and then the medium ends.
+-- The bytes are a complete copy of volume k: they begin with its items, and then the medium ends.
 abbrev pub IsWholeCopy : FileSet → ℕ → List ℕ → Type 0
 IsWholeCopy set k xs =
     (end : ℕ) × (ending : Ending) × Begins 0 xs (items set k) end (ends ending)

@@ -51,7 +51,7 @@ behind_one = record {
 
 -- What the headline says of them.
 pub record DaysAreWorked : Type 0 where
-  -- Of four readers one failed, whichever it was and wherever it did: the file is whole.
+  -- One of four readers failed, whichever it was and wherever it did: the file is complete.
   pub failed_reader : (s : Seen) (left : List (Option (List ℕ)))
       → IsRead (codes "ABC001") 1 four_reels twice left s → s.failures ≡ 1 → IsWhole s
   -- A part of volume 1 was refused, whichever it was, and then both volumes were read: the file is

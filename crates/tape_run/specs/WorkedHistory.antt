@@ -134,7 +134,7 @@ reel_1 = headers_1 ++ (data_block block_0 ++ (data_block block_1 ++ trailers_1))
 abbrev pub reel_2 : List ℕ
 reel_2 = headers_2 ++ (data_block block_2 ++ trailers_2)
 
--- volume 1 whole, cut off inside its second data block, and with a bad block in place of one
+-- volume 1 complete, truncated inside its second data block, and with a bad block in place of one
 abbrev pub cut_reel : List ℕ
 cut_reel = headers_1 ++ (data_block block_0 ++ (18 ∷ 0 ∷ 0 ∷ 0 ∷ codes "20018AA"))
 

@@ -58,7 +58,7 @@ IsImage first calls c = left_by first (λ d. d ≡ first) calls c
 abbrev pub WasImage : List ℕ → List Call → ℕ → List ℕ → Type 0
 WasImage first calls t c = since_by first (λ d. d ≡ first) calls t c
 
--- each call within the bytes that it found
+-- each call is within the bytes of its time
 abbrev pub Fits : List ℕ → Call → Type 0
 Fits seen Look = Unit {0}
 Fits seen (Write place bytes) = place ≤ length seen
@@ -237,7 +237,7 @@ pub counts_image : (first : List ℕ) (calls : List Call) (t : ℕ) (c : List �
     → IsImage first calls c → WasImage first calls t c
 counts_image first calls t c le now = counts first (λ d. d ≡ first) calls t c le now
 
--- since this moment there is no other
+-- no later moment began since
 pub only_image : (first : List ℕ) (calls : List Call) (c : List ℕ)
     → WasImage first calls (length calls) c → IsImage first calls c
 only_image first calls c was = only first (λ d. d ≡ first) calls c was

@@ -124,7 +124,7 @@ pub record CasesOfMoments : Type 0 where
   -- nor one after which a crash may leave it,
   pub not_behind : Passes (disk_of (λ d c. (d ≡ 1) × (c ≡ 7 ∷ [])) (λ d t c. ⊥)) 0 1
       (λ c. c ≡ []) → ⊥
-  -- nor one that goes back in time
+  -- nor is one that goes back in time
   pub not_backwards : Passes (disk_of (λ d c. ⊥) (λ d t c. ⊥)) 1 0 (λ c. ⊥) → ⊥
   -- but what might have been left before the call, it may have left
   pub left_before : Passes (disk_of (λ d c. ⊥) (λ d t c. c ≡ 7 ∷ [])) 0 1 (λ c. ⊥)
@@ -170,7 +170,7 @@ pub record CasesOfFiles : Type 0 where
   pub first_gate : gate_at false (79 ∷ []) ≡ 79
   pub second_gate : gate_at true (replicate 128 32 ++ 79 ∷ []) ≡ 79
   pub closed_gate : (body : List ℕ) → read_slot 67 body ≡ None
-  -- the greater generation counts, and the first slot at a tie
+  -- the greater generation is current, and the first slot if both are equal
   pub greater_counts : (a b : Point) → best (Some (3, a)) (Some (4, b)) ≡ Some (4, b)
   pub first_at_a_tie : (a b : Point) → best (Some (3, a)) (Some (3, b)) ≡ Some (3, a)
   -- so at a tie the first slot does not lose by the second, and the second loses by the first
@@ -280,7 +280,7 @@ pub record CasesOfStages {D : Type 0} (g : Ghosts D) : Type 0 where
   pub what_returns_is_left : (stage : Stage D g) (back : Point) (there : List Portion)
       → Returns stage back there → (bytes : List ℕ) × g.may_leave stage.disk bytes
       × ((n : ℕ) × Staged bytes n back there)
-  -- and of a stage that survives something does, whatever a crash leaves
+  -- and something represents the contents of a stage that survives, whatever a crash leaves
   pub something_returns : (stage : Stage D g) (bytes : List ℕ) → Survives stage
       → g.may_leave stage.disk bytes
       → (back : Point) × (there : List Portion) × Returns stage back there
@@ -308,7 +308,7 @@ pub record CasesOfStages {D : Type 0} (g : Ghosts D) : Type 0 where
   -- one whose disk fails had not failed, and has as many parts
   pub device_ends : (old new : Stage D g) → HasRefused old new Device
       → (old.failed ≡ false) × (new.failed ≡ true) × (new.weight ≡ old.weight)
-  -- a call is Ok of a stage alone that had not failed, and its disk is as honest as it was,
+  -- a call succeeds only on a stage that had not failed, and its disk is as honest as before,
   pub end_ok : (old new : Stage D g) → EndsCall {A = Unit {0}} old (Ok tt) new
       → (old.failed ≡ false) × (new.refused ≡ old.refused)
       × (g.is_honest old.disk → g.is_honest new.disk)
@@ -320,7 +320,7 @@ pub record CasesOfStages {D : Type 0} (g : Ghosts D) : Type 0 where
   pub opened_over : (old new : D) (c : List ℕ) → OpensOver g old new
       → g.left_since new (g.moment old) c
       → g.left_since old (g.moment old) c ⊎ (g.may_leave old c ⊎ StandsLike (g.seen old) c)
-  -- and no other fault is answered
+  -- and no other fault is possible
   pub no_other : (old new : Stage D g) → (HasRefused old new NoPoint → ⊥)
       × (HasRefused old new OutOfMemory → ⊥) × (HasRefused old new (BadFrame 300) → ⊥)
 

@@ -31,7 +31,7 @@ pub record CasesOfSalvage {D : Type 0} (g : Ghosts D) : Type 0 where
   -- nothing remains of a frame without its last byte, and it is not whole
   pub cut_off : FramedTo 6 (Some 256) [] cut_frame
   pub not_whole : (parts : List Portion) → FramedTo 6 None parts cut_frame → ⊥
-  -- of two frames whose second has no digit of a span the first remains
+  -- of two frames whose second begins with no digit of a span, the first remains
   pub one_remains : FramedTo 12 (Some 262) (one_part ∷ []) frame_and_none
   -- and nothing is damaged if they should end after it
   pub no_break : FramedTo 6 None (one_part ∷ []) frame_and_none

@@ -5,7 +5,7 @@ use Rattle.std.specs.Prelude.{◌≡◌, ◌⊎◌, ℕ, ◌+◌, ◌≤◌, max
 abbrev pub Holds : List ℕ → ℕ → List ℕ → List ℕ → Type 0
 Holds old place bytes new = new ≡ take place old ++ bytes ++ drop (place + length bytes) old
 
--- after a write of n bytes that a crash cuts short: any bytes in the range and past the old end,
+-- after a write of n bytes that a crash interrupts: any bytes in the range and past the old end,
 -- the same elsewhere
 pub record Torn (place n : ℕ) (old new : List ℕ) : Type 0 where
   pub before : take place new ≡ take place old

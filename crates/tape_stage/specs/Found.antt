@@ -6,7 +6,7 @@ use Rattle.tape_core.specs.Point.{Point}
 use Rattle.tape_stage.specs.Staged.{gate_at, slot_at, Loses}
 use Rattle.tape_stage.specs.declared.stage.Found.{Found}
 
--- the slot that counts, and the other one's gate
+-- the current slot, and the other one's gate
 pub record IsFound (found : Found) (bytes : List ℕ) : Type 0 where
   pub slot : slot_at found.in_second bytes ≡ Some (found.generation, found.point)
   pub other : Loses found.in_second found.generation (slot_at (not found.in_second) bytes)

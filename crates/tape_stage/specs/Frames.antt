@@ -1,4 +1,4 @@
--- Frames at places of a list of bytes.
+-- Frames in a list of bytes.
 use Rattle.std.specs.Prelude.{◌≡◌, ℕ, ◌+◌, ◌-◌, ◌≤◌, List, ◌∷◌, length, take, drop}
 use Rattle.std.specs.Int.{to_be_bytes}
 use Rattle.std.proofs.Common.{w32}

@@ -1,4 +1,5 @@
--- Laws about the texts of checkpoints. Each is the contract of a call of the module `laws`.
+-- Laws about the texts of checkpoints, each of which is the contract of a call in the module
+-- `laws`.
 use Rattle.std.specs.Prelude.{◌≡◌, ℕ, ◌≤◌, List, length}
 use Rattle.tape_set.specs.Position.{block_of, part_of}
 use Rattle.tape_core.specs.Point.{Point, IsPoint}
@@ -7,12 +8,12 @@ use Rattle.tape_stage.specs.declared.point.Version.TheVariants.{One, Two}
 use Rattle.tape_stage.specs.Fields.{form_of}
 use Rattle.tape_stage.specs.Text.{IsPointText, KnownFits}
 
--- bytes that are the text of two checkpoints are that of one, in one version
+-- if bytes are the text of two checkpoints, these are the same checkpoint in the same version
 abbrev pub IsTextOfOne : Type 0
 IsTextOfOne = (bytes : List ℕ) (v w : Version) (a b : Point)
     → IsPointText v bytes a → IsPointText w bytes b → (v ≡ w) × (a ≡ b)
 
--- two texts of a checkpoint in a version are one, and have 80 characters
+-- a checkpoint has one text in each version, of 80 characters
 abbrev pub IsTextOnce : Type 0
 IsTextOnce = (version : Version) (a b : List ℕ) (c : Point)
     → IsPointText version a c → IsPointText version b c → (a ≡ b) × (length a ≡ 80)

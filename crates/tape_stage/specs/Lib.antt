@@ -1,4 +1,4 @@
--- to be believed, in this order; checkpoints:
+-- definitions to believe, in this order; checkpoints:
 pub mod Fields
 pub mod Text
 pub mod Range
@@ -26,7 +26,7 @@ pub mod Holding
 -- laws of these, which are proved:
 pub mod Laws
 pub mod StageLaws
--- cases, which hold the definitions from below:
+-- examples, which keep the definitions from saying too little:
 pub mod Cases
 pub mod CasesOfLaws
 pub mod CasesOfSalvage

@@ -15,7 +15,7 @@ frame part = indicator part.span ∷ to_be_bytes w32 (length part.bytes) ++ part
 abbrev pub frames : List Portion → List ℕ
 frames parts = flat_map frame parts
 
--- the most bytes of a part
+-- the maximum number of bytes of a part
 abbrev pub longest_part : ℕ
 longest_part = longest_block
 

@@ -1,4 +1,4 @@
--- The rules that the fields of a checkpoint keep together.
+-- The rules that connect the fields of a checkpoint.
 use Rattle.std.specs.Prelude.{nat_le, ◌==◌, ◌&&◌, not, Bool, if◌then◌else◌, replicate, Option}
 use Rattle.std.specs.Prelude.{Some, None}
 use Rattle.std.specs.Str.{bytes_eq}

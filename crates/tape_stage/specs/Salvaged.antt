@@ -33,24 +33,26 @@ pub record Remains (bytes : List ℕ) (g : ℕ) (point : Point) (broken : Option
   pub slot : best (slot_at false bytes) (slot_at true bytes) ≡ Some (g, point)
   pub framed : FramedTo point.staged broken parts bytes
 
--- nothing remains: no slot counts
+-- nothing remains: no slot is valid
 abbrev pub RemainsNone : List ℕ → Type 0
 RemainsNone bytes = (g : ℕ) (point : Point) (broken : Option ℕ) (parts : List Portion)
     → Remains bytes g point broken parts → ⊥
 
--- of bytes one generation and checkpoint remain at most, one break and one list of parts
+-- at most one generation and checkpoint, one place of damage and one list of parts remain of the
+-- bytes
 abbrev pub RemainsOnce : List ℕ → Type 0
 RemainsOnce bytes = (g h : ℕ) (point next : Point) (broken other : Option ℕ)
     (parts more : List Portion) → Remains bytes g point broken parts
     → Remains bytes h next other more
     → (g ≡ h) × (point ≡ next) × (broken ≡ other) × (parts ≡ more)
 
--- on any disk: a walk found all frames within a limit, or ended at a place within it and the end
+-- on any disk: a walk found all frames within a limit, or ended at a place within it and the end of
+-- the file
 abbrev pub WalkedIn : ℕ → ℕ → Option ℕ → Type 0
 WalkedIn staged limit None = 256 + staged ≤ limit
 WalkedIn staged limit (Some place) = (256 ≤ place) × (place ≤ limit) × (place < 256 + staged)
 
--- these parts remain on a disk that can be believed
+-- these parts remain on an honest disk
 abbrev pub HoldsRest : {D : Type 0} {disk : Ghosts D} → Salvage D disk → List Portion → Type 0
 HoldsRest {D} {disk} salvage parts = disk.is_honest salvage.disk
     × Holding salvage.weight parts (disk.seen salvage.disk)

@@ -1,4 +1,4 @@
--- What calls leave of a disk's content.
+-- The effect of calls on a disk's content.
 use Rattle.std.specs.Prelude.{◌≡◌, [], ◌∷◌, ◌++◌}
 use Rattle.tape_stage.specs.Calls.{kept_or, after}
 use Rattle.tape_stage.specs.declared.disk.content.Call.{Call}

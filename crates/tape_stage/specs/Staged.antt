@@ -48,7 +48,7 @@ pub record Staged (bytes : List ℕ) (g : ℕ) (point : Point) (parts : List Por
   pub slot : best (slot_at false bytes) (slot_at true bytes) ≡ Some (g, point)
   pub parts_are : Holding point.staged parts bytes
 
--- a slot that doesn't win over generation g in that one
+-- a slot that doesn't replace generation g in the other one
 abbrev pub Loses : Bool → ℕ → Option Slot → Type 0
 Loses second g None = Unit {0}
 Loses false g (Some other) = other.0 ≤ g
@@ -125,7 +125,7 @@ KeepsStaged old new = (g : ℕ) (point : Point) (parts : List Portion) → Stage
 abbrev pub blank : List ℕ
 blank = replicate 15 48 ++ replicate 112 32
 
--- the five bytes are the header of no part of at most 99,999 bytes
+-- the five bytes are not the header of a part of at most 99,999 bytes
 abbrev pub IsNoHeader : List ℕ → Type 0
 IsNoHeader header = (span : Span) (size : ℕ) → size ≤ longest_part
     → header ≡ indicator span ∷ to_be_bytes w32 size → ⊥

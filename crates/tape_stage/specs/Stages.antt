@@ -32,8 +32,8 @@ IsStage {D} {disk} stage acked parts =
     IsStaged disk stage.disk stage.in_second stage.generation stage.acknowledged
     stage.other_open stage.weight stage.failed acked parts
 
--- These parts are framed on a disk that can be believed, unless it failed while a checkpoint was
--- being saved; and acknowledged parts are ready unless the stage failed.
+-- These parts are framed on an honest disk, unless it failed while a checkpoint was being saved;
+-- and the acknowledged parts are ready unless the stage failed.
 pub record AreHeld {D : Type 0} (disk : Ghosts D) (at : D) (in_second : Bool) (generation : ℕ)
     (point : Point) (other_open : Bool) (weight : ℕ) (failed : Bool) (pending : Option Point)
     (parts : List Portion) : Type 0 where
@@ -118,7 +118,7 @@ abbrev pub Survived : {D : Type 0} {disk : Ghosts D} → Stage D disk → ℕ �
 Survived {D} {disk} stage t = (bytes : List ℕ) → WasLeft stage t bytes → (g : ℕ)
     × (point : Point) × (parts : List Portion) × Staged bytes g point parts
 
--- what crashes do to a stage
+-- the effect of crashes on a stage
 abbrev pub crashes_of : {D : Type 0} {disk : Ghosts D} → Stage D disk → Crashes
 crashes_of {D} {disk} stage = record {
   returns = λ back there. Returns stage back there;

@@ -43,7 +43,7 @@ abbrev pub tail_width : Version → ℕ
 tail_width One = 12
 tail_width Two = 3
 
--- from the state on both versions are alike, but for the tail
+-- from the state on both versions are the same, except for the spaces at the end
 abbrev pub rest_pieces : Version → Fields → List Piece
 rest_pieces version f =
     chars 1 (state_letter f.flags.done ∷ []) ∷ chars 1 (flag_digit f.flags.begun ∷ [])
@@ -51,7 +51,7 @@ rest_pieces version f =
     ∷ number 5 f.form.rec_len ∷ number 2 f.form.offset ∷ chars 17 f.form.file_id
     ∷ number 15 f.staged ∷ spaces (tail_width version) ∷ []
 
--- all of the text
+-- the whole text
 abbrev pub pieces : Version → Fields → List Piece
 pieces version f =
     chars 4 (codes "TPCK") ∷ chars 1 (version_digit version ∷ []) ∷ chars 6 f.set_id
@@ -59,12 +59,12 @@ pieces version f =
 
 -- ---- which checkpoints have a text
 
--- The numbers of the place fit the version: version 1 has six digits for the block, and no part.
+-- The numbers of the position fit the version: version 1 has six digits for the block, and no part.
 abbrev pub FitsVersion : Version → Place → Type 0
 FitsVersion One place = (place.block < 10 ^ 6) × (place.part ≡ 0)
 FitsVersion Two place = (place.block < 10 ^ 10) × (place.part < 10 ^ 5)
 
--- The numbers of the fields fit their digits.
+-- The numbers of the fields are in range.
 pub record Fit (version : Version) (f : Fields) : Type 0 where
   pub file : f.file < 10 ^ 4
   pub sect : f.sect < 10 ^ 4

@@ -54,10 +54,10 @@ pub record CasesOfEnds : Type 0 where
   -- 0 success, 1 an error, 2 a usage error, 3 something is missing
   pub statuses : (fault : ToolFault)
       → map exit_status (Done ∷ Faulted fault ∷ WrongWords ∷ Incomplete ∷ []) ≡ 0 ∷ 1 ∷ 2 ∷ 3 ∷ []
-  -- a command is done, or ends by its fault
+  -- a command succeeds, or ends by its fault
   pub commands : (fault : ToolFault)
       → (end_of (Ok tt) ≡ Done) × (end_of (Err fault) ≡ Faulted fault)
-  -- `check` found all, misses something, or ends by the fault of its engine
+  -- `check` found all sections, misses one, or ends by the fault of the library
   pub checks : (fault : RunFault) → (check_end (Ok true) ≡ Done)
       × (check_end (Ok false) ≡ Incomplete)
       × (check_end (Err (engine.Run fault)) ≡ Faulted (Run fault))
@@ -85,7 +85,7 @@ pub record CasesOfEnds : Type 0 where
       ∷ kinds.ArgumentConflict ∷ kinds.MissingRequiredArgument ∷ kinds.MissingSubcommand
       ∷ kinds.DisplayHelpOnMissingArgumentOrSubcommand ∷ kinds.Io ∷ kinds.Format ∷ [])
       ≡ replicate 14 WrongWords
-  -- words that are no text, or that could not be had
+  -- arguments that are not text, or that could not be obtained
   pub no_words : map no_words_end (io_kinds.InvalidData ∷ io_kinds.InvalidInput ∷ io_kinds.Other
       ∷ []) ≡ replicate 3 WrongWords
   -- a command that is not started ends by its fault, or as a usage error: never as done, or as
@@ -107,7 +107,7 @@ pub record CasesOfNames : Type 0 where
   -- feed too
   pub lines : names_in false (codes "a b\n\nc") ≡ codes "a b" ∷ codes "c" ∷ []
   pub ended : names_in false (codes "a b\nc\n") ≡ codes "a b" ∷ codes "c" ∷ []
-  -- what ends with a NUL may hold line feeds
+  -- a name that ends with a NUL may contain line feeds
   pub nulls : names_in true (97 ∷ 10 ∷ 98 ∷ 0 ∷ 0 ∷ 99 ∷ []) ≡ codes "a\nb" ∷ codes "c" ∷ []
   pub none : (null : Bool) → names_in null [] ≡ []
 
@@ -142,7 +142,7 @@ pub record CasesOfLines : Type 0 where
   pub stage : fault_line (OfStage (stages.BadFrame 300)) ≡ codes "tape: stage fault 2\n"
   -- after those of a stage itself, which are 1 to 6
   pub in_use : fault_line StageInUse ≡ codes "tape: stage fault 7\n"
-  -- no memory for the words of the command line
+  -- out of memory for the arguments of the command line
   pub no_memory : fault_line no_memory ≡ codes "tape: run fault 4\n"
   -- a set on two volumes, and one without files
   pub volumes : report 1 (record { volume = codes "ABC001"; size = 2484 }
@@ -177,7 +177,7 @@ pub record CasesOfStaging {D : Type 0} (disk : Ghosts D) : Type 0 where
   pub survives : (point : Point) (parts : List Portion) (session : Story (Stage D disk))
       (bytes : List ℕ) → StandsAt point parts session → disk.may_leave session.sink.disk bytes
       → (back : Point) × (there : List Portion) × Returns session.sink back there
-  -- and for nothing but this checkpoint and these parts
+  -- and nothing but this checkpoint and these parts
   pub only : (point back : Point) (parts there : List Portion) (session : Story (Stage D disk))
       → StandsAt point parts session → Returns session.sink back there
       → (back ≡ point) × (there ≡ parts)
@@ -206,7 +206,7 @@ pub record CasesOfStaging {D : Type 0} (disk : Ghosts D) : Type 0 where
   -- but it represents one: bytes without a stage are never reported as those of another file
   pub none_of_another : (set_id read : List ℕ) (file : ℕ) → HoldsNone read
       → Says set_id file read staging.OtherFile → ⊥
-  -- each stage of another set is one, and each of another file
+  -- stages of other sets and of other files belong to another file
   pub of_another_set : (set_id read : List ℕ) (file n : ℕ) (point : Point) (parts : List Portion)
       → Staged read n point parts → (point.set_id ≡ set_id → ⊥)
       → Says set_id file read staging.OtherFile

@@ -30,7 +30,7 @@ use Rattle.tape_tool.specs.Ends.{stage_end, damaged_end}
 use Rattle.tape_tool.specs.Showing.{ending_of, told_with, Shows, StopsShowing}
 use Rattle.tape_tool.specs.Showing.{ShowsDamaged, StopsSalvaging}
 
--- both lines, of a stage that breaks off there or does not
+-- both lines, for a stage that is damaged there or intact
 abbrev pub told_of : Point → Option ℕ → ℕ → List ℕ
 told_of point broken records = told_with point (ending_of point broken) records
 

@@ -84,7 +84,7 @@ pub record CasesOfWords : Type 0 where
   pub no_number : (IsSomeNumber 8 [] (codes "offset") → ⊥)
       × (IsSomeNumber 8 (word (codes "offset") (codes "4k" ∷ []) ∷ []) (codes "offset") → ⊥)
       × (IsSomeNumber 8 (word (codes "offset") (codes "256" ∷ []) ∷ []) (codes "offset") → ⊥)
-  -- each word of a file needs an equals sign
+  -- each argument for a file needs an equals sign
   pub paths : HavePaths (codes "A=a" ∷ codes "=b=" ∷ [])
   pub no_path : HavePaths (codes "A=a" ∷ codes "b" ∷ []) → ⊥
   -- one name is correct, and so is none; a stream is a usage error, and so are two names
@@ -101,7 +101,7 @@ pub record CasesOfWords : Type 0 where
 
 -- what commands are asked for
 pub record CasesOfOrders : Type 0 where
-  -- images are those of the words, in their order, and those of the list in its file
+  -- images are those of the arguments, in their order, and those of the list in its file
   pub images : (named : Named) → NamesImages shelf named
       → (map (λ w. w.now) named.words.items ≡ codes "a.tap" ∷ codes "b.tap" ∷ [])
       × (file_of named.list ≡ Some (Some (codes "names")))
@@ -139,13 +139,13 @@ pub record CasesOfOrders : Type 0 where
       × (option_map (λ s. s.now) order.task.stage ≡ Some (codes "kept"))
       × (order.task.again ≡ true)
       × (map (λ w. w.now) order.images.words.items ≡ codes "a.tap" ∷ codes "b.tap" ∷ [])
-  -- and never to standard output, or of a set that there is not
+  -- and never to standard output, or from a set that cannot exist
   pub extract_dash : (order : Extract)
       → AsksToExtract (word (codes "OUT") (codes "-" ∷ []) ∷ []) order → ⊥
   pub extract_no_set : (order : Extract) → AsksToExtract [] order → ⊥
   pub no_extract : (order : Extract) (rows : List Row) → AsksToExtract rows order
       → IsNoExtract rows → ⊥
-  -- `unpack` goes into its folder, which has a name
+  -- `unpack` writes to its directory, which has a name
   pub unpack : (order : Unpack) → AsksToUnpack (word (codes "DIR") (codes "out" ∷ [])
       ∷ word (codes "form") (codes "raw" ∷ []) ∷ shelf) order
       → (order.folder.now ≡ codes "out") × (order.form ≡ Raw)
@@ -161,13 +161,13 @@ pub record CasesOfOrders : Type 0 where
       × (order.damaged ≡ true)
   pub stage_dash : (order : StageOrder)
       → AsksForStage (word (codes "OUT") (codes "-" ∷ []) ∷ []) order → ⊥
-  -- `init` makes as many volumes of its prefix in its folder
+  -- `init` creates that many volumes with its prefix in its directory
   pub init : (order : Init) → AsksToInit (word (codes "DIR") (codes "out" ∷ [])
       ∷ word (codes "PRE") (codes "ABC" ∷ []) ∷ word (codes "COUNT") (codes "12" ∷ []) ∷ []) order
       → (order.folder.now ≡ codes "out") × (order.prefix.characters ≡ codes "ABC")
       × (order.count ≡ 12)
   pub no_init : (order : Init) (rows : List Row) → AsksToInit rows order → IsNoInit rows → ⊥
-  -- `write` writes the files of its words into its folder
+  -- `write` writes the files of its arguments to its directory
   pub write : (order : WriteOrder) → AsksToWrite (word (codes "DIR") (codes "out" ∷ [])
       ∷ word (codes "PRE") (codes "ABC" ∷ []) ∷ word (codes "CAPACITY") (codes "9000" ∷ [])
       ∷ word (codes "ID=PATH") (codes "A=a" ∷ codes "B=b" ∷ [])
@@ -193,7 +193,7 @@ pub record CasesOfOrders : Type 0 where
       → (named : Named) × (order ≡ orders.Check named) × NamesImages rows named
   pub no_command : (order : Order) → IsOrderIn None order → ⊥
 
--- words of `write`: its prefix, its folder, a word of a file, and its options
+-- arguments of `write`: its prefix, its directory, an argument for a file, and its options
 abbrev pub to_write : List ℕ → List ℕ → List ℕ → List Row → List Row
 to_write prefix folder file options = word (codes "PRE") (prefix ∷ [])
     ∷ word (codes "DIR") (folder ∷ []) ∷ word (codes "ID=PATH") (file ∷ []) ∷ options

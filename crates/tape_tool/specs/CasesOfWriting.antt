@@ -5,11 +5,11 @@ use Rattle.tape_tool.specs.Writing.{IsNoShape}
 
 -- the shapes that are refused, and those that are not
 pub record CasesOfWriting : Type 0 where
-  -- blocks of D may be filled up or not
+  -- blocks of D may be padded or not
   pub counted : (n : ℕ) (pad_full : Bool) → IsNoShape Counted n pad_full → ⊥
   -- those of F and S may be written as they are, of F if a record has a byte
   pub fixed : (n : ℕ) → IsNoShape Fixed (suc n) false → ⊥
   pub spanned : (n : ℕ) → IsNoShape Spanned n false → ⊥
-  -- and are not filled up
+  -- and are not padded
   pub padded : (n : ℕ) → IsNoShape Fixed n true × IsNoShape Spanned n true
   pub empty : IsNoShape Fixed 0 false

@@ -24,12 +24,12 @@ exit_status (Faulted _) = 1
 exit_status WrongWords = 2
 exit_status Incomplete = 3
 
--- how a command ends that answered this
+-- how a command ends with this result
 abbrev pub end_of : Result (Unit {0}) ToolFault → End
 end_of (Ok _) = Done
 end_of (Err fault) = Faulted fault
 
--- how a check ends, which found all or did not
+-- how a check ends that found all sections or did not
 abbrev pub check_end : Result Bool EngineFault → End
 check_end (Ok true) = Done
 check_end (Ok false) = Incomplete
@@ -59,7 +59,7 @@ abbrev pub help_end : Bool → End
 help_end true = Done
 help_end false = Faulted (File WriteFailed)
 
--- how a run ends for which the parser of words has only a text, which was printed or was not
+-- how a run ends for which the argument parser has only a text, which was printed or was not
 abbrev pub words_end : ErrorKind → Bool → End
 words_end kinds.OutOfMemory printed = Faulted no_memory
 words_end kinds.DisplayHelp printed = help_end printed

@@ -1,4 +1,4 @@
--- Names of images, by words and in a list.
+-- Names of images, in arguments and in a list.
 use Rattle.std.specs.Prelude.{ℕ, ◌==◌, Bool, true, false, not, List, length}
 use Rattle.std.specs.List.{slice_split, filter}
 
@@ -11,7 +11,7 @@ end_byte false = 10
 abbrev pub pieces_of : Bool → List ℕ → List (List ℕ)
 pieces_of null text = slice_split (λ b. b == end_byte null) text
 
--- whether there is something
+-- whether there are any bytes
 abbrev pub is_name : List ℕ → Bool
 is_name name = not (length name == 0)
 

@@ -17,6 +17,6 @@ abbrev pub volume_lines : List Ended → List ℕ
 volume_lines [] = []
 volume_lines (ended ∷ more) = volume_line ended ++ volume_lines more
 
--- a line for each volume, and one for all
+-- a line for each volume, and a last one
 abbrev pub report : ℕ → List Ended → List ℕ
 report files ended = volume_lines ended ++ files_line files (length ended)

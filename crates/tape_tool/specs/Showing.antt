@@ -23,7 +23,7 @@ use Rattle.tape_tool.specs.declared.fault.ToolFault.TheVariants.{File, Stage}
 use Rattle.tape_tool.specs.declared.stage.ending.StageEnding.{StageEnding}
 use Rattle.tape_tool.specs.declared.stage.ending.StageEnding.TheVariants.{Whole, Broken}
 
--- the file of a checkpoint, and how many whole records are staged before it
+-- the file of a checkpoint, and how many complete records are staged before it
 abbrev pub stage_line : Point → ℕ → List ℕ
 stage_line point records =
     codes "STAGE " ++ identifier_text point.set_id ++ codes " " ++ decimal point.file ++ codes " "

@@ -14,11 +14,11 @@ use Rattle.tape_tool.specs.Fault.{file_number, write_number}
 abbrev pub numbered : List ℕ → ℕ → List ℕ
 numbered kind n = kind ++ codes " fault " ++ decimal n
 
--- the place of a byte
+-- the offset of a byte
 abbrev pub place_text : ℕ → List ℕ
 place_text place = codes " at " ++ decimal place
 
--- the fault of an image, with its place
+-- the fault of an image, with its offset
 abbrev pub image_text : ImageFault → List ℕ
 image_text fault = numbered (codes "image") (number_of fault.cause) ++ place_text fault.place
 

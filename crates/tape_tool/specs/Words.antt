@@ -40,7 +40,7 @@ use Rattle.tape_tool.specs.declared.merge.words.Merge.{Merge}
 abbrev pub text_in : List Row → List ℕ → List ℕ
 text_in rows word = unwrap_or (first_of word rows) []
 
--- all texts of a word
+-- all texts of an argument
 abbrev pub texts_in : List Row → List ℕ → List (List ℕ)
 texts_in rows word = unwrap_or (all_of word rows) []
 
@@ -76,7 +76,7 @@ texts_of_one (Some text) = text.now ∷ []
 abbrev pub IsDashOrMore : List (List ℕ) → Type 0
 IsDashOrMore texts = (texts ≡ codes "-" ∷ []) ⊎ (2 ≤ length texts)
 
--- A command is refused: for want of memory, or as wrong, and then for this reason.
+-- A command is refused: because memory ran out, or as a usage error for this reason.
 abbrev pub RefusedFor : Type 0 → Error → Type 0
 RefusedFor reason error =
     (kind_of error ≡ OutOfMemory) ⊎ ((kind_of error ≡ ValueValidation) × reason)
@@ -87,7 +87,7 @@ RefusedFor reason error =
 abbrev pub list_file : List ℕ → Option (List ℕ)
 list_file path = if bytes_eq path (codes "-") then None else Some path
 
--- the list that is named, if one is
+-- the list that is named, if there is one
 pub record IsListIn (rows : List Row) (list : Option ListFile) : Type 0 where
   pub file : option_map (λ (l : ListFile). option_map (λ p. p.now) l.file) list
       ≡ option_map list_file (first_of (codes "files-from") rows)
@@ -284,7 +284,7 @@ abbrev pub IsOrderIn : Option (List ℕ × List Row) → Order → Type 0
 IsOrderIn None order = ⊥
 IsOrderIn (Some met) order = IsOrderOf met.0 met.1 order
 
--- why the words of a command are refused
+-- why the arguments of a command are refused
 abbrev pub IsNoOrder : Verb → List Row → Type 0
 IsNoOrder verbs.List rows = IsDashOrMore (texts_in rows (codes "IMAGE"))
 IsNoOrder verbs.Check rows = AreTooMany rows
