@@ -198,23 +198,23 @@ const MERGED_TOO_LONG: &str =
 ";
 
 const IMAGE: &[&str] = &[
-    "  The image ends in the middle of a block: it was cut off. The items listed are
-  those before that block. Copy the image again from its source, or use
-  'extract' with this and other copies.
+    "  The image ends in the middle of a block: it was cut off. All items before
+  that block were listed. Copy the image again from its source, or use 'extract'
+  with this and other copies.
 ",
     "  The lengths before and after a block differ: the image is damaged, or remains
-  of an older recording follow the end. The items listed come before that.
+  of an older recording follow the end. All items before that were listed.
   Copy the image again, or use 'extract' with other copies too.
 ",
     "  The bytes there are not a record length: the image is damaged, or remains of
-  an older recording follow the end. The items listed come before that.
+  an older recording follow the end. All items before that were listed.
   Copy the image again, or use 'extract' with other copies too.
 ",
     "  The image is longer than 4,294,967,295 bytes; tape reads no further.
-  The items listed come before that.
+  All items before that were listed.
 ",
     "  The image could not be read there: is it a directory, or is the disk failing?
-  The items listed, if any, come before that.
+  All items before that, if any, were listed.
   If the disk is failing, copy the image to another disk and use the copy.
 ",
     NO_MEMORY,

@@ -1,4 +1,4 @@
-//! `extract` as the program runs it: a file of a set, from the files of its reels' images.
+//! The `extract` command: recovers a file of a set from image files.
 
 mod draft;
 mod out;

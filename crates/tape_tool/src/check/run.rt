@@ -1,4 +1,4 @@
-//! `check` as the program runs it: over files, to standard output.
+//! The `check` command: opens the files, and prints the report to standard output.
 
 use super::words::CHECK;
 use crate::explain::Site;

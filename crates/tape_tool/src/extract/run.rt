@@ -1,4 +1,4 @@
-//! `extract` as the program runs it: images, memory, the output.
+//! The `extract` command: opens the images, the stage and the output, and calls `tape_run`.
 
 use crate::explain::Site;
 use crate::extract::draft::Draft;

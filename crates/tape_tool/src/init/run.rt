@@ -1,4 +1,4 @@
-//! `init` as the program runs it: images of volumes, as files in a directory.
+//! The `init` command: creates blank volumes as files in a directory.
 use super::words::Init;
 use crate::explain::Site;
 use crate::fault::{OUT_OF_MEMORY, ToolFault};

@@ -1,4 +1,4 @@
-//! `list` as the program runs it: over a file or standard input, to standard output.
+//! The `list` command: opens the file or standard input, and prints to standard output.
 use super::words::Listing;
 use crate::explain::Site;
 use crate::fault::{FileFault, ToolFault};

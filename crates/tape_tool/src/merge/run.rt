@@ -1,4 +1,4 @@
-//! `merge` and `compare` as the program runs them: over files, to a new file.
+//! The `merge` and `compare` commands: open the files, and create the new image.
 
 use super::words::{COMPARE, MERGE, Merge};
 use crate::explain::Site;

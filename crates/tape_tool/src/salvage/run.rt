@@ -1,4 +1,4 @@
-//! `salvage` as the program runs it: over files, into a new file.
+//! The `salvage` command: opens the files, and creates the output.
 
 use super::words::{SALVAGE, SalvageOrder};
 use crate::explain::Site;

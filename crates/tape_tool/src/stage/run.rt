@@ -1,4 +1,4 @@
-//! `stage` as the program runs it: over the file of the stage, to the output.
+//! The `stage` command: opens the file of the stage, and writes the output.
 
 use super::read_only::ReadOnly;
 use super::show::{show_damaged, show_stage};

@@ -1,4 +1,4 @@
-//! `survey` as the program runs it: over files, to standard output.
+//! The `survey` command: opens the files, and prints the report to standard output.
 
 use super::words::{SURVEY, Survey};
 use crate::explain::Site;

@@ -1,4 +1,4 @@
-//! `unpack` as the program runs it: from files into a directory.
+//! The `unpack` command: recovers files from image files into a directory.
 
 use super::last_line::LastLine;
 use super::paths::{Paths, paths_of};

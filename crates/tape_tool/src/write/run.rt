@@ -1,4 +1,4 @@
-//! `write` as the program runs it: the files of the arguments, to volumes in a directory.
+//! The `write` command: writes the files that the arguments name to volumes in a directory.
 
 ghost use Rattle.std.specs.Prelude.{◌≡◌, ◌==◌, IfOk, IfErr};
 ghost use Rattle.std.specs.List.{before_first, after_first};
