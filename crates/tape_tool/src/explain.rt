@@ -199,8 +199,8 @@ const MERGED_TOO_LONG: &str =
 
 const IMAGE: &[&str] = &[
     "  The image ends in the middle of a block: it was cut off. All items before
-  that block were listed. Copy the image again from its source, or use 'extract'
-  with this and other copies.
+  that block were listed. Copy the image again from its source, or use
+  'extract' with this and other copies.
 ",
     "  The lengths before and after a block differ: the image is damaged, or remains
   of an older recording follow the end. All items before that were listed.
