@@ -7,7 +7,7 @@ use Rattle.tape_set.specs.Lawful.{IsLawful}
 use Rattle.tape_core.specs.State.{State}
 use Rattle.tape_core.specs.Follows.{IsAt, IsReading}
 
--- w is the section of number sect, k the number of the volume v, and good tells which of the items
+-- w is the section with number sect, k the number of the volume v, and good says which of the items
 -- so far were read well.
 pub record Aim : Type 0 where
   pub set : FileSet

@@ -1,4 +1,4 @@
--- What a reader knows of the section awaited, and of what is ahead of it on the volume.
+-- What a reader knows of the section needed, and of the rest of the volume.
 use Rattle.std.proofs.Common.{◌≡◌, ◌<◌, ◌⊎◌, List, [], ◌∷◌, ◌++◌, length, drop, Bool, true, false}
 use Rattle.std.proofs.Common.{Some, None, refl, sym, ap, ◌∙◌, subst, inl, inr, append_assoc}
 use Rattle.std.specs.Prelude.{◌||◌, MatchBool}
@@ -27,7 +27,7 @@ module _ (aim : Aim) where
   pub all_among : Among set k core.file (on k (sections set))
   all_among = record { past = []; all = refl; earlier_files = tt }
 
-  -- one section more is passed
+  -- one more section is skipped
   pub next_among : (x : Placed) (later : List Placed) → Among set k core.file (x ∷ later)
       → x.file < core.file → Among set k core.file later
   next_among x later a lt =
@@ -40,7 +40,7 @@ module _ (aim : Aim) where
   pub its_file : FileOf set core.file sect w
   its_file = section_found set core.file sect w found
 
-  -- the labels of the section awaited tell the form of its file
+  -- the labels of the section needed have the form of its file
   pub told : (form : FileForm) × TellsForm form w
   told = form_told set core.file l sect w found
 
@@ -58,7 +58,7 @@ module _ (aim : Aim) where
       go true h = inl h
       go false h = inr (h.1 ∙ ap Some (one_form w h.0 told.0 (h.2 sect w found) told.1))
 
-  -- what is known behind the start
+  -- what is known after the start
   pub known_after : (p : Position) → is_start p ≡ false → (form : FileForm) → form ≡ told.0
       → KnownAt set core.file p (Some form)
   known_after p e form is = subst (λ b. MatchBool b (Some form ≡ None) ((f : FileForm)
@@ -86,12 +86,12 @@ module _ (aim : Aim) where
         left = left_more set k good g e (rest ++ to_come i.later) i.left t;
       }
 
-  -- the section awaited is under way
+  -- the section needed is being read
   pub wanted_at : {heading : Heading} {x : Placed} {rest : List Entry}
       (i : Inside set core.file sect block part k good heading true x rest) → AtIt aim x i.later
   wanted_at {x} i = wanted_here aim x i.later i.among i.chosen.0 i.chosen.1
 
-  -- before its data nothing of the section awaited is passed
+  -- before its data nothing of the section needed is passed
   ahead_wanted : (x : Placed) (later : List Placed) (z : List Entry)
       → AtIt aim x later → Ahead aim
       ((z ++ a_mark ∷ data_group x.section.blocks ++ trailer_group x.section) ++ to_come later)
@@ -115,7 +115,7 @@ module _ (aim : Aim) where
       → Ahead aim (z ++ to_come i.later)
   ahead_passed heading x z i = ahead_later aim i.later z (next_among x i.later i.among i.chosen)
 
-  -- where the front was read whole and well, far is as from there
+  -- if its beginning was read completely and well, far is as from there
   pub far_there : (more : List Bool) → w.volume ≡ k → (g : Bool) → (seen : List Bool)
       → passes good (before_data set core.file sect w) ≡ true
       → drop (length (before_data set core.file sect w)) good ≡ seen

@@ -1,4 +1,4 @@
--- Whatever is expected, a bad item keeps how the state lies to the reading.
+-- Whatever is expected, a bad item preserves the relation between the state and the reading.
 use Rattle.std.proofs.Common.{◌≡◌, ◌<◌, ℕ, ◌+◌, List, [], ◌∷◌, ◌++◌, length, false, Some, refl, inl}
 use Rattle.std.proofs.Common.{inr, arith}
 use Rattle.std.specs.Prelude.{slice_get, map, is_some, nat_lt}

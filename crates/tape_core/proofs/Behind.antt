@@ -1,4 +1,4 @@
--- A reader of a later file passes over what one of an earlier file reads.
+-- A reader of a later file skips what one of an earlier file reads.
 use Rattle.std.proofs.Common.{◌≡◌, ℕ, ◌+◌, ◌<◌, List, Bool, true, false}
 use Rattle.std.proofs.Common.{Option, Some, None, Result, Ok, Err, refl, sym, ap, subst, ◌∙◌, arith}
 use Rattle.std.specs.Prelude.{not, nat_lt, if◌then◌else◌, ◌==◌}
@@ -42,7 +42,7 @@ use Rattle.tape_core.specs.Table.{at_block, at_mark, at_bad, at_item, step_of}
 use Rattle.tape_core.specs.Table.{unless_complete}
 use Rattle.tape_core.specs.Behind.{passed_over, expected_over, PassesTo, AreInOrder}
 
--- ---- where a section begins
+-- ---- if a section begins
 
 -- by the tests of an HDR1: is it of the set, of an earlier file, of a later one, and the rest
 head1_by : (first later : State) (h : Head1) (s e l r q d s' e' l' r' q' d' : Bool)
@@ -319,7 +319,7 @@ item_law first later p (block bytes) o = block_law first later p bytes o
 item_law first later p mark o = mark_law first later p
 item_law first later p bad o = bad_law first later p
 
--- ---- a step, where both want something
+-- ---- a step, if neither file is complete
 
 awaits_step : (core : State) (q : Position) (x : TapeItem) → is_finished q ≡ false
     → unless_complete core q (at_item core core.phase x) ≡ at_item core core.phase x

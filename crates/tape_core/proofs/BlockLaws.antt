@@ -1,5 +1,5 @@
--- What a block that holds its parts is to the check and to the rule for a block of which some parts
--- were delivered.
+-- What the check, and the rule for a block of which some parts were delivered, find in a block that
+-- contains its parts.
 use Rattle.std.proofs.Common.{◌≡◌, ◌⊎◌, inl, inr, ◌<◌, ℕ, zero, suc, List, [], ◌∷◌, length, take}
 use Rattle.std.proofs.Common.{drop, Bool, false, Ok, refl, sym, ap, ◌∙◌, arith}
 use Rattle.std.specs.Prelude.{nat_le}
@@ -30,7 +30,7 @@ by_indicator First = refl
 by_indicator Middle = refl
 by_indicator Last = refl
 
--- the first unit goes on with a record where the first part does
+-- the first unit continues a record if the first part does
 pub first_part : (format : Format) (rec_len offset : ℕ) (block : List ℕ)
     (p : Portion) (ps : List Portion)
     → Holds format rec_len offset block (p ∷ ps) → goes_on_at format offset block ≡ continues p.span
@@ -39,7 +39,7 @@ first_part Counted rec_len offset block p ps h = sym (ap continues h.1.units.0.0
 first_part Spanned rec_len offset block p ps h =
     ap first_goes_on (h.1.body ∙ spellings_first Spanned p ps h.0) ∙ by_indicator p.span
 
--- where a block goes on in order, its first part tells what is begun
+-- if a block continues in order, its first part determines the record state
 pub first_begun : (form : FileForm) (block : List ℕ) (parts : List Portion)
     (begun end : Bool) (part : ℕ)
     → Holds form.format form.rec_len form.offset block parts → InOrder begun parts end
@@ -49,8 +49,8 @@ first_begun form block [] begun end part h o lt = absurd (omega arith)
 first_begun form block (p ∷ ps) begun end part h o lt =
     first_part form.format form.rec_len form.offset block p ps h ∙ o.0
 
--- what is begun where the block begins, whether or not some of its parts were delivered; now is
--- what is begun behind these
+-- the record state where the block begins, whether or not some of its parts were delivered; now is
+-- the state after these
 pub before_it : (form : FileForm) (block : List ℕ) (parts : List Portion)
     (begun now end : Bool) (part : ℕ)
     → Holds form.format form.rec_len form.offset block parts → InOrder begun parts end

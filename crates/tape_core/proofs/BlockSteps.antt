@@ -1,4 +1,4 @@
--- The awaited block comes, and keeps how the state lies to the reading.
+-- The expected block comes, and preserves the relation between the state and the reading.
 use Rattle.std.proofs.Common.{◌≡◌, ◌<◌, ◌⊎◌, ℕ, ◌+◌, List, [], ◌∷◌, ◌++◌, length, take, drop, Bool}
 use Rattle.std.proofs.Common.{true, false, Some, refl, sym, ap, ◌∙◌, subst, inl, inr, append_assoc}
 use Rattle.std.proofs.Common.{arith, length-append}
@@ -36,8 +36,8 @@ use Rattle.tape_core.proofs.HeaderSteps.{Next}
 module _ (aim : Aim) where
   open aim use {set, l, core, at, sect, block, part, k, w, found, inside, within, good}
 
-  -- the part that is awaited of the block counted: that of the start where this is the block, and
-  -- else none
+  -- the part of the counted block that is expected: that of the start if this is the block,
+  -- otherwise none
   part_now : (count : ℕ) → core.position ≡ stopped (here aim) sect block count → (d : Filled)
       → slice_get w.blocks count ≡ Some d
       → core.position ≡ Awaits sect count (part_of core.position) × ((part_of core.position ≡ 0)
@@ -68,7 +68,7 @@ module _ (aim : Aim) where
           let its : part_of core.position ≡ 0 = ap part_of now in
           (now ∙ ap (λ z. Awaits sect count z) (sym its), inl its)
 
-  -- the awaited block comes
+  -- the expected block comes
   pub data_awaited : (heading : Heading) (form : FileForm) (count : ℕ)
       (x : Placed) (d : Filled) (rest : List Filled)
       (i : InData set core.file sect block part k good heading form count core.position x)

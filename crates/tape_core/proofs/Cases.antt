@@ -18,7 +18,7 @@ use Rattle.tape_core.specs.State.{IsState, State, ToldFits, told}
 
 -- ---- what is written out
 
--- what is known of a file of format F, with records of four characters
+-- the form of a file of format F, with records of four characters
 abbrev pub fixed : FileForm
 fixed = record {
   file_id = codes "PAYROLL          ";
@@ -27,7 +27,7 @@ fixed = record {
   offset = 0;
 }
 
--- a reader of file 1 at the front of it
+-- a reader of file 1 at its start
 abbrev pub at_start : Phase → State
 at_start phase = record {
   set_id = codes "ABC001";
@@ -38,7 +38,7 @@ at_start phase = record {
   phase = phase;
 }
 
--- the same inside the file, with no record begun
+-- the same inside the file, with no unfinished record
 abbrev pub inside : Position → Phase → State
 inside position phase = record (at_start phase) { position = position; known = Some fixed }
 
@@ -67,7 +67,7 @@ trailer eof sect = record { eof = eof; head = head sect; blocks = 0 }
 
 -- ---- there are such readers
 
--- what is known of the file has its digits
+-- the form of the file is in range
 pub fixed_can_be : IsForm fixed.format fixed.rec_len fixed.offset
 fixed_can_be = record {
   least = omega arith;
@@ -80,7 +80,7 @@ told_fits : (told : Option FileForm) → ToldFits false told
 told_fits None = tt
 told_fits (Some form) = λ e. absurd (cc)
 
--- a reader at the front of a file, whatever is expected
+-- a reader at the start of a file, whatever is expected
 pub at_start_can_be : (phase : Phase) → IsState 1 (Awaits 1 0 0) false None phase
 at_start_can_be phase = record {
   numbered = (omega arith, omega arith);
@@ -127,7 +127,7 @@ pub hdr1_can_be :
 unfolding head1_at head_at
 hdr1_can_be = refl
 
--- its trailer, where the file ends there
+-- its trailer, if the file ends there
 pub eof1_can_be :
     trail1_at
     (codes "EOF1PAYROLL          ABC00100010001000100 00000 00000 000000                    ")
@@ -135,7 +135,7 @@ pub eof1_can_be :
 unfolding trail1_at end_at head_at
 eof1_can_be = refl
 
--- and where it goes on
+-- and if it continues
 pub eov1_can_be :
     trail1_at
     (codes "EOV1PAYROLL          ABC00100010001000100 00000 00000 000000                    ")
@@ -143,7 +143,7 @@ pub eov1_can_be :
 unfolding trail1_at end_at head_at
 eov1_can_be = refl
 
--- the trailer of section 2, where the file ends there
+-- the trailer of section 2, if the file ends there
 pub second_eof1_can_be :
     trail1_at
     (codes "EOF1PAYROLL          ABC00100020001000100 00000 00000 000000                    ")

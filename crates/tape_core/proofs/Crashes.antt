@@ -1,4 +1,4 @@
--- What calls of a sink add to what a crash may bring back, one after another.
+-- What calls of a sink add to what a crash may leave, one after another.
 use Rattle.std.proofs.Common.{◌⊎◌, List, inl, inr, arith}
 use Rattle.tape_blocks.specs.Block.{Portion}
 use Rattle.tape_core.specs.Crash.{AddsOnly, Crashes, Returns}

@@ -1,4 +1,5 @@
--- In the data of the section awaited each item keeps how the state lies to the reading.
+-- In the data of the section needed each item preserves the relation between the state and the
+-- reading.
 use Rattle.std.proofs.Common.{◌≡◌, ◌<◌, ◌≤◌, ℕ, ◌+◌, ◌-◌, List, [], ◌∷◌, ◌++◌, length, drop, Bool}
 use Rattle.std.proofs.Common.{true, false, refl, sym, ap, ◌∙◌, subst, append_assoc, arith}
 use Rattle.std.proofs.Common.{length-append}
@@ -25,14 +26,14 @@ use Rattle.tape_core.proofs.HeaderSteps.{Next, passed_next, useless_next}
 module _ (aim : Aim) where
   open aim use {set, core, at, sect, block, part, k, w, inside, good}
 
-  -- the block that is awaited
+  -- the expected block
   block_now : (heading : Heading) (form : FileForm) (count : ℕ) (x : Placed)
       (i : InData set core.file sect block part k good heading form count core.position x)
       → block_of core.position ≡ block + good_run (drop block i.seen)
   block_now heading form count x i = ap block_of i.awaited
       ∙ stopped_block sect block part (block + good_run (drop block i.seen))
 
-  -- while it is not yet at block, any item of a data block is passed
+  -- before the block is reached, any item of a data block is skipped
   pub data_below : (g : Bool) (heading : Heading) (form : FileForm) (count : ℕ)
       (x : Placed) (d : Filled) (rest : List Filled)
       (i : InData set core.file sect block part k good heading form count core.position x)
@@ -70,7 +71,7 @@ module _ (aim : Aim) where
         },
       )
 
-  -- the awaited block, or the mark behind the last, is bad
+  -- the expected block, or the mark after the last, is bad
   pub data_bad : (heading : Heading) (form : FileForm) (count : ℕ) (x : Placed)
       (i : InData set core.file sect block part k good heading form count core.position x)
       → block + good_run (drop block i.seen) ≡ count → Next aim false (useless core BadItem)
@@ -99,7 +100,7 @@ module _ (aim : Aim) where
           moved_bad (here aim) sect block w i.seen more f
           (let q = ap length e in omega (arith, q, n))
 
-  -- the awaited place is known: the count is below it, or is it
+  -- the expected position is known: the count is below it, or is it
   pub count_cases : (heading : Heading) (form : FileForm) (count : ℕ) (x : Placed)
       (i : InData set core.file sect block part k good heading form count core.position x)
       → nat_lt count (block_of core.position) ≡ false → block + good_run (drop block i.seen) ≡ count
@@ -109,7 +110,7 @@ module _ (aim : Aim) where
       let le : count ≤ block + good_run (drop block i.seen) = i.not_behind in
       grind (arith, nat_tests)
 
-  -- with no block left the count is not below the awaited place
+  -- with no block left the count is not below the expected position
   pub all_counted : (heading : Heading) (form : FileForm) (count : ℕ) (x : Placed)
       (i : InData set core.file sect block part k good heading form count core.position x)
       → i.blocks ≡ [] → count < block_of core.position → ⊥
@@ -125,7 +126,7 @@ module _ (aim : Aim) where
       let none : length i.blocks ≡ 0 = ap length e in
       omega (arith, lengths, i.numbered, i.all_seen)
 
-  -- the mark behind the last block
+  -- the mark after the last block
   pub data_end : (heading : Heading) (form : FileForm) (count : ℕ) (x : Placed)
       (i : InData set core.file sect block part k good heading form count core.position x)
       → i.blocks ≡ [] → block + good_run (drop block i.seen) ≡ count

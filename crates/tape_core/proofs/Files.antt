@@ -47,7 +47,7 @@ few_sections set file sect s l found = (every_stands
     (placed file sect s) (all_four_digits set l) (section_stands set file sect s found)).1.1
 
 module _ (set : FileSet) (file sect : ℕ) (w : Section) where
-  -- a lawful file leaves no record begun
+  -- a valid file leaves no record unfinished
   pub whole_begun : IsLawful set → (f : FileOf set file sect w)
       → begun_behind false (before set file Finished) ≡ false
   whole_begun l f =

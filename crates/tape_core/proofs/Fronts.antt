@@ -1,4 +1,4 @@
--- The front of the section awaited, beside what was read.
+-- The beginning of the section needed, compared with what was read.
 use Rattle.std.proofs.Common.{◌≡◌, ◌<◌, ◌≤◌, ◌⊎◌, ℕ, ◌+◌, List, [], ◌∷◌, ◌++◌, length, drop, Bool}
 use Rattle.std.proofs.Common.{true, false, cond, Some, refl, sym, ap, ◌∙◌, subst, inl, inr}
 use Rattle.std.proofs.Common.{append_assoc, arith, length-append, eq-eqb, zero, suc}
@@ -32,7 +32,7 @@ left_more set k good g e todo h t =
       fine = passes_push good g h.done e h.count h.fine t;
     }
 
--- the first of what is left is what comes next
+-- the first of the rest is what comes next
 pub first_left : (set : FileSet) (k : ℕ) (good : List Bool) (e e' : Entry) (todo : List Entry)
     → Left set k good (e' ∷ todo) → slice_get (entries set k) (length good) ≡ Some e → e' ≡ e
 first_left set k good e e' todo h s =
@@ -97,7 +97,7 @@ module _ (aim : Aim) where
   far_on is gs h =
       far_is gs ∙ (let t : (w.volume == k) ≡ true = eq-eqb w.volume k is in rw (t, h) refl)
 
-  -- nothing of the section awaited was passed
+  -- nothing of the section needed was passed
   abbrev pub Ahead : List Entry → Type 0
   Ahead todo = w.volume ≡ k
       → (rest : List Entry) × (fr ++ rest ≡ entries set k) × (length rest < length todo)
@@ -134,7 +134,7 @@ module _ (aim : Aim) where
   abbrev rest_from : List Placed → List Entry
   rest_from post = data_group w.blocks ++ trailer_group w ++ to_come post
 
-  -- what stands on the volume, cut at the data of the section awaited
+  -- the contents of the volume, cut at the data of the section needed
   whole_at : (past later : List Placed) → w.volume ≡ k → past ++ later ≡ on k (sections set)
       → (lies : Lies set file sect k w past later) → fr ++ rest_from lies.post ≡ entries set k
   whole_at past later at all lies =
@@ -166,7 +166,7 @@ module _ (aim : Aim) where
     rising_behind among.past x later (subst Rising (sym among.all) (sections_on_rise set k l)),
   )
 
-  -- the first section to come is the one awaited, if that is on the volume, or of an earlier file
+  -- the first section to come is the one needed, if that is on the volume, or of an earlier file
   pub first_is : (x : Placed) (later : List Placed) → Among set k file (x ∷ later) → w.volume ≡ k
       → (x ≡ it) ⊎ (x.file < file)
   first_is x later among is =
@@ -186,7 +186,7 @@ module _ (aim : Aim) where
     pub is_on : w.volume ≡ k
     pub whole : fr ++ rest_from later ≡ entries set k
 
-  -- the section awaited is under way
+  -- the section needed is being read
   pub wanted_here : (x : Placed) (later : List Placed) → Among set k file (x ∷ later)
       → x.file ≡ file → x.sect ≡ sect → AtIt x later
   wanted_here x later among f s =
@@ -220,7 +220,7 @@ module _ (aim : Aim) where
       ap length lies.here ∙ length-append lies.pre (it ∷ lies.post) in
       omega (arith, n)
 
-  -- before the front's end the position stays
+  -- before the end of the headers the position stays
   pub far_ahead : (good : List Bool) (todo : List Entry) → Left set k good todo → Ahead todo
       → far set file here (reading k good) ≡ here
   far_ahead good todo left ahead = go (w.volume == k) refl

@@ -1,4 +1,4 @@
--- Whatever is expected, a good item keeps how the state lies to the reading.
+-- Whatever is expected, a good item preserves the relation between the state and the reading.
 use Rattle.std.proofs.Common.{◌≡◌, ◌<◌, ℕ, List, [], ◌∷◌, ◌++◌, length, true, false, Some, refl}
 use Rattle.std.proofs.Common.{subst, inl, inr, arith}
 use Rattle.std.specs.Prelude.{slice_get, is_some, nat_lt}
@@ -37,7 +37,7 @@ use Rattle.tape_core.proofs.StraySteps.{stray_next, at_start}
 module _ (aim : Aim) where
   open aim use {set, l, core, sect, block, part, k, v, vol, good}
 
-  -- a good item is what stands next
+  -- a good item is the next one of the volume
   as_entry : (e e' : Entry) (phase : Phase) (todo : List Entry) → Left set k good (e' ∷ todo)
       → slice_get (entries set k) (length good) ≡ Some e
       → Next aim true (at_item core phase (item_of e'))
@@ -55,7 +55,7 @@ module _ (aim : Aim) where
       let n = nth_found set.volumes k v vol in
       every_at IsVolume set.volumes n.place v l.volumes n.found
 
-  -- at HDR1 behind the volume's labels
+  -- at HDR1 after the volume's labels
   first_head : (x : Placed) (rest : List Placed) → core.position ≡ here aim
       → Among set k core.file (x ∷ rest) → Left set k good (to_come (x ∷ rest))
       → Next aim true (at_block core VolumeLabels x.section.hdr1)

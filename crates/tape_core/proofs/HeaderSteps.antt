@@ -1,4 +1,5 @@
--- At the labels before a section's data each item keeps how the state lies to the reading.
+-- At the labels before a section's data each item preserves the relation between the state and the
+-- reading.
 use Rattle.std.proofs.Common.{◌≡◌, ◌≢◌, ◌≤◌, ◌⊎◌, ◌+◌, List, [], ◌∷◌, ◌++◌, length, drop, Bool}
 use Rattle.std.proofs.Common.{true, false, cond, Option, Some, None, Ok, refl, sym, ap, ◌∙◌, subst}
 use Rattle.std.proofs.Common.{inl, inr, append_assoc, arith}
@@ -47,7 +48,7 @@ module _ (aim : Aim) where
   abbrev pub Behind : Bool → Phase → Position → Type 0
   Behind g phase position = Follows set core.file sect block part k phase position (good ++ g ∷ [])
 
-  -- after the next item, good or not, the state lies right
+  -- after the next item, good or not, the relation is preserved
   pub record Next (g : Bool) (out : Outcome) : Type 0 where
     pub fits : IsAt set out.1
     pub same : out.1.file ≡ core.file
@@ -221,7 +222,7 @@ module _ (aim : Aim) where
         on_with aim true heading true x _ _ i refl,
       )))
 
-  -- the mark behind the headers
+  -- the mark after the headers
   pub headers_end : (heading : Heading) (form : Option FileForm) (x : Placed)
       → core.position ≡ here aim → Tells form x.section
       → Inside set core.file sect block part k good heading (is_some form) x

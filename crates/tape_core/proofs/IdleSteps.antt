@@ -1,4 +1,4 @@
--- Items that change nothing, behind a whole reading.
+-- Items that change nothing, after a complete reading.
 use Rattle.std.proofs.Common.{◌≡◌, ℕ, List, length, Bool, true, Option, Some, None, refl, sym, ap}
 use Rattle.std.proofs.Common.{◌∙◌, subst}
 use Rattle.std.specs.Prelude.{IsSome}

@@ -1,4 +1,4 @@
--- Parts whose bytes lie one behind another: what is added, cut off, lent and weighed.
+-- Parts whose bytes follow one another: adding, cutting off, lending and weighing.
 use Rattle.std.proofs.Common.{◌≡◌, ◌≤◌, ℕ, zero, suc, ◌+◌, ◌-◌, ◌*◌, List, [], ◌∷◌, ◌++◌, length}
 use Rattle.std.proofs.Common.{take, drop, Some, refl, sym, ap, ◌∙◌, subst, arith}
 use Rattle.std.specs.Prelude.{slice_get, slice_range}
@@ -69,7 +69,7 @@ parts_split start [] last bytes = refl
 parts_split start (e ∷ es) last bytes =
     ap (λ (ps : List Portion). part_at start e bytes ∷ ps) (parts_split e.end es last bytes)
 
--- bytes behind the others, and an entry that ends with them, are one more part
+-- bytes after the others, and an entry that ends with them, are one more part
 pub parts_added : (es : List Entry) (bytes more : List ℕ) (last : Entry)
     → IsLaid es bytes → last.end ≡ length bytes + length more
     → parts_from 0 (es ++ last ∷ []) (bytes ++ more)
@@ -145,7 +145,7 @@ parts_get start (x ∷ xs) bytes zero e h =
     ap (λ (z : Entry). Some (part_at start z bytes)) same
 parts_get start (x ∷ xs) bytes (suc n) e h = parts_get x.end xs bytes n e h
 
--- where the bytes of the part of a number lie
+-- where the bytes of the part with a number are
 pub record LiesBetween (start : ℕ) (e : Entry) (finish : ℕ) : Type 0 where
   pub rises : start ≤ e.end
   pub short : e.end ≤ start + 99999
@@ -161,7 +161,7 @@ laid_get start (x ∷ xs) finish zero e l h =
     (record { rises = l.0; short = l.1; within = laid_below x.end xs finish l.2 })
 laid_get start (x ∷ xs) finish (suc n) e l h = laid_get x.end xs finish n e l.2 h
 
--- where the parts up to the one of a number end
+-- where the parts up to the one with a number end
 pub end_get : (start : ℕ) (es : List Entry) (n : ℕ) (e : Entry) → slice_get es n ≡ Some e
     → end_from start (take (suc n) es) ≡ e.end
 end_get start [] n e h = absurd (cc)
@@ -194,7 +194,7 @@ pub weight_all : (es : List Entry) (bytes : List ℕ) → IsLaid es bytes
     → weight_of (parts_from 0 es bytes) ≡ 5 * length es + length bytes
 weight_all es bytes laid = omega (arith, weight_laid 0 es (length bytes) bytes laid (omega arith))
 
--- what is left from a number on begins with the part of that number
+-- what is left from a number on begins with the part with that number
 pub drop_get : (ps : List Portion) (n : ℕ) (p : Portion) → slice_get ps n ≡ Some p
     → drop n ps ≡ p ∷ drop (n + 1) ps
 drop_get [] n p h = absurd (cc)

@@ -1,4 +1,4 @@
--- Lists of what was read, beside what stands on a volume.
+-- Lists of what was read, compared with the contents of a volume.
 use Rattle.std.proofs.Common.{◌≡◌, ◌<◌, ◌≤◌, ℕ, zero, suc, ◌+◌, ◌-◌, List, [], ◌∷◌, ◌++◌, length}
 use Rattle.std.proofs.Common.{take, drop, Bool, true, false, cond, ltb, refl, sym, ap, ◌∙◌, arith}
 use Rattle.std.proofs.Common.{length-append, eq-eqb}
@@ -42,7 +42,7 @@ passes_bad (b ∷ good) more (d ∷ done) rest e n t =
     and_false true = refl
     and_false false = refl
 
--- of two splits of one list, one is shorter: it goes on inside the other
+-- of two splits of one list, one is shorter: it continues inside the other
 pub split_longer : {A : Type 0} (xs ys us vs : List A) → xs ++ ys ≡ us ++ vs → length vs < length ys
     → (e : A) × (more : List A) × (us ≡ xs ++ e ∷ more) × (ys ≡ e ∷ more ++ vs)
 split_longer [] [] us vs h n = absurd (omega arith)
@@ -60,7 +60,7 @@ run_all [] = omega arith
 run_all (true ∷ gs) = let ih = run_all gs in omega (arith, ih)
 run_all (false ∷ gs) = omega arith
 
--- a good one behind good ones
+-- a good one after good ones
 pub run_push : (gs : List Bool) → good_run gs ≡ length gs
     → good_run (gs ++ true ∷ []) ≡ good_run gs + 1
 run_push [] h = refl
@@ -70,7 +70,7 @@ run_push (true ∷ gs) h =
     omega (arith, ih)
 run_push (false ∷ gs) h = absurd (omega arith)
 
--- behind a bad one no more count
+-- after a bad one no more count
 pub run_stop : (gs more : List Bool) (m : ℕ) → good_run gs ≡ length gs → length gs ≤ m
     → good_run (take m (gs ++ false ∷ more)) ≡ good_run gs
 run_stop [] more zero h n = refl
@@ -121,7 +121,7 @@ full_end block n seen more h le =
     let r = run_whole (drop block seen) more (n - block) (full_run block seen h) (omega arith) in
     rw (drop-append-le block seen more (omega (arith, h))) (omega (arith, r, h))
 
--- a bad block that is awaited
+-- an expected block is bad
 pub moved_bad : (p : Position) (sect block : ℕ) (s : Section) (seen more : List Bool)
     → Full block seen → length seen < length s.blocks
     → moved p sect block s (seen ++ false ∷ more) ≡ stopped p sect block (length seen)
@@ -170,7 +170,7 @@ moved_short p sect block s seen h le =
         grind (arith, nat_tests) in
         ap (λ n. stopped p sect block n) same
 
--- ---- the position where a block is awaited
+-- ---- the position if a block is expected
 
 pub stopped_block : (sect block part n : ℕ)
     → block_of (stopped (Awaits sect block part) sect block n) ≡ n

@@ -19,7 +19,7 @@ use Rattle.tape_core.specs.Table.{at_wanted_trailer, at_head1, first_label}
 use Rattle.tape_core.proofs.Cases.{fixed, at_start, inside, headed, head, trailer}
 use Rattle.tape_core.proofs.reader.ReaderCore.step.Reads as step
 
--- the arguments of a step: the reader, and what comes
+-- the arguments of a step: the reader, and the event
 abbrev called : MutBor State → State → Event → MutBor State × (Event × Unit {0})
 called r old event = (record r { now = old }, (event, tt))
 
@@ -36,7 +36,7 @@ set_compared_with_volume κs r b s l k =
     let d : Useless reasons.OtherSet ≡ Passed = ap (λ o. o.0) (e ∙ ap (first_label old) k) in
     absurd (cc)
 
--- section_number_not_compared: the header of section 1 is passed where section 2 is awaited
+-- section_number_not_compared: the header of section 1 is accepted although section 2 is expected
 section_number_not_compared : (κs : _) (r : MutBor State) (b : _) (s : _)
     → step.Learnt-named κs
     (called r (inside (Awaits 2 0 0) phases.NextFile) (events.Block b)) Passed s
@@ -49,7 +49,7 @@ section_number_not_compared κs r b s l h =
 
 -- ---- data
 
--- skips_unreadable_block: a bad item is passed where block 3 is awaited, and three were seen
+-- skips_unreadable_block: a bad item is skipped although block 3 is expected, and three were seen
 skips_unreadable_block : (κs : _) (r : MutBor State) (s : _)
     → step.Learnt-named κs
     (called r (inside (Awaits 1 3 0) (phases.DataWanted headed fixed 3)) events.Bad) Passed s
@@ -57,8 +57,8 @@ skips_unreadable_block : (κs : _) (r : MutBor State) (s : _)
 skips_unreadable_block κs r s l =
     let e : Passed ≡ Useless reasons.BadItem = ap (λ o. o.0) l.table in absurd (cc)
 
--- gives_up_at_delivered_block: a bad item is refused where one block was seen, and block 3 is
--- awaited
+-- gives_up_at_delivered_block: a bad item is refused although one block was seen, and block 3 is
+-- expected
 gives_up_at_delivered_block : (κs : _) (r : MutBor State) (s : _)
     → step.Learnt-named κs
     (called r (inside (Awaits 1 3 0) (phases.DataWanted headed fixed 1)) events.Bad)
@@ -66,15 +66,15 @@ gives_up_at_delivered_block : (κs : _) (r : MutBor State) (s : _)
 gives_up_at_delivered_block κs r s l =
     let e : Useless reasons.BadItem ≡ Passed = ap (λ o. o.0) l.table in absurd (cc)
 
--- later_block_taken: a block is delivered where one was seen, and block 3 is awaited
+-- later_block_taken: a block is delivered although one was seen, and block 3 is expected
 later_block_taken : (κs : _) (r : MutBor State) (b : _) (s : _)
     → step.Learnt-named κs
     (called r (inside (Awaits 1 3 0) (phases.DataWanted headed fixed 1)) (events.Block b))
     Deliver s → ⊥
 later_block_taken κs r b s l = let e : Deliver ≡ Passed = ap (λ o. o.0) l.table in absurd (cc)
 
--- part_kept_behind_block: behind a block of which two parts were delivered part 2 of the next block
--- is awaited, and not its front
+-- part_kept_behind_block: after a block of which two parts were delivered, part 2 of the next block
+-- is expected instead of its first
 part_kept_behind_block : (κs : _) (r : MutBor State) (b : _) (s : _)
     → step.Learnt-named κs
     (called r (inside (Awaits 1 0 2) (phases.DataWanted headed fixed 0)) (events.Block b))
@@ -85,7 +85,7 @@ part_kept_behind_block κs r b s l w =
 
 -- ---- trailers
 
--- trailer_numbers_not_compared: the trailer of section 2 completes a file behind section 1
+-- trailer_numbers_not_compared: the trailer of section 2 completes a file after section 1
 trailer_numbers_not_compared : (κs : _) (r : MutBor State) (b : _) (s : _)
     → step.Learnt-named κs
     (called r (at_start (phases.TrailerWanted headed fixed)) (events.Block b)) Complete s
@@ -112,7 +112,7 @@ whole_count_compared κs r b s l t =
     = ap (λ o. o.0) (e ∙ ap (at_wanted_trailer old headed fixed) t) in
     absurd (cc)
 
--- complete_at_eov: EOV1 behind the data completes the file
+-- complete_at_eov: EOV1 after the data completes the file
 complete_at_eov : (κs : _) (r : MutBor State) (b : _) (s : _)
     → step.Learnt-named κs
     (called r (at_start (phases.TrailerWanted headed fixed)) (events.Block b)) Complete s
@@ -125,7 +125,7 @@ complete_at_eov κs r b s l t =
     = ap (λ o. o.0) (e ∙ ap (at_wanted_trailer old headed fixed) t) in
     absurd (cc)
 
--- empty_section_tells_nothing: behind a first section without blocks nothing is known of the file
+-- empty_section_tells_nothing: after a first section without blocks nothing is known of the file
 empty_section_tells_nothing : (κs : _) (r : MutBor State) (b : _) (s : _)
     → step.Learnt-named κs
     (called r (at_start (phases.TrailerWanted headed fixed)) (events.Block b)) SectionDone s
@@ -138,8 +138,7 @@ empty_section_tells_nothing κs r b s l t w =
     = sym w ∙ ap (λ o. o.1.known) (e ∙ ap (at_wanted_trailer old headed fixed) t) in
     absurd (cc)
 
--- files_passed_by_counting_marks: behind the mark of data that are passed over no trailer is
--- looked at
+-- files_passed_by_counting_marks: after the mark of skipped data no trailer is looked at
 files_passed_by_counting_marks : (κs : _) (r : MutBor State) (s : _)
     → step.Learnt-named κs
     (called r (record (at_start (phases.DataPassed headed)) { file = 2 }) events.Mark) Passed s
@@ -160,7 +159,7 @@ complete_at_reel_end κs r s l =
     let e : Complete ≡ Useless reasons.ReelEnded = ap (λ o. o.0) l.table in absurd (cc)
 
 -- useless_moves_position: the reel ends inside a block of which two parts were delivered, and then
--- its front is awaited
+-- its first part is expected
 useless_moves_position : (κs : _) (r : MutBor State) (s : _)
     → step.Learnt-named κs
     (called r (inside (Awaits 1 3 2) (phases.DataWanted headed fixed 3)) events.ReelEnd)

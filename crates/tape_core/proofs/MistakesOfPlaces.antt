@@ -50,7 +50,7 @@ abbrev asked : Option Want → ℕ
 asked None = 0
 asked (Some w) = w.part
 
--- wants_the_whole_block: where two parts of a block were delivered its front is wanted
+-- wants_the_whole_block: two parts of a block were delivered, and its first part is requested
 wants_the_whole_block : (κs : _) (a : _) (s : _)
     → want.Learnt-named κs a (Some record { file = 1; sect = 1; block = 3; part = 0 }) s
     → a.0.now.position ≡ Awaits 1 3 2 → ⊥
@@ -62,21 +62,22 @@ shape_untold : (κs : _) (a : _) (s : _) (form : FileForm) → shape.Learnt κs 
     → a.0.now.known ≡ Some form → ⊥
 shape_untold κs a s form h known = subst (λ v. Shows v None) known h
 
--- first_parts_awaited_again: where two parts of a block were delivered the checkpoint awaits its
--- front
+-- first_parts_awaited_again: two parts of a block were delivered, and the checkpoint expects its
+-- first part
 first_parts_awaited_again : (κs : _) (a : _) (z : _) (s : _) → save.Learnt-named κs a z s
     → a.0.now.position ≡ Awaits 1 3 2 → z.position ≡ Awaits 1 3 0 → ⊥
 first_parts_awaited_again κs a z s l inside w =
     absurd (let e : 0 ≡ 2 = ap part_of (sym w ∙ ap (λ c. c.position) l.value ∙ inside) in
     omega arith)
 
--- save_forgets_begun: a record is begun, and the checkpoint tells that none is
+-- save_forgets_begun: a record is unfinished, and the checkpoint says that none is
 save_forgets_begun : (κs : _) (a : _) (z : _) (s : _) → save.Learnt-named κs a z s
     → a.0.now.begun ≡ true → z.begun ≡ false → ⊥
 save_forgets_begun κs a z s l begun w =
     let e : false ≡ true = sym w ∙ ap (λ c. c.begun) l.value ∙ begun in absurd (cc)
 
--- restart_keeps_begun: at a checkpoint where a record is begun none is, since none was before
+-- restart_keeps_begun: at a checkpoint with an unfinished record none is unfinished, because none
+-- was before
 restart_keeps_begun : (κs : _) (a : _) (s : _) → restart.Learnt-named κs a (Ok tt) s
     → a.0.now.begun ≡ false → a.1.0.now.begun ≡ true → s.0.now.begun ≡ false → ⊥
 restart_keeps_begun κs a s l before begun w =
@@ -86,7 +87,7 @@ restart_keeps_begun κs a s l before begun w =
 abbrev start_of_file : Point
 start_of_file = saved (at_start phases.Over) 0
 
--- restart_keeps_reading: behind a restart the reading that began goes on
+-- restart_keeps_reading: after a restart the old reading continues
 restart_keeps_reading : (κs : _) (a : _) (s : _) → restart.Learnt-named κs a (Ok tt) s
     → a.0.now ≡ at_start phases.Volume → a.1.0.now ≡ start_of_file
     → s.0.now.phase ≡ phases.Volume → ⊥
@@ -97,7 +98,7 @@ restart_keeps_reading κs a s l old point w =
     let d : phases.Volume ≡ phases.Over = sym w ∙ ap (λ o. o.1.phase) e in
     absurd (cc)
 
--- ---- checkpoints and what is known
+-- ---- checkpoints and forms
 
 -- checkpoint_without_form: a checkpoint inside a file of which nothing is known
 checkpoint_without_form : (κs : _) (point : _) (s : _)
@@ -111,14 +112,15 @@ form_without_record_length : (κs : _) (form : _) (s : _)
     → ⊥
 form_without_record_length κs form s l = let e : true ≡ false = l.range in absurd (cc)
 
--- position_without_its_part: the checkpoint stands behind two parts of a block, and tells its front
+-- position_without_its_part: the checkpoint is after two parts of a block, and has the position of
+-- the first
 position_without_its_part : (κs : _) (a : _) (s : _)
     → position.Learnt-named κs a (Awaits 1 3 0) s
     → a.0.now.position ≡ Awaits 1 3 2 → ⊥
 position_without_its_part κs a s l inside =
     absurd (let e : 0 ≡ 2 = ap part_of (l.value ∙ inside) in omega arith)
 
--- inside_block_at_its_front: two parts of a block are kept, and the checkpoint tells one
+-- inside_block_at_its_front: two parts of a block are kept, and the checkpoint says one
 inside_block_at_its_front : (κs : _) (a : _) (z : _) (s : _) → inside_block.Learnt-named κs a z s
     → a.1.0 ≡ Awaits 1 3 0 → a.1.1.0 ≡ 2 → z.position ≡ Awaits 1 3 1 → ⊥
 inside_block_at_its_front κs a z s l before kept w =

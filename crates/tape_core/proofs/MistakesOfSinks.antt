@@ -48,7 +48,7 @@ abbrev size : Option Portion → ℕ
 size None = 0
 size (Some part) = length part.bytes
 
--- always_the_first_part: the first part is lent where the second is asked for
+-- always_the_first_part: the first part is lent although the second is requested
 always_the_first_part : (κs : _) (a : _) (z : _) (s : _) → part.Learnt κs a z s
     → portions a.0.now ≡ first ∷ second ∷ [] → a.1.0 ≡ 1 → viewed z ≡ Some first → ⊥
 always_the_first_part κs a z s h held number w =
@@ -56,14 +56,14 @@ always_the_first_part κs a z s h held number w =
     ∙ ap (slice_get (first ∷ second ∷ [])) number in
     absurd (let d : 1 ≡ 2 = ap size e in omega arith)
 
--- full_below_the_limit: a part is refused with which all parts would weigh just the limit
+-- full_below_the_limit: a part is refused although all parts would weigh exactly the limit
 full_below_the_limit : (κs : _) (a : _) (s : _) → put.Learnt-named κs a (Err Full) s
     → weight_of (portions a.0.now) + (5 + length a.1.0.bytes.now) ≡ 999999999999999 → ⊥
 full_below_the_limit κs a s l heavy =
     absurd (let e : 999999999999999 < weight_of (portions a.0.now) + (5 + length a.1.0.bytes.now)
     = l.full refl in omega arith)
 
--- cut_keeps_later_parts: behind a cut to the first part the second, without bytes, is held
+-- cut_keeps_later_parts: after a cut to the first part the second, without bytes, is still there
 cut_keeps_later_parts : (κs : _) (a : _) (s : _) → cut_to.Learnt-named κs a (Ok tt) s
     → portions a.0.now ≡ first ∷ empty ∷ [] → a.1.0.now.staged ≡ 6
     → portions s.0.now ≡ first ∷ empty ∷ [] → ⊥
@@ -72,7 +72,7 @@ cut_keeps_later_parts κs a s l held staged w =
     = l.ok (first ∷ []) (empty ∷ []) (sym held) (sym staged) in
     absurd (let d : 1 ≡ 2 = ap length (e ∙ w) in omega arith)
 
--- walk_skips_a_part: the first part of two is given, and the walk goes on behind the second
+-- walk_skips_a_part: the first part of two is returned, and the walk continues after the second
 walk_skips_a_part : (κs : _) (a : _) (part : _) (s : _)
     → (h : next_part.tells κs a (Ok (Some part)) s)
     → portions a.0.now ≡ first ∷ second ∷ [] → a.0.now.given ≡ 0

@@ -1,4 +1,5 @@
--- What is expected tells the position that the reading makes, and what a whole volume leaves.
+-- What is expected determines the position that the reading reaches, and what a complete volume
+-- leaves.
 use Rattle.std.proofs.Common.{◌≡◌, ◌+◌, List, [], ◌∷◌, ◌++◌, length, true, refl, sym, ap, ◌∙◌}
 use Rattle.std.proofs.Common.{subst, inl, inr, arith, length-append}
 use Rattle.std.specs.Prelude.{map, is_some}

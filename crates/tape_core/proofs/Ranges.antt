@@ -1,4 +1,4 @@
--- What the tests of a checkpoint's range tell.
+-- The meaning of the tests of a checkpoint's range.
 use Rattle.std.proofs.Common.{◌≡◌, ◌≤◌, ◌&&◌, ◌||◌, not, nat_le, Bool, true, false, Option, Some}
 use Rattle.std.proofs.Common.{None, is_some, refl, sym, arith, rules}
 use Rattle.std.proofs.lemmas.Bool.{and_parts}

@@ -126,7 +126,7 @@ pub rested : (set : FileSet) (core : State) → IsAt set (rest_of core) → IsAt
 rested set core a =
     record { of_set = a.of_set; sound = sound_again core.phase a.sound; stands = a.stands }
 
--- what stands is a place, and the other way
+-- a valid state is a place, and the other way round
 pub stood : (set : FileSet) (file : ℕ) (c : Point) (parts : List Portion) → Stands set file c parts
     → IsPlaced set (place_of c) parts
 stood set file c parts s = record {

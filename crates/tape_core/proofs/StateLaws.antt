@@ -1,4 +1,4 @@
--- What is true of every reader stays so.
+-- The invariant of readers is preserved.
 use Rattle.std.proofs.Common.{◌≡◌, ◌<◌, ◌≤◌, ◌⊎◌, inl, inr, ℕ, zero, suc, ◌+◌, List, [], ◌∷◌, ◌++◌}
 use Rattle.std.proofs.Common.{length, take, Bool, true, false, Some, refl, sym, ap, ◌∙◌, arith}
 use Rattle.std.proofs.Common.{length-append}
@@ -39,7 +39,7 @@ pub one_more : (first : Bool) (ps : List Portion) (p : Portion)
     → begun_behind first (ps ++ p ∷ []) ≡ leaves p.span
 one_more first ps p = begun_behind-append first ps (p ∷ [])
 
--- so many parts are there, and one more
+-- this many parts are there, and one more
 pub front_at : (form : FileForm) (part : ℕ) (begun going : Bool) (block : List ℕ)
     (seen more : List Portion) (p : Portion)
     → parts_in form block ≡ seen ++ p ∷ more → length seen ≡ part → (part ≡ 0 → ⊥)
@@ -69,7 +69,7 @@ front_short form (suc part) begun block le some =
     let long : nat_le (length (parts_in form block)) (suc part) ≡ true = grind (arith, nat_tests) in
     rw long refl
 
--- ---- only format S leaves a record begun
+-- ---- only format S leaves a record unfinished
 
 whole_ends : (begun end : Bool) (p : Portion) (ps : List Portion)
     → AllByRecursion (λ q. q.span ≡ Whole) (p ∷ ps) → InOrder begun (p ∷ ps) end → false ≡ end
@@ -106,7 +106,7 @@ pub before_spans : (form : FileForm) (part : ℕ) (begun : Bool) (block : List �
 before_spans form zero begun block t e = t e
 before_spans form (suc part) begun block t e = goes_on_spans form.format form.offset block e
 
--- a block that is no other one holds the part that is awaited
+-- a block that may be the one that was begun contains the expected part
 pub front_more : (form : FileForm) (part : ℕ) (begun : Bool) (block : List ℕ) (parts : List Portion)
     → parts_in form block ≡ parts → other_front form part begun block ≡ false
     → (part ≡ 0) ⊎ (part < length parts)
@@ -123,7 +123,7 @@ front_more form (suc part) begun block parts is e =
         let n : length (parts_in form block) ≡ length parts = ap length is in
         inr (grind (arith, nat_tests, q, n))
 
--- what lies to a reading is not broken
+-- a state related to a reading is not broken
 pub follows_sound : (set : FileSet) (file sect block part k : ℕ) (phase : Phase)
     (position : Position)
     (good : List Bool)

@@ -1,4 +1,4 @@
--- Each step keeps how the state lies to the reading.
+-- Each step preserves the relation between the state and the reading.
 use Rattle.std.proofs.Common.{◌≡◌, ℕ, zero, suc, List, [], ◌∷◌, ◌++◌, length, Bool, true, false}
 use Rattle.std.proofs.Common.{cond, Option, Some, None, refl, sym, ap, ◌∙◌, subst, append_assoc}
 use Rattle.std.specs.Prelude.{slice_get, map, IsSome}
@@ -106,8 +106,8 @@ step_from set l core sect block part k v vol good g e s r Finished q =
           r.follows (g ∷ []);
     }
 
--- Whatever a lawful volume gives next, good or bad, the state after the step lies to the longer
--- reading.
+-- Whatever a valid volume yields next, good or bad, the state after the step is related to the
+-- longer reading.
 pub step_keeps : (set : FileSet) (p : Position) (k : ℕ) (v : Volume) (good : List Bool)
     (g : Bool) (e : Entry) (core : State)
     → IsLawful set → nth set.volumes k ≡ Some v → slice_get (entries set k) (length good) ≡ Some e
@@ -163,14 +163,14 @@ mount_reads set k core at = record {
   follows = mounted_follows set core.file k core.phase core.position at.sound;
 }
 
--- the item at a place is that of what stands there
+-- the item at an index is that of the entry there
 item_at : (xs : List Entry) (n : ℕ) (item : TapeItem) → slice_get (map item_of xs) n ≡ Some item
     → (e : Entry) × (slice_get xs n ≡ Some e) × (item_of e ≡ item)
 item_at [] n item h = absurd (cc)
 item_at (x ∷ xs) zero item h = (x, refl, cc)
 item_at (x ∷ xs) (suc n) item h = item_at xs n item h
 
--- the same of an outcome and an item that are told by equations
+-- the same for an outcome and an item given by equations
 pub step_reads : (core : State) (out : Outcome) (arrived : Option TapeItem)
     → out ≡ step_of core arrived
     → (set : FileSet) (p : Position) (k : ℕ) (good : List Bool) (g : Bool) (item : TapeItem)
@@ -201,7 +201,7 @@ position_reads core set p k good l vol r = go (nth set.volumes k) refl vol
     go None q h = absurd (cc)
     go (Some v) q h = reading_position set p k v good core l q r
 
--- ---- the same of outcomes that are told by equations
+-- ---- the same for outcomes given by equations
 
 pub mounts : (core new : State) → new ≡ mount_of core → (set : FileSet) (k : ℕ) → IsAt set core
     → IsReading set core.position k [] new

@@ -1,5 +1,5 @@
--- A reading gone astray, behind a mark that was lost, stays so: it gives nothing of the section
--- awaited.
+-- A reading that lost its position after a lost mark stays so: it yields nothing of the section
+-- needed.
 use Rattle.std.proofs.Common.{◌≡◌, ◌<◌, ℕ, zero, suc, List, [], ◌∷◌, ◌++◌, length, Bool, true}
 use Rattle.std.proofs.Common.{false, Some, Result, Ok, Err, refl, sym, ap, ◌∙◌, subst, inl}
 use Rattle.std.proofs.Common.{append_assoc, arith, length-append}
@@ -80,7 +80,7 @@ module _ (aim : Aim) where
       go (d ∷ done) zero c h = absurd (omega arith)
       go (d ∷ done) (suc n) c h = go done n (omega arith) h
 
-  -- any entry read bad, in data passed over
+  -- any entry read bad, in skipped data
   pub stray_bad : (heading : Heading) (e : Entry) → core.position ≡ here aim
       → (a : Strays good (BarrenData heading)) → (rest : List Entry) → a.todo ≡ e ∷ rest
       → Next aim false (passed core (DataPassed heading))
@@ -189,7 +189,7 @@ module _ (aim : Aim) where
   barren_rest [] es h = h
   barren_rest (b ∷ blocks) es h = barren_rest blocks es h
 
-  -- a section behind the one whose mark was lost gives no trailer with its numbers
+  -- a section after the one whose mark was lost has no trailer with its numbers
   barren_head : (heading : Heading) (y : Placed) (es : List Entry)
       → IsSection set.set_id (length set.volumes) y
       → BarrenTrailer heading (a_label y.section.hdr1 ∷ es)
@@ -244,7 +244,7 @@ module _ (aim : Aim) where
         )),
       )
 
-  -- all that stands on the volume
+  -- the whole contents of the volume
   entries_is : entries set k
       ≡ a_label v.vol1 ∷ (map a_label v.labels ++ to_come (on k (sections set)))
   entries_is = subst (λ o. entries_on o k (sections set)
@@ -256,7 +256,7 @@ module _ (aim : Aim) where
       → Left set k good (a_label v.vol1 ∷ (map a_label v.labels ++ to_come (on k (sections set))))
   at_start e = record { done = []; whole = sym entries_is; count = rw e refl; fine = refl }
 
-  -- the closing mark of a section passed over was bad
+  -- the closing mark of a skipped section was bad
   pub data_astray : (heading : Heading) (x : Placed) → core.position ≡ here aim
       → Inside set core.file sect block part k good heading false x (trailer_group x.section)
       → Next aim false (passed core (DataPassed heading))

@@ -1,4 +1,4 @@
--- At a section's trailer label each item keeps how the state lies to the reading.
+-- At a section's trailer label each item preserves the relation between the state and the reading.
 use Rattle.std.proofs.Common.{◌≡◌, ◌<◌, ◌+◌, List, [], ◌∷◌, ◌++◌, length, Bool, true, false, cond}
 use Rattle.std.proofs.Common.{Option, Some, Ok, refl, sym, ap, ◌∙◌, subst, inl, inr, append_assoc}
 use Rattle.std.proofs.Common.{arith, eq-eqb}
@@ -34,7 +34,7 @@ use Rattle.tape_core.proofs.HeaderSteps.{Next, passed_next, useless_next, either
 module _ (aim : Aim) where
   open aim use {set, l, core, at, sect, block, part, k, w, inside, within, good}
 
-  -- the trailer of the section awaited is bad
+  -- the trailer of the section needed is bad
   pub trailer_bad : (heading : Heading) (form : FileForm) (x : Placed)
       (i : AtTrailer set core.file sect block part k good heading form core.position x)
       → Next aim false (useless core BadItem)
@@ -51,7 +51,7 @@ module _ (aim : Aim) where
       ∙ (moved_all (here aim) sect block w i.seen (true ∷ false ∷ more) full n
       ∙ sym (i.awaited ∙ ap (λ z. stopped (here aim) sect block (length z.blocks)) at_it.same))))
 
-  -- at the end of the section awaited no part of a block is awaited
+  -- at the end of the section needed no part of a block is expected
   end_front : core.position ≡ stopped (here aim) sect block (length w.blocks)
       → core.position ≡ awaiting sect (length w.blocks)
   end_front is = go (length w.blocks == block) refl
@@ -72,7 +72,7 @@ module _ (aim : Aim) where
           ∙ (ap (λ z. Awaits sect block z) zero' ∙ ap (λ z. awaiting sect z) (sym same))))
       go false e = is ∙ rw e refl
 
-  -- the trailer of the section awaited
+  -- the trailer of the section needed
   pub trailer_next : (heading : Heading) (form : FileForm) (x : Placed)
       (i : AtTrailer set core.file sect block part k good heading form core.position x)
       → Next aim true (at_wanted_trailer core heading form (trail1_at x.section.trailer))
@@ -190,7 +190,7 @@ module _ (aim : Aim) where
             done = λ f. far_end;
           })
 
-  -- the trailer of a section passed over
+  -- the trailer of a skipped section
   pub passed_trailer_next : (heading : Heading) (x : Placed) → core.position ≡ here aim
       → Inside set core.file sect block part k good heading false x
       (a_label x.section.trailer ∷ map a_label x.section.trailers ++ a_mark ∷ [])

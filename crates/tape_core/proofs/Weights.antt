@@ -20,7 +20,7 @@ weight_of-one_more xs all x is =
     let e = ap weight_of is ∙ weight_of-append xs (x ∷ []) in
     omega (arith, e, weight_more x [])
 
--- a front that weighs less than what a longer one has without its last part is a front of that too
+-- a prefix that weighs less than a longer one without its last part is a prefix of that too
 pub front_of_less : (n : ℕ) (front all : List Portion) → IsFront front (take (suc n) all)
     → weight_of front < weight_of (take (suc n) all) → IsFront front (take n all)
 front_of_less n [] all f less = (take n all, refl)
@@ -48,7 +48,7 @@ nothing_weighs : (front r : List Portion) → weight_of r ≡ 0 → front ++ r �
 nothing_weighs front [] h = append-nil front
 nothing_weighs front (p ∷ ps) h = absurd (omega (arith, h, weight_more p ps))
 
--- a front that weighs as much is the whole
+-- a prefix that weighs as much is the whole
 pub front_of_all : (front all : List Portion) → IsFront front all → weight_of all ≤ weight_of front
     → all ≡ front
 front_of_all front all (r, e) less =

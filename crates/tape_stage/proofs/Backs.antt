@@ -1,4 +1,4 @@
--- What comes back after a crash.
+-- What is left after a crash.
 use Rattle.std.proofs.Common.{◌≡◌, ◌⊎◌, inl, inr, ℕ, ◌+◌, ◌≤◌, Bool, false, not, List}
 use Rattle.std.proofs.Common.{sym, ◌∙◌, subst}
 use Rattle.tape_stage.specs.declared.disk.Disk.{Ghosts}
@@ -19,7 +19,7 @@ use Rattle.tape_stage.proofs.Tears.{staged_named}
 use Rattle.tape_stage.proofs.SlotSteps.{ready_each}
 use Rattle.tape_stage.proofs.Once.{staged_once}
 
--- something stands there
+-- something is there
 pub in_stands : (second : Bool) (g : ℕ) (point : Point) (parts : List Portion) (bytes : List ℕ)
     → StagedIn second g point parts bytes → (h : ℕ) × (back : Point) × (there : List Portion)
     × Staged bytes h back there
@@ -34,7 +34,7 @@ either_stands second g point next parts more bytes (inl was) =
 either_stands second g point next parts more bytes (inr new) =
     in_stands (not second) (g + 1) next more bytes new
 
--- what was just opened, or made
+-- what was just opened, or created
 pub ready_survives : (seen : List ℕ) (may_leave : List ℕ → Type 0) (second : Bool) (g : ℕ)
     (point : Point) (other_open : Bool) (parts : List Portion)
     → Ready second g point parts other_open seen may_leave
@@ -77,7 +77,7 @@ module _ {D : Type 0} {disk : Ghosts D} where
       subst (λ (c : Point). Returns stage c there) (sym points)
       (subst (λ (l : List Portion). Returns stage point l) (sym lists) is)
 
-  -- what is acknowledged may come back
+  -- what is acknowledged may be left
   acked_returns : (stage : Stage D disk) (acked parts : List Portion) → disk.may_leave stage.disk
       (disk.seen stage.disk) → IsStage stage acked parts → Returns stage stage.acknowledged acked
   acked_returns stage acked parts now is = (
@@ -90,7 +90,7 @@ module _ {D : Type 0} {disk : Ghosts D} where
     ),
   )
 
-  -- a file that stands for what is acknowledged
+  -- a file that represents what is acknowledged
   pub returned_old : (old : Stage D disk) (acked parts : List Portion) (bytes : List ℕ) (g : ℕ)
       (back : Point) (there : List Portion) → disk.may_leave old.disk (disk.seen old.disk)
       → IsStage old acked parts
@@ -115,7 +115,7 @@ module _ {D : Type 0} {disk : Ghosts D} where
       (staged_named (not old.in_second) (old.generation + 1) next front bytes new) in
       inr (same.1, same.2)
 
-  -- nothing but what was kept comes back
+  -- nothing but what was kept is left
   pub returned_kept : (stage : Stage D disk) (parts : List Portion) (point back : Point)
       (there : List Portion) → IsStage stage parts parts → stage.acknowledged ≡ point
       → Returns stage back there → (back ≡ point) × (there ≡ parts)
@@ -153,7 +153,7 @@ module _ {D : Type 0} {disk : Ghosts D} where
   also_since stage t back there Q (inl (bytes, left, is)) = inl (bytes, inr left, is)
   also_since stage t back there Q (inr q) = inr q
 
-  -- of each file that was left on the way it is known what it stands for
+  -- for each file that was left meanwhile it is known what it represents
   pub adds_passed : (old : Stage D disk) (new : D) (these : crash.Returns) (P : List ℕ → Type 0)
       → Passes disk old.disk new P
       → ((bytes : List ℕ) (g : ℕ) (back : Point) (there : List Portion) → P bytes

@@ -17,7 +17,7 @@ use Rattle.tape_stage.proofs.Steps.{bind_ok, ok_is, HasDigits, number_found, num
 use Rattle.tape_stage.proofs.Steps.{flag_found, flag_again, format_found, format_again, tail_found}
 use Rattle.tape_stage.proofs.Steps.{tail_again}
 
--- the block and the part stand there
+-- the block and the part are there
 abbrev pub HasPlace : Version → List ℕ → Place → Type 0
 HasPlace One text place = HasDigits text 20 25 place.block × (place.part ≡ 0)
 HasPlace Two text place = HasDigits text 20 29 place.block × HasDigits text 30 34 place.part

@@ -31,7 +31,7 @@ found_alike found old new same is = record {
       (sym (gate_alike (not found.in_second) 256 old new (omega arith) same));
 }
 
--- nothing remains where no slot counts
+-- nothing remains if no slot is valid
 pub none_remains : (front bytes : List ℕ) → take 256 front ≡ take 256 bytes
     → slot_at false front ≡ None → slot_at true front ≡ None → RemainsNone bytes
 none_remains front bytes same no_first no_second g point broken parts remains =
@@ -49,7 +49,7 @@ slot_gate gate body found is =
     ⊎_elim (λ yes. (yes.1, sym (open_reads gate body yes.1) ∙ is)) (λ no. let none =
     closed_none gate body no.1 in cc (none, is)) (eqb_tells gate 79)
 
--- what was found, with frames behind it, is staged
+-- what was found, with frames after it, is staged
 pub found_staged : (found : Found) (parts : List Portion) (bytes : List ℕ) → IsFound found bytes
     → Holding found.point.staged parts bytes → StagedIn found.in_second found.generation found.point
     parts bytes
@@ -79,7 +79,7 @@ best_of true g point bytes is loses =
     ap (λ (s : Option Slot). best (slot_at false bytes) s) is ∙ best_named true g point
     (slot_at false bytes) loses
 
--- what has the same bytes up to the staged end stands for the same
+-- what has the same bytes up to the staged end represents the same
 pub stands_like : (found : Found) (read c : List ℕ) (end : ℕ) → IsFound found read
     → end ≡ 256 + found.point.staged → end ≤ length read → take end c ≡ take end read
     → StandsLike read c

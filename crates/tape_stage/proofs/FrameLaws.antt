@@ -71,7 +71,7 @@ front_holding weight staged parts front bytes le is holding =
       short = short_front front is.rest (subst AllShort is.whole holding.short);
     }
 
--- a header and what it heads
+-- a header and its part
 pub two_writes : (place : ℕ) (part : Portion) (header s0 s1 s2 : List ℕ)
     → header ≡ indicator part.span ∷ to_be_bytes w32 (length part.bytes) → place ≤ length s0
     → Holds s0 place header s1 → Holds s1 (place + 5) part.bytes s2 → IsPut place part s0 s2

@@ -44,7 +44,7 @@ size_same : (m n : ℕ) → m ≤ 99999 → n ≤ 99999 → to_be_bytes w32 m �
 size_same m n low high e = sym (from_be_bytes-to_be_bytes_4 m (omega arith)) ∙ ap
     (from_be_bytes w32) e ∙ from_be_bytes-to_be_bytes_4 n (omega arith)
 
--- At a place stands at most one frame.
+-- There is at most one frame at a place.
 pub one_frame : (place end : ℕ) (bytes : List ℕ) (s t : Span) (c d : List ℕ)
     → IsFrameAt place end bytes s c → IsFrameAt place end bytes t d → (s ≡ t) × (c ≡ d)
 one_frame place end bytes s t c d a b =
@@ -60,7 +60,7 @@ one_frame place end bytes s t c d a b =
 length-frame : (part : Portion) → length (frame part) ≡ 5 + length part.bytes
 length-frame part = omega (arith, length-append (to_be_bytes w32 (length part.bytes)) part.bytes)
 
--- the first of what is ahead, and what is ahead behind it
+-- the first of what is ahead, and what is ahead after it
 pub record OneAhead (place end : ℕ) (bytes : List ℕ) (parts : List Portion) : Type 0 where
   pub part : Portion
   pub rest : List Portion
@@ -73,7 +73,7 @@ length-between : (place end : ℕ) (bytes : List ℕ) → place ≤ end → end 
 length-between place end bytes low high =
     length-take-le (end - place) (drop place bytes) (omega (arith, length-drop place bytes))
 
--- where nothing is ahead is the end
+-- nothing is ahead at the end
 pub none_ends : (place end : ℕ) (bytes : List ℕ) → AheadIn place end bytes [] → end ≡ place
 none_ends place end bytes ahead =
     omega (
@@ -195,7 +195,7 @@ nothing_ahead place end bytes parts low ahead =
     let none = none_ahead place end bytes parts low ahead in
     (none, subst (λ (ps : List Portion). AheadIn place end bytes ps) none ahead)
 
--- what is held is ahead of the front
+-- the contents are ahead at the beginning
 pub held_ahead : (weight : ℕ) (parts : List Portion) (bytes : List ℕ) → Holding weight parts bytes
     → AheadIn (256 + 0) (256 + weight) bytes parts
 held_ahead weight parts bytes holding = record {

@@ -1,4 +1,4 @@
--- What a stage holds, as a sink.
+-- The contents of a stage, as a sink.
 use Rattle.std.proofs.Common.{◌≡◌, ℕ, Bool, false, List, length}
 use Rattle.std.specs.Prelude.{Option, None}
 use Rattle.std.proofs.Common.{drop, refl, sym, ap, ◌∙◌, subst, arith}
@@ -15,7 +15,7 @@ use Rattle.tape_stage.specs.declared.stage.StageFault.TheVariants.{NoPoint, BadF
 use Rattle.tape_stage.specs.declared.stage.StageFault.TheVariants.{OutOfMemory, Failed, Full}
 use Rattle.tape_stage.proofs.FrameLaws.{length-frames}
 
--- framed parts weigh what they take
+-- the weight of framed parts is the length of their frames
 pub holding_weighs : (weight : ℕ) (parts : List Portion) (bytes : List ℕ)
     → Holding weight parts bytes → weight ≡ weight_of parts
 holding_weighs weight parts bytes holding =
@@ -24,7 +24,7 @@ holding_weighs weight parts bytes holding =
     length-frames parts
 
 module _ {D : Type 0} {disk : Ghosts D} where
-  -- a stage that stands holds its parts
+  -- a stage that has not failed contains its parts
   pub stage_holds : (stage : Stage D disk) (acked parts : List Portion) → disk.is_honest stage.disk
       → IsStage stage acked parts → Holds stage parts
   stage_holds stage acked parts honest is = record {
@@ -58,7 +58,7 @@ module _ {D : Type 0} {disk : Ghosts D} where
         );
       }
 
-  -- so does one that was refused, where the frames stand as they stood
+  -- so does one that was refused, if the frames are unchanged
   pub refused_holds : (old new : Stage D disk) (parts : List Portion) (fault : StageFault)
       → HasRefused old new fault
       → (fault ≡ Device → new.pending ≡ None → disk.is_honest old.disk → disk.is_honest new.disk)
@@ -79,7 +79,7 @@ module _ {D : Type 0} {disk : Ghosts D} where
   refused_holds old new parts (BadFrame place) is honest kept holds = absurd is
   refused_holds old new parts OutOfMemory is honest kept holds = absurd is
 
-  -- reading leaves what is held
+  -- reading leaves the contents unchanged
   read_staged : (old new : D) (in_second : Bool) (g : ℕ) (point : Point) (other_open : Bool)
       (weight : ℕ) (failed : Bool) (acked parts : List Portion) → disk.seen new ≡ disk.seen old
       → ((c : List ℕ) → disk.may_leave new c → disk.may_leave old c)

@@ -1,6 +1,6 @@
--- Answers that the contracts of a stage exclude: each is what a wrong body would give. What is
--- asked of a stage or its bytes (`IsStage`, `Holds`, `Staged`) is what `create`, `put_part` and
--- `save` say of theirs, on a disk in memory too, which is honest.
+-- Answers that the contracts of a stage exclude: each is what a wrong body would return. What is
+-- assumed of a stage or its bytes (`IsStage`, `Holds`, `Staged`) is what `create`, `put_part` and
+-- `save` promise of theirs, on a disk in memory too, which is honest.
 use Rattle.std.proofs.Common.{◌≡◌, ℕ, ◌+◌, ◌≤◌, ◌<◌, List, [], ◌∷◌, length, drop, get_or, true}
 use Rattle.std.proofs.Common.{false}
 use Rattle.std.proofs.Common.{◌-◌, inl, inr, sym, ap, ◌∙◌, subst, arith}
@@ -32,14 +32,14 @@ use Rattle.tape_stage.proofs.stage.Stage.save.Reads as save
 
 -- ---- what an answer leaves of the stage
 
--- save_forgets_that_it_failed: the disk failed, and the stage goes on
+-- save_forgets_that_it_failed: the disk failed, and the stage continues
 save_forgets_that_it_failed : (D : _) (L : _) (g : _) (d : _) (κs : _) (a : _) (s : _)
     → save.Learnt-named D L g d κs a (Err Device) s → s.0.now.failed ≡ false → ⊥
 save_forgets_that_it_failed D L g d κs a s l w =
     let e : false ≡ true = sym w ∙ l.ends.refused.1 in
     absurd (cc)
 
--- put_forgets_that_it_failed: the disk failed in a put, and the stage goes on
+-- put_forgets_that_it_failed: the disk failed in a put, and the stage continues
 put_forgets_that_it_failed : (D : _) (L : _) (g : _) (d : _) (κs : _) (a : _) (s : _)
     → put_part.Learnt-named D L g d κs a (Err Device) s → s.0.now.failed ≡ false → ⊥
 put_forgets_that_it_failed D L g d κs a s l w =
@@ -56,7 +56,7 @@ full_after_the_write D L g d κs a s l w =
     absurd (omega arith)
 
 -- cut_at_once_below_the_saved_weight: 170 are acknowledged, and the stage is cut to 85 at once, so
--- that the checkpoint tells more than there is
+-- that the checkpoint counts more than there is
 cut_at_once_below_the_saved_weight : (D : _) (L : _) (g : _) (d : _) (κs : _) (a : _) (s : _)
     (acked all front : List Portion) → cut_back.Learnt-named D L g d κs a (Ok tt) s
     → g.is_honest a.0.now.disk → IsStage a.0.now acked all → IsFront a.1.0.now.staged front all
@@ -68,7 +68,7 @@ cut_at_once_below_the_saved_weight D L g d κs a s acked all front l honest stag
 
 -- ---- reading the parts
 
--- behind its weight a part is still to come
+-- a part is still to come after its weight
 none_left : (walked weight : ℕ) (bytes : List ℕ) (one : Portion)
     → AheadIn (256 + walked) (256 + weight) bytes (one ∷ []) → walked ≡ weight → ⊥
 none_left walked weight bytes one ahead w =
@@ -77,7 +77,7 @@ none_left walked weight bytes one ahead w =
     = subst (λ k. take k (drop (256 + walked) bytes) ≡ frames (one ∷ [])) n ahead.frames_are in
     absurd (cc)
 
--- parts_from_anywhere: of a stage that holds a part, a reader begins behind its last part
+-- parts_from_anywhere: a reader of a stage with a part begins after its last part
 parts_from_anywhere : (D : _) (L : _) (g : _) (d : _) (κs : _) (a : _) (z : _) (s : _)
     (one : Portion) → parts.Learnt-named D L g d κs a z s → Holds a.0.now (one ∷ [])
     → z.stage.now.walked ≡ z.stage.now.weight → ⊥
@@ -85,7 +85,7 @@ parts_from_anywhere D L g d κs a z s one l holds w =
     none_left z.stage.now.walked z.stage.now.weight (g.seen z.stage.now.disk) one
     (l.all (one ∷ []) holds).1 w
 
--- rewind_stays: of a stage that holds a part, a walk begins behind its last part
+-- rewind_stays: a walk of a stage with a part begins after its last part
 rewind_stays : (D : _) (L : _) (g : _) (d : _) (κs : _) (a : _) (z : _) (s : _) (one : Portion)
     → rewind.Learnt-named D L g d κs a z s → Holds a.0.now (one ∷ [])
     → s.0.now.walked ≡ s.0.now.weight → ⊥
@@ -97,7 +97,7 @@ not_rose : (n : ℕ) → n < 10 → Rose n n → ⊥
 not_rose n few (inl e) = absurd (omega (arith, few, e))
 not_rose n few (inr e) = absurd (omega (arith, few, e))
 
--- refusal_without_a_cause: behind the last part a walk is refused, and no refusal is counted
+-- refusal_without_a_cause: after the last part a walk is refused, and no refusal is counted
 refusal_without_a_cause : (D : _) (L : _) (g : _) (d : _) (κs : _) (a : _) (s : _)
     → (h : next_part.tells D L g d κs a (Err Failed) s) → a.0.now.refused ≡ 3
     → h.0.lender-at-none.refused ≡ 3 → ⊥
@@ -123,7 +123,7 @@ older_slot_opened D L g d κs a opened s old young l honest first second w =
     second e) in
     absurd (let n : 4 ≡ 3 = ap (λ v. unwrap_or (option_map (λ b. b.0) v) 0) f ∙ w in omega arith)
 
--- no_stage_emptied: what is no stage is emptied
+-- no_stage_emptied: a file that is not a stage is emptied
 no_stage_emptied : (D : _) (L : _) (g : _) (d : _) (κs : _) (a : _) (refused : _) (s : _)
     → open_disk.Learnt-named D L g d κs a (Err refused) s → refused.fault ≡ NoPoint
     → g.length_of a.1.0 ≡ 10 → g.length_of refused.disk ≡ 0 → ⊥
@@ -132,7 +132,7 @@ no_stage_emptied D L g d κs a refused s l w ten none =
     = l.same_length (subst IsNotDevice (sym w) tt) in
     absurd (let n : 0 ≡ 10 = sym none ∙ e ∙ ten in omega arith)
 
--- no_point_of_256_bytes: a new stage of 256 bytes, with no parts, is told to be none
+-- no_point_of_256_bytes: a new stage of 256 bytes, without parts, is reported as not being one
 no_point_of_256_bytes : (D : _) (L : _) (g : _) (d : _) (κs : _) (a : _) (s : _) (point : Point)
     → find_on.Learnt-named D L g d κs a (Err NoPoint) s → g.is_honest a.0.now
     → g.length_of a.0.now ≡ 256 → Staged (g.seen a.0.now) 1 point [] → ⊥

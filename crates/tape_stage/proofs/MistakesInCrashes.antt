@@ -1,6 +1,6 @@
 -- Files that a crash inside a call of a stage never leaves, by the call's contract: each is one
--- that a wrong body would leave open, and one that no crash before the call could leave.
--- What is asked of a stage (`IsStage`, `Ready`) is what `create` and `save` say of theirs.
+-- that a wrong body would make possible, and that no crash before the call could leave. What is
+-- assumed of a stage (`IsStage`, `Ready`) is what `create` and `save` promise of theirs.
 use Rattle.std.proofs.Common.{◌≡◌, ◌⊎◌, inl, inr, ℕ, ◌+◌, Bool, true, false, List, length}
 use Rattle.std.proofs.Common.{get_or, sym, ap, ◌∙◌, subst, arith}
 use Rattle.std.specs.Prelude.{not, Some, option_map, unwrap_or}
@@ -17,7 +17,7 @@ use Rattle.tape_stage.proofs.stage.Stage.restart.Reads as restart
 use Rattle.tape_stage.proofs.stage.Stage.save.Reads as save
 use Rattle.tape_stage.proofs.stage.putting.StagePartSink.keep.Reads as keep
 
--- where nothing was left before, what was left has P
+-- if nothing was left before, what was left satisfies P
 since_then : {A P : Type 0} → (A → ⊥) → A ⊎ P → P
 since_then none (inl a) = absurd (none a)
 since_then none (inr p) = p
@@ -81,7 +81,8 @@ parts_taken_away_and_put_back D L g d κs a z s c l honest place there left befo
     = alike_byte a.1.0 256 e.0 c (omega (arith, place)) e.2 in
     absurd (let m : 0 ≡ 48 = sym gone ∙ n ∙ there e.0 e.1 in omega arith)
 
--- a file that was cut to 85 bytes of parts, where 170 were acknowledged and no later slot counts
+-- a file that was cut to 85 bytes of parts, although 170 were acknowledged and no later slot is
+-- valid
 cut_too_early : (second : Bool) (n : ℕ) (point next : Point) (parts more : List Portion)
     (c : List ℕ) → point.staged ≡ 170 → length c ≡ 341 → gate_at (not second) c ≡ 67
     → IsEither second n point next parts more c → ⊥
@@ -106,8 +107,8 @@ restart_cuts_before_saving D L g d κs a z s acked parts front c l honest stage 
     told size closed (since_then before ((l.any_moment honest acked parts front stage first).before
     (g.moment a.0.now.disk) c (omega arith) left))
 
--- saved_checkpoint_removed_first: whatever a crash leaves stands for something, and while a
--- checkpoint is kept a file is left that stands for nothing
+-- saved_checkpoint_removed_first: whatever a crash leaves represents something, and while a
+-- checkpoint is saved a file is left that represents nothing
 saved_checkpoint_removed_first : (D : _) (L : _) (g : _) (d : _) (κs : _) (a : _) (z : _) (s : _)
     (parts : List Portion) (c : List ℕ) → keep.Learnt-named D L g d κs a z s → Holds a.0.now parts
     → Survived a.0.now (g.moment a.0.now.disk)

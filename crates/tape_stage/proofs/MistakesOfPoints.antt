@@ -64,7 +64,7 @@ checkpoint_tail_not_judged κs text s h e =
     = h ∙ ap (λ t. if bytes_eq t (replicate 3 32) then Ok tt else Err (faults.Field 78)) e in
     absurd (cc)
 
--- a checkpoint behind two parts of the fourth block
+-- a checkpoint after two parts of the fourth block
 abbrev inside : Point
 inside = record {
   set_id = codes "ABC001";
@@ -80,7 +80,7 @@ inside = record {
   staged = 14;
 }
 
--- part_written_as_block: where two parts were delivered of block 3, the text says three parts
+-- part_written_as_block: two parts of block 3 were delivered, and the text says three parts
 part_written_as_block : (κs : _) (a : _) (text : _) (s : _) → write_point.Learnt κs a text s
     → a.0.now ≡ inside → take 5 (drop 29 text) ≡ codes "00003" → ⊥
 part_written_as_block κs a text s h e w =

@@ -1,4 +1,4 @@
--- A stage file stands for one thing.
+-- A stage file represents one thing.
 use Rattle.std.proofs.Common.{◌≡◌, inl, inr, ℕ, not, ◌+◌, ◌-◌, ◌≤◌, ◌<◌, min, List}
 use Rattle.std.proofs.Common.{[], ◌∷◌, length, Some, refl, sym, ap, ◌∙◌, subst, arith}
 use Rattle.std.specs.Prelude.{Option, None, IfSome}
@@ -28,7 +28,7 @@ widen place end limit bytes span content le frame = record {
   short = frame.short;
 }
 
--- frames that go on where none stands are none of those
+-- frames that continue where there is none are not frames
 no_further : (place end limit : ℕ) (bytes : List ℕ) (part : Portion) (rest : List Portion)
     → end ≤ limit → AheadIn place end bytes (part ∷ rest) → NoFrameAt place limit bytes → ⊥
 no_further place end limit bytes part rest le ahead none =
@@ -37,7 +37,7 @@ no_further place end limit bytes part rest le ahead none =
     none one.part.span one.part.bytes
     (widen place end limit bytes one.part.span one.part.bytes le one.frame_is)
 
--- From a place on the frames stand up to one end, behind which no other is, and in one way.
+-- From a place on there are frames up to one end, after which there is no other, and in one way.
 pub frames_once : (parts more : List Portion) (place a b limit : ℕ) (bytes : List ℕ)
     → a ≤ limit → b ≤ limit → AheadIn place a bytes parts → AheadIn place b bytes more
     → NoFrameAt a limit bytes → NoFrameAt b limit bytes → (a ≡ b) × (parts ≡ more)
@@ -72,12 +72,12 @@ frames_once (x ∷ xs) (y ∷ ys) place a b limit bytes le high first second non
 some_same : (a b : Slot) → Some a ≡ Some b → a ≡ b
 some_same a b e = cc
 
--- where frames end of which so many should stand
+-- where frames of a given weight end
 abbrev end_of : ℕ → Option ℕ → ℕ
 end_of staged None = 256 + staged
 end_of staged (Some place) = place
 
--- up to there the parts are ahead, and no frame stands there that ends in time
+-- the parts are ahead up to there, and there is no frame that ends in time
 ends : (staged : ℕ) (broken : Option ℕ) (parts : List Portion) (bytes : List ℕ)
     → FramedTo staged broken parts bytes
     → (end_of staged broken ≤ min (256 + staged) (length bytes))
@@ -124,7 +124,7 @@ framed_once staged broken other parts more bytes first second =
       same.1,
     )
 
--- what remains remains once
+-- what remains does so once
 pub remains_once : (bytes : List ℕ) → RemainsOnce bytes
 remains_once bytes g h point next broken other parts more first second =
     let slots = some_same (g, point) (h, next) (sym first.slot ∙ second.slot) in
@@ -134,7 +134,7 @@ remains_once bytes g h point next broken other parts more first second =
     let same = framed_once point.staged broken other parts more bytes first.framed then in
     (ap (λ (s : Slot). s.0) slots, points, same.0, same.1)
 
--- of what is staged all remains
+-- all that is staged remains
 pub staged_remains : (bytes : List ℕ) (g : ℕ) (point : Point) (parts : List Portion)
     → Staged bytes g point parts → Remains bytes g point None parts
 staged_remains bytes g point parts staged = record {

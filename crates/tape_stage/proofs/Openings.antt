@@ -27,7 +27,7 @@ module _ {D : Type 0} (g : Ghosts D) (a b : D) (reads : OnlyReads g a b)
   look_passes P = weaken g a b (g.may_leave a)
       (λ x. g.may_leave a x ⊎ P x) (λ x left. inl left) (reads.any_moment honest)
 
--- and then cut behind the weight that was found
+-- and then cut after the weight that was found
 module _ {D : Type 0} (g : Ghosts D) (a b c : D) (reads : OnlyReads g a b)
     (honest : g.is_honest a) (found : Found) (is : IsFound found (g.seen a)) (n : ℕ)
     (told : n ≡ found.point.staged) where

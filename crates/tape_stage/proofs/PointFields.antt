@@ -1,4 +1,4 @@
--- Checkpoints and their fields: each tells the other, and which fields are right.
+-- Checkpoints and their fields: each determines the other, and which fields are valid.
 use Rattle.std.proofs.Common.{◌≡◌, ℕ, ◌^◌, ◌<◌, ◌≤◌, Bool, true, false}
 use Rattle.std.proofs.Common.{replicate, Option, None, Some, refl, sym, subst, arith, rules}
 use Rattle.std.specs.Prelude.{◌&&◌, ◌==◌, nat_le, not, if◌then◌else◌, is_some}
@@ -24,7 +24,7 @@ use Rattle.tape_stage.specs.Fields.{known_by, point_by}
 use Rattle.tape_stage.specs.Range.{place_agrees, is_blank, form_agrees, is_right}
 use Rattle.tape_stage.specs.Text.{FitsVersion, Fit, KnownFits, IsWritable}
 
--- ---- a checkpoint's fields tell it
+-- ---- a checkpoint's fields determine it
 
 position_again : (p : Position) → (if is_finished p then Finished else Awaits (sect_of p)
     (block_of p) (part_of p)) ≡ p

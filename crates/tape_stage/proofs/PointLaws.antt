@@ -82,7 +82,7 @@ unfolding reading
 reads_only v c text is = rw (point_read v c text is, point_right v c is.writable, point_again c)
     refl
 
--- ---- what is read is the checkpoint of its text
+-- ---- the result is the checkpoint of its text
 
 id_length : (v : Version) (f : Fields) (text : List ℕ) → Reads v f text → length f.form.file_id ≡ 17
 id_length One f text r = ap length (sym r.fields.form.file_id) ∙ length-positions text 37 53

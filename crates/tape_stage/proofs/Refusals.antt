@@ -61,7 +61,7 @@ uncut n old new same = record {
 pub same_keeps : (old new : List ℕ) → new ≡ old → KeepsStaged old new
 same_keeps old new same g point parts staged = uncut (256 + point.staged) old new same
 
--- a cut behind what was found keeps what is staged
+-- a cut after what was found preserves what is staged
 pub cut_keeps : (found : Found) (old new : List ℕ) (end : ℕ) → IsFound found old
     → end ≡ 256 + found.point.staged → CutShort end old new → KeepsStaged old new
 cut_keeps found old new end is at cut g point parts staged =
@@ -71,7 +71,7 @@ cut_keeps found old new end is at cut g point parts staged =
     let weight : found.point.staged ≡ point.staged = ap (λ (p : Slot). p.1.staged) e in
     subst (λ (n : ℕ). CutShort n old new) (at ∙ ap (λ (n : ℕ). 256 + n) weight) cut
 
--- nor does the cut at an opening take away what is staged
+-- and the cut at an opening does not remove what is staged
 pub opened_keeps : (g : ℕ) (point : Point) (parts : List Portion) (old new : List ℕ)
     → Staged old g point parts → new ≡ take (256 + point.staged) old → KeepsStaged old new
 opened_keeps g point parts old new is cut h next more staged =

@@ -1,4 +1,4 @@
--- What remains of a stage whose frames break off.
+-- What remains of a damaged stage.
 use Rattle.std.proofs.Common.{◌≡◌, ℕ, ◌+◌, ◌≤◌, ◌<◌, List, ◌∷◌, length, min, drop}
 use Rattle.std.proofs.Common.{w32, Some, sym, ap, ◌∙◌, subst, arith}
 use Rattle.std.specs.Prelude.{Option, None}
@@ -15,7 +15,7 @@ use Rattle.tape_stage.proofs.Finds.{best_of}
 use Rattle.tape_stage.proofs.Once.{remains_once, staged_remains}
 use Rattle.tape_stage.proofs.Walks.{walked_holding}
 
--- all frames stand
+-- all frames are intact
 pub framed_whole : (staged place : ℕ) (bytes : List ℕ) → place ≡ 256 + staged
     → place ≤ length bytes → WalkedTo place bytes
     → (parts : List Portion) × FramedTo staged None parts bytes
@@ -28,7 +28,7 @@ framed_whole staged place bytes is le walked = (
   },
 )
 
--- none stands at this place
+-- there is no frame at this place
 pub framed_broken : (staged place limit : ℕ) (bytes : List ℕ)
     → limit ≡ min (256 + staged) (length bytes) → place ≤ limit → place < 256 + staged
     → WalkedTo place bytes → NoFrameAt place limit bytes
@@ -66,7 +66,7 @@ framed_as staged n broken other parts old new weighs breaks same framed =
 some_none : (place : ℕ) → Some place ≡ None → ⊥
 some_none place e = cc
 
--- what remains behind the slot that was found
+-- what remains for the slot that was found
 pub found_remains : (found : Found) (broken : Option ℕ) (parts : List Portion) (bytes : List ℕ)
     → IsFound found bytes → FramedTo found.point.staged broken parts bytes
     → Remains bytes found.generation found.point broken parts
@@ -75,7 +75,7 @@ found_remains found broken parts bytes is framed = record {
   framed = framed;
 }
 
--- a slot that was found, with a break behind it, is no stage
+-- a slot that was found, with damage after it, is not a stage
 pub broken_none : (found : Found) (place : ℕ) (parts : List Portion) (bytes : List ℕ)
     → IsFound found bytes → FramedTo found.point.staged (Some place) parts bytes → HoldsNone bytes
 broken_none found place parts bytes is framed g point more staged =
@@ -101,7 +101,7 @@ broken_bad found place parts bytes is framed = record {
   none = framed.breaks.none;
 }
 
--- where nothing remains, nothing is staged
+-- if nothing remains, nothing is staged
 pub none_staged : (bytes : List ℕ) → RemainsNone bytes → HoldsNone bytes
 none_staged bytes none g point parts staged =
     none g point None parts (staged_remains bytes g point parts staged)

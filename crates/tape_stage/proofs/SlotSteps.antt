@@ -18,7 +18,7 @@ use Rattle.tape_stage.proofs.Tears.{kept_holding, alike_staged, loses_gate, clos
 use Rattle.tape_stage.proofs.Tears.{none_loses}
 use Rattle.tape_stage.proofs.Bodies.{body_reads}
 
--- what keeps a slot and the frames keeps what is staged, where the other slot still loses
+-- what preserves a slot and the frames preserves what is staged, if the other slot is still older
 pub kept_staged : (second : Bool) (g : ℕ) (point : Point) (parts : List Portion) (old new : List ℕ)
     → KeptIn second old new → Loses second g (slot_at (not second) new)
     → StagedIn second g point parts old → StagedIn second g point parts new
@@ -39,7 +39,7 @@ body_kept : (second : Bool) (old new : List ℕ) → Torn (slot_place (not secon
 body_kept second old new torn = torn_other second (slot_place (not second) + 1) 127 old new
     (omega arith) (omega arith) torn
 
--- 1. the gate of the other slot, which stood open, may be anything
+-- 1. the gate of the other slot, which was open, may be anything
 pub closing : (second : Bool) (g : ℕ) (point : Point) (parts : List Portion) (old new : List ℕ)
     → gate_at (not second) old ≡ 79
     → StagedIn second g point parts old → Torn (slot_place (not second)) 1 old new
@@ -55,7 +55,7 @@ closing second g point parts old new was_open staged torn =
     before) in
     kept_staged second g point parts old new (gate_kept second old new torn) loses staged
 
--- 2. behind a closed gate there may be anything
+-- 2. after a closed gate there may be anything
 pub filling : (second : Bool) (g : ℕ) (point : Point) (parts : List Portion) (old new : List ℕ)
     → IsClosed second g point parts old → Torn (slot_place (not second) + 1) 127 old new
     → IsClosed second g point parts new
@@ -76,7 +76,7 @@ next_loses : (second : Bool) (g : ℕ) (point : Point) (bytes : List ℕ) → sl
 next_loses true g point bytes is = subst (Loses false (g + 1)) (sym is) (omega arith)
 next_loses false g point bytes is = subst (Loses true (g + 1)) (sym is) (omega arith)
 
--- 3. once it stands open, the next generation counts
+-- 3. once it is open, the next generation counts
 pub opened : (second : Bool) (g : ℕ) (point next : Point) (parts more : List Portion)
     (old new : List ℕ) → FitBody (g + 1) next
     → IsFilled second g point next parts more old → Torn (slot_place (not second)) 1 old new
@@ -114,7 +114,7 @@ eq_from_test a b is = ⊎_elim (λ yes. yes.1) (λ no. absurd (cc)) (eqb_tells a
 alike_long : (n : ℕ) (old new : List ℕ) → n ≤ length old → take n new ≡ take n old → n ≤ length new
 alike_long n old new le same = omega (arith, ap length same, length-take n old, length-take n new)
 
--- each content that a crash may leave stands for what is acknowledged, with the other gate as it is
+-- each content that a crash may leave represents what is acknowledged, with the other gate as it is
 -- read
 pub ready_each : (second : Bool) (g : ℕ) (point : Point) (parts : List Portion) (is_open : Bool)
     (seen : List ℕ) (may_leave : List ℕ → Type 0) (c : List ℕ)

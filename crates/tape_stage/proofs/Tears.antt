@@ -59,7 +59,7 @@ kept_holding second weight parts old new kept holding = record {
   short = holding.short;
 }
 
--- bytes with the same front
+-- bytes with the same prefix
 pub alike_holding : (n weight : ℕ) (parts : List Portion) (old new : List ℕ) → 256 + weight ≤ n
     → take n new ≡ take n old → n ≤ length new → Holding weight parts old → Holding weight parts new
 alike_holding n weight parts old new le same long holding = record {
@@ -102,7 +102,7 @@ alike_staged second g point parts n old new le same long staged = record {
   parts_are = alike_holding n point.staged parts old new le same long staged.parts_are;
 }
 
--- a gate that may be anything counts no more than one that stands open
+-- a gate that may be anything counts no more than an open one
 pub loses_gate : (second : Bool) (g gate : ℕ) (body : List ℕ) → Loses second g (body_of body)
     → Loses second g (read_slot gate body)
 loses_gate second g gate body loses = by_test (gate == 79)

@@ -75,7 +75,7 @@ text_again text v f r =
     (bytes_eq-Decides (take 4 text) (codes "TPCK")).1 r.mark in
     rw (r.size, mark, digit, version_again v, fields_again v text f r.size r.fields) refl
 
--- ---- as pieces that stand one after another
+-- ---- as pieces that follow one another
 
 staged_stand : (v : Version) (f : Fields) (text : List ℕ) → Reads v f text
     → StandAt (state_position v + 27) (drop 7 (rest_pieces v f)) text

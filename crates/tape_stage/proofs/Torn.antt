@@ -7,7 +7,7 @@ use Rattle.std.proofs.lemmas.List.{drop_at, take_at, get_or_at, length-take-le}
 use Rattle.tape_stage.specs.Disk.{Torn, Holds}
 use Rattle.tape_stage.specs.Calls.{over}
 
--- lists with the same front
+-- lists with the same prefix
 pub alike_piece : (n a k : ℕ) (old new : List ℕ) → a + k ≤ n → take n new ≡ take n old
     → take k (drop a new) ≡ take k (drop a old)
 alike_piece n a k old new le same =

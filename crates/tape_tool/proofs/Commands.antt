@@ -1,4 +1,4 @@
--- The names of commands: no two of them are the same.
+-- The names of commands: no two of them are equal.
 use Rattle.std.proofs.Common.{◌≡◌, List, ℕ, refl, sym, ap, ◌∙◌, subst, inl, inr, cond, codes}
 use Rattle.std.proofs.Common.{Option, Some, None}
 use Rattle.std.specs.Prelude.{option_map}
@@ -44,7 +44,7 @@ known verb rows lawful (inl none) = none verb refl
 known verb rows lawful (inr why) =
     lawful (subst (λ v. IsNoOrder v rows) (sym (same_verb verb why.0 why.1)) why.2)
 
--- what the parser met: its name, and its rows
+-- what the parser found: its name, and its rows
 abbrev met_by : {X : Type 0} → (X → List ℕ) → (X → List Row) → Option X
     → Option (List ℕ × List Row)
 met_by named_by found_by met =

@@ -80,7 +80,7 @@ stops_by stops why = (
   λ fault h. of_runs fault (why (Run fault) h),
 )
 
--- that there is none is told only where there is none
+-- NoPoint is reported only if there is no stage
 told_none : {none untouched : Type 0} (cause : StageFault) → SaysNone cause
     → Why none untouched (Stage cause) → none
 told_none cause says (inl why) = why.2 (subst SaysNone (is_cause why.1) says)

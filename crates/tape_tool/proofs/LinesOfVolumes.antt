@@ -34,7 +34,7 @@ lines_split xs i d within = ap volume_lines (sym (take-append-drop (i + 1) xs))
     ∙ lines_append (take (i + 1) xs) (drop (i + 1) xs)
     ∙ ap (λ l. l ++ volume_lines (drop (i + 1) xs)) (lines_more xs i d within)
 
--- the lines up to a place were written, and a front of the next: a front of all lines, and more
+-- the lines up to an index were written, and a prefix of the next: a prefix of all lines, and more
 pub front_of_lines : (old mid new : Option (List ℕ)) (xs : List Ended) (i : ℕ) (x : Ended)
     (more : List ℕ) → i < length xs → x ≡ get_or xs i x → Appends old mid (volume_lines (take i xs))
     → AppendsFront mid new (volume_line x) → AppendsFront old new (volume_lines xs ++ more)

@@ -14,7 +14,7 @@ pub end_is_low : (null : Bool) → end_byte null < 128
 end_is_low true = omega arith
 end_is_low false = omega arith
 
--- what is collected of a chain is what the chain gives
+-- what is collected from a chain is what the chain yields
 pub mapped_from_collect : {S A B Z E : Type 0} {steps : S → Option A → S → Type 0} {v : A → B}
     {s : S} {all : List B} (r : Result (Vec A Z) E) → IsCollectResult steps s r
     → YieldsList steps v s all → IfOk r (λ w. map v (vec_items w) ≡ all)
@@ -34,7 +34,7 @@ mapped_names view (x ∷ xs) =
     mapped_if view x (filter (λ y. is_name (view y)) xs) (is_name (view x))
     ∙ ap (λ v. cond (is_name (view x)) (view x ∷ v) v) (mapped_names view xs)
 
--- the words, and behind them the names among the pieces
+-- the arguments, followed by the names among the pieces
 pub all_named : {X : Type 0} (view : X → List ℕ) (words names pieces : List X) (null : Bool)
     (text : List ℕ) → names ≡ words ++ filter (λ p. is_name (view p)) pieces
     → map view pieces ≡ pieces_of null text

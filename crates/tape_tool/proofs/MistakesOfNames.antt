@@ -20,7 +20,7 @@ counted : {X : Type 0} (view : X → List ℕ) (names : List X) (words : List (L
 counted view names words null text lines all w n t = sym (length-map names view)
     ∙ ap length (named (map view names) words [] null text lines all w n t)
 
--- first_line_passed_by: a list has two lines, and one name comes of it
+-- first_line_passed_by: a list has two lines, and yields one name
 first_line_passed_by : (κs : _) (a : _) (names : _) (s : _) → all_names.Learnt κs a (Ok names) s
     → map (λ w. w.now) a.1.0.now ≡ [] → a.1.1.1.0 ≡ false → a.1.1.0.now ≡ codes "a\nb"
     → length names.items ≡ 1 → ⊥
@@ -29,7 +29,7 @@ first_line_passed_by κs a names s h none lines text one =
     = sym one ∙ counted (λ n. n.now) names.items _ _ _ (codes "a\nb") h none lines text in
     omega arith)
 
--- last_line_left_out: a list is one line without an end, and no name comes of it
+-- last_line_left_out: a list is one line without a line feed, and yields no name
 last_line_left_out : (κs : _) (a : _) (names : _) (s : _) → all_names.Learnt κs a (Ok names) s
     → map (λ w. w.now) a.1.0.now ≡ [] → a.1.1.1.0 ≡ false → a.1.1.0.now ≡ codes "a"
     → names.items ≡ [] → ⊥
@@ -39,7 +39,7 @@ last_line_left_out κs a names s h none lines text empty =
     ∙ counted (λ n. n.now) names.items _ _ _ (codes "a") h none lines text in
     omega arith)
 
--- empty_line_is_a_name: a list is one empty line, and a name comes of it
+-- empty_line_is_a_name: a list is one empty line, and yields a name
 empty_line_is_a_name : (κs : _) (a : _) (names : _) (s : _) → all_names.Learnt κs a (Ok names) s
     → map (λ w. w.now) a.1.0.now ≡ [] → a.1.1.1.0 ≡ false → a.1.1.0.now ≡ codes "\n"
     → length names.items ≡ 1 → ⊥

@@ -35,7 +35,7 @@ prefix_taken_for_folder κs a o s l asked got =
     absurd (let n : 65 ≡ 111 = ap (λ t. slice_index t 0) (sym got ∙ l.ok.folder ∙ asked) in
     omega arith)
 
--- offsets_inverted: offsets are asked for, and are not told
+-- offsets_inverted: offsets are requested, and not printed
 offsets_inverted : (κs : _) (a : _) (o : _) (s : _) → list_order.Learnt-named κs a (Ok o) s
     → one_of (codes "offsets") (rows_of (found_of a.1.0.now)) ≡ Some (codes "true")
     → o.offsets ≡ false → ⊥
@@ -63,7 +63,7 @@ nulls_forgotten κs a o s list l asked named none =
     named l.ok.list.null in
     absurd (let n : 0 ≡ 1 = ap (λ b. bit b) (sym none ∙ null.given asked) in omega arith)
 
--- rows_forgotten: a survey is asked for in rows, and is told in words
+-- rows_forgotten: a survey is requested in rows, and printed in words
 rows_forgotten : (κs : _) (a : _) (o : _) (s : _) → survey_order.Learnt-named κs a (Ok o) s
     → one_of (codes "tsv") (rows_of (found_of a.1.0.now)) ≡ Some (codes "true")
     → o.wording ≡ wordings.Words → ⊥
@@ -71,7 +71,7 @@ rows_forgotten κs a o s l asked none =
     absurd (let n : 0 ≡ 1 = ap (λ w. bit (is_in_rows w)) (sym none)
     ∙ ap (λ b. bit b) (l.ok.wording.given asked) in omega arith)
 
--- output_taken_for_stage: the stage is kept, and what is gathered is kept in out
+-- output_taken_for_stage: the recovered data are saved in the output instead of the stage
 output_taken_for_stage : (κs : _) (a : _) (o : _) (s : _)
     → extract_order.Learnt-named κs a (Ok o) s
     → first_of (codes "stage") (rows_of (found_of a.1.0.now)) ≡ Some (codes "kept")

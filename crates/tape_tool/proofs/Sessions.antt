@@ -1,4 +1,4 @@
--- Sessions over stages that were just made or opened.
+-- Sessions over stages that were just created or opened.
 use Rattle.std.proofs.Common.{◌≡◌, ◌⊎◌, inl, inr, ℕ, List, false, sym, subst, ◌∙◌}
 use Rattle.tape_blocks.specs.Block.{Portion}
 use Rattle.tape_core.specs.Point.{Point}
@@ -15,7 +15,7 @@ use Rattle.tape_stage.specs.Staged.{StandsLike}
 use Rattle.tape_tool.specs.Staging.{StandsAt, as_sink}
 
 module _ {D : Type 0} {disk : Ghosts D} where
-  -- a session over a stage stands where the stage does
+  -- a session over a stage has the stage's position
   pub stands_at : (point told : Point) (parts : List Portion) (session : Story (Stage D disk))
       (stage : Stage D disk) → session.sink ≡ stage
       → IsResumed point parts (seen as_sink session parts) → told ≡ point

@@ -1,4 +1,4 @@
--- What was written and told of a stage, put together.
+-- What was written and printed of a stage, put together.
 use Rattle.std.proofs.Common.{ℕ, List, [], Option, None, Result, Ok, Err}
 use Rattle.std.proofs.Common.{OnErr, IfErr, sym, subst, append-nil}
 use Rattle.tape_blocks.specs.Block.{Portion}
@@ -15,7 +15,7 @@ use Rattle.tape_tool.specs.declared.stage.ending.StageEnding.{StageEnding}
 use Rattle.tape_tool.specs.Showing.{told_with, ending_of, EndsInPart, GivesFront, StopsShowing}
 use Rattle.tape_tool.specs.Showing.{in_part, salvaged_in_part, StopsSalvaging}
 
--- the records were written, and a front of the lines
+-- the records were written, and a prefix of the lines
 pub gives_front : (point : Point) (ending : StageEnding) (records : ℕ) (form : Form)
     (out written said says : Option (List ℕ)) (parts : List Portion)
     → IsWritten None records form out written parts
@@ -26,7 +26,7 @@ gives_front point ending records form out written said says parts all told = rec
   told = subst (λ (n : ℕ). AppendsFront said says (told_with point ending n)) all.0 told;
 }
 
--- what stands where a stage was opened, and a fault came
+-- what is true if a stage was opened, and a fault came
 pub stops_in_part : (read : List ℕ) (generation : ℕ) (point : Point) (parts : List Portion)
     (form : Form) (out written said says : Option (List ℕ))
     (result : Result (Option Want) ToolFault) → Staged read generation point parts

@@ -19,7 +19,7 @@ check_taken_for_survey κs a o s rows l asked =
     absurd (let n : 99 ≡ 115 = ap (λ t. slice_index t 0)
     (subst (λ met. IsOrderIn met (orders.Survey o)) asked l.ok).0 in omega arith)
 
--- known_command_refused: a list is asked for, and there is told to be no such command
+-- known_command_refused: `list` is requested, and is reported as an unknown command
 known_command_refused : (κs : _) (a : _) (e : _) (s : _) (rows : _)
     → order_of.Learnt-named κs a (Err e) s → kind_of e ≡ ValueValidation
     → subcommand_rows_of a.1.0.now ≡ Some (codes "list", rows)

@@ -25,7 +25,7 @@ use Rattle.tape_tool.proofs.stage.show.show_rest.Reads as show_rest
 abbrev whole : List Portion
 whole = record { span = spans.Whole; bytes = codes "AB" } ∷ []
 
--- stage_records_left_out: a record is there, and nothing is written
+-- stage_records_left_out: there is a record, and nothing is written
 stage_records_left_out : (S : _) (W : _) (P : _) (LS : _) (LW : _) (LP : _) (g : _) (d : _)
     (g' : _) (d' : _) (h : _) (e : _) (i : _) (j : _) (κs : _) (a : _) (s : _)
     → show_parts.Learnt-named S W P LS LW LP g d g' d' h e i j κs a (Ok tt) s
@@ -38,7 +38,7 @@ stage_records_left_out S W P LS LW LP g d g' d' h e i j κs a s l holds form old
     (l.ok whole holds).wrote) in
     absurd (let n : 0 ≡ 3 = ap length (r ∙ ap (λ v. output_of v whole) form) in omega arith)
 
--- shown_as_complete: something is wanted, and the file is told as complete
+-- shown_as_complete: something is missing, and the file is reported as complete
 shown_as_complete : (S : _) (W : _) (P : _) (LS : _) (LW : _) (LP : _) (g : _) (d : _) (g' : _)
     (d' : _) (h : _) (e : _) (i : _) (j : _) (k : _) (κs : _) (a : _) (s : _) (want : _)
     → show_opened.Learnt-named S W P LS LW LP g d g' d' h e i j k κs a (Ok None) s
@@ -46,7 +46,7 @@ shown_as_complete : (S : _) (W : _) (P : _) (LS : _) (LW : _) (LP : _) (g : _) (
 shown_as_complete S W P LS LW LP g d g' d' h e i j k κs a s want l wants =
     absurd (let n = l.wanted ∙ wants in cc)
 
--- damage_told_as_complete: a stage breaks off, and it is told to be whole, its file complete
+-- damage_told_as_complete: a stage is damaged, and is reported as intact, its file complete
 damage_told_as_complete : (D : _) (W : _) (P : _) (LD : _) (LW : _) (LP : _) (g : _) (d : _)
     (g' : _) (h : _) (e : _) (i : _) (j : _) (κs : _) (a : _) (s : _) (place : ℕ)
     → show_rest.Learnt-named D W P LD LW LP g d g' h e i j κs a (Ok (Whole None)) s
@@ -54,7 +54,8 @@ damage_told_as_complete : (D : _) (W : _) (P : _) (LD : _) (LW : _) (LP : _) (g 
 damage_told_as_complete D W P LD LW LP g d g' h e i j κs a s place l breaks =
     absurd (let n = l.ending ∙ ap (ending_of a.1.0.now) breaks in cc)
 
--- good_stage_told_as_none: its parts cannot be read again, and a good stage is told to be none
+-- good_stage_told_as_none: its parts cannot be read again, and an intact stage is reported as not
+-- being one
 good_stage_told_as_none : (D : _) (W : _) (P : _) (LD : _) (LW : _) (LP : _) (g : _) (d : _)
     (h : _) (e : _) (i : _) (j : _) (k : _) (κs : _) (a : _) (fault : _) (s : _) (n : _)
     (point : _) (parts : _)
@@ -78,7 +79,7 @@ damaged_stage_refused D W P LD LW LP g d h e i j k κs a fault s place l honest 
     (h.contents s.1.1.1.0.now) (i.contents a.1.1.1.1.0.now) (i.contents s.1.1.1.1.0.now)) told
     (l.err honest))
 
--- records_told_as_the_file: file 1 with 25 records is told as file 25
+-- records_told_as_the_file: file 1 with 25 records is reported as file 25
 records_told_as_the_file : (κs : _) (a : _) (z : _) (s : _) → put_stage.Learnt-named κs a z s
     → a.0.now.items ≡ [] → stage_line a.1.0.now a.1.1.0 ≡ codes "STAGE ABC001 1 25\n"
     → s.0.now.items ≡ codes "STAGE ABC001 25 25\n" → ⊥

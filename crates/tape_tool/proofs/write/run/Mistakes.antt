@@ -5,7 +5,8 @@ use Rattle.tape_label.specs.declared.values.Format.TheVariants.{Counted}
 use Rattle.tape_tool.specs.Writing.{record_length as length_of}
 use Rattle.tape_tool.proofs.write.run.record_length.Reads as record_length
 
--- default_record_9995: a record of D may have 9,995 bytes with its count, where 9,999 have room
+-- default_record_9995: a record of D may have 9,995 bytes with its count, although there is room
+-- for 9,999
 default_record_9995 : (κs : _) (a : _) (s : _) → record_length.Learnt κs a 9995 s
     → a.0.now.format ≡ Counted → a.0.now.«record» ≡ None → a.0.now.block ≡ 9999
     → a.0.now.offset ≡ 0 → ⊥

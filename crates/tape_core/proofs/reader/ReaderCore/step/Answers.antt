@@ -1,4 +1,4 @@
--- The table keeps how the state lies to the reading.
+-- The table preserves the relation between the state and the reading.
 use Rattle.tape_core.specs.Arrive.{arrival}
 use Rattle.tape_core.proofs.Steps.{step_reads}
 use Rattle.tape_core.proofs.IdleSteps.{idle_reads}

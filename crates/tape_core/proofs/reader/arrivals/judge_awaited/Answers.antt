@@ -6,7 +6,7 @@ use Rattle.tape_core.proofs.BlockLaws.{parts_in_it}
 use Rattle.tape_core.proofs.StateLaws.{begun_spans, before_spans, front_more}
 use Rattle.tape_core.proofs.reader.arrivals.judge_awaited.Goals as goal
 
--- only format S leaves a record begun
+-- only format S leaves a record unfinished
 pub returns-in-Ok-2-clause-told : goal.returns-in-Ok-2-clause-told
 returns-in-Ok-2-clause-told c = λ e.
     let s = c.shape_of.result in
