@@ -1,4 +1,4 @@
--- What is left where images were read round by round, or a fault ended that.
+-- The result of reading images in passes, and of a fault that ended that.
 use Rattle.std.proofs.Common.{◌≡◌, Bool, ℕ, List, ◌++◌, map, Option, length}
 use Rattle.std.proofs.Common.{[], None, refl, sym, ap, subst, ◌∙◌, inl, arith, append-nil, true}
 use Rattle.std.specs.Io.KnownBytes.{Appends}
@@ -24,7 +24,7 @@ use Rattle.tape_run.proofs.Left.{left_walked, left_behind}
 use Rattle.tape_run.proofs.Turns.{follows_then}
 use Rattle.tape_run.proofs.Rounds.{all_turns, lines_of_all, front_of_all}
 
--- whole rounds and the turns of a last one, as one row of turns
+-- complete passes and the turns of a last one, as one sequence of turns
 in_a_row : (back : Bool) (core : State) (old : Seen) (rounds : List Round) (mid : Seen)
     (turns : List Turn) (last : State) (new : Seen) → FollowsRounds back core old rounds mid
     → Follows back true (core_behind core rounds) mid turns last new

@@ -22,7 +22,7 @@ use Rattle.tape_run.specs.Back.{reels_of, AreVolumes}
 
 -- ---- a history of readings
 
--- where it leads is as far as its readings take the position
+-- where it leads is as far as its readings move the position
 pub course_over : (set : FileSet) (file : ℕ) (c : Course) (rs : List Reading)
     → (course set file c (map reads rs)).at ≡ far_over set file c.at rs
 course_over set file c [] = refl
@@ -72,7 +72,7 @@ volumes_history set k (b ∷ bs) (less, (end, stop, begins_so), rest) =
     (items set (k + 1), end, stop, begins_so, whole_copy set k less) in
     (omega (arith, next.0), (mount, next.1))
 
--- ---- where no reader failed all was given
+-- ---- if no reader failed everything was returned
 
 least_up : (n c : ℕ) → 1 ≤ c → 1 ≤ counted_up n c
 least_up zero c h = h

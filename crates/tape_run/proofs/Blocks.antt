@@ -1,4 +1,4 @@
--- The parts of a block, as they are put one after another.
+-- The parts of a block, put one after another.
 use Rattle.std.proofs.Common.{◌≡◌, ℕ, zero, suc, ◌<◌, ◌≤◌, Bool, List, [], ◌∷◌, ◌++◌, length, map}
 use Rattle.std.proofs.Common.{◌+◌, take, drop, refl, sym, ap, subst, ◌∙◌, arith, append_assoc}
 use Rattle.std.proofs.Common.{append-nil, length-append}
@@ -31,7 +31,7 @@ drop_push zero ys p h = refl
 drop_push (suc n) [] p h = absurd (omega (arith, h))
 drop_push (suc n) (y ∷ ys) p h = drop_push n ys p (omega (arith, h))
 
--- Of the parts that came of a block those from the first on were put.
+-- Of the parts of a block, those from the first on were put.
 pub record PutSoFar {S : Type 0} (g : Ghosts S) (old new : S) (first seen : ℕ) (begun going : Bool)
     (came : List Portion) : Type 0 where
   pub count : seen ≡ length came
@@ -92,9 +92,9 @@ module _ {S : Type 0} (g : Ghosts S) (old : S) (first : ℕ) (begun : Bool) wher
         crash = λ held was. adds_then _ _ _ (s.crash held was) (crash _ (s.held_now held was));
       }
 
--- ---- where a part stands
+-- ---- the place of a part
 
--- where a part stands, so many are before it
+-- this many parts precede the part at this place
 pub number_of : (ps ys rest : List Portion) (p : Portion) → ps ≡ ys ++ p ∷ rest
     → length ys < length ps
 number_of ps ys rest p e = omega (arith, ap length e, length-append ys (p ∷ rest))
@@ -106,7 +106,7 @@ front_is ps ys rest e = ap (take (length ys)) e ∙ go ys rest
     go [] rest = refl
     go (y ∷ ys) rest = ap (λ (l : List Portion). y ∷ l) (go ys rest)
 
--- what an iterator over a block's parts has yielded stands before what it has left
+-- what an iterator over a block's parts has yielded precedes what it has left
 pub stands_here : (s t u : Parts) (xs : List Part) (parts left : List Portion)
     → parts_left s ≡ parts → t ≡ s → Yields (YieldsFirstBy view parts_left) t xs u
     → parts_left u ≡ left → parts ≡ map view xs ++ left

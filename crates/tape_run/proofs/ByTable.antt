@@ -35,7 +35,7 @@ by_delivery : (a : Answer) (k : Option FileForm) (p : Position) (bytes : List �
     → parts_by a (block bytes) p k ≡ drop (part_of p) (parts_in form bytes)
 by_delivery a k p bytes form e f = rw (e, f) refl
 
--- the parts of a block that was delivered, from the awaited one on
+-- the parts of a block that was delivered, from the expected one on
 pub puts_delivered : (core new : State) (answer : Answer) (came : Option TapeItem) (bytes : List ℕ)
     (form : FileForm) (parts : List Portion) (first : ℕ)
     → (answer, new) ≡ step_of core came → answer ≡ Deliver → came ≡ Some (block bytes)
@@ -68,7 +68,7 @@ none_came core new answer (Some x) step ne =
     by_none (step_of core (Some x)).0 x core.position (step_of core (Some x)).1.known
     (λ e. ne (ap (λ (z : Answer × State). z.0) step ∙ e))
 
--- no parts, where the item is none that is delivered
+-- no parts, if the item is not one that is delivered
 pub puts_none : (core new : State) (answer : Answer) (came : Option TapeItem) (held : List Portion)
     → (answer, new) ≡ step_of core came → answer ≢ Deliver
     → held ≡ held ++ parts_of_arrival core came
@@ -92,7 +92,7 @@ delivered_app core (x ∷ xs) ys =
     ∙ sym (append_assoc (parts_at core x) (delivered_parts (step_of core (Some x)).1 xs)
     (delivered_parts (behind_items (step_of core (Some x)).1 xs) ys))
 
--- the core behind one more item
+-- the core after one more item
 pub core_more : (old mid new : State) (answer : Answer) (items : List TapeItem) (item : TapeItem)
     → (answer, new) ≡ step_of mid (Some item) → mid ≡ behind_items old items
     → new ≡ behind_items old (items ++ item ∷ [])
@@ -100,7 +100,7 @@ core_more old mid new answer items item step e =
     ap (λ (z : Answer × State). z.1) step
     ∙ (ap (λ (c : State). (step_of c (Some item)).1) e ∙ sym (behind_app old items (item ∷ [])))
 
--- the parts behind one more item
+-- the parts after one more item
 pub parts_more : (old mid : State) (held now then : List Portion) (items : List TapeItem)
     (item : TapeItem)
     → then ≡ now ++ parts_at mid item → mid ≡ behind_items old items
@@ -115,7 +115,7 @@ parts_more old mid held now then items item puts e f =
     (sym (append-nil (parts_at (behind_items old items) item)))
     ∙ sym (delivered_app old items (item ∷ []))))))
 
--- behind a final answer the other items of the reel count for nothing
+-- after a final answer the other items of the reel count for nothing
 pub led_by_final : (old mid new : State) (answer : Answer) (held then : List Portion)
     (items more xs : List TapeItem) (item : TapeItem)
     → (answer, new) ≡ step_of mid (Some item) → IsFinal answer
@@ -148,7 +148,7 @@ led_to_end old mid new held now items xs same core parts e = record {
   parts = parts ∙ ap (λ (z : List TapeItem). held ++ delivered_parts old z) (sym e);
 }
 
--- ---- what is kept from reel to reel
+-- ---- what is preserved from reel to reel
 
 mounted_resting : (phase : Phase) (p : Position) → mounted (resting phase) p ≡ mounted phase p
 mounted_resting Broken p = refl

@@ -1,4 +1,4 @@
--- Why records were not written: a call behind others of which none was refused.
+-- Why records were not written: a call after others none of which was refused.
 use Rattle.std.proofs.Common.{◌≡◌, ◌<◌, ℕ, suc, ◌+◌, List, [], ◌∷◌, ◌++◌, length, take}
 use Rattle.std.proofs.Common.{Bool, true, false, Result, Ok, Err, OnOk, IfErr}
 use Rattle.std.proofs.Common.{refl, sym, ap, inl, inr, subst, ◌∙◌, arith}
@@ -19,7 +19,7 @@ use Rattle.tape_run.specs.Seen.{seen, IsKept, IfSeen, IsSeen}
 use Rattle.tape_run.specs.Steps.{Refuses, RefusesRestart, Saved, WentBack}
 use Rattle.tape_run.specs.Story.{Story}
 
--- no call was refused before, and what was held is held
+-- no call was refused before, and the contents are unchanged
 pub fails_behind : {S : Type 0} (holds mid_holds : S → List Portion → Type 0) (refusals : S → ℕ)
     (fault : EngineFault) (old mid new : S) → refusals mid ≡ refusals old
     → ((parts : List Portion) → holds old parts → (rest : List Portion) × mid_holds mid rest)
@@ -52,7 +52,7 @@ calm_then g old mid new a b = record {
       let (now, has, still) = a.kept held was kept in b.kept now has still;
 }
 
--- a call behind others of which none was refused
+-- a call after others none of which was refused
 pub then_fails : {S : Type 0} (g : Ghosts S) (back : Bool) (fault : EngineFault)
     (old mid new : Story S) → IsCalm g old mid → ExtractFails g back fault mid new
     → ExtractFails g back fault old new
@@ -86,7 +86,7 @@ back_fails g n TooFewReels old new one h = absurd h
 back_fails g n OutOfMemory old new one h = absurd h
 back_fails g n OtherFile old new one h = absurd h
 
--- one more note is none no more
+-- after one more checkpoint there is one
 no_longer_none : (notes : List Point) (point : Point) → notes ++ point ∷ [] ≡ [] → notes ≡ []
 no_longer_none [] point e = refl
 no_longer_none (c ∷ notes) point e = absurd (cc e)
@@ -102,7 +102,7 @@ calm_saved g old new point calm notes ok = record {
       let (now, has, (keeps, saved)) = ok held was in (now, has, keeps kept);
 }
 
--- the notes up to one of them are some
+-- the checkpoints up to one of them are not none
 none_taken : (n : ℕ) (notes : List Point) → take (n + 1) notes ≡ [] → notes ≡ []
 none_taken n [] e = refl
 none_taken n (c ∷ notes) e = absurd (
@@ -155,7 +155,7 @@ pub if_err_then : {A B : Type 0} (r : Result A B) (P Q : B → Type 0) → ((e :
 if_err_then (Ok x) P Q f h = tt
 if_err_then (Err e) P Q f h = f e h
 
--- the file was not written behind images that were read
+-- the file was not written after images that were read
 pub file_fails : {S A : Type 0} (g : Ghosts S) (back : Bool) (old mid new : Story S)
     (r : Result A EngineFault) → IsCalm g old mid
     → IfErr r (WritingFails g.holds g.refusals mid.sink new.sink)
@@ -171,7 +171,7 @@ pub images_fail : {S : Type 0} (g : Ghosts S) (back goes : Bool) (fault : Engine
 images_fail g back goes fault old new same h =
     subst (λ b. ExtractFails g b fault old new) same h
 
--- a sink, as far as causes are told of it
+-- a sink, as far as causes refer to it
 abbrev of_causes : {S : Type 0} → (S → List Portion → Type 0) → (S → ℕ) → Ghosts S
 of_causes holds refusals = record {
   holds = holds;
@@ -209,7 +209,7 @@ on_both (Err e) P Q R f p q = tt
 
 -- ---- counts
 
--- a count that stands, and not at its greatest value, did not rise
+-- a count that is unchanged, and not at its greatest value, did not rise
 pub not_rose : (old new : ℕ) → new ≡ old → old < 18446744073709551615 → Rose old new → ⊥
 not_rose old new same few (inl e) = absurd (omega (arith, same, e))
 not_rose old new same few (inr e) = absurd (omega (arith, same, few, e))

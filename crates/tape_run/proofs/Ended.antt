@@ -44,7 +44,7 @@ told_err (Err x) e P h p = subst P (sym h) p
 
 -- ---- the step that was not made
 
--- a session that stayed, but for the count of refused calls, is where it was
+-- a session that is unchanged, except for the count of refused calls, is where it was
 stayed : (set : FileSet) (old mid new : Seen) (hs : List Happening) → Unmoved mid new
     → Ran set old hs mid → Ran set old hs new
 stayed set old mid new hs u r = record {
@@ -232,7 +232,7 @@ abbrev pub StoppedSo : List Bool → Seen → List Step → List (List ℕ) → 
 StoppedSo which old steps bytes left n fault new =
     (end : HasStopped old steps bytes left n fault new) × (end.which ≡ which)
 
--- Where the steps before the one that was not made lead, and why it was not.
+-- Where the steps before the failed one lead, and why it failed.
 stopped : (which : List Bool) (old new : Seen) (steps : List Step) (bytes : List (List ℕ))
     (unread : List (Option (List ℕ))) (n : ℕ)
     (fault : RunFault) → RunsUpTo which old steps (map Some bytes) unread n fault new
@@ -258,7 +258,7 @@ stopped which old new steps bytes unread n fault r =
       same,
     )
 
--- ---- what is true of each session stays so
+-- ---- the invariant of sessions is preserved
 
 pub kept_unmoved : (old new : Seen) → Unmoved old new → IsKept old → IsKept new
 kept_unmoved old new u k = rw (u.place, u.parts, u.notes) k

@@ -187,7 +187,7 @@ cases_of_sessions = record {
 
 -- ---- steps that were made, and runs that were stopped
 
--- the step that is told
+-- the step that is reported
 step_is : (step told : Step) → Some step ≡ Some told → told ≡ step
 step_is step told e = cc
 

@@ -1,4 +1,4 @@
--- The cases of a reel's answer, and of where the table leads over any tapes.
+-- The examples of a reel's answer, and of where the table leads over any tapes.
 use Rattle.std.proofs.Common.{◌≡◌, ◌+◌, [], ◌∷◌, Some, refl, ap, ◌∙◌, inl, inr, arith}
 use Rattle.tape_image.specs.declared.item.Ending.TheVariants.{Physical}
 use Rattle.tape_image.specs.Begins.{ends}

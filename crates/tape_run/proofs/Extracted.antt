@@ -1,4 +1,4 @@
--- What is left where all images were read, or a fault ended that.
+-- The result if all images were read, or a fault ended that.
 use Rattle.std.proofs.Common.{◌≡◌, Bool, ℕ, ◌⊎◌, List, [], map, Option, arith, append-nil}
 use Rattle.std.proofs.Common.{None, refl, sym, ap, subst, ◌∙◌, inl, inr, false}
 use Rattle.std.specs.Io.KnownBytes.{Appends}
@@ -101,7 +101,7 @@ stops_reading {S} {L} {R} {W} gs size gives remaining old new shelf
           (core, now, f, leaves, inl s.lines, inl refl);
     }
 
--- behind the lines of all images
+-- after the lines of all images
 pub tells_then : (said between says : Option (List ℕ)) (lines : List ℕ) (want : Option Want)
     (records : ℕ) (now : Seen) → Appends said between lines
     → TellsEnd (AppendsFront between says []) want records now

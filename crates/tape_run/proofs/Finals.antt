@@ -170,11 +170,11 @@ by_position core x Finished e =
     record { told = λ f. subst (λ (p : Position). IsIdle p core.phase) (sym e) tt }
 by_position core x (Awaits sect b part) e = item_ends core core.phase x
 
--- behind a final answer no reading is under way
+-- after a final answer no reading is under way
 pub step_ends : (core : State) (x : TapeItem) → Ends (step_of core (Some x))
 step_ends core x = by_position core x core.position refl
 
--- ---- where no reading is under way
+-- ---- if no reading is under way
 
 pub record Stays (core : State) (x : TapeItem) : Type 0 where
   pub rest : rest_of (step_of core (Some x)).1 ≡ rest_of core
@@ -207,7 +207,7 @@ idle_step : (core : State) (x : TapeItem) → IsIdle core.position core.phase �
 idle_step core x h = idle_at core.set_id core.file core.position core.begun core.known core.phase x
     h
 
--- no items change what is kept, and none delivers
+-- no items change what is preserved, and none delivers
 pub idle_items : (xs : List TapeItem) (core : State) → IsIdle core.position core.phase
     → (rest_of (behind_items core xs) ≡ rest_of core) × (delivered_parts core xs ≡ [])
 idle_items [] core h = (refl, refl)
@@ -218,7 +218,7 @@ idle_items (x ∷ xs) core h =
       ap (λ (l : List Portion). l ++ delivered_parts (step_of core (Some x)).1 xs) s.none ∙ none,
     )
 
--- the same behind a final answer
+-- the same after a final answer
 pub behind_final : (mid new : State) (x : TapeItem) (answer : Answer) (more : List TapeItem)
     → (answer, new) ≡ step_of mid (Some x) → IsFinal answer
     → (rest_of (behind_items new more) ≡ rest_of new) × (delivered_parts new more ≡ [])

@@ -1,4 +1,4 @@
--- A front of a mount is a mount.
+-- A prefix of a mount is a mount.
 use Rattle.std.proofs.Common.{◌≡◌, ◌≢◌, ◌≤◌, ℕ, zero, suc, ◌+◌, List, [], ◌∷◌, ◌++◌, Bool, true}
 use Rattle.std.proofs.Common.{false, length, take, refl, sym, ap, subst, ◌∙◌, arith, length-append}
 use Rattle.std.specs.Prelude.{if◌then◌else◌, drop, ◌&&◌, Option}
@@ -27,7 +27,7 @@ abbrev head_of : List TapeItem → TapeItem
 head_of [] = bad
 head_of (x ∷ xs) = x
 
--- what a front of items that were read so is
+-- a prefix of items that were read like this
 record Front (is : List TapeItem) (good : List Bool) (ys more : List TapeItem) : Type 0 where
   left : List TapeItem
   whole : ys ≡ as_read is (take (length ys) good) ++ left

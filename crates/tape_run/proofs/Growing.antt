@@ -6,8 +6,8 @@ use Rattle.tape_core.specs.Weight.{IsFront}
 use Rattle.tape_run.proofs.Crashes.{adds_then}
 use Rattle.tape_run.proofs.Notes.{front_trans}
 
--- Whatever list of parts the one holds, the other holds one that begins with it, of which this is
--- so.
+-- Whatever list of parts the one contains, the other contains one that begins with it and satisfies
+-- this.
 abbrev pub Grows : (List Portion → Type 0) → (List Portion → Type 0)
     → (List Portion → List Portion → Type 0) → Type 0
 Grows old new P = (held : List Portion) → old held
@@ -24,7 +24,7 @@ grows_then first second f = λ held was.
     let (then, has_then, more, q) = second now has in
     (then, has_then, front_trans held now then front more, f held now then p q)
 
--- Where no crash brings more back behind either, none does behind both.
+-- If a crash leaves no more after either, it leaves no more after both.
 pub adds_on : {old mid : List Portion → Type 0} {P : List Portion → List Portion → Type 0}
     {a b c : Crashes} → Grows old mid P → ((held : List Portion) → old held → AddsNothing a b)
     → ((held : List Portion) → mid held → AddsNothing b c)

@@ -64,7 +64,7 @@ item_here [] rest item = (omega arith, refl)
 item_here (x ∷ taken) rest item =
     let (lt, is) = item_here taken rest item in (omega (arith, lt), is)
 
--- where the item stands behind those taken
+-- where the item follows those taken
 item_at : (xs taken rest : List TapeItem) (item : TapeItem) → xs ≡ taken ++ item ∷ rest
     → (length taken < length xs) × (Some item ≡ slice_get xs (length taken))
 item_at xs taken rest item e =
@@ -73,7 +73,7 @@ item_at xs taken rest item e =
 
 -- ---- a core over the items so far
 
--- Of an image of which nothing was read.
+-- For an image of which nothing was read.
 pub none_taken : (core : State) (held : List Portion) (left : Option (List ℕ)) (place : ℕ)
     → place ≡ 0 → IfKnown left left (SoFar core core held held place)
 none_taken core held left place first =
@@ -85,7 +85,7 @@ none_taken core held left place first =
       so_far = λ set p xs rest h l m e at u. (at, u);
     }))
 
--- The core took what came, and the sink what that delivers.
+-- The core processed the event, and the sink what that delivers.
 pub record IsTaken (came : Option TapeItem) (answer : Answer) (old new : State)
     (held now : List Portion) : Type 0 where
   pub step : (answer, new) ≡ step_of old came
@@ -255,7 +255,7 @@ faults_there old mid new held now p bytes ys zs fault same s t =
               (TakesFault-begins 0 s.items fault bytes zs all e) b);
         })
 
--- What is known of the bytes, with those that are left left out.
+-- What is known of the bytes, without those that are left.
 known_so : (all left next : Option (List ℕ)) (P Q : List ℕ → List ℕ → Type 0)
     (R : List ℕ → Type 0) → ((xs ys zs : List ℕ) → P xs ys → Q ys zs → R xs)
     → IfKnown all left P → IfKnown left next Q → IfSome all R
@@ -263,7 +263,7 @@ known_so all left next P Q R f a b =
     known_all all next (λ xs zs. R xs) R (λ xs zs r. r)
     (known_then all left next P Q (λ xs zs. R xs) f a b)
 
--- The same of what is known of the bytes by those that are left.
+-- The same for what is known of the bytes by those that are left.
 known_by : (all left next : Option (List ℕ)) (P Q : List ℕ → List ℕ → Type 0)
     (R : Option (List ℕ) → List ℕ → Type 0)
     → ((xs ys zs : List ℕ) → P xs ys → Q ys zs → R (Some zs) xs)
@@ -273,7 +273,7 @@ known_by (Some xs) None next P Q R f a b = absurd a
 known_by (Some xs) (Some ys) None P Q R f a b = absurd b
 known_by (Some xs) (Some ys) (Some zs) P Q R f a b = f xs ys zs a b
 
--- The reading ended behind what the reader told.
+-- The reading ended after what the reader returned.
 pub reads_image : (core : State) (held : List Portion) (all : Option (List ℕ))
     (old next : Reader) (told : Result (Option TapeItem) ImageFault) {mid new : State}
     {now then : List Portion} {answer : Answer} {fault : Option ImageFault}
@@ -298,7 +298,7 @@ reads_image core held all old next (Err met) {mid} {new} {now} {then} {answer} {
     (t.left refl).0 (nothing_more core mid new held now then old.place xs ys answer t s) k)) known
     m.takes
 
--- Of what came a part was refused.
+-- A part of the event's block was refused.
 pub record Refuses (came : Option TapeItem) (old new : State) (held now : List Portion)
     : Type 0 where
   pub stops : (item : TapeItem) → came ≡ Some item → StopsInside old (rest_of new) item held now

@@ -1,4 +1,4 @@
--- Noting sections, as the map does it.
+-- Adding sections, as the map does it.
 use Rattle.std.proofs.Common.{◌≡◌, Bool, true, false, List, [], ◌∷◌, refl}
 use Rattle.std.specs.Map.{lookup}
 use Rattle.indexmap.specs.IndexMap.{insert_entry}
@@ -15,7 +15,7 @@ inserted_here : (x : Told) (es : List Told) (key : SectionKey) (entry : Entry) (
 inserted_here x es key entry true e rest = simp e
 inserted_here x es key entry false e rest = simp (e, rest)
 
--- inserting what is kept is noting
+-- inserting what is kept is adding
 pub inserted : (es : List Told) (key : SectionKey) (entry : Entry)
     → insert_entry same_key es key (kept (lookup (same_key key) es) entry) ≡ noted es (key, entry)
 inserted [] key entry = refl

@@ -64,7 +64,7 @@ one_key a b e =
 stands_behind : (x : Told) (xs : List Told) (t : Told) → StandsIn xs t → StandsIn (x ∷ xs) t
 stands_behind x xs t (front, rest, e) = (x ∷ front, rest, ap (λ (r : List Told). x ∷ r) e)
 
--- the head, or behind it
+-- the head, or after it
 split : (x : Told) (xs : List Told) (t : Told) → StandsIn (x ∷ xs) t → (x ≡ t) ⊎ StandsIn xs t
 split x xs t ([], rest, e) = inl cc
 split x xs t (y ∷ front, rest, e) = inr (front, rest, cc)
@@ -76,7 +76,7 @@ none_stands t (y ∷ front, rest, e) = cc e
 abbrev better_if : Bool → Entry → Entry → Entry
 better_if c old new = if c then new else old
 
--- the entry of a section that was there
+-- the entry of a known section
 good_here : (items : List TapeItem) (x : Told) (xs : List Told) (t u : Told) (c : Bool) → t.0 ≡ x.0
     → (t.1.state ≡ Good → Shown items t.0 t.1)
     → (x.0, better_if c x.1 t.1) ≡ u → u.1.state ≡ Good → StandsIn (x ∷ xs) u ⊎ Shown items u.0 u.1

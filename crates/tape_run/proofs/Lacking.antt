@@ -1,4 +1,4 @@
--- Looking for a section that is lacking.
+-- Looking for a missing section.
 use Rattle.std.proofs.Common.{◌≡◌, ⊎_elim, ℕ, zero, suc, ◌+◌, ◌-◌, ◌<◌, ◌≤◌, Bool, true, false}
 use Rattle.std.proofs.Common.{List, Option, Some, None, refl, sym, ap, subst, ◌∙◌, arith}
 use Rattle.tape_run.specs.Passing.{Told}
@@ -7,7 +7,7 @@ use Rattle.std.proofs.lemmas.Bool.{cases_eq}
 use Rattle.tape_run.specs.Lacks.{entry_at, key_at, good_end, lack_by, first_lack, lack_of, GoesOnTo}
 use Rattle.tape_run.specs.Lacks.{IsFoundWhole, IsFirstLack, LackIsFirst}
 
--- behind a good section that does not end its file
+-- after a good section that does not end its file
 pub lacks_behind : (c : List Told) (set_id : List ℕ) (file sect left : ℕ) → 0 < left
     → good_end (entry_at c (key_at set_id file sect)) ≡ Some false
     → first_lack c set_id file sect left ≡ first_lack c set_id file (sect + 1) (left - 1)
@@ -21,7 +21,7 @@ abbrev Told_by : List Told → List ℕ → ℕ → Option ℕ → Type 0
 Told_by c set_id file lack =
     MatchOption lack (IsFoundWhole c set_id file) (IsFirstLack c set_id file)
 
--- one section more goes on
+-- one more section continues
 one_more : (c : List Told) (set_id : List ℕ) (file sect : ℕ) → GoesOnTo c set_id file sect
     → good_end (entry_at c (key_at set_id file sect)) ≡ Some false
     → GoesOnTo c set_id file (sect + 1)

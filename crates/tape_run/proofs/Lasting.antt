@@ -1,4 +1,4 @@
--- A crash brings back the note that a session made last.
+-- A crash leaves the last checkpoint of a session.
 use Rattle.std.proofs.Common.{◌≡◌, ◌⊎◌, ℕ, ◌+◌, List, [], ◌∷◌, ◌++◌, length, Some}
 use Rattle.std.proofs.Common.{refl, sym, ap, subst, ◌∙◌, arith, inl, inr, append-nil, length-append}
 use Rattle.std.proofs.lemmas.List.{take_all}
@@ -90,7 +90,7 @@ slice_last : (cs : List Point) (c : Point) → slice_get (cs ++ c ∷ []) (lengt
 slice_last [] c = refl
 slice_last (d ∷ cs) c = slice_last cs c
 
--- where the session stands was kept, alone
+-- only the session's position was saved
 pub last_saved : (old new : Seen) (point : Point) (t : Returns)
     → point ≡ saved old.place (weight_of old.parts) → OnlyThis point old.parts t → Saved old new
     → BringsLast t new
@@ -148,7 +148,7 @@ last_back old new n r t count went only last = λ back there x.
       (ap (λ z. slice_get z n) same ∙ is, subst (IsFront there) all (front_self there), w),
     )
 
--- it was noted where the session stands, and that was kept
+-- a checkpoint of the session's position was made, and that was saved
 pub last_kept : {S : Type 0} (g : Ghosts S) (a b : Story S)
     (held now : List Portion) (point : Point) (these : Returns)
     → point ≡ saved (seen g a held).place (weight_of held)
@@ -189,14 +189,14 @@ last_went g a b held now n count went adds =
       survived = adds.survived;
     }
 
--- where only the sink was walked the session is seen as it was
+-- if only the sink was walked, the session is seen as it was
 walked_seen : {S : Type 0} (g : Ghosts S) (a b : Story S) (parts : List Portion)
     → IsWalked g a b → g.refusals b.sink ≡ g.refusals a.sink
     → seen g a parts ≡ seen g b parts
 walked_seen g a b parts w calm =
     rw (w.core, w.notes, w.failures, calm) refl
 
--- what the images were brought to, behind the walk that writes the file
+-- the result of the images, after the walk that writes the file
 pub stood_walked : {S : Type 0} (g : Ghosts S) (a b c : Story S) (held parts : List Portion)
     → g.holds b.sink parts → KeepsLast g a held b parts
     → IsWalked g b c → g.refusals c.sink ≡ g.refusals b.sink

@@ -149,7 +149,7 @@ pub led_restart : (old mid new : Seen) (n : ℕ) (steps : List Step) (given : Li
 led_restart old mid new n steps given w rest t reels a s =
     rest (back_to t n (slice_get t.notes n)) reels a (there_restart old mid n w t s)
 
--- ---- the items are there
+-- ---- there are items
 
 items_one : (given : List (List ℕ)) (reels others : List (List TapeItem)) → AreItems given reels
     → AreItems given others → others ≡ reels

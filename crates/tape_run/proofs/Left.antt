@@ -1,4 +1,4 @@
--- What a crash brings back of a session in which a step was not made.
+-- What a crash leaves of a session in which a step failed.
 use Rattle.std.proofs.Common.{◌≡◌, ◌⊎◌, ℕ, ◌+◌, Bool, true, List, [], length, Some, slice_get}
 use Rattle.std.proofs.Common.{refl, sym, ap, subst, ◌∙◌, inl, inr, arith}
 use Rattle.tape_blocks.specs.Block.{Portion}
@@ -46,7 +46,7 @@ save_stays OutOfMemory old new h =
     (ap (λ (s : Seen). s.place) h, ap (λ (s : Seen). s.parts) h)
 save_stays OtherFile old new h = absurd h
 
--- where the session stands was not noted
+-- no checkpoint was made of the session's position
 pub save_left : {S : Type 0} (g : Ghosts S) (goes : Bool) (a b : Story S)
     (held now : List Portion) (fault : RunFault) → g.holds b.sink now
     → SaveFails fault (seen g a held) (seen g b now)
@@ -76,9 +76,9 @@ restart_left {S} g a b held n count =
     only_among (IsNoteOf n (seen g a held)) _ (g.crashes a.sink) (g.crashes b.sink)
     (λ back there i. inl (refl, (n, count, i)))
 
--- ---- behind a reel
+-- ---- after a reel
 
--- the note made last was made before the reel, with parts that were there
+-- the last checkpoint was made before the reel, with parts that were there
 last_before : (old mid : Seen) → mid.notes ≡ old.notes → IsFront old.parts mid.parts → IsKept old
     → (back : Point) (there : List Portion) → IsLast mid back there → IsLast old back there
 last_before old mid notes front kept back there (n, count, (is, f, w)) =
@@ -91,7 +91,7 @@ last_before old mid notes front kept back there (n, count, (is, f, w)) =
       (noted, subst (λ z. IsFront z old.parts) (sym same) at.is_front, w),
     )
 
--- a reel was read, and the step behind it was not made
+-- a reel was read, and the step after it failed
 pub left_then : {S : Type 0} (g : Ghosts S) (goes : Bool) (a b c : Story S)
     (held now : List Portion) → b.notes ≡ a.notes → IsFront held now
     → IsKeptFor goes (seen g a held)

@@ -13,7 +13,7 @@ pub into_front : (old new : Option (List ℕ)) (all part : List ℕ) → Appends
 into_front old new all part a =
     (all ++ a.0, a.1, a.2, ap (λ l. all ++ l) a.3 ∙ sym (append_assoc all a.0 a.1))
 
--- where a write failed, a front of the bytes was read, and a front of what is said of it written
+-- if a write failed, a prefix of the bytes was read, and a prefix of the text for it was written
 pub stopped : (old new : Option (List ℕ)) (bytes left : List ℕ) → StopSays old new bytes left
 stopped old new bytes left (at_item done item place walks wrote) = (
   (flat_map (λ s. s.bytes) walks.leads.spellings, walks.leads.whole),

@@ -1,4 +1,4 @@
--- A front of the listing stands when `list` stops within the text that comes next.
+-- If `list` stops within the next text, a prefix of the listing was written.
 use Rattle.std.proofs.Common.{◌≡◌, ℕ, ◌+◌, ◌≤◌, List, [], ◌∷◌, ◌++◌, length, Option, Some, None}
 use Rattle.std.proofs.Common.{IfSome, refl, sym, ap, ◌∙◌, arith, append_assoc, append-nil}
 use Rattle.std.proofs.KnownBytes.{Appends-trans}
@@ -16,8 +16,8 @@ use Rattle.tape_image.specs.Written.{AppendsFront}
 use Rattle.tape_run.proofs.ListLines.{lines_from-append}
 use Rattle.tape_run.proofs.ListedSoFar.{SoFar}
 
--- the bytes ys at a place begin so, and the listing of that, the numbers going on from count,
--- begins with the text
+-- the bytes ys at an offset begin like this, and their listing, numbered from count on, begins with
+-- the text
 pub record ListsNext (place count : ℕ) (ys text : List ℕ) : Type 0 where
   pub more : List TapeItem
   pub end : ℕ

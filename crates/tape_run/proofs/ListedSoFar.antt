@@ -1,4 +1,4 @@
--- What `list` has done behind some items, and what it leaves from there.
+-- What `list` has done after some items, and what it leaves from there.
 use Rattle.std.proofs.Common.{◌≡◌, ◌≢◌, ℕ, ◌+◌, List, [], ◌∷◌, ◌++◌, length, Option}
 use Rattle.std.proofs.Common.{Result, Err, IfErr, refl, sym, ap, subst, ◌∙◌, arith}
 use Rattle.std.proofs.Common.{append-nil, length-append}
@@ -26,7 +26,7 @@ use Rattle.tape_run.specs.Listed.{StopsWriting, at_item, at_end, at_fault}
 use Rattle.tape_run.proofs.Fitting.{kept}
 use Rattle.tape_run.proofs.ListLines.{lines_from-append}
 
--- Of the bytes `all` the items up to a place were read, and `left` is left; their lines were
+-- Of the bytes `all` the items up to an offset were read, and `left` is left; their lines were
 -- written.
 pub record SoFar (all left : Option (List ℕ))
     (place count : ℕ) (old new : Option (List ℕ)) : Type 0 where
@@ -125,7 +125,7 @@ fits_cause (Reserved w) fault before after old new other h = h
 fits_cause TooLong fault before after old new other h = h
 fits_cause Device fault before after old new other h = h
 
--- more was written behind what was written
+-- more was written after what was written
 pub into : (old mid new : Option (List ℕ)) (all part : List ℕ) → Appends old mid all
     → AppendsFront mid new part → AppendsInto old new all part
 into old mid new all part wrote front =

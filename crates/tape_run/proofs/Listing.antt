@@ -1,4 +1,4 @@
--- A catalogue's lines, sets and lacks, place by place.
+-- A catalogue's lines, sets and missing sections, index by index.
 use Rattle.std.proofs.Common.{◌≡◌, ℕ, zero, suc, ◌+◌, ◌-◌, ◌<◌, Bool, true, false, List, [], ◌∷◌}
 use Rattle.std.proofs.Common.{◌++◌, map, take, slice_get, Some, refl, sym, ap, ◌∙◌, arith}
 use Rattle.std.proofs.Common.{append-nil, append_assoc}
@@ -65,7 +65,7 @@ put_file [] set_id file = refl
 put_file (x ∷ xs) set_id file =
     put_here x xs set_id file (bytes_eq set_id x.0) refl (put_file xs set_id file)
 
--- what one more file lacks
+-- what is missing of one more file
 pub lack_behind : (c : List Told) (set_id : List ℕ) (file left : ℕ) → 0 < left
     → file_lacks c set_id file left
     ≡ one_lack set_id file (lack_of c set_id file) ++ file_lacks c set_id (file + 1) (left - 1)
@@ -74,7 +74,7 @@ lack_behind c set_id file (suc n) some =
     let one : n ≡ suc n - 1 = omega arith in
     ap (λ m. one_lack set_id file (lack_of c set_id file) ++ file_lacks c set_id (file + 1) m) one
 
--- what the files from one on lack, once what it lacks was added
+-- what is missing of the files from one on, after what is missing of that was added
 pub lack_added : (c : List Told) (set_id : List ℕ) (old new goal : List Lack) (before greatest : ℕ)
     → before < greatest
     → new ≡ old ++ one_lack set_id (before + 1) (lack_of c set_id (before + 1))
@@ -90,13 +90,13 @@ lack_added c set_id old new goal before greatest within put was =
     ∙ ap (λ ls. old ++ ls) (sym (lack_behind c set_id (before + 1) (greatest - before) some))
     ∙ was
 
--- and where no file is left
+-- and if no file is left
 pub lacks_all : (c : List Told) (set_id : List ℕ) (new goal : List Lack) (file left : ℕ) → left ≡ 0
     → new ++ file_lacks c set_id file left ≡ goal → new ≡ goal
 lacks_all c set_id new goal file left none was =
     sym (append-nil new) ∙ ap (λ n. new ++ file_lacks c set_id file n) (sym none) ∙ was
 
--- what the files of the set at a place lack
+-- what is missing of the files of the set at an index
 pub set_added : (c : List Told) (sets : List SetFiles) (old new : List Lack) (i : ℕ) (x : SetFiles)
     → Some x ≡ slice_get sets i → new ≡ old ++ file_lacks c x.0 1 x.1
     → old ≡ set_lacks c (take i sets) → new ≡ set_lacks c (take (i + 1) sets)

@@ -101,7 +101,7 @@ reel_made old mid o l failed r readers was now notes front none = record {
   );
 }
 
--- it was noted where the session stands, and that comes back alone
+-- a checkpoint was made of the session's position, and only that is left
 pub save_made : (old mid : Seen) → Saved old mid → (readers : List (Option (List ℕ)))
     (was now : Crashes) → LastAlone now mid → IsMade [] Save readers [] readers was now old mid
 save_made old mid v readers was now last = record {
@@ -125,7 +125,7 @@ pub reel_failed : (old new : Seen) (o : Option (List ℕ)) (readers : List (Opti
 reel_failed old new None readers fault h = tt
 reel_failed old new (Some bytes) readers fault h = h
 
--- ---- one behind another
+-- ---- one after another
 
 pub made_none : (s : Seen) (steps : List Step) (readers : List (Option (List ℕ)))
     → HasMade 0 [] s steps readers [] s steps readers
@@ -194,11 +194,11 @@ stops_here made which old mid new steps left rest step readers unread others beh
 
 -- ---- what is written of the readers
 
--- where nothing is written
+-- if nothing is written
 pub writes_none : (used : ℕ) (row : List Bool) → WritesFrom used [] row row used
 writes_none used row = (sym (take-append-drop used row), omega arith)
 
--- one is set where the row reaches
+-- one is set if the list reaches that far
 pub set_writes : (row : List Bool) (i : ℕ) (flag : Bool) → i < length row
     → slice_set row i flag ≡ take i row ++ written (flag ∷ []) (drop i row)
 set_writes [] i flag less = absurd (omega (arith, less))
@@ -206,7 +206,7 @@ set_writes (x ∷ row) zero flag less = refl
 set_writes (x ∷ row) (suc i) flag less =
     ap (λ r. x ∷ r) (set_writes row i flag (omega (arith, less)))
 
--- these behind those that were written
+-- these after those that were written
 written_more : (which more row : List Bool) → take (length which) (written which row)
     ++ written more (drop (length which) (written which row)) ≡ written (which ++ more) row
 written_more [] more row = refl
@@ -214,7 +214,7 @@ written_more (v ∷ which) [] [] = refl
 written_more (v ∷ which) (m ∷ more) [] = refl
 written_more (v ∷ which) more (x ∷ row) = ap (λ r. v ∷ r) (written_more which more row)
 
--- what a step writes behind what the steps before it wrote
+-- what a step writes after what the steps before it wrote
 pub wrote : (which more start row new : List Bool) (used now_used : ℕ) → length which ≡ used
     → row ≡ written which start → WritesFrom used more row new now_used
     → new ≡ written (which ++ more) start

@@ -27,7 +27,7 @@ use Rattle.tape_run.proofs.session.Session.restart.Reads as restart
 use Rattle.tape_run.proofs.session.Session.save.Reads as save
 use Rattle.tape_run.proofs.session.Session.want.Reads as want
 
--- ---- where a session begins, and what it wants
+-- ---- where a session begins, and what it needs
 
 -- first_file_always: a session of file 2 begins file 1.
 first_file_always : (S : _) (LS : _) (g : _) (d : _) (w : _) (κs : _) (a : _) (session : _) (s : _)
@@ -36,7 +36,7 @@ first_file_always : (S : _) (LS : _) (g : _) (d : _) (w : _) (κs : _) (a : _) (
 first_file_always S LS g d w κs a session s l two one =
     absurd (let e : 1 ≡ 2 = sym one ∙ ap (λ c. c.file) l.core ∙ two in omega arith)
 
--- no_file_begun: file 1 is refused, as if this were no number of a file.
+-- no_file_begun: file 1 is refused, as if this were not the number of a file.
 no_file_begun : (S : _) (LS : _) (g : _) (d : _) (w : _) (κs : _) (a : _) (s : _)
     → new.Learnt-named S LS g d w κs a (Err FileNumber) s → a.1.1.0 ≡ 1 → ⊥
 no_file_begun S LS g d w κs a s l one =
@@ -50,7 +50,7 @@ failures_from_1 : (S : _) (LS : _) (g : _) (d : _) (κs : _) (a : _) (z : _) (s 
 failures_from_1 S LS g d κs a z s l one =
     absurd (let e : 1 ≡ 0 = sym one ∙ l.failures in omega arith)
 
--- resumed_at_start: a session that is resumed at block 5 stands at the start of the file.
+-- resumed_at_start: a session that is resumed at block 5 is at the start of the file.
 resumed_at_start : (S : _) (LS : _) (g : _) (d : _) (κs : _) (a : _) (z : _) (s : _)
     → resume.Learnt-named S LS g d κs a z s
     → a.1.0.now.position ≡ Awaits 1 5 0 → z.core.position ≡ Awaits 1 0 0 → ⊥
@@ -59,7 +59,7 @@ resumed_at_start S LS g d κs a z s l five start =
     = ap (λ p. p.position) (l.resumed []).place in
     absurd (let n : 0 ≡ 5 = ap block_of (sym start ∙ e ∙ five) in omega arith)
 
--- nothing_wanted: a file of which nothing was read is told as complete.
+-- nothing_wanted: a file of which nothing was read is reported as complete.
 nothing_wanted : (S : _) (LS : _) (g : _) (d : _) (κs : _) (a : _) (s : _)
     → want.Learnt S LS g d κs a None s → a.0.now.core.position ≡ Awaits 1 0 0 → ⊥
 nothing_wanted S LS g d κs a s h start =
@@ -67,14 +67,14 @@ nothing_wanted S LS g d κs a s h start =
     let e = subst (λ p. None ≡ want_at file p) start h in
     absurd (cc e)
 
--- faults_numbered_anew: want of memory is told by the number of another file's checkpoint.
+-- faults_numbered_anew: out of memory has the number of another file's checkpoint.
 faults_numbered_anew : (κs : _) (a : _) (s : _) → number.Learnt κs a 5 s
     → a.0.now ≡ run.OutOfMemory → ⊥
 faults_numbered_anew κs a s h w = absurd (let e : 5 ≡ 4 = h ∙ ap number_of w in omega arith)
 
 -- ---- the count of readers that failed
 
--- what a reel of a reader that told its bytes made of a session
+-- the effect on a session of a reel whose reader told its bytes
 count_of : (bytes : List ℕ) (left : Option (List ℕ)) (P : List ℕ → Type 0) → IfSome left P
     → left ≡ Some bytes → P bytes
 count_of bytes left P k b = subst (λ v. IfSome v P) b k
@@ -93,7 +93,7 @@ failure_not_counted S R LS LR g d h e κs a answer s held bytes place l was b de
     ∙ ap (counted true) zero in
     absurd (omega (arith, n))
 
--- failure_counted_that_was_none: an image that is cut off is told as a reader that failed.
+-- failure_counted_that_was_none: an image that is cut off counts as a reader that failed.
 failure_counted_that_was_none : (κs : _) (a : _) (s : _) (place : ℕ) → is_device.Learnt κs a true s
     → a.0.now.fault ≡ Some (record { place = place; cause = causes.Truncated }) → ⊥
 failure_counted_that_was_none κs a s place h w =
@@ -101,7 +101,7 @@ failure_counted_that_was_none κs a s place h w =
 
 -- ---- notes
 
--- weight_not_noted: the checkpoint of a sink that holds parts tells the weight 0.
+-- weight_not_noted: the checkpoint of a sink that contains parts has the weight 0.
 weight_not_noted : (S : _) (LS : _) (g : _) (d : _) (κs : _) (a : _) (point : _) (s : _)
     (held : _) → save.Learnt-named S LS g d κs a (Ok point) s → g.holds a.0.now.sink held
     → weight_of held ≡ 5 → point.staged ≡ 0 → ⊥
@@ -124,7 +124,8 @@ two_notes place note set file light =
     let is : IsNote place note [] = record { of_set = set; of_file = file; staged = light } in
     ([], ([], refl), is, ([], ([], refl), is, ([], refl)))
 
--- restart_keeps_later_notes: of two notes both stay where the session went back to the first.
+-- restart_keeps_later_notes: both of two checkpoints remain after the session rolled back to the
+-- first.
 restart_keeps_later_notes : (S : _) (LS : _) (g : _) (d : _) (κs : _) (a : _) (s : _) (note : Point)
     → restart.Learnt-named S LS g d κs a (Ok tt) s
     → g.holds a.0.now.sink [] → a.0.now.notes ≡ note ∷ note ∷ []
@@ -140,8 +141,9 @@ restart_keeps_later_notes S LS g d κs a s note l was both set file light first 
     ∙ took_so_many a.1.0 a.0.now.notes (omega (arith, first, two)) in
     absurd (omega (arith, n, first, all))
 
--- restart_keeps_later_parts: at a note of weight 10 the sink holds parts of weight 20 still, as it
--- did before. That notes are kept so is what each session meets (`kept` of `Session::new`).
+-- restart_keeps_later_parts: at a checkpoint with weight 10 the sink still contains parts with
+-- weight 20, as before. Each session satisfies what is assumed of its checkpoints (`kept` of
+-- `Session::new`).
 restart_keeps_later_parts : (S : _) (LS : _) (g : _) (d : _) (κs : _) (a : _) (s : _)
     (held : List Portion) (point : Point) → restart.Learnt-named S LS g d κs a (Ok tt) s
     → g.holds a.0.now.sink held → IsKept (seen g a.0.now held)
@@ -183,8 +185,8 @@ restart_keeps_complete S LS g d κs a s held point l was kept noted start end =
     let f : Finished ≡ Awaits 1 0 0 = sym end ∙ e ∙ start in
     absurd (cc f)
 
--- saves_before_going_back: a session at block 5 goes back to a note at the start of the file, which
--- was all that could come back, and what comes back stands at block 5.
+-- saves_before_going_back: a session at block 5 rolls back to a checkpoint at the start of the
+-- file, the only one that a crash could leave, and what a crash leaves is at block 5.
 saves_before_going_back : (S : _) (LS : _) (g : _) (d : _) (κs : _) (a : _) (s : _)
     (held there : List Portion) (note back : Point)
     → restart.Learnt-named S LS g d κs a (Ok tt) s

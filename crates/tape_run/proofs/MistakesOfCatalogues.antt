@@ -36,7 +36,7 @@ use Rattle.tape_run.proofs.report.check_set.Reads as check_set
 
 -- ---- what an image adds
 
--- what a reader that tells its bytes stopped behind
+-- what a reader that tells its bytes stopped after
 stops_there : (before after : Option (List ℕ)) (items : List TapeItem) (stop want : ImageStop)
     (bytes left : List ℕ) → IfKnown before after (StopsBehind items stop)
     → before ≡ Some bytes → after ≡ Some left → stop ≡ want → StopsBehind items want bytes left
@@ -46,7 +46,7 @@ stops_there before after items stop want bytes left k b q w =
     (subst (λ v. IfKnown v after f) b k) in
     subst (λ v. StopsBehind items v bytes left) w r
 
--- fault_told_as_an_end: a fault at the front of an image is told as the end of its bytes.
+-- fault_told_as_an_end: a fault at the beginning of an image is reported as the end of its bytes.
 fault_told_as_an_end : (R : _) (LR : _) (h : _) (d : _) (κs : _) (a : _) (line : _) (s : _)
     → add.Learnt-named R LR h d κs a (Ok line) s
     → (bytes left : List ℕ) (items : List TapeItem) (place : ℕ) (cause : ImageCause)
@@ -82,7 +82,7 @@ abbrev first_file : List SectionKey → ℕ
 first_file [] = 0
 first_file (key ∷ keys) = key.file
 
--- replaced_entry_put_last: of two sections the first is met again, and stands last.
+-- replaced_entry_put_last: of two sections the first is found again, and is put last.
 replaced_entry_put_last : (R : _) (LR : _) (h : _) (d : _) (κs : _) (a : _) (line : _) (s : _)
     (x y : Told) (again : Entry) → add.Learnt-named R LR h d κs a (Ok line) s
     → a.0.now ≡ x ∷ y ∷ [] → x.0.file ≡ 1 → y.0.file ≡ 2
@@ -95,9 +95,9 @@ replaced_entry_put_last R LR h d κs a line s x y again l old one two new =
     let n : 2 ≡ 1 = sym two ∙ ap first_file f ∙ one in
     absurd (omega (arith, n))
 
--- ---- which sections items tell
+-- ---- which sections items contain
 
--- a section of file 1 of which so many blocks were met
+-- a section of file 1 of which this many blocks were found
 abbrev met : List ℕ → List ℕ → ℕ → Met
 met set_id volume blocks =
     let key : SectionKey = record { set_id = set_id; file = 1; sect = 1 } in
@@ -120,14 +120,14 @@ closing_numbers_not_compared κs a s id volume head h one two =
     ∙ ap (passing.closes (met id volume 5)) two in
     absurd (cc e)
 
--- what is told of a section with a trailer label
+-- the description of a section with a trailer label
 told_so : (κs : _) (a : _) (z : _) (s : _) (m : Met) (t : Trail1) → told.Learnt κs a z s
     → a.0.now ≡ m → a.1.0.now ≡ t → z ≡ passing.told m t
 told_so κs a z s m t h of by =
     h ∙ ap (λ v. passing.told v a.1.0.now) of ∙ ap (passing.told m) by
 
--- whole_count_compared: of 1,000,003 blocks the trailer label counts 3, as it has six digits, and
--- this is told as another count.
+-- whole_count_compared: the trailer label of 1,000,003 blocks counts 3, as it has six digits, and
+-- this is reported as another count.
 whole_count_compared : (κs : _) (a : _) (z : _) (s : _) (id volume : List ℕ) (head : Head1)
     → told.Learnt κs a z s → a.0.now ≡ met id volume 1000003
     → a.1.0.now ≡ trailer head 1 3 → z.1.state ≡ Count → ⊥
@@ -136,8 +136,8 @@ whole_count_compared κs a z s id volume head h of by w =
     ∙ ap (λ t. t.1.state) (told_so κs a z s (met id volume 1000003) (trailer head 1 3) h of by) in
     absurd (cc e)
 
--- wrong_count_called_good: of five blocks the trailer label counts four, and the section is told as
--- good.
+-- wrong_count_called_good: the trailer label of five blocks counts four, and the section is
+-- reported as good.
 wrong_count_called_good : (κs : _) (a : _) (z : _) (s : _) (id volume : List ℕ) (head : Head1)
     → told.Learnt κs a z s → a.0.now ≡ met id volume 5
     → a.1.0.now ≡ trailer head 1 4 → z.1.state ≡ Good → ⊥
@@ -146,7 +146,7 @@ wrong_count_called_good κs a z s id volume head h of by w =
     ∙ ap (λ t. t.1.state) (told_so κs a z s (met id volume 5) (trailer head 1 4) h of by) in
     absurd (cc e)
 
--- bad_section_called_good: one of five blocks could not be read, and the section is told as good.
+-- bad_section_called_good: one of five blocks is unreadable, and the section is reported as good.
 bad_section_called_good : (κs : _) (a : _) (z : _) (s : _) (id volume : List ℕ) (head : Head1)
     → told.Learnt κs a z s → a.0.now ≡ record (met id volume 5) { bad = true }
     → a.1.0.now ≡ trailer head 1 5 → z.1.state ≡ Good → ⊥
@@ -155,14 +155,14 @@ bad_section_called_good κs a z s id volume head h of by w =
     (told_so κs a z s (record (met id volume 5) { bad = true }) (trailer head 1 5) h of by) in
     absurd (cc e)
 
--- what is expected behind a block
+-- what is expected after a block
 behind_block : (κs : _) (a : _) (z : _) (s : _) (phase : Phase) (bytes : List ℕ)
     → step.Learnt κs a z s → a.0 ≡ phase → tape_item a.1.0 ≡ block bytes
     → z ≡ passing.step phase (block bytes)
 behind_block κs a z s phase bytes h at came =
     h ∙ ap (λ p. passing.step p (tape_item a.1.0)) at ∙ ap (passing.step phase) came
 
--- unread_second_label_accepted: a block that is no label stands for a section's second label.
+-- unread_second_label_accepted: a block that is not a label counts as a section's second label.
 unread_second_label_accepted : (κs : _) (a : _) (z : _) (s : _) (m : Met) (bytes : List ℕ)
     → step.Learnt κs a z s → a.0 ≡ phases.Second m → tape_item a.1.0 ≡ block bytes
     → kind_at bytes ≡ None → z.0 ≡ phases.Headers m → ⊥
@@ -181,7 +181,7 @@ abbrev first_of : List ℕ → ℕ
 first_of [] = 0
 first_of (c ∷ cs) = c
 
--- volume_left_blank: a section begins on volume ABC001, and spaces are told as its volume.
+-- volume_left_blank: a section begins on volume ABC001, and spaces are reported as its volume.
 volume_left_blank : (κs : _) (a : _) (z : _) (s : _) (m : Met) (head : Head1) (bytes : List ℕ)
     → step.Learnt κs a z s → a.0 ≡ phases.Next (codes "ABC001")
     → tape_item a.1.0 ≡ block bytes → head1_at bytes ≡ Ok head
@@ -194,16 +194,17 @@ volume_left_blank κs a z s m head bytes h at came read w blank =
     let n : 32 ≡ 65 = ap first_of (sym blank ∙ ap volume_in f) in
     absurd (omega (arith, n))
 
--- section_under_way_forgotten: the items end before a section's trailer label, and it is not told.
+-- section_under_way_forgotten: the items end before a section's trailer label, and it is not
+-- reported.
 section_under_way_forgotten : (κs : _) (a : _) (s : _) (m : Met) → under_way.Learnt κs a None s
     → a.0.now ≡ phases.Trailer m → ⊥
 section_under_way_forgotten κs a s m h at =
     let e : None ≡ Some (cut m) = h ∙ ap passing.under_way at in
     absurd (cc e)
 
--- ---- what is had and lacking
+-- ---- what is there and what is missing
 
--- the section that is answered as lacking is the first one
+-- the section that is returned as missing is the first one
 is_first : (κs : _) (a : _) (s : _) (sect : ℕ) → lacking.Learnt κs a (Some sect) s
     → IsFirstLack a.0.now.entries a.1.0 a.1.1.0 sect
 is_first κs a s sect h =
@@ -211,8 +212,8 @@ is_first κs a s sect h =
     subst (λ v. MatchOption v (IsFoundWhole c a.1.0 a.1.1.0) (IsFirstLack c a.1.0 a.1.1.0)) (sym h)
     (first_one c a.1.0 a.1.1.0)
 
--- first_lacking_section_skipped: section 1 is not there as good, and section 2 is told as the first
--- that is lacking.
+-- first_lacking_section_skipped: section 1 is not good, and section 2 is reported as the first
+-- missing one.
 first_lacking_section_skipped : (κs : _) (a : _) (s : _) → lacking.Learnt κs a (Some 2) s
     → good_end (entry_at a.0.now.entries (key_at a.1.0 a.1.1.0 1)) ≡ None → ⊥
 first_lacking_section_skipped κs a s h none =
@@ -220,7 +221,7 @@ first_lacking_section_skipped κs a s h none =
     let f : Some false ≡ None = sym e ∙ none in
     absurd (cc f)
 
--- lack_at_the_first_eov: section 1 is good and ends its file, and is told as lacking.
+-- lack_at_the_first_eov: section 1 is good and ends its file, and is reported as missing.
 lack_at_the_first_eov : (κs : _) (a : _) (s : _) → lacking.Learnt κs a (Some 1) s
     → good_end (entry_at a.0.now.entries (key_at a.1.0 a.1.1.0 1)) ≡ Some true → ⊥
 lack_at_the_first_eov κs a s h whole =
@@ -228,7 +229,7 @@ lack_at_the_first_eov κs a s h whole =
     let f : None ≡ Some true = sym e ∙ whole in
     absurd (cc f)
 
--- sections_listed_but_the_last: of a catalogue of one section no line is told.
+-- sections_listed_but_the_last: for a catalogue of one section no line is printed.
 sections_listed_but_the_last : (κs : _) (a : _) (report : _) (s : _) (t : Told)
     → check_set.Learnt-named κs a (Ok report) s → a.1.0.now ≡ t ∷ [] → report.lines ≡ [] → ⊥
 sections_listed_but_the_last κs a report s t l one none =
@@ -236,8 +237,8 @@ sections_listed_but_the_last κs a report s t l one none =
     let n : 0 ≡ 1 = ap length e in
     absurd (omega (arith, n))
 
--- last_file_not_judged: of a catalogue of one section, of file 1, which lacks section 1, no lack is
--- told.
+-- last_file_not_judged: for a catalogue of one section, of file 1 with section 1 missing, nothing
+-- is reported as missing.
 last_file_not_judged : (κs : _) (a : _) (report : _) (s : _) (t : Told)
     → check_set.Learnt-named κs a (Ok report) s → a.1.0.now ≡ t ∷ [] → t.0.file ≡ 1
     → lack_of (t ∷ []) t.0.set_id 1 ≡ Some 1 → report.lacks ≡ [] → ⊥

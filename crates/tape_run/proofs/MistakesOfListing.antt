@@ -73,7 +73,7 @@ stops_after_one_item R W LR LW g d h e κs a s bytes left place l b q old new be
     (codes "000001 MARK\n") (mark ∷ mark ∷ []) place Physical l b q old new begins) in
     omega arith)
 
--- no_last_line_at_physical_end: the line that tells the end of medium is left out
+-- no_last_line_at_physical_end: the line for the end of the medium is left out
 no_last_line_at_physical_end : (R : _) (W : _) (LR : _) (LW : _) (g : _) (d : _) (h : _) (e : _)
     (κs : _) (a : _) (s : _) (bytes left : List ℕ) (place : ℕ)
     → list_to.Learnt-named R W LR LW g d h e κs a (Ok tt) s
@@ -101,7 +101,7 @@ fault_swallowed R W LR LW g d h e κs a s bytes left items place cause l b q beg
     begins r.takes.begins).2 in
     absurd (cc)
 
--- what `list` left of bytes that are cut off behind these items
+-- what `list` left of bytes that are cut off after these items
 cut_off : (R : _) (W : _) (LR : _) (LW : _) (g : _) (d : _) (h : _) (e : _) (κs : _) (a : _) (s : _)
     (bytes left : List ℕ) (place : ℕ)
     → list_to.Learnt-named R W LR LW g d h e κs a
@@ -116,8 +116,8 @@ cut_off R W LR LW g d h e κs a s bytes left place l b q =
     subst (λ v. IfKnown (Some bytes) v k) q (subst (λ v. IfKnown v (g.remaining s.1.0.now) k) b
     l.fault)
 
--- flush_failure_told_as_reading: an image that was read to its end is told to be cut off, since its
--- listing could not be passed on
+-- flush_failure_told_as_reading: an image that was read to its end is reported as cut off, because
+-- its listing could not be flushed
 flush_failure_told_as_reading : (R : _) (W : _) (LR : _) (LW : _) (g : _) (d : _) (h : _) (e : _)
     (κs : _) (a : _) (s : _) (bytes left : List ℕ) (items : List TapeItem) (place end : ℕ)
     (ending : _)
@@ -133,7 +133,7 @@ flush_failure_told_as_reading R W LR LW g d h e κs a s bytes left items place e
     r.takes.cause.0).2 in
     absurd (cc)
 
--- fault_at_place_zero: an image is cut off at byte 1,884, and byte 0 is told
+-- fault_at_place_zero: an image is cut off at byte 1,884, and byte 0 is reported
 fault_at_place_zero : (R : _) (W : _) (LR : _) (LW : _) (g : _) (d : _) (h : _) (e : _) (κs : _)
     (a : _) (s : _) (bytes left : List ℕ) (items : List TapeItem)
     → list_to.Learnt-named R W LR LW g d h e κs a
@@ -145,7 +145,8 @@ fault_at_place_zero R W LR LW g d h e κs a s bytes left items l b q begins =
     absurd (let w : 1884 ≡ 0 = (Begins-one 0 bytes items r.items 1884 0 (faults causes.Truncated)
     (faults causes.Truncated) begins r.takes.cause.0).1 in omega arith)
 
--- last_line_after_fault: the end of medium is told of an image that is cut off behind a tape mark
+-- last_line_after_fault: the end of the medium is reported for an image that is cut off after a
+-- tape mark
 last_line_after_fault : (R : _) (W : _) (LR : _) (LW : _) (g : _) (d : _) (h : _) (e : _) (κs : _)
     (a : _) (s : _) (bytes left : List ℕ)
     → list_to.Learnt-named R W LR LW g d h e κs a

@@ -16,7 +16,7 @@ use Rattle.tape_run.specs.Placed.{PlacedItem, Places, PlacesToEnd, placed_lines,
 use Rattle.tape_run.proofs.PlacedExamples.{placed_first, one_places}
 use Rattle.tape_run.proofs.list_places.list_places_to.Reads as list_places_to
 
--- a tape mark behind an erase gap
+-- a tape mark after an erase gap
 abbrev behind_gap : PlacedItem
 behind_gap = record { item = mark; from = 0; behind = 8 }
 
@@ -40,7 +40,7 @@ its_first : (more : List ℕ) → slice_index (placed_lines 1 (behind_gap ∷ []
 unfolding digits
 its_first more = refl
 
--- the first number that is listed of a tape mark behind an erase gap is 4
+-- the first number listed for a tape mark after an erase gap is 4
 first_is_four : (R : _) (W : _) (LR : _) (LW : _) (g : _) (d : _) (h : _) (e : _) (κs : _) (a : _)
     (s : _) (bytes left text ys : List ℕ) (end : ℕ)
     → list_places_to.Learnt-named R W LR LW g d h e κs a (Ok tt) s
@@ -63,7 +63,7 @@ first_is_four R W LR LW g d h e κs a s bytes left text ys end l b q old new sta
     ∙ ap (λ is. slice_index (placed_lines 1 is ++ placed_end r.ending r.place) 0) same
     ∙ its_first (placed_end r.ending r.place)
 
--- place_behind_the_item: the place where the item ends is told
+-- place_behind_the_item: the offset where the item ends is reported
 place_behind_the_item : (R : _) (W : _) (LR : _) (LW : _) (g : _) (d : _) (h : _) (e : _) (κs : _)
     (a : _) (s : _) (bytes left ys : List ℕ) (end : ℕ)
     → list_places_to.Learnt-named R W LR LW g d h e κs a (Ok tt) s

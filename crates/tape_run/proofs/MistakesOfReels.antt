@@ -26,7 +26,7 @@ use Rattle.tape_run.specs.Reels.{Reads, ReadsReel, EndedByItem, EndedByMedium, E
 use Rattle.tape_run.specs.Reels.{answers_to, delivered_by}
 use Rattle.tape_run.proofs.session.Session.reel.Reads as reel
 
--- what a reel answers that is read from this position on, where the reader tells its bytes
+-- the answer of a reel that is read from this position on, if the reader tells its bytes
 read_from : (old : State) (p : Position) (before after : Option (List ℕ)) (bytes left : List ℕ)
     (answer : ReelAnswer)
     → IfKnown before after (λ xs ys. Reads old.position old xs ys answer)
@@ -62,7 +62,7 @@ cut_word = record {
   stops = in_word (omega arith) (omega arith) refl;
 }
 
--- of them only an answer with a fault can be given
+-- for these only an answer with a fault is possible
 cut_is_told : (core : State) (items : List TapeItem) (left : List ℕ) (answer : ReelAnswer)
     → answer.fault ≡ None
     → EndedByItem core items three left answer
@@ -84,7 +84,7 @@ cut_is_told core items left answer none (inr (inl w)) =
     absurd (cc e)
 cut_is_told core items left answer none (inr (inr w)) = absurd (cc (none, w.told))
 
--- image_fault_swallowed: of an image of three bytes, which are no word, no fault is told.
+-- image_fault_swallowed: for an image of three bytes, which are not a word, no fault is reported.
 image_fault_swallowed : (S : _) (R : _) (LS : _) (LR : _) (g : _) (d : _) (h : _) (e : _) (κs : _)
     (a : _) (answer : _) (s : _) (left : List ℕ)
     → reel.Learnt-named S R LS LR g d h e κs a (Ok answer) s
@@ -96,7 +96,7 @@ image_fault_swallowed S R LS LR g d h e κs a answer s left l p b q none =
     (h.remaining a.1.0.now) (h.remaining s.1.0.now) three left answer l.answer p b q in
     cut_is_told (mount_of old) c.items left answer none c.ended
 
--- the items behind which a cut image stopped are those that the answer's fault was met behind
+-- the items after which a cut image stopped are those before the answer's fault
 cut_behind : (core : State) (items xs : List TapeItem) (bytes left : List ℕ) (answer : ReelAnswer)
     (place end : ℕ)
     → answer.fault ≡ Some (record { place = place; cause = causes.Truncated })
@@ -117,7 +117,7 @@ cut_behind core items xs bytes left answer place end told begins (inr (inr w)) =
     (Begins-one 0 bytes items xs w.fault.place end (faults w.fault.cause)
     (faults causes.Truncated) there begins).0
 
--- blocks_not_counted: two blocks of a cut image were delivered, and none is told.
+-- blocks_not_counted: two blocks of a cut image were delivered, and none is counted.
 blocks_not_counted : (S : _) (R : _) (LS : _) (LR : _) (g : _) (d : _) (h : _) (e : _) (κs : _)
     (a : _) (answer : _) (s : _) (bytes left : List ℕ) (xs : List TapeItem) (place end : ℕ)
     → reel.Learnt-named S R LS LR g d h e κs a (Ok answer) s
@@ -142,7 +142,7 @@ blocks_not_counted S R LS LR g d h e κs a answer s bytes left xs place end l p 
 abbrev mounted : List ℕ → State
 mounted set_id = mount_of (reader_of set_id 1)
 
--- a tape mark is no volume label, and no reading goes on behind it
+-- a tape mark is not a volume label, and no reading continues after it
 marked_first : (set_id : List ℕ) (x : TapeItem) (items : List TapeItem) → x ≡ mark
     → AllByRecursion GoesOn (answers_to (mounted set_id) (x ∷ items)) → ⊥
 marked_first set_id x items e on = goes (subst
@@ -161,7 +161,7 @@ abbrev front_item : List TapeItem → TapeItem
 front_item [] = mark
 front_item (x ∷ xs) = x
 
--- a reading that went on behind these items of the image went on behind none
+-- a reading that continued after these items of the image continued after none
 none_before : (set_id : List ℕ) (items more : List TapeItem)
     → AllByRecursion GoesOn (answers_to (mounted set_id) items) → marks ≡ items ++ more
     → items ≡ []
@@ -226,7 +226,7 @@ reads_on_after_final_answer S R LS LR g d h e κs a answer s set_id bytes end st
     second_stays set_id bytes r.items answer end stop (omega (arith, eight)) begins none r.on
     r.ended
 
--- saved_inside_a_reel: while a reel is read a checkpoint is kept, and a crash then brings it back
+-- saved_inside_a_reel: while a reel is read a checkpoint is saved, and a crash then leaves it
 saved_inside_a_reel : (S : _) (R : _) (LS : _) (LR : _) (g : _) (d : _) (h : _) (e : _) (κs : _)
     (a : _) (z : _) (s : _) (held there : List Portion) (back : Point)
     → reel.Learnt-named S R LS LR g d h e κs a z s → g.holds a.0.now.sink held

@@ -17,7 +17,8 @@ use Rattle.tape_run.specs.ReelLine.{reel_line}
 
 -- ---- writing
 
--- taking_nothing_is_success: a device that took nothing of a text is told to have all of it
+-- taking_nothing_is_success: a device that accepted nothing of a text is reported to contain all of
+-- it
 taking_nothing_is_success : (W : _) (L : _) (h : _) (e : _) (κs : _) (a : _) (s : _)
     → write_text.Learnt-named W L h e κs a (Ok tt) s → a.1.0.now ≡ codes "MARK"
     → h.contents a.0.now ≡ Some [] → h.contents s.0.now ≡ Some [] → ⊥
@@ -51,7 +52,7 @@ unopened_without_items κs a z s h e w =
     absurd (let d : 78 ≡ 48 = ap (λ v. slice_index v 8)
     (sym w ∙ h ∙ ap (check_lines.image_line 1) e) in omega arith)
 
--- a section of a set whose first volume is ABC001, met on the volume DEF002
+-- a section of a set whose first volume is ABC001, found on the volume DEF002
 abbrev met : SectionLine
 met = record {
   set_id = codes "ABC001";
@@ -69,7 +70,7 @@ volume_in_place_of_the_set κs a z s h e w =
     absurd (let d : 68 ≡ 65 = ap (λ v. slice_index v 8)
     (sym w ∙ h ∙ ap check_lines.section_line e) in omega arith)
 
--- lack_told_by_its_file: section 2 of file 1 lacks, and section 1 is told
+-- lack_told_by_its_file: section 2 of file 1 is missing, and section 1 is reported
 lack_told_by_its_file : (κs : _) (a : _) (z : _) (s : _) → lack_line.Learnt κs a z s
     → a.0.now ≡ record { set_id = codes "ABC001"; file = 1; sect = 2 }
     → z.items ≡ codes "LACKS ABC001 1 1\n" → ⊥
@@ -78,7 +79,8 @@ lack_told_by_its_file κs a z s h e w =
     absurd (let d : 49 ≡ 50 = ap (λ v. slice_index v 15)
     (sym w ∙ h ∙ ap check_lines.lack_line e) in omega arith)
 
--- not_opened_told_as_not_labelled: an image that was not opened is told as a reel without labels
+-- not_opened_told_as_not_labelled: an image that was not opened is reported as a reel without
+-- labels
 not_opened_told_as_not_labelled : reel_line 1 None ≡ codes "REEL 1 NOT LABELLED\n" → ⊥
 unfolding digits
 not_opened_told_as_not_labelled w =

@@ -1,5 +1,5 @@
--- Answers that the contracts of a session exclude where it saves, where it is complete and where a
--- trailer counts other blocks: each is what a wrong body would give.
+-- Answers that the contracts of a session exclude when it saves, when it is complete and when a
+-- trailer counts other blocks: each is what a wrong body would return.
 use Rattle.std.proofs.Common.{Bool, ◌≡◌, ℕ, List, [], ◌∷◌, ◌++◌, length, false, refl}
 use Rattle.std.proofs.Common.{sym, ap, ◌∙◌, ◌+◌, subst, arith, length-append}
 use Rattle.std.specs.Prelude.{Option, Some, None, Ok, Err, IfSome, map, slice_get}
@@ -46,13 +46,12 @@ use Rattle.tape_run.proofs.session.Session.save.Reads as save
 
 -- ---- a checkpoint is saved
 
--- the weight that the first note tells
+-- the weight in the first checkpoint
 abbrev weight_noted : List Point → ℕ
 weight_noted [] = 0
 weight_noted (c ∷ cs) = c.staged
 
--- save_tells_no_sink: the sink was not told of block 5, and after a crash it comes back with the
--- start of the file
+-- save_tells_no_sink: block 5 was not saved in the sink, and a crash leaves the start of the file
 save_tells_no_sink : (S : _) (LS : _) (g : _) (d : _) (κs : _) (a : _) (point : _) (s : _)
     (held there : List Portion) (older : Point) → save.Learnt-named S LS g d κs a (Ok point) s
     → g.holds a.0.now.sink held → point.position ≡ Awaits 1 5 0
@@ -62,8 +61,8 @@ save_tells_no_sink S LS g d κs a point s held there older l was five back start
     let n : 0 ≡ 5 = ap block_of (sym start ∙ ap (λ c. c.position) e ∙ five) in
     absurd (omega (arith, n))
 
--- list_grows_behind_keep: there is no memory for the note, and the sink comes back with what it was
--- told before
+-- list_grows_behind_keep: there is no memory for the checkpoint, and a crash leaves what the sink
+-- had saved before
 list_grows_behind_keep : (S : _) (LS : _) (g : _) (d : _) (κs : _) (a : _) (s : _)
     (held : List Portion) (told : Point)
     → save.Learnt-named S LS g d κs a (Err faults.OutOfMemory) s
@@ -72,8 +71,8 @@ list_grows_behind_keep : (S : _) (LS : _) (g : _) (d : _) (κs : _) (a : _) (s :
 list_grows_behind_keep S LS g d κs a s held told l now none =
     none (subst (λ sink. (g.crashes sink).returns told held) (l.memory refl) now)
 
--- checkpoint_that_does_not_stand: a part was delivered, and the checkpoint tells a position that
--- has none before it
+-- checkpoint_that_does_not_stand: a part was delivered, and the checkpoint has a position without
+-- parts before it
 checkpoint_that_does_not_stand : (S : _) (LS : _) (g : _) (d : _) (κs : _) (a : _) (point : _)
     (s : _) (set : FileSet) (part : Portion) → save.Learnt-named S LS g d κs a (Ok point) s
     → g.holds a.0.now.sink (part ∷ [])
@@ -83,7 +82,7 @@ checkpoint_that_does_not_stand S LS g d κs a point s set part l was session sta
     let n : 1 ≡ 0 = ap length ((l.stands set (part ∷ []) was session).all ∙ start) in
     absurd (omega (arith, n))
 
--- note_without_its_weight: a part was delivered, and the note tells none
+-- note_without_its_weight: a part was delivered, and the checkpoint counts none
 note_without_its_weight : (S : _) (LS : _) (g : _) (d : _) (κs : _) (a : _) (s : _)
     (part : Portion) (told : Point) → note.Learnt-named S LS g d κs a (Ok tt) s
     → g.holds a.0.now.sink (part ∷ []) → a.0.now.notes ≡ [] → s.0.now.notes ≡ told ∷ []
@@ -95,31 +94,31 @@ note_without_its_weight S LS g d κs a s part told l was none one empty =
     let n : weight_of (part ∷ []) ≡ 0 = sym (ap weight_noted same) ∙ empty in
     absurd (omega (arith, n, weight_more part []))
 
--- note_tells_the_sink: the sink is told of a note that is for the list alone
+-- note_tells_the_sink: a checkpoint that is only for the list is saved in the sink
 note_tells_the_sink : (S : _) (LS : _) (g : _) (d : _) (κs : _) (a : _) (s : _)
     → note.Learnt-named S LS g d κs a (Ok tt) s → (s.0.now.sink ≡ a.0.now.sink → ⊥) → ⊥
 note_tells_the_sink S LS g d κs a s l other = other l.sink
 
--- no_memory_for_a_note_told_as_no_note: the list could not grow, and it is told that there is no
--- such note
+-- no_memory_for_a_note_told_as_no_note: the list could not grow, and a missing checkpoint is
+-- reported
 no_memory_for_a_note_told_as_no_note : (S : _) (LS : _) (g : _) (d : _) (κs : _) (a : _) (s : _)
     → note.Learnt-named S LS g d κs a (Err faults.NoSuchPoint) s → ⊥
 no_memory_for_a_note_told_as_no_note S LS g d κs a s l = absurd (let e = l.err.0 in cc)
 
--- last_note_not_counted: of one note none is counted
+-- last_note_not_counted: one checkpoint is counted as none
 last_note_not_counted : (S : _) (LS : _) (g : _) (d : _) (κs : _) (a : _) (s : _) (told : Point)
     → notes.Learnt S LS g d κs a 0 s → a.0.now.notes ≡ told ∷ [] → ⊥
 last_note_not_counted S LS g d κs a s told l one = absurd (omega (arith, l, ap length one))
 
--- a sink of which this is said holds one list of parts, as a sink in memory does
+-- a sink of this kind contains one list of parts, as a sink in memory does
 abbrev HoldsOne : (List Portion → Type 0) → Type 0
 HoldsOne holds = (xs ys : List Portion) → holds xs → holds ys → xs ≡ ys
 
--- the first step was not made, as the sink's device failed
+-- the first step failed, because the sink's device failed
 abbrev at_first : Stopped
 at_first = record { step = 0; fault = faults.Sink Device }
 
--- how the step failed that was not made, where it is the first one
+-- how the failed step failed, if it is the first one
 first_fails : (which : List Bool) (old new : Seen) (step : Step) (is steps : List Step)
     (are left over : List (Option (List ℕ))) (fault : RunFault) → is ≡ step ∷ steps → are ≡ left
     → RunsUpTo which old is are over 0 fault new → Fails step left fault old new
@@ -130,8 +129,8 @@ first_fails which old new step is steps are left over fault same these r =
     subst (λ z. Fails z left fault old new) same_step
     (subst (λ z. Fails h.step left fault z new) h.runs.1 h.fails)
 
--- a run whose first step was not made, as the sink's device failed: what the sink holds then, where
--- the step is no going back, and how it failed
+-- a run whose first step failed because the sink's device failed: the sink's contents then, if the
+-- step is not a rollback, and how it failed
 stopped_first : (S : _) (R : _) (LS : _) (LR : _) (g : _) (d : _) (h : _) (e : _) (κs : _) (a : _)
     (s : _) (step : Step) (steps : List Step) (held : List Portion) (left : List (Option (List ℕ)))
     → run.Learnt-named S R LS LR g d h e κs a (Err at_first) s
@@ -184,7 +183,7 @@ refused_mount_loses_the_parts S R LS LR g d h e κs a s part bytes l was fresh t
 
 -- ---- what a reel answers
 
--- complete_while_something_is_wanted: Complete is answered, and block 3 is awaited
+-- complete_while_something_is_wanted: the answer is Complete, and block 3 is expected
 complete_while_something_is_wanted : (S : _) (R : _) (LS : _) (LR : _) (g : _) (d : _) (h : _)
     (e : _) (κs : _) (a : _) (answer : _) (s : _)
     → reel.Learnt-named S R LS LR g d h e κs a (Ok answer) s
@@ -193,7 +192,7 @@ complete_while_something_is_wanted S R LS LR g d h e κs a answer s l told waits
     let f : Awaits 1 3 0 ≡ Finished = sym waits ∙ l.complete told in
     absurd (cc f)
 
--- finished_told_as_something_else: the file is complete behind the reel, and it is told that a
+-- finished_told_as_something_else: the file is complete after the reel, and the answer is that a
 -- section is
 finished_told_as_something_else : (S : _) (R : _) (LS : _) (LR : _) (g : _) (d : _) (h : _)
     (e : _) (κs : _) (a : _) (answer : _) (s : _)
@@ -225,7 +224,7 @@ led_there old new known bytes xs end stop fault left r is none b =
     led_to old new bytes xs end stop fault left
     (subst (λ v. IfSome v (λ z. Reeled z left (given.is_device fault) old new)) is r) none b
 
--- behind an item that ended the reading with less than the file, the file is not complete
+-- after an item that ended the reading before the file's end, the file is not complete
 not_finished : (core : State) (x : TapeItem) (more : List TapeItem) (why : Reason)
     → (step_of core (Some x)).0 ≡ Useless why
     → (behind_items (step_of core (Some x)).1 more).position ≡ Finished → ⊥
@@ -239,8 +238,8 @@ not_finished core x more why told end =
     = sym told ∙ (step_tells core (Some x)).told (sym stays ∙ end) in
     absurd (cc f)
 
--- count_passed_over: a trailer counts 9 blocks where 6 were seen, on whatever tape, and the session
--- stands at the end of the file
+-- count_passed_over: a trailer counts 9 blocks but 6 were seen, on any tape, and the session is at
+-- the end of the file
 count_passed_over : (S : _) (R : _) (LS : _) (LR : _) (g : _) (d : _) (h : _) (e : _) (κs : _)
     (a : _) (answer : _) (s : _) (held : List Portion) (bytes : List ℕ) (end : ℕ) (stop : Stop)
     (items more : List TapeItem) (trailer : TapeItem)
@@ -267,8 +266,8 @@ idle_broken : (p : Position) → IsIdle p Broken
 idle_broken Finished = tt
 idle_broken (Awaits sect b part) = tt
 
--- broken_reader_mended: a trailer counted other blocks, and behind one more reel the session goes
--- on
+-- broken_reader_mended: a trailer counted other blocks, and after one more reel the session
+-- continues
 broken_reader_mended : (S : _) (R : _) (LS : _) (LR : _) (g : _) (d : _) (h : _) (e : _) (κs : _)
     (a : _) (answer : _) (s : _) (held : List Portion) (bytes : List ℕ) (end : ℕ) (stop : Stop)
     (items : List TapeItem)

@@ -1,4 +1,4 @@
--- What was noted behind some items.
+-- The sections added after some items.
 use Rattle.std.proofs.Common.{◌≡◌, ℕ, ◌+◌, ◌≤◌, List, [], ◌∷◌, ◌++◌, length, Option, Some, None}
 use Rattle.std.proofs.Common.{Result, Ok, Err, Bool, true, false, refl, sym, ap, subst, ◌∙◌, arith}
 use Rattle.std.proofs.Common.{append-nil, append_assoc, length-append}
@@ -36,8 +36,8 @@ use Rattle.tape_run.specs.Added.{Adds, AddsInPart, StopsBehind, stop_at}
 use Rattle.tape_run.proofs.ShownSections.{told_if}
 use Rattle.tape_run.proofs.KeepingPlaces.{noted_all-append, keeps_places, good_is_shown}
 
--- Of the bytes `all` the items up to a place were read, and `left` is left; what they tell was
--- noted.
+-- Of the bytes `all` the items up to an offset were read, and `left` is left; the sections in them
+-- were added.
 pub record SoFar (all left : Option (List ℕ)) (place count : ℕ) (old : List Told)
     (phase : Phase) (new : List Told) : Type 0 where
   pub items : List TapeItem
@@ -97,7 +97,7 @@ one_more all left next p q count item old phase after mid new s takes goes notes
       ∙ ap (noted_all old) (sym told);
 }
 
--- what was noted at the end
+-- the sections added at the end
 pub all_noted : (all left : Option (List ℕ)) (p count : ℕ) (old : List Told)
     (phase : Phase) (mid new : List Told)
     → (s : SoFar all left p count old phase mid)
@@ -204,7 +204,7 @@ one_told : (met : Met) (r : Result Trail1 LabelFault)
 one_told met (Ok trail) = one_closed met trail (closes met trail)
 one_told met (Err _) = omega arith
 
--- a step meets one data block at most
+-- a step finds at most one data block
 pub one_block : (p : Phase) (x : TapeItem) → blocks_of (step p x).0 ≤ blocks_of p + 1
 one_block Volume (block b) = one_volume (vol1_at b)
 one_block (Labels v) (block b) = one_labels v (is_volume_label b) (head1_at b)

@@ -1,4 +1,4 @@
--- The notes of a session stand with ever longer fronts of its parts.
+-- The checkpoints of a session are valid for ever longer prefixes of its parts.
 use Rattle.std.proofs.Common.{◌≡◌, ℕ, zero, suc, ◌+◌, ◌≤◌, List, [], ◌∷◌, ◌++◌, length, take, Some}
 use Rattle.std.proofs.Common.{refl, sym, ap, subst, ◌∙◌, arith, append_assoc, append-nil}
 use Rattle.std.specs.List.{slice_get}
@@ -23,7 +23,7 @@ pub weight_more : (x : Portion) (xs : List Portion)
     → weight_of (x ∷ xs) ≡ (5 + length x.bytes) + weight_of xs
 weight_more x xs = refl
 
--- of fronts of one list the weight tells which
+-- prefixes of one list are determined by their weight
 pub same_front : (xs zs ys : List Portion) → IsFront xs ys → IsFront zs ys
     → weight_of xs ≡ weight_of zs → xs ≡ zs
 same_front [] [] ys f g h = refl
@@ -55,7 +55,7 @@ notes_grow set file front [] parts more f h = front_trans front parts more h f
 notes_grow set file front (c ∷ cs) parts more f (ps, a, s, rest) =
     (ps, a, s, notes_grow set file ps cs parts more f rest)
 
--- what notes stand with are fronts of the parts
+-- checkpoints are valid for prefixes of the parts
 pub notes_front : (set : FileSet) (file : ℕ) (front : List Portion) (notes : List Point)
     (parts : List Portion)
     → AreNotes set file front notes parts → IsFront front parts
@@ -72,7 +72,7 @@ notes_push set file front [] c parts s h = (parts, h, s, front_self parts)
 notes_push set file front (d ∷ ds) c parts s (ps, a, t, rest) =
     (ps, a, t, notes_push set file ps ds c parts s rest)
 
--- The n-th note stands with a front, and the notes up to it are those of this front.
+-- The n-th checkpoint is valid for a prefix, and the checkpoints up to it are those of this prefix.
 pub record NoteAt (set : FileSet) (file : ℕ) (front : List Portion) (notes : List Point)
     (n : ℕ) (c : Point) (parts : List Portion) : Type 0 where
   pub ps : List Portion
@@ -103,7 +103,7 @@ note_at set file front (d ∷ ds) (suc n) c parts e (ps, a, s, rest) =
       notes_left = rw more ((ps, a, s, next.notes_left));
     }
 
--- a front weighs no more
+-- a prefix weighs no more
 pub light_front : (xs r : List Portion) → weight_of xs ≤ weight_of (xs ++ r)
 light_front [] r = omega arith
 light_front (x ∷ xs) r = omega (arith, light_front xs r, weight_more x xs, weight_more x (xs ++ r))

@@ -1,4 +1,4 @@
--- A catalogue of whole copies of a lawful set's volumes lacks nothing of the set.
+-- For complete copies of a valid set's volumes nothing of the set is missing from the catalogue.
 use Rattle.std.proofs.Common.{◌≡◌, ℕ, zero, suc, ◌+◌, ◌≤◌, Bool, true, false, List, [], ◌∷◌, length}
 use Rattle.std.proofs.Common.{Option, Some, None, refl, sym, ap, ◌∙◌, arith}
 use Rattle.std.specs.Prelude.{⊤, if◌then◌else◌, ◌&&◌, not}
@@ -15,7 +15,7 @@ use Rattle.tape_run.proofs.KeepingPlaces.{one_key}
 
 -- ---- what each entry of the catalogue says
 
--- all that was told of the key told this kind of trailer
+-- everything added for the key has this kind of trailer
 abbrev pub KindIs : SectionKey → Bool → List Told → Type 0
 KindIs key eof ts = AllByRecursion (λ t. t.0 ≡ key → t.1.eof ≡ eof) ts
 
@@ -84,7 +84,7 @@ FileGood c set_id file sect [] = ⊤
 FileGood c set_id file sect (s ∷ ss) = GoodAs c (key_at set_id file sect) (ends_file s)
     × FileGood c set_id file (sect + 1) ss
 
--- a file that ends with its last section, and whose sections are good, lacks none
+-- nothing is missing of a file that ends with its last section, if its sections are good
 pub whole_file : (c : List Told) (set_id : List ℕ) (file sect most : ℕ) (ss : List Section)
     → Ends ss → length ss ≤ most → FileGood c set_id file sect ss
     → first_lack c set_id file sect most ≡ None

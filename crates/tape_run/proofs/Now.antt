@@ -1,4 +1,4 @@
--- What is left where the records were written as the images were read.
+-- The result if the records were written while the images were read.
 use Rattle.std.proofs.Common.{◌≡◌, ℕ, ◌⊎◌, List, [], map, Option, Some}
 use Rattle.std.proofs.Common.{None, refl, sym, ap, subst, ◌∙◌, inl, arith, append-nil, false}
 use Rattle.std.specs.Io.KnownBytes.{Appends}

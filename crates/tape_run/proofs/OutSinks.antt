@@ -27,7 +27,7 @@ content_is : (begun : Option (List ℕ)) (bytes : List ℕ)
 content_is None bytes = refl
 content_is (Some front) bytes = refl
 
--- what a joined list of parts is, and how it stands written
+-- a joined list of parts, and its text
 abbrev pub text_of : Form → Joined → List ℕ
 text_of form j = records_text form j.records ++ begun_text j.rest
 
@@ -35,7 +35,7 @@ regroup : (t b bytes end : List ℕ) → t ++ ((b ++ bytes) ++ end) ≡ (t ++ b)
 regroup t b bytes end = ap (λ x. t ++ x) (append_assoc b bytes end)
     ∙ sym (append_assoc t b (bytes ++ end))
 
--- One part more, in what was joined, in how many records ended, and whether one is begun.
+-- One more part: what was joined, how many records ended, and whether one is unfinished.
 pub record Grows (form : Form) (old new : Joined) (p : Portion) : Type 0 where
   pub text : text_of form new ≡ text_of form old ++ part_text form p
   pub count : length new.records ≡ with_end (leaves p.span) (length old.records)
@@ -129,7 +129,7 @@ put_done contents form out new weight heavier records more begun begins failed p
       );
     }
 
--- parts of which a front weighs as much as all are that front
+-- parts a prefix of which weighs as much as all are that prefix
 pub all_kept : {W : Type 0} (contents : W → Option (List ℕ)) (form : Form) (out : W)
     (weight records : ℕ) (begun failed : Bool) (front rest : List Portion)
     → weight_of front ≡ weight

@@ -26,7 +26,7 @@ pub placed_worked : PlacesAreWorked
 unfolding digits
 placed_worked = refl
 
--- what is placed was walked over
+-- placed items were walked over
 pub placed_first : PlacedAreFirst
 placed_first [] p q xs ys (at, same) =
     let P : ℕ → Type 0 = λ n. Walks p xs [] n ys in
@@ -53,14 +53,14 @@ no_gap g gs given i none is same =
     let one : length given ≡ 1 = ap length is in
     absurd (omega (arith, ap length none, length-append g.given (gifts gs), ap length same, one))
 
--- gaps behind a gap are gaps
+-- gaps after a gap are gaps
 gaps_behind : (g : Spelling) (gs : List Spelling) → [] ≡ gifts (g ∷ gs) → [] ≡ gifts gs
 gaps_behind g gs none =
     let few : length (gifts gs) ≡ 0 =
     omega (arith, ap length none, length-append g.given (gifts gs)) in
     sym (none_left (gifts gs) few)
 
--- behind gaps, the bytes begin with one spelling of an item
+-- after gaps, the bytes begin with one encoding of an item
 one_behind : (fs gs : List Spelling) (s t ys zs : List ℕ) (f h : List TapeItem) (i j : TapeItem)
     → [] ≡ gifts fs → [] ≡ gifts gs → IsSpelling s f → IsSpelling t h → f ≡ i ∷ [] → h ≡ j ∷ []
     → texts fs ++ (s ++ ys) ≡ texts gs ++ (t ++ zs)

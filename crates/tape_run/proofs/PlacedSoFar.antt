@@ -1,4 +1,4 @@
--- What `list --offsets` has done behind some items, and what it leaves from there.
+-- What `list --offsets` has done after some items, and what it leaves from there.
 use Rattle.std.proofs.Common.{◌≡◌, ◌≢◌, ℕ, ◌+◌, ◌-◌, List, [], ◌∷◌, ◌++◌, length, Option}
 use Rattle.std.proofs.Common.{Result, Err, IfErr, refl, sym, ap, subst, ◌∙◌, arith}
 use Rattle.std.proofs.Common.{append-nil, append_assoc, length-append}
@@ -48,7 +48,7 @@ placed_lines-append n (x ∷ items) more =
     ∙ sym (append_assoc (placed_line n x) (placed_lines (n + 1) items)
     (placed_lines (n + length (x ∷ items)) more))
 
--- Of the bytes `all` the items up to a place were read, and `left` is left; their lines were
+-- Of the bytes `all` the items up to an offset were read, and `left` is left; their lines were
 -- written.
 pub record PlacedSoFar (all left : Option (List ℕ))
     (place count : ℕ) (old new : Option (List ℕ)) : Type 0 where

@@ -116,7 +116,7 @@ refused_position old new n begun =
     kept (Awaits sect b part) n e = rw e refl
     kept Finished n e = refl
 
--- at the awaited part it stands as it did
+-- at the expected part it is unchanged
 pub stands_first : (old new : State) (n : ℕ) (begun : Bool) → n ≡ part_of old.position
     → place_of (refused_point (saved old 0) (saved new 0) n begun) ≡ record old { phase = Over }
 stands_first old new n begun first =
@@ -126,7 +126,7 @@ stands_first old new n begun first =
     (λ e. refl)
     (λ e. absurd (grind (arith, nat_tests)))
 
--- and behind it as the block told
+-- and after it the block determines its state
 pub stands_behind : (old new : State) (n : ℕ) (begun : Bool) → part_of old.position < n
     → ((place_of (refused_point (saved old 0) (saved new 0) n begun)).known ≡ new.known)
     × (begun ≡ false
@@ -214,7 +214,7 @@ pub came_block : (arrived : Option TapeItem) (x : TapeItem) (bytes : List ℕ) �
     → arrived ≡ Some (block bytes) → x ≡ block bytes
 came_block arrived x bytes e f = cc
 
--- an event that is no block brings none
+-- an event that is not a block delivers none
 pub no_block : (e : Event) (bytes : List ℕ) → ((b : _) → e ≡ Block b → ⊥)
     → arrival e ≡ Some (block bytes) → ⊥
 no_block (Block b) bytes not is = not b refl

@@ -1,4 +1,4 @@
--- The parts before the first one that leaves its record begun, met in a walk.
+-- The parts before the first one that leaves its record unfinished, found in a walk.
 use Rattle.std.proofs.Common.{Ok, ◌≡◌, ℕ, ◌+◌, ◌-◌, ◌<◌, ◌≤◌, Bool, true, false}
 use Rattle.std.proofs.Common.{List, [], ◌∷◌, ◌++◌, length, Option, Some, None, refl}
 use Rattle.std.proofs.Common.{sym, ap, subst, ◌∙◌, arith, append_assoc, append-nil}
@@ -44,7 +44,7 @@ front_ends (p ∷ ps) rest (e, each) =
     let more = front_ends ps rest each in
     ap (λ b. with_end b (ends (ps ++ rest))) e ∙ omega (arith, more)
 
--- So many records stand before the rest.
+-- This many records precede the rest.
 pub front_records : (first rest : List Portion) → EachEnds first
     → length (join (first ++ rest)).records ≡ length first + length (join rest).records
 front_records first rest each =
@@ -162,7 +162,7 @@ front_all form count old new parts f =
           ∙ sym (front_text form f.first f.rest f.each) ∙ ap (output_of form) (sym f.are)) f.wrote,
     )
 
--- and then the rest was written, or a front of it
+-- and then the rest was written, or a prefix of it
 pub rest_written : (form : Form) (count records : ℕ) (all : Bool) (old mid new : Option (List ℕ))
     (parts : List Portion) (f : WritesFront form count all old mid parts)
     → (records ≡ length (join (f.first ++ f.rest)).records)
@@ -185,7 +185,7 @@ rest_failed form count all old mid new parts f wrote =
 
 -- ---- a walk that passes them
 
--- Of these parts so many are still to be passed, and then come the others.
+-- This many of these parts are still to be skipped, and then the others come.
 pub record Passes (ahead : List Portion → Type 0) (left : ℕ) (rest : List Portion) : Type 0 where
   pub before : List Portion
   pub is_ahead : ahead (before ++ rest)

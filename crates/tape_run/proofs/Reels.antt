@@ -24,7 +24,7 @@ use Rattle.tape_run.specs.Reels.{ReadsToBlock, IsDelivery}
 use Rattle.tape_run.specs.Taking.{came_of, fault_of}
 use Rattle.tape_run.proofs.ByTable.{core_more}
 
--- So far: the bytes up to a place are these items, behind each of which the reading went on.
+-- So far: the bytes up to an offset are these items, after each of which the reading continued.
 pub record ReadsSoFar (old new : State) (blocks at : ℕ) (bytes left : List ℕ) : Type 0 where
   pub items : List TapeItem
   pub taken : Walks 0 bytes items at left
@@ -32,13 +32,13 @@ pub record ReadsSoFar (old new : State) (blocks at : ℕ) (bytes left : List ℕ
   pub counted : blocks ≡ delivered_by (answers_to old items)
   pub core : new ≡ behind_items old items
 
--- ---- what came
+-- ---- the events
 
 final_ends : (answer : Answer) → GoesOn answer → IsFinal answer → ⊥
 final_ends answer (inl e) final = subst IsFinal e final
 final_ends answer (inr e) final = subst IsFinal e final
 
--- What the reading goes on behind is an item.
+-- If the reading continues after an event, it is an item.
 pub item_came : (old new : State) (came : Option TapeItem) (answer : Answer)
     → (came ≡ None → (rest_of new ≡ rest_of old) × IsFinal answer) → GoesOn answer
     → (item : TapeItem) × (came ≡ Some item)
@@ -89,7 +89,7 @@ delivered_more (SectionDone ∷ xs) x = delivered_more xs x
 delivered_more (Complete ∷ xs) x = delivered_more xs x
 delivered_more (Useless why ∷ xs) x = delivered_more xs x
 
--- Of an image of which nothing was read.
+-- For an image of which nothing was read.
 pub none_read : (core : State) (left : Option (List ℕ)) (place : ℕ) → place ≡ 0
     → IfKnown left left (ReadsSoFar core core 0 place)
 none_read core left place first = known_same left left (ReadsSoFar core core 0 place) refl
@@ -134,7 +134,7 @@ one_read old mid new blocks more p q bytes ys zs item answer step on count s k =
       core = core_more old mid new answer s.items item step s.core;
     }
 
--- An item was taken behind which the reading goes on.
+-- An item was taken after which the reading continues.
 pub read_on : (core mid : State) (blocks : ℕ) (all : Option (List ℕ)) {new : State} {more : ℕ}
     {old next : Reader} {item : TapeItem} {answer : Answer}
     → IfKnown all old.left (ReadsSoFar core mid blocks old.place) → GivesItem old item next
@@ -205,7 +205,7 @@ by_fault old mid new blocks p bytes ys zs fault answer reel step is told count s
       }));
 }
 
--- The reading ended behind what the reader told.
+-- The reading ended after what the reader returned.
 pub reads_reel : (core mid : State) (blocks : ℕ) (all : Option (List ℕ)) (old next : Reader)
     (told : Result (Option TapeItem) ImageFault) {new : State} {answer : Answer} {reel : ReelAnswer}
     → IfKnown all old.left (ReadsSoFar core mid blocks old.place) → Meets old told next
@@ -228,7 +228,7 @@ reads_reel core mid blocks all old next (Err met) {new} {answer} {reel} known m
     (λ xs ys zs s t. by_fault core mid new blocks old.place xs ys zs met answer reel step is fault
     count s t) known m.takes
 
--- Of a block that was delivered a part was refused.
+-- A part of a delivered block was refused.
 pub reads_to_block : (core mid : State) (blocks : ℕ) (all : Option (List ℕ)) {old next : Reader}
     {content : List ℕ}
     → IfKnown all old.left (ReadsSoFar core mid blocks old.place)

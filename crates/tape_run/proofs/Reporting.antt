@@ -1,4 +1,4 @@
--- What of a report was written, and what of it comes next.
+-- What of a report was written, and what comes next.
 use Rattle.std.proofs.Common.{◌≡◌, inl, inr, ℕ, ◌+◌, ◌-◌, ◌<◌, suc, Bool, List}
 use Rattle.std.proofs.Common.{[], ◌∷◌, ◌++◌, length, map, take, drop, get_or, Option, option_map}
 use Rattle.std.proofs.Common.{Result, Ok, Err, IfOk, OnOk, OnErr, refl, sym, ap, subst, ◌∙◌}
@@ -21,7 +21,7 @@ use Rattle.tape_image.specs.Written.{AppendsFront}
 use Rattle.tape_run.specs.Reeling.{Mounting, AreMounted}
 use Rattle.tape_run.proofs.Turns.{one_mounted}
 
--- all of one text was written, and a front of the next
+-- all of one text was written, and a prefix of the next
 pub front_then : (old mid new : Option (List ℕ)) (a b more all : List ℕ) → Appends old mid a
     → AppendsFront mid new b → all ≡ (a ++ b) ++ more → AppendsFront old new all
 front_then old mid new a b more all wrote part is = (
@@ -124,7 +124,7 @@ one_more gives remaining shelf now next number mid d old w new image s gave told
           (image_line (number + 1) line) s.wrote told.2);
     }
 
--- a fault came where an image was mounted: nothing more was written
+-- a fault came when an image was opened: nothing more was written
 pub not_mounted : {L R : Type 0} (size : L → ℕ) (gives : Mounting L R)
     (remaining : R → Option (List ℕ)) (shelf now left : L) (number : ℕ) (mid : List Told)
     (old w : Option (List ℕ)) → number < size shelf → left ≡ now
@@ -203,7 +203,7 @@ stops_at size gives remaining shelf now next number mid old w new image within s
           (ap (λ l. l ++ summary_behind unread d) told);
     }
 
--- the summary was written behind the lines of all images
+-- the summary was written after the lines of all images
 pub reported : {L R : Type 0} (size : L → ℕ) (gives : Mounting L R)
     (remaining : R → Option (List ℕ)) (shelf left : L) (d : List Told)
     (old mid new : Option (List ℕ)) (found : Bool)
@@ -219,7 +219,7 @@ reported size gives remaining shelf left d old mid new found told is wrote = rec
   wrote = Appends-trans old mid new (image_lines 1 told.lines) (summary d) told.wrote wrote;
 }
 
--- a front of the summary was
+-- a prefix of the summary was
 pub reported_in_part : {L R : Type 0} (size : L → ℕ) (gives : Mounting L R)
     (remaining : R → Option (List ℕ)) (shelf left : L) (d : List Told)
     (old mid new : Option (List ℕ)) → TellsImages size gives remaining shelf left d old mid
@@ -258,7 +258,7 @@ all_texts X f xs place x z within is =
     ∙ flat_map-append f (take (place + 1) xs) (drop (place + 1) xs)
     ∙ ap (λ l. l ++ flat_map f (drop (place + 1) xs)) (one_text X f xs place x z within is)
 
--- behind them the text of the element at the place was written
+-- after them the text of the element at the index was written
 pub text_more : {X : Type 0} (f : X → List ℕ) (xs : List X) (place : ℕ) (x : X) (text : List ℕ)
     (old mid new : Option (List ℕ)) → place < length xs → x ≡ get_or xs place x → text ≡ f x
     → Appends old mid (flat_map f (take place xs)) → Appends mid new text
@@ -268,7 +268,7 @@ text_more {X} f xs place x text old mid new within is same before wrote =
     (Appends-trans old mid new (flat_map f (take place xs)) (f x) before
     (subst (Appends mid new) same wrote))
 
--- a front of it was
+-- a prefix of it was
 pub text_front : {X : Type 0} (f : X → List ℕ) (xs : List X) (place : ℕ) (x : X) (text : List ℕ)
     (old mid new : Option (List ℕ)) → place < length xs → x ≡ get_or xs place x → text ≡ f x
     → Appends old mid (flat_map f (take place xs)) → AppendsFront mid new text
@@ -278,7 +278,7 @@ text_front {X} f xs place x text old mid new within is same before part =
     (flat_map f xs) before (subst (AppendsFront mid new) same part)
     (all_texts X f xs place x x within is)
 
--- a front of a summary, whose parts are these
+-- a prefix of a summary with these parts
 pub in_first : (old new : Option (List ℕ)) (a b c : List ℕ) → AppendsFront old new a
     → AppendsFront old new (a ++ b ++ c)
 in_first old new a b c part =
@@ -293,7 +293,7 @@ pub in_third : (old first second new : Option (List ℕ)) (a b c : List ℕ) →
 in_third old first second new a b c one two part = front_then old second new (a ++ b) c [] (a ++ b
     ++ c) (Appends-trans old first second a b one two) part (sym (append-nil (a ++ b ++ c)))
 
--- the summary is that of what was met
+-- the summary is that of what was found
 pub summed_up : (old new : Option (List ℕ)) (d : List Told) (listed : List SectionLine)
     (lacking : List Lack) (found : Bool) → listed ≡ map line_of d → lacking ≡ lacks d
     → found ≡ found_all d

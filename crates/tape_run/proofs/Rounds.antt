@@ -67,7 +67,7 @@ follows_push back core old (q ∷ rounds) mid r new (z, first, rest) f =
 
 -- ---- over all rounds
 
--- Rounds are turns, one behind another.
+-- Passes are turns, one after another.
 pub all_turns : (back : Bool) (core : State) (old : Seen) (rounds : List Round) (mid : Seen)
     → FollowsRounds back core old rounds mid
     → Follows back true core old (turns_of rounds) (core_behind core rounds) mid
@@ -76,7 +76,7 @@ all_turns back core old (r ∷ rounds) mid (z, first, rest) =
     follows_then back true core old r.turns r.behind z (turns_of rounds)
     (core_behind r.behind rounds) mid first (all_turns back r.behind z rounds mid rest)
 
--- the lines of rounds, and of what stands behind them
+-- the lines of passes, and of what follows them
 pub lines_then : (turns : List Turn) (others : List Turn) (more : List (Option ReelAnswer))
     → reel_lines 1 (map answer_of (turns ++ others) ++ more)
     ≡ reel_lines 1 (map answer_of turns)
@@ -112,7 +112,7 @@ front_of_all old mid new turns others more first then =
 
 -- ---- calls
 
--- a round behind which something is wanted had all images
+-- a pass after which something is missing had all images
 whole_round : (turns : List Turn) (size : ℕ) (core : State) → length turns ≤ size
     → (length turns < size → core.position ≡ Finished) → wanted core ≢ None → length turns ≡ size
 whole_round turns size core most all some = elim (cases_lt (length turns) size) [
@@ -195,7 +195,7 @@ gone_on {S} {L} {R} gs size before gives remaining back old mid new
       },
     )
 
--- where a round brought something there are images
+-- if a pass recovered something there are images
 pub some_images : {S L R : Type 0} (gs : Ghosts S)
     (size before : ℕ) (gives : Mounting L R) (remaining : R → Option (List ℕ)) (back : Bool)
     (mid new : Story S) (between left : L) (told says : Option (List ℕ))
@@ -268,7 +268,7 @@ stops_round {S} {L} {R} gs size count before gives remaining back
           told says) lines stopped;
     })
 
--- what is enough, by what was answered of what was wanted
+-- whether it was the last pass, by what is missing
 pub enough_by : (size lines : ℕ) (before want b w : Option Want) → b ≡ before → w ≡ want
     → (w ≡ None) ⊎ (w ≡ b) → IsEnough size lines before want
 enough_by size lines before want b w is_b is_w (inl none) = inl (sym is_w ∙ none)

@@ -19,8 +19,9 @@ use Rattle.tape_run.specs.Story.{Story}
 use Rattle.tape_run.proofs.Crashes.{stood_here}
 use Rattle.tape_run.proofs.Made.{made_none, made_more, all_made}
 
--- The first n steps were made, by a session whose sink held these parts before: what its sink holds
--- now, what the steps did, what a crash brings back, and whether that is the note made last alone.
+-- The first n steps succeeded, in a session whose sink contained these parts before: what its sink
+-- contains now, what the steps did, what a crash leaves, and whether that is only the last
+-- checkpoint.
 pub record HasCome {S : Type 0} (g : Ghosts S) (which : List Bool) (old : Story S)
     (held : List Portion) (steps : List Step) (readers : List (Option (List ℕ))) (n : ℕ)
     (new : Story S) (unread others : List (Option (List ℕ))) : Type 0 where
@@ -51,7 +52,7 @@ none_made {held = held} was kept = record {
   brings = λ is. absurd (cc);
 }
 
--- what the next step adds to what a crash brings back
+-- what the next step adds to what a crash leaves
 pub adds_more : {S : Type 0} {g : Ghosts S} {which : List Bool} {old mid : Story S}
     {held : List Portion} {steps : List Step} {readers unread others : List (Option (List ℕ))}
     {n : ℕ} {new : Crashes}
@@ -97,7 +98,7 @@ pub all_unread : {R : Type 0} (remaining : R → Option (List ℕ)) (used : ℕ)
 all_unread remaining used reels = sym (map-append remaining (take used reels) (drop used reels))
     ∙ ap (map remaining) (take-append-drop used reels)
 
--- the same, told by other words
+-- the same, in other terms
 pub now_unread : {S : Type 0} {g : Ghosts S} {which : List Bool} {old new : Story S}
     {held : List Portion} {steps : List Step} {readers unread others : List (Option (List ℕ))}
     {n : ℕ} (is : List (Option (List ℕ))) → is ≡ unread
@@ -107,7 +108,7 @@ now_unread {g = g} {which = which} {old = old} {new = new} {held = held} {steps 
     {readers = readers} {others = others} {n = n} is e come =
     subst (λ u. HasCome g which old held steps readers n new u others) (sym e) come
 
--- what a crash brings back so far, of readers that have this unread
+-- what a crash leaves so far, for readers that have this unread
 pub adds_so_far : {S : Type 0} {g : Ghosts S} {which : List Bool} {old new : Story S}
     {held : List Portion} {steps : List Step} {readers others : List (Option (List ℕ))} {n : ℕ}
     {R : Type 0} (remaining : R → Option (List ℕ)) (used : ℕ) (reels : List R)
@@ -152,7 +153,7 @@ taken_then steps n step here used is =
     ap (λ m. m + reels_in (step ∷ [])) is ∙ sym (reels_then (take n steps) (step ∷ []))
     ∙ ap reels_in (sym (take-add n 1 steps ∙ ap (λ rest. take n steps ++ take 1 rest) here))
 
--- what is behind the readers taken before, and behind the next
+-- what is after the readers taken before, and after the next
 pub stays_behind : {R : Type 0} (used more : ℕ) (old mid new : List R)
     → drop used mid ≡ drop used old → drop (used + more) new ≡ drop (used + more) mid
     → drop (used + more) new ≡ drop (used + more) old

@@ -50,8 +50,8 @@ pub record Labelled (items : List TapeItem) (met : Met) : Type 0 where
   pub none : met.blocks ≡ 0
   pub good : met.bad ≡ false
 
--- the items end with a section's labels, a mark and its data, and none of these is bad unless it is
--- said, and behind this
+-- the items end with a section's labels, a mark and its data, none of which is bad unless this says
+-- so, and what follows
 pub record Filled (items : List TapeItem) (met : Met) (behind : List TapeItem) : Type 0 where
   pub volume : BeginsVolume items met.volume
   pub before : List TapeItem
@@ -77,7 +77,7 @@ Stood (Trailers v) items = BeginsVolume items v
 Stood (Next v) items = BeginsVolume items v
 Stood Over items = ⊤
 
--- a section that is told as good is shown
+-- a section that is reported as good is shown
 abbrev pub ShownIfGood : List TapeItem → Option Told → Type 0
 ShownIfGood items None = ⊤
 ShownIfGood items (Some t) = t.1.state ≡ Good → Shown items t.0 t.1
@@ -275,7 +275,7 @@ filled_closed items met h = record {
   whole = h.whole;
 }
 
--- a section that is told as good was counted right, and no block of it is bad
+-- a section that is reported as good has the right count, and no block of it is bad
 state_good : (met : Met) (trail : Trail1) (same is_bad : Bool)
     → (trail.blocks == label_count met.blocks) ≡ same → met.bad ≡ is_bad
     → (if not same then Count else if is_bad then Bad else Good) ≡ Good

@@ -213,7 +213,7 @@ pub some_all : (o : Option (List ℕ)) (Q : List ℕ → Type 0) → ((xs : List
 some_all None Q f = tt
 some_all (Some xs) Q f = f xs
 
--- nothing is wanted of a file that is complete
+-- nothing is missing of a complete file
 pub want_none : (file : ℕ) (p : Position) (b : Bool) → is_some (want_at file p) ≡ not b → b ≡ true
     → p ≡ Finished
 want_none file Finished b e f = refl
@@ -238,7 +238,7 @@ session_of place parts notes failures refusals = record {
   refusals = refusals;
 }
 
--- The session is at its note of this number, with the front of its parts that this weighs.
+-- The session is at its checkpoint with this number, with the first parts up to its weight.
 pub record GoesBack (n : ℕ) (point : Point) (old : Seen) (new : List Portion → Seen) : Type 0 where
   pub parts : List Portion
   pub front : IsFront parts old.parts

@@ -1,4 +1,4 @@
--- What the items show that were met so far, by what is expected next.
+-- What the items found so far show, by what is expected next.
 use Rattle.std.proofs.Common.{◌≡◌, ℕ, Bool, true, false, List, [], ◌∷◌, ◌++◌, Option, Some, None}
 use Rattle.std.proofs.Common.{Result, Ok, Err, refl, sym, subst, append_assoc}
 use Rattle.std.specs.Prelude.{◌||◌, if◌then◌else◌}
@@ -76,7 +76,7 @@ stands_on _ items x h = (tt, tt)
 
 -- ---- over all items
 
--- each section that is told as good is shown by these items
+-- each section that is reported as good is shown by these items
 abbrev AllShown : List TapeItem → List Told → Type 0
 AllShown items ts = AllByRecursion (λ t. t.1.state ≡ Good → Shown items t.0 t.1) ts
 
@@ -96,7 +96,7 @@ both_shown : (items : List TapeItem) (ts us : List Told) → AllShown items ts �
 both_shown items [] us a b = b
 both_shown items (t ∷ ts) us (a, as_) b = (a, both_shown items ts us as_ b)
 
--- what items tell as good behind others, all of them show
+-- what items after others report as good, all of them show
 told_shown : (p : Phase) (past items : List TapeItem) → Stood p past
     → AllShown (past ++ items) (told_from p items)
 told_shown p past [] h = tt

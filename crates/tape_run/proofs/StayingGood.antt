@@ -1,4 +1,4 @@
--- What is good in a catalogue stays so, and what is told as good becomes so.
+-- What is good in a catalogue stays so, and what is reported as good becomes so.
 use Rattle.std.proofs.Common.{◌≡◌, ℕ, Bool, true, false, List, [], ◌∷◌, Option, Some, None, refl}
 use Rattle.std.proofs.Common.{ap, ◌∙◌, arith}
 use Rattle.std.specs.Prelude.{if◌then◌else◌, ◌==◌, ◌&&◌, not}
@@ -90,7 +90,7 @@ stays_one [] t key e good at = absurd (cc at)
 stays_one (x ∷ xs) t key e good at = stays_here x xs t key (same_key key x.0)
     (same_key t.0 x.0) e refl good at (stays_one xs t key e good)
 
--- what is told as good becomes so
+-- what is reported as good becomes so
 becomes_here : (x : Told) (xs : List Told) (t : Told) (b : Bool) → same_key t.0 x.0 ≡ b
     → t.1.state ≡ Good → IsGoodAt (noted xs t) t.0 → IsGoodAt (note_if b x xs t) t.0
 becomes_here x xs t true is good rest =
@@ -118,7 +118,7 @@ stays_good c [] key g = g
 stays_good c (t ∷ ts) key g =
     stays_good (noted c t) ts key (stays_one c t key g.entry g.good g.there)
 
--- each section that is told as good is good behind
+-- each section that is reported as good is good afterwards
 pub become_good : (c ts : List Told) → AllByRecursion (λ t. t.1.state ≡ Good) ts
     → AllByRecursion (λ t. IsGoodAt (noted_all c ts) t.0) ts
 become_good c [] h = tt

@@ -16,7 +16,7 @@ use Rattle.tape_blocks.specs.Parts.{view}
 use Rattle.tape_blocks.specs.declared.parts.Form.{Form}
 use Rattle.tape_run.specs.RecordText.{record_end, records_text, output_of, part_text}
 
--- one more, where a part ends its record
+-- one more, if a part ends its record
 abbrev pub with_end : Bool → ℕ → ℕ
 with_end true n = n
 with_end false n = n + 1
@@ -39,7 +39,7 @@ count_ends begun [] = refl
 count_ends begun (p ∷ ps) =
     count_by (leaves p.span) (content_after begun p.bytes) ps (λ b. count_ends b ps)
 
--- the text that is still to be written of these parts: nothing behind the last part that ends a
+-- the text of these parts that is still to be written: nothing after the last part that ends a
 -- record
 abbrev pub still : Bool → List ℕ → List ℕ
 still true text = text
@@ -53,7 +53,7 @@ abbrev pub stream : Form → List Portion → List ℕ
 stream form [] = []
 stream form (p ∷ ps) = still (some_left (ends (p ∷ ps))) (part_text form p ++ stream form ps)
 
--- what is begun has been written
+-- the unfinished record has been written
 abbrev pub behind : Option (List ℕ) → List ℕ
 behind None = []
 behind (Some front) = front
@@ -114,7 +114,7 @@ streamed form [] begun h = absurd (omega arith)
 streamed form (p ∷ ps) begun h = ap (λ t. behind begun ++ t) (stream_some form p ps h)
     ∙ by_part form (leaves p.span) begun p.bytes ps h (streamed form ps)
 
--- Part by part the records are written, and nothing of one that is begun and not ended.
+-- The records are written part by part, without an unfinished one.
 pub output_is : (form : Form) (ps : List Portion) → stream form ps ≡ output_of form ps
 output_is form ps = tail_by form ps (ends ps) refl (streamed form ps)
 

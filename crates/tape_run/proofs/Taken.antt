@@ -41,7 +41,7 @@ takes_other core new answer came step other held = λ set p xs i h l m at under 
       done = b.took.done;
     }
 
--- all parts of a block from the awaited one on were put
+-- all parts of a block from the expected one on were put
 pub takes_block : (core new : State) (answer : Answer) (came : Option TapeItem)
     → (answer, new) ≡ step_of core came → answer ≡ Deliver → (bytes : List ℕ)
     → came ≡ Some (block bytes) → (k : FileForm) → (rest_of new).known ≡ Some k

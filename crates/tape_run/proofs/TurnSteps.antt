@@ -13,7 +13,7 @@ use Rattle.tape_run.specs.Steps.{Reeled}
 use Rattle.tape_run.specs.Reeling.{is_doubtful, IsNoted, step_behind, notes_behind, Turn, Follows}
 use Rattle.tape_run.specs.Reeling.{steps_of, AreTold, AreSteps, failed_in, left_in}
 
--- one reel, and what was done behind it
+-- one reel, and what was done after it
 pub step_made : (back spares doubtful noted failed : Bool) (which : List Bool)
     (old mid behind new : Seen)
     (b : List ℕ) (bs : List (List ℕ)) (l : Option (List ℕ)) (left : List (Option (List ℕ)))

@@ -39,7 +39,7 @@ map_push : (turns : List Turn) (t : Turn)
 map_push [] t = refl
 map_push (u ∷ turns) t = ap (λ l. answer_of u ∷ l) (map_push turns t)
 
--- the line of one more image behind those before it
+-- the line of one more image after those before it
 pub line_behind : (from : ℕ) (old mid new : Option (List ℕ)) (turns : List Turn) (t : Turn)
     (number : ℕ) → number ≡ from + length turns
     → Appends old mid (reel_lines from (map answer_of turns))
@@ -54,7 +54,7 @@ line_behind from old mid new turns t number e first then =
     ∙ ap (λ m. reel_line m (answer_of t)) (sym e)) in
     subst (Appends old new) (sym text) (Appends-trans old mid new _ _ first then)
 
--- a front of the line of one more image behind those before it
+-- a prefix of the line of one more image after those before it
 pub front_behind : (from : ℕ) (old mid new : Option (List ℕ)) (turns : List Turn)
     (more : List (Option ReelAnswer)) (number : ℕ) → number ≡ from + length turns
     → Appends old mid (reel_lines from (map answer_of turns))
@@ -71,7 +71,7 @@ front_behind from old mid new turns more number e first (front, rest, wrote, all
 
 -- ---- images
 
--- one more image was mounted, the first of those that were not
+-- one more image was opened, the first of those that were not
 pub one_mounted : {L R T : Type 0} (gives : Mounting L R) (is : Option R → T → Type 0) (shelf : L)
     (number : ℕ) (ts : List T) (mid : L) (t : T) (image : Option R) (next : L)
     → AreMounted gives is shelf number ts mid → gives mid (number + length ts) image next
@@ -106,7 +106,7 @@ pub noted : (back spares : Bool) (bytes : Option (List ℕ)) (o : Opened) (old m
 noted back spares None o old mid new r s = tt
 noted back spares (Some b) o old mid new r s = (mid, r, s)
 
--- what is kept of a session is kept behind a reel too
+-- what is preserved of a session is preserved after a reel too
 pub kept_behind : (back spares doubtful noted : Bool) (old new : Seen)
     → IsNoted back spares doubtful noted old new → IsKeptFor back old → IsKeptFor back new
 kept_behind false spares doubtful noted old new s k = tt
@@ -134,9 +134,9 @@ whole_line number outcome old new wrote =
 
 -- ---- an image whose reading failed
 
--- What was given of an image whose reading failed begins with items that end at the place which the
--- line of the image tells: so, though nobody sees what is left of an image that was given up, the
--- place tells which items count.
+-- The bytes returned of an image whose reading failed begin with items that end at the offset in
+-- the line of the image: so, although nobody sees the rest of a closed image, the offset says which
+-- items count.
 pub given_to_place : (core : State) (bytes left given : List ℕ) (place : ℕ) (answer : ReelAnswer)
     → answer.fault ≡ Some (record { place = place; cause = Device })
     → ReadsReel core bytes left answer → IsGiven true bytes (Some left) given

@@ -1,5 +1,5 @@
--- Whole copies of all volumes of a lawful set make each of its sections good, and no file of it
--- lacks one.
+-- Complete copies of all volumes of a valid set make each of its sections good, and nothing is
+-- missing of its files.
 use Rattle.std.proofs.Common.{max, ◌≡◌, ℕ, zero, suc, ◌+◌, ◌≤◌, Bool, true, false, List, [], ◌∷◌}
 use Rattle.std.proofs.Common.{◌++◌, length, Option, Some, None, refl, sym, ap, subst, ◌∙◌, arith}
 use Rattle.std.specs.Prelude.{map, if◌then◌else◌, IsSome, slice_get, option_and_then, ◌-◌}
@@ -65,9 +65,9 @@ whole_set set ks c lawful all =
     (λ x is. is_there set.volumes x.section.volume is.volume.0 is.volume.1)
     (sections set) lawful.each)
 
--- ---- nothing lacks
+-- ---- nothing is missing
 
--- what is told of a section of the set tells its own trailer's kind
+-- what is added for a section of the set has its own trailer's kind
 told_kinds : (set : FileSet) (k : ℕ) (x : Placed) (xs : List Placed) (ts : List Told)
     → section_of set x.file x.sect ≡ Some x.section → AllByRecursion (IsOn set k) xs
     → AreGood set xs ts
@@ -153,9 +153,9 @@ nothing_lacks set ks file lawful all there =
     whole_file c set.set_id file 1 9999 f lawful_file.ends
     (omega (arith, digits.1.1, some)) (file_good c set.set_id file 1 f each)
 
--- ---- nothing of the set lacks, and nothing else was met
+-- ---- nothing of the set is missing, and nothing else was found
 
--- the sections are of the set, and their files are there
+-- the sections are of the set, and their files exist
 abbrev OfSet : FileSet → List Told → Type 0
 OfSet set ts = AllByRecursion (λ t. (t.0.set_id ≡ set.set_id) × (t.0.file ≤ length set.files)) ts
 
@@ -261,7 +261,7 @@ none_of_sets set c (x ∷ xs) (h, hs) none =
     (none_of_files c set.set_id 1 x.1 (length set.files) (omega (arith, h.1)) none) in
     ap (λ (ls : List Lack). ls ++ set_lacks c xs) own ∙ none_of_sets set c xs hs none
 
--- where something is there and nothing lacks, all was found
+-- if something is there and nothing is missing, all was found
 found_by : (c : List Told) (key : SectionKey) → IsGoodAt c key → lacks c ≡ [] → found_all c ≡ true
 found_by [] key g none = absurd (cc g.there)
 found_by (x ∷ xs) key g none = ap is_none_lacking none

@@ -1,4 +1,4 @@
--- A whole copy of a volume of a lawful set tells each section on it as good.
+-- A complete copy of a volume of a valid set makes each section on it good.
 use Rattle.std.proofs.Common.{◌≡◌, ℕ, suc, Bool, List, [], ◌∷◌, ◌++◌, length, Option, Some, None}
 use Rattle.std.proofs.Common.{Ok, refl, sym, ap, subst, ◌∙◌, append-nil, append_assoc}
 use Rattle.std.specs.Prelude.{⊤, map, if◌then◌else◌, IsSome}
@@ -105,7 +105,7 @@ items_section s = ap (map item_of) (regroup_section s) ∙ all.is
         (push (map a_label s.trailers) (a_mark ∷ []) (map block s.trailers)
         (mark ∷ []) (some _ _ (items_labels s.trailers)) (one a_mark))))))))
 
--- ---- where a section may begin
+-- ---- if a section may begin
 
 record MayBegin (v : List ℕ) (p : Phase) : Type 0 where
   begins : (b : List ℕ) (head : Head1) → HasKind b kinds.Hdr1 → head1_at b ≡ Ok head
@@ -137,7 +137,7 @@ runs_labels v (l ∷ ls) (h, hs) =
 
 -- ---- sections
 
--- these are told of the sections, as good
+-- these are added for the sections, as good
 abbrev pub AreGood : FileSet → List Placed → List Told → Type 0
 AreGood set [] [] = ⊤
 AreGood set [] (t ∷ ts) = ⊥
@@ -152,7 +152,7 @@ key_same set x h a b c =
     ap (λ (i : List ℕ). key i h.sequence h.sect) a ∙ ap (λ (f : ℕ). key set.set_id f h.sect) b
     ∙ ap (λ (s : ℕ). key set.set_id x.file s) c
 
--- what a section's items do, where one may begin
+-- the effect of a section's items, if one may begin
 record Section-runs (set : FileSet) (v : List ℕ) (p : Phase) (x : Placed) : Type 0 where
   told : Told
   runs : Runs p (map item_of (section_entries x.section)) (Next v) (told ∷ [])

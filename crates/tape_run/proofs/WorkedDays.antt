@@ -1,4 +1,4 @@
--- The worked set where a reader fails, where a part is refused, and on another day.
+-- The worked set if a reader fails, if a part is refused, and on another day.
 use Rattle.std.proofs.Common.{◌≡◌, ◌≤◌, ℕ, zero, suc, ◌+◌, List, [], ◌∷◌, true, false}
 use Rattle.std.proofs.Common.{refl, sym, ap, ◌∙◌, subst, inl, lit≤, codes, arith, take}
 use Rattle.std.proofs.Common.{Option, Some, length, Bool}
@@ -57,8 +57,7 @@ each (suc k) P (now, later) more zero = now
 each (suc k) P (now, later) more (suc n) =
     each k (λ m. P (suc m)) later (λ m le. more (suc m) (omega (arith, le))) n
 
--- the position that volume 1 makes of the start where it was read up to n items, in a block at a
--- part
+-- the position after volume 1, from the start, if it was read up to n items, in a block at a part
 abbrev behind_1 : ℕ → ℕ → Position
 behind_1 n part = at_part part (far worked_set 1 start (reading 1 (take n (replicate 11 true))))
 
@@ -83,13 +82,13 @@ completes =
 
 -- ---- a reader that failed
 
--- the happenings, the k-th of them, from 0 on, cut behind n items
+-- the events, the k-th of them, from 0 on, cut after n items
 abbrev cut_one : ℕ → ℕ → List Happening → List Happening
 cut_one k n [] = []
 cut_one zero n (h ∷ hs) = cut n h ∷ hs
 cut_one (suc k) n (h ∷ hs) = h ∷ cut_one k n hs
 
--- where one reader failed, one of the happenings is cut
+-- if one reader failed, one of the events is cut
 one_cut : (which : List Bool) (bytes given : List (List ℕ)) (left : List (Option (List ℕ)))
     (hs : List Happening)
     → IsHistory worked_set 0 (reels_of bytes) bytes hs → failed_of which ≡ 1

@@ -1,4 +1,4 @@
--- The worked history, by computation: its set is lawful, and it meets the headline's premises.
+-- The worked history, by computation: its set is valid, and it satisfies the headline's premises.
 use Rattle.std.proofs.Common.{◌≡◌, ℕ, List, Option, [], ◌∷◌, true, false, refl, sym, ap}
 use Rattle.std.proofs.Common.{◌∙◌, subst, codes, lit≤, lit<, None, replicate}
 use Rattle.tape_set.proofs.Worked as w
@@ -98,7 +98,7 @@ is_history = (
 all : AreGivenBy (replicate 10 false) worked_reels (replicate 10 None) worked_reels
 all = (refl, (refl, (refl, (refl, (refl, (refl, (refl, (refl, (refl, (refl, refl))))))))))
 
--- a session over these readers, of which none failed
+-- a session over these readers, none of which failed
 has_read : (s : Seen) (left : List (Option (List ℕ)))
     → IsRead (codes "ABC001") 1 worked_steps worked_reels left s → s.failures ≡ 0
     → (s.parts ≡ first ∷ middle ∷ last ∷ []) × (want_at 1 s.place.position ≡ None)

@@ -127,7 +127,7 @@ all_of bytes ss n e size within = record {
   stops = begin.nothing refl refl;
 }
 
--- spellings, and then a front of a block of 18 characters
+-- encodings, and then a prefix of a block of 18 characters
 cut_off : (bytes : List ℕ) (ss : List Spelling) (n : ℕ)
     → bytes ≡ flat_map (λ s. s.bytes) ss ++ (18 ∷ 0 ∷ 0 ∷ 0 ∷ codes "20018AA")
     → length bytes ≡ n + 11 → n + 26 ≤ begin.image_limit
@@ -144,7 +144,7 @@ cut_off bytes ss n e size within = record {
 
 -- ---- each mount is a copy, or foreign
 
--- read so far and so well, with nothing behind
+-- read this far and this well, with nothing after it
 a_copy : (xs : List TapeItem) (volume : ℕ) (good : List Bool)
     → IsReadingOf worked_set (reading volume good)
     → xs ≡ as_read (items worked_set volume) good ++ []

@@ -1,5 +1,5 @@
--- Answers that the contracts of a walk over records, and of what is asked of a session before it is
--- read, exclude: each is what a wrong body would give.
+-- Answers excluded by the contracts of a walk over records, and of what is asked of a session
+-- before it is read: each is what a wrong body would return.
 use Rattle.std.proofs.Common.{◌≡◌, true, false, List, [], ◌∷◌, length, ap, ◌∙◌, subst, arith}
 use Rattle.std.proofs.Common.{codes, ◌<◌, inl, inr}
 use Rattle.std.specs.Prelude.{Some, Ok, Err}
@@ -27,7 +27,7 @@ begun = record { span = First; bytes = codes "AB" } ∷ []
 abbrev whole : List Portion
 whole = record { span = Whole; bytes = codes "AB" } ∷ []
 
--- begun_rest_counted: a record that is begun and not ended is counted
+-- begun_rest_counted: an unfinished record is counted
 begun_rest_counted : (S : _) (L : _) (g : _) (d : _) (g' : _) (d' : _) (κs : _) (a : _) (s : _)
     → count_records.Learnt-named S L g d g' d' κs a (Ok 1) s → g'.holds a.0.now begun → ⊥
 begun_rest_counted S L g d g' d' κs a s l holds =
@@ -54,7 +54,7 @@ full_told_at_once S R L W P LS LR LL LW LP g d g' d' h e m n w f p i j κs a s l
     by (inl rose) = not_rose _ _ same few rose
     by (inr (is, none)) = absurd (cc is)
 
--- begun_rest_written: a record that is begun and not ended is written
+-- begun_rest_written: an unfinished record is written
 begun_rest_written : (S : _) (W : _) (LS : _) (LW : _) (g : _) (d : _) (g' : _) (d' : _) (h : _)
     (e : _) (κs : _) (a : _) (s : _)
     → write_records.Learnt-named S W LS LW g d g' d' h e κs a (Ok tt) s
@@ -67,7 +67,7 @@ begun_rest_written S W LS LW g d g' d' h e κs a s l ahead none form old new =
     (l.ok begun ahead none)) in
     absurd (let n : 2 ≡ 0 = ap length (r ∙ ap (λ v. output_of v begun) form) in omega arith)
 
--- line_feed_left_out: the last record has no line feed behind it
+-- line_feed_left_out: no line feed follows the last record
 line_feed_left_out : (S : _) (W : _) (LS : _) (LW : _) (g : _) (d : _) (g' : _) (d' : _) (h : _)
     (e : _) (κs : _) (a : _) (s : _)
     → write_records.Learnt-named S W LS LW g d g' d' h e κs a (Ok tt) s

@@ -25,7 +25,7 @@ heading = record {
   implementation = codes "             ";
 }
 
--- those of the trailer of a section of 25 blocks that goes on on the next volume
+-- those of the trailer of a section of 25 blocks that continues on the next volume
 abbrev closing : Trail1
 closing = record { eof = false; head = heading; blocks = 25 }
 
@@ -35,7 +35,7 @@ second_labels_all_hdr2 : (κs : _) (z : _) (s : _) → identifier.Learnt κs (ki
 second_labels_all_hdr2 κs z s h e =
     absurd (let d : 72 ≡ 69 = ap (λ v. slice_index v 0) (sym e ∙ h) in omega arith)
 
--- ten_digits_cut_to_nine: item 2,000,000,001 is told as 1
+-- ten_digits_cut_to_nine: item 2,000,000,001 is printed as 1
 ten_digits_cut_to_nine : (κs : _) (line : _) (z : _) (s : _)
     → put_item_number.Learnt-named κs (line, (2000000001, tt)) z s → line.now.items ≡ []
     → s.0.now.items ≡ codes "000000001" → ⊥
@@ -43,7 +43,7 @@ ten_digits_cut_to_nine κs line z s l e w =
     absurd (let d : 48 ≡ 50 = ap (λ v. slice_index v 0)
     (sym w ∙ l.items ∙ ap (λ v. v ++ item_number 2000000001) e) in omega arith)
 
--- sequence_before_section: the sequence number 3 stands where the section 2 should
+-- sequence_before_section: the sequence number 3 is printed in place of the section 2
 sequence_before_section : (κs : _) (a : _) (z : _) (s : _) → put_head.Learnt-named κs a z s
     → a.0.now.items ≡ [] → a.1.0.now ≡ heading
     → s.0.now.items ≡ codes "PAYROLL           ABC001 0003 0002" → ⊥
@@ -51,7 +51,7 @@ sequence_before_section κs a z s l e f w =
     absurd (let d : 51 ≡ 50 = ap (λ v. slice_index v 28)
     (sym w ∙ l.items ∙ ap (λ v. v ++ head_text a.1.0.now) e ∙ ap head_text f) in omega arith)
 
--- trailer_count_left_out: a trailer that counts 25 blocks is told with none
+-- trailer_count_left_out: a trailer that counts 25 blocks is printed without a count
 trailer_count_left_out : (κs : _) (a : _) (z : _) (s : _) → put_trail1.Learnt-named κs a z s
     → a.0.now.items ≡ [] → a.1.0.now ≡ closing
     → s.0.now.items ≡ codes "EOV1 PAYROLL           ABC001 0002 0003 000000" → ⊥
@@ -59,7 +59,7 @@ trailer_count_left_out κs a z s l e f w =
     absurd (let d : 48 ≡ 50 = ap (λ v. slice_index v 44)
     (sym w ∙ l.items ∙ ap (λ v. v ++ trail1_text a.1.0.now) e ∙ ap trail1_text f) in omega arith)
 
--- trailer_of_volume_as_file: a section that goes on is told as the end of its file
+-- trailer_of_volume_as_file: a section that continues is printed as the end of its file
 trailer_of_volume_as_file : (κs : _) (a : _) (z : _) (s : _) → put_trail1.Learnt-named κs a z s
     → a.0.now.items ≡ [] → a.1.0.now ≡ closing
     → s.0.now.items ≡ codes "EOF1 PAYROLL           ABC001 0002 0003 000025" → ⊥

@@ -1,5 +1,5 @@
--- Answers that the contracts of a round, and of what is done behind a reel, exclude: each is what a
--- wrong body would give.
+-- Answers excluded by the contracts of a pass, and of what is done after a reel: each is what a
+-- wrong body would return.
 use Rattle.std.proofs.Common.{◌≡◌, ◌+◌, length, ap, ◌∙◌, sym, arith, subst, true, false, Bool}
 use Rattle.std.proofs.Common.{ℕ, List, [], ◌∷◌, ◌++◌, refl, codes}
 use Rattle.std.specs.Prelude.{Ok, Option, Some, None, map, slice_get, slice_index, ◌<◌}
@@ -26,7 +26,7 @@ use Rattle.tape_run.proofs.extract.images.note.Reads as note
 use Rattle.tape_run.proofs.extract.images.read_round.Reads as read_round
 use Rattle.tape_run.proofs.extract.images.settle.Reads as settle
 
--- saved_behind_a_wrong_count: behind a reel whose trailer counts other blocks a note is made
+-- saved_behind_a_wrong_count: after a reel whose trailer counts other blocks a checkpoint is made
 saved_behind_a_wrong_count : (S : _) (L : _) (g : _) (d : _) (κs : _) (a : _) (s : _) (label : _)
     (seen noted : _) → note.Learnt-named S L g d κs a (Ok noted) s
     → a.1.0.now.answer ≡ Useless (BlockCount label seen)
@@ -37,8 +37,8 @@ saved_behind_a_wrong_count S L g d κs a s label seen noted l count more =
       sym more ∙ ap (λ z. length z.notes) (l.doubtful (ap is_doubtful count)),
     ))
 
--- saved_in_the_list_alone: behind a section the session stands at block 5, its first note is made,
--- and the sink comes back with the start of the file
+-- saved_in_the_list_alone: after a section the session is at block 5, its first checkpoint is made,
+-- and a crash leaves the start of the file
 saved_in_the_list_alone : (S : _) (L : _) (g : _) (d : _) (κs : _) (a : _) (s : _)
     (held there : List Portion) (older : Point) → note.Learnt-named S L g d κs a (Ok true) s
     → a.1.0.now.answer ≡ SectionDone → g.holds a.0.now.sink held → a.0.now.notes ≡ []
@@ -66,7 +66,7 @@ saved_in_the_list_alone S L g d κs a s held there older l done was none five ba
     let n : 0 ≡ 5 = ap block_of (sym start ∙ ap (λ c. c.position) e ∙ five) in
     absurd (omega (arith, n))
 
--- where a session goes back behind such a reel it is at the note made last
+-- if a session rolls back after such a reel it is at its last checkpoint
 went : (back spares doubtful noted : Bool) (old new : Seen) → back ≡ true → doubtful ≡ true
     → IsNoted back spares doubtful noted old new → WentToLast old new
 went back spares doubtful noted old new b d s =
@@ -106,7 +106,7 @@ taken_back_to_the_beginning S L g d κs a s label count held is l told back was 
       took_so_many n old.notes (omega (arith, one)),
     ))
 
--- of the one image of a round, which is not there, the line is told
+-- the line of the one image of a pass, which does not exist, is printed
 one_line : {L R : Type 0} (gives : Mounting L R) (remaining : R → Option (List ℕ)) (shelf left : L)
     (turns : List Turn) (p : Position) → AreTurns gives remaining shelf 0 turns left
     → ((image : Option R) (next : L) → gives shelf 0 image next → image ≡ None)
@@ -117,7 +117,7 @@ one_line gives remaining shelf left (None ∷ turns) p are none all waits = (tur
 one_line gives remaining shelf left (Some o ∷ turns) p (image, next, gave, turn, are) none all
     waits = absurd (subst (λ z. IsTurn remaining z (Some o)) (none image next gave) turn)
 
--- numbers_begin_anew: behind one line the first image, which is not there, is told as reel 1
+-- numbers_begin_anew: after one line the first image, which does not exist, is reported as reel 1
 numbers_begin_anew : (S : _) (R : _) (L : _) (P : _) (LS : _) (LR : _) (LL : _) (LP : _) (g : _)
     (d : _) (h : _) (e : _) (m : _) (n : _) (p : _) (i : _) (k : _) (κs : _) (a : _) (s : _)
     (text : List ℕ)

@@ -12,7 +12,7 @@ use Rattle.tape_run.proofs.intake.put_parts.Given.{Over}
 use Rattle.tape_run.proofs.intake.put_parts.Goals.{In-Some, then-first-seen+in-Ok, else-first-seen}
 use Rattle.tape_run.proofs.intake.put_parts.Goals as goal
 
--- where the part stands among those of the block
+-- the place of the part among those of the block
 here : (g : Over) (c : In-Some g) (parts : List Portion)
     → Holds c.args.shape.now.format c.args.shape.now.rec_len c.args.shape.now.offset
     c.args.block.now parts
