@@ -1,4 +1,4 @@
--- A block is judged as its prefixes say: it passes where it holds parts in order, and else it has
+-- A block is judged as its prefixes say: it passes if it contains parts in order, and otherwise has
 -- the fault.
 use Rattle.std.proofs.Common.{◌≡◌, ℕ, ◌+◌, ◌≤◌, Bool, true, false, ltb, List, length, Option, Some}
 use Rattle.std.proofs.Common.{None, Result, Ok, Err, refl, sym, ap, subst, ◌∙◌, inl, inr}

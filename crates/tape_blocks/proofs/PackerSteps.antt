@@ -1,4 +1,4 @@
--- What the steps of a packer keep, as its own proofs meet it.
+-- What the steps of a packer preserve, in the form that its own proofs need.
 use Rattle.std.proofs.Common.{◌≡◌, ◌≢◌, ℕ, ◌+◌, ◌-◌, ◌<◌, ◌≤◌, Bool, true, false, List, [], ◌∷◌}
 use Rattle.std.proofs.Common.{◌++◌, length, take, replicate, refl, sym, ap, subst, ◌∙◌, arith}
 use Rattle.std.proofs.lemmas.List.{length-take, length-replicate, take-take, take-append-le}

@@ -1,5 +1,5 @@
--- The volume label, first header labels and first trailer labels: what their functions give is the
--- label that is encoded so, and what is encoded so they give.
+-- The volume label, first header labels and first trailer labels: the result of their functions is
+-- the label with this encoding, and each encoding has its result.
 use Rattle.std.proofs.Common.{◌≡◌, ℕ, List, length, Bool, true, false, cond, Ok, Err, refl, subst}
 use Rattle.std.proofs.Common.{arith, inl, inr, ◌⊎◌}
 use Rattle.tape_label.specs.declared.label.LabelFault.TheVariants as faults

@@ -1,5 +1,5 @@
--- Second header and trailer labels: what their function gives is the label that is encoded so, and
--- what is encoded so it gives.
+-- Second header and trailer labels: the result of their function is the label with this encoding,
+-- and each encoding has its result.
 use Rattle.std.proofs.Common.{◌≡◌, ℕ, ◌+◌, ◌/◌, ◌%◌, ◌<◌, List, [], ◌∷◌, length, get_or, Bool, true}
 use Rattle.std.proofs.Common.{false, cond, eqb, Ok, Err, refl, sym, subst, arith, rules, inl, inr}
 use Rattle.std.proofs.Common.{◌⊎◌}

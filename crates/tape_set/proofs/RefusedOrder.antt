@@ -1,5 +1,5 @@
--- Small sets that are refused by where their files end, how their parts begin, and the order of
--- their sections.
+-- Small sets that are refused because of where their files end, how their parts begin, and the
+-- order of their sections.
 use Rattle.std.proofs.Common.{◌≡◌, [], ◌∷◌, true, false, refl, inl, inr, arith, lit≤, lit<}
 use Rattle.tape_set.specs.Layout.{FileSet}
 use Rattle.tape_set.specs.Lawful.{HasForm}

@@ -15,7 +15,7 @@ use Rattle.tape_set.specs.Laws.{WholeGivesSection}
 use Rattle.tape_set.proofs.Reaching.{reading_of, both_true}
 use Rattle.tape_set.proofs.Standing.{data_stands}
 
--- ---- where all was read well
+-- ---- if all was read well
 
 all_pass : (m : ℕ) (es : List Entry) → length es ≤ m → passes (replicate m true) es ≡ true
 all_pass m [] h = refl

@@ -1,4 +1,4 @@
--- Readings of the worked file, whole and cut, and what is met in them.
+-- Readings of the worked file, complete and cut, and what is found in them.
 use Rattle.std.proofs.Common.{◌≡◌, ◌≤◌, ℕ, List, [], ◌∷◌, ◌++◌, Bool, true, false, refl, arith}
 use Rattle.std.proofs.Common.{lit≤}
 use Rattle.std.specs.Prelude.{replicate, IsSome}
@@ -97,7 +97,7 @@ no_section_0 = refl
 no_block_4 : far one_volume 1 (awaiting 1 4) (reading 1 (replicate 12 true)) ≡ awaiting 1 4
 no_block_4 = refl
 
--- ---- which readings there are, and what is met in them
+-- ---- which readings there are, and what is found in them
 
 whole_reading_is : IsReadingOf one_volume (reading 1 (replicate 12 true))
 whole_reading_is = record { volume = refl; within = lit≤ tt }

@@ -62,7 +62,7 @@ grew_here H vs cap set_id file course d b sized s fits h = record {
   blocks = sym (append_assoc (blocks_of_all d.sects) d.blocks (b ∷ []));
 }
 
--- what is held after a change
+-- the contents after a change
 held_changed : (H : Tapes → Type 0) (vs : List Vol1) (cap : ℕ) (set_id : List ℕ)
     (file : Opened) (course : Course) (d : Draft) (v : Vol1)
     → Steady (map labelled vs) cap set_id file course d → slice_get vs course.volume ≡ Some v

@@ -1,4 +1,4 @@
--- What holding bytes before a device does to what was taken.
+-- The effect of a write buffer in front of a device on what was accepted.
 use Rattle.std.proofs.Common.{List, ℕ, [], ◌++◌, Option, sym, ap, ◌∙◌, subst}
 use Rattle.std.proofs.Common.{append_assoc, append-nil}
 use Rattle.tape_image.specs.Written.{AppendsFront}

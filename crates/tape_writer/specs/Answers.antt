@@ -1,4 +1,4 @@
--- What answers of the system mean: an error says nothing of what is there, but for one kind.
+-- The meaning of the system's errors: only one kind of them says that nothing exists.
 use Rattle.std.specs.Prelude.{Option, Some, None, Result, Ok, Err, Bool, true, false, ◌||◌}
 use Rattle.std.specs.Prelude.{ℤ, pos, if◌then◌else◌}
 use Rattle.std.specs.Ordering.{int_eq}
@@ -14,7 +14,7 @@ use Rattle.tape_writer.specs.declared.system.answers.LockFault.TheVariants.{InUs
 use Rattle.tape_writer.specs.declared.system.fault.FileFault.{FileFault}
 use Rattle.tape_writer.specs.declared.system.fault.FileFault.TheVariants.{NotOpened}
 
--- only an error of this kind says that nothing is there
+-- only an error of this kind says that nothing exists
 abbrev pub absent_of : ErrorKind → Result (Option Metadata) FileFault
 absent_of NotFound = Ok None
 absent_of _ = Err NotOpened
@@ -38,7 +38,7 @@ is_unsupported _ = false
 abbrev pub has_no_locks : Error → Bool
 has_no_locks error = is_unsupported (error_kind error) || is_enolck (raw_os_error error)
 
--- whether a run may go on with a file that it tried to lock
+-- whether a run may continue with a file that it tried to lock
 abbrev pub locked_of : Result (Unit {0}) TryLockError → Result (Unit {0}) LockFault
 locked_of (Ok _) = Ok tt
 locked_of (Err attempts.WouldBlock) = Err InUse

@@ -28,7 +28,7 @@ pub record CasesOfHolding : Type 0 where
   }) new → new.size ≡ 7
   pub counted_up_to : (old new : Holding) → TakesAll (3 ∷ []) old new → old.size ≡ 2 ^ 64 - 1
       → new.size ≡ 2 ^ 64 - 1
-  -- what was not taken whole is not counted, and a front of it may be written
+  -- what was not accepted completely is not counted, and a prefix of it may be written
   pub not_taken : (bytes : List ℕ) (old new : Holding) → Stops bytes old new
       → (new.size ≡ old.size) × (new.failed ≡ true)
       × AppendsFront old.device new.device (old.held ++ bytes)

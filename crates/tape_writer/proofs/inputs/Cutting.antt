@@ -9,7 +9,7 @@ use Rattle.tape_image.specs.Reader.{IfKnown}
 use Rattle.tape_writer.specs.declared.inputs.cut.Cut.{Cut}
 use Rattle.tape_writer.specs.Records.{records_from, records_of, last_record, to_come, given, Adds}
 
--- Of what was to come these bytes were read, and they are what is begun of a record.
+-- These bytes of the input were read, and they are the beginning of a record.
 pub record SoFar (cut : Cut) (all left : Option (List ℕ)) (r : List ℕ) : Type 0 where
   pub consumed : Consumes all left r
   pub same : (ys : List ℕ) → records_from cut [] (r ++ ys) ≡ records_from cut r ys
@@ -98,7 +98,7 @@ piece_more cut here all left next r new piece ended s c is not (adds, grown) =
     one_piece cut all left next r new piece s c (grown not)
     (subst (λ x. Adds x r piece new false) is (subst (λ x. Adds here r piece new x) not adds))
 
--- what is taken of the input is what is held of a record
+-- what was read of the input is what is buffered of a record
 pub taken : (cut : Cut) (all left next : Option (List ℕ)) (r now : List ℕ) → SoFar cut all left r
     → Keeps left next → now ≡ r → IfKnown all next (λ xs ys. xs ≡ now ++ ys)
 taken cut all left next r now s kept same =

@@ -113,6 +113,6 @@ wrote_one X view set_id shape cut first now at old mid new x y d within is w ste
           (λ b n. one_told new set_id shape cut told fs (view x).0 b n)));
     }
 
--- what is done of nothing unfit was fit
+-- if nothing unfit was found, all was fit
 pub was_fit : {A B C D : Type 0} → (A → B → C × ⊥) → A → B → D
 was_fit never a b = absurd (never a b).1

@@ -10,13 +10,13 @@ use Rattle.tape_writer.specs.Holding.{taken}
 use Rattle.tape_writer.proofs.system.write_behind.WriteBehind.take.Reads as take
 use Rattle.tape_writer.proofs.system.write_behind.WriteBehind.pass_on.Reads as pass_on
 
--- what was appended, where it is known what was there and what is
+-- what was appended, if it is known what was there and what is
 appended : (old new : Option (List ℕ)) (bytes before after : List ℕ) → Appends old new bytes
     → old ≡ Some before → new ≡ Some after → after ≡ before ++ bytes
 appended old new bytes before after h o n =
     subst (λ z. Appends (Some before) z bytes) n (subst (λ z. Appends z new bytes) o h)
 
--- held_bytes_dropped: a byte was held, and after the passing on the device has what it had
+-- held_bytes_dropped: a byte was buffered, and after the flush the device has what it had
 held_bytes_dropped : (W : _) (L : _) (g : _) (d : _) (f : _) (κs : _) (a : _) (s : _)
     (had : List ℕ) → pass_on.Learnt-named W L g d f κs a (Ok tt) s → a.0.now.device ≡ Some had
     → a.0.now.held ≡ 1 ∷ [] → s.0.now.device ≡ Some had → ⊥
@@ -38,7 +38,7 @@ held_bytes_written_twice W L g d f κs a s had l old held new =
       length-append had (1 ∷ 1 ∷ []),
     ))
 
--- held_on_when_written: what was written is held on, to be written again
+-- held_on_when_written: what was written stays buffered, to be written again
 held_on_when_written : (W : _) (L : _) (g : _) (d : _) (f : _) (κs : _) (a : _) (s : _)
     → pass_on.Learnt-named W L g d f κs a (Ok tt) s → a.0.now.held ≡ 1 ∷ []
     → s.0.now.held ≡ a.0.now.held → ⊥
@@ -51,7 +51,7 @@ answered_while_bytes_are_held : (W : _) (L : _) (g : _) (d : _) (f : _) (κs : _
 answered_while_bytes_are_held W L g d f κs a s l few =
     absurd (omega (arith, few, ap length l.ok.none))
 
--- written_behind_a_failure: the device failed before, and what is held is passed on
+-- written_behind_a_failure: the device failed before, and the buffer is flushed
 written_behind_a_failure : (W : _) (L : _) (g : _) (d : _) (f : _) (κs : _) (a : _) (s : _)
     → pass_on.Learnt-named W L g d f κs a (Ok tt) s → a.0.now.failed ≡ true → ⊥
 written_behind_a_failure W L g d f κs a s l failed =
