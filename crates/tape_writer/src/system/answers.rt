@@ -48,7 +48,7 @@ pub fn locked(attempt: Result<(), TryLockError>) -> Result<(), LockFault>
     }
 }
 
-/// The number of the error that NFS gives where it has no service for locks.
+/// The number of the error that NFS returns if it has no lock service.
 const ENOLCK: i32 = 37;
 
 /// Whether the error says that the file system has no locks.
