@@ -1,12 +1,12 @@
 #!/usr/bin/env python3
 """Times `tape_blocks` against plain C loops: packing records and walking their parts, in memory.
-By hand; the gate does not run it.
+Run manually; CI does not run it.
 
     ./blocks.py [--runs N] [--c-only]
 
 Builds blocks.c with `cc -O2`. Builds the program blocks.rt.txt in a temporary repository, beside
 copies of the crates tape_label and tape_blocks; `rt` proves it there. Runs both several times in
-turn, compares the parts that they met, and prints the times and their ratios as Markdown.
+turn, compares the parts that they found, and prints the times and their ratios as Markdown.
 """
 
 import argparse

@@ -1,22 +1,22 @@
 #!/usr/bin/env python3
-"""Times `tape write`, `tape extract`, its `--stage` and `tape check` on 1 GB. By hand; the gate does not run it.
+"""Times `tape write`, `tape extract`, its `--stage` and `tape check` on 1 GB. Run manually; CI does not run it.
 
     ./commands.py [--program PATH] [--folder FOLDER] [--memory FOLDER] [--count N] [--runs N] [--c-only]
                   [--instructions] [COMMAND]..
 
-COMMAND is write, extract, stage or check; all of them where none is named.
+COMMAND is write, extract, stage or check; all of them if none is named.
 
-write: lines of 80 characters on images, against write_lines.c; the images are compared byte by byte.
-extract: these lines again out of the images, against extract.c; the lines are compared byte by byte.
-stage: extract with --stage, the file made anew, against extract without; both write in one folder.
+write: lines of 80 characters to images, against write_lines.c; the images are compared byte by byte.
+extract: these lines out of the images again, against extract.c; the lines are compared byte by byte.
+stage: extract with --stage and a new stage, against extract without; both write to one directory.
 check: the images, against `tape list` of each of them; the output goes to /dev/null.
 
-What is timed is written in a folder of memory (/dev/shm), and removed. The lines and the images that
-extract and check read lie in a temporary folder (under TMPDIR), or in --folder, where they are kept
-and used again; each is read once before, so that it lies in the system's cache.
+What is timed is written to a directory in memory (/dev/shm), and removed. The lines and the images that
+extract and check read are in a temporary directory (under TMPDIR), or in --folder, where they are kept
+and used again; each is read once before, so that it is in the system's cache.
 
-With --instructions each program runs once more by valgrind, which counts its instructions: some fifty times
-as long, so take a small --count. Seconds differ on a machine that has other work, these figures do not.
+With --instructions each program runs once more under valgrind, which counts its instructions: this takes
+some fifty times as long, so use a small --count. Times vary on a busy machine, these figures do not.
 """
 
 import argparse

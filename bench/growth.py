@@ -1,6 +1,6 @@
 #!/usr/bin/env python3
 """How the work of `tape` grows with files, volumes and sections: bytes read and written, calls and instructions, no seconds.
-By hand; the gate does not run it. Run it before a release.
+Run manually, before a release; CI does not run it.
 
     ./growth.py [--program PATH] [--files N] [--large] [--instructions]
 

@@ -1,13 +1,13 @@
 #!/usr/bin/env python3
-"""Times `tape list` against plain C programs. By hand; the gate does not run it.
+"""Times `tape list` against plain C programs. Run manually; CI does not run it.
 
     ./run.py [--program PATH] [--folder FOLDER] [--bytes N] [--runs N] [--c-only] [--instructions]
 
 Builds the C programs with `cc -O2`, makes the two images of make_images.c, and runs each program
-several times in turn, the output going to /dev/null and to a file in memory (/dev/shm). Compares
-the outputs byte by byte, and prints the times, the ratios and the greatest memory as Markdown.
-Images and outputs lie in a temporary folder (under TMPDIR) that is removed afterwards, unless
---folder names one: then the images stay there, and are used again where they have the same size.
+several times in turn, with output to /dev/null and to a file in memory (/dev/shm). Compares the
+outputs byte by byte, and prints the times, the ratios and the maximum memory as Markdown. Images and
+outputs are in a temporary directory (under TMPDIR) that is removed afterwards, unless --folder names
+one: then the images stay there, and are used again if they have the same size.
 """
 
 import argparse

@@ -1,4 +1,4 @@
-"""What the benchmarks have in common: C programs built, programs run in turn, rows of the tables."""
+"""What the benchmarks share: building C programs, running programs in turn, rows of the tables."""
 
 import os
 import re

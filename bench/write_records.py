@@ -1,13 +1,13 @@
 #!/usr/bin/env python3
-"""Times `tape_writer` against a plain C writer of the same images. By hand; the gate does not run it.
+"""Times `tape_writer` against a plain C writer of the same images. Run manually; CI does not run it.
 
     ./write_records.py [--program PATH] [--folder FOLDER] [--count N] [--runs N] [--c-only]
 
 Builds write_records.c with `cc -O2`, and the program write_records.rt.txt in a temporary repository,
-beside copies of the crates that it stands on; `rt` proves it there. --program names one that was
-built so before. Both write the same records on images in a folder of memory (/dev/shm), several
-times in turn; then the images are compared byte by byte. Prints times, ratios and the greatest
-memory as Markdown.
+beside copies of the crates that it needs; `rt` proves it there. --program names one that was built
+before. Both write the same records to images in a directory in memory (/dev/shm), several times in
+turn; then the images are compared byte by byte. Prints times, ratios and the maximum memory as
+Markdown.
 """
 
 import argparse

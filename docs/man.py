@@ -1,12 +1,12 @@
 #!/usr/bin/env python3
-"""Makes the man page docs/tape.1 from the texts of the program's help.
+"""Writes the man page docs/tape.1 from the texts of the program's help.
 
-    docs/man.py                   writes the page anew
-    docs/man.py --check           says where the page, or docs/tape.bash, is older than the help
-    docs/man.py --program PATH    says which of these texts the help of this program does not print
+    docs/man.py                   writes the page
+    docs/man.py --check           reports if the page, or docs/tape.bash, is older than the help
+    docs/man.py --program PATH    reports which of these texts the help of this program does not print
 
-The last two end with status 1 where something differs. The texts are those of
-crates/tape_tool/src/help.rt and help/; which word of a command has which text stands below.
+The last two end with status 1 if something differs. The texts are those of
+crates/tape_tool/src/help.rt and help/; the table below says which argument of a command has which text.
 """
 import os
 import re

@@ -1,12 +1,12 @@
 #!/usr/bin/env python3
-"""Draws a shelf: an HTML page of the images named, to standard output.
+"""Draws a collection: an HTML page of the images named, to standard output.
 
     docs/page.py IMAGE... >page.html
 
-A strip of squares for each reel, one for each item or, on a long reel, for several of which the
-worst decides; behind them a table of the files, with the state of each section that was met and
-what is wanted. It asks `tape survey --tsv` and `tape list --offsets`; TAPE names another program.
-docs/page.html is the page of three images, which docs/examples.sh draws anew and compares.
+For each reel there is a strip of squares, one for each item or, on a long reel, one for several items
+with the colour of the worst; then a table of the files, with the state of each section that was found
+and what is missing. It calls `tape survey --tsv` and `tape list --offsets`; TAPE names another program.
+docs/page.html is the page of three images, which docs/examples.sh draws again and compares.
 """
 import collections
 import html

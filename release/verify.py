@@ -1,10 +1,10 @@
 #!/usr/bin/env python3
-"""verify.py PROGRAM STAMP: says whether STAMP, the file tape_tool.stamp of a release, is that of
+"""verify.py PROGRAM STAMP: reports whether STAMP, the file tape_tool.stamp of a release, is that of
 the sources of this clone, of the toolchain on this machine, and of PROGRAM, the package's
 /usr/bin/tape.
 
-It proves nothing and trusts whoever wrote STAMP; it needs the toolchain, whose line enters the sum,
-and takes a second. The status is 0 where all is so, and 1 else.
+It proves nothing and trusts whoever wrote STAMP; it needs the toolchain, whose version is part of the
+sum, and takes a second. Exit status 0 if everything matches, otherwise 1.
 """
 import hashlib
 import importlib.machinery

@@ -1,13 +1,13 @@
 #!/usr/bin/env python3
-"""Compares `tape list` with the plain C lister on odd images. By hand; the gate does not run it.
+"""Compares `tape list` with the plain C lister on unusual images. Run manually; CI does not run it.
 
     ./compare.py [--program PATH] [--every N]
 
-The images are the worked image cut at each length, the same with each byte changed in turn, and
-some written for one rule each: gaps, bad blocks, blocks of odd and of extreme lengths, words that
-are not in the table, bytes behind the end word, labels with odd fields. Both programs get each image
+The images are the worked image cut at each length, the same with each byte changed in turn, and some
+written for one rule each: gaps, bad blocks, blocks of odd and of extreme lengths, reserved length
+words, bytes after the end-of-medium marker, labels with unusual fields. Both programs get each image
 on a pipe. They must print the same, on both streams, and end with the same status. --every N takes
-each N-th of the cut and changed images.
+only each N-th of the cut and changed images.
 """
 
 import argparse

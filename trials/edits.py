@@ -1,19 +1,19 @@
 #!/usr/bin/env python3
 """Tries mistakes in groups: trials/edits.py [CRATE...]; or lists them: trials/edits.py --lemmas
 
-Each file of crates/CRATE/must-fail and by-hand puts one mistake into the code, and the prover has to
-refuse it. One check here holds an edit of each function: a function is judged by what those that it
-calls promise, and not by their bodies, so that no edit hides another. What the check says of the
-edited function decides:
+Each file of crates/CRATE/must-fail and by-hand puts one mistake into the code, which the prover must
+refuse. One check here contains one edit of each function: a function is judged by the contracts of
+the functions that it calls, not by their bodies, so no edit hides another. The result for the edited
+function is one of these:
 
-    refused       a goal of it is open: what it promises does not hold
-    in a proof    the proof that was written for it does not hold any more
-    by shape      only names that this proof uses are gone, which says little
-    NOT REFUSED   nothing; each of these is tried once more, alone
+    refused       one of its goals is open: its contract is not satisfied
+    in a proof    the proof that was written for it no longer holds
+    by shape      only names that this proof uses are gone, which proves little
+    NOT REFUSED   no error; each of these is tried once more, alone
 
-It works on a copy, over what is kept in out/, and takes the copy away. Its status is 1 where an edit
-was not refused. With --lemmas nothing is tried: each edit is told with the file of the lemma of its
-name, or without one, and the status is 1 where an edit has neither a lemma nor a place in must-fail.
+It works on a copy, with what is kept in out/, and removes the copy. Exit status 1 if an edit was not
+refused. With --lemmas nothing is tried: each edit is listed with the file of the lemma of the same
+name, or without one, and the status is 1 if an edit has no lemma and is not in must-fail.
 """
 import os
 import re

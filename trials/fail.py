@@ -1,21 +1,23 @@
 #!/usr/bin/env python3
-"""Refuses every call of the system that the built program makes in turn, and judges what it answers.
-By hand; the gate does not run it.
+"""Refuses every system call of the built program in turn, and judges the result.
+Run manually; CI does not run it.
 
     ./fail.py [--program PATH] [COMMAND]..
 
-Each trial is run once as it is, and then once for each call of a kind with that call refused, by
-fail.c: alone, and with all later ones of its kind. Right is:
+Each trial is run once unchanged, and then once for each call of a kind with that call refused, by
+fail.c: alone, and with all later ones of its kind. A result is right if
 
-- status 1 and one line on standard error, which is a fault that this refusal may have (none where
-  writing that line was refused); or what the command says of an image that is not opened or read;
-- on standard output a front of the right lines, of whole ones where no write was refused;
-- of each image a front, and of an output file nothing: a part of it only with the fault of writing;
-- an answer other than that with nothing refused, but for the refusals that `may_change_nothing` lists with
-  their reasons: a refusal that the program swallows is wrong.
+- it is status 1 and one line on standard error, with a fault that this refusal may cause (no line if
+  writing that line was refused); or what the command reports of an image that is not opened or read;
+- standard output is a prefix of the right lines, of complete lines if no write was refused;
+- each image is a prefix, and an output file does not exist: part of it may exist only after a failed
+  write;
+- it differs from the result without a refusal, except for the refusals that `may_change_nothing`
+  lists with their reasons: a refusal that the program ignores is wrong.
 
-One run more lets reads and writes pass one byte alone: nothing may change. Prints a line for wrong answers that are
-alike, and a table. The status is 1 where an answer was wrong. Commands that the program does not have are left out.
+In one more run reads and writes transfer one byte at a time: nothing may change. Prints a line for each
+group of similar wrong results, and a table. Exit status 1 if a result was wrong. Commands that the
+program does not have are left out.
 """
 
 import argparse

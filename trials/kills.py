@@ -1,15 +1,16 @@
 #!/usr/bin/env python3
-"""Stops `tape write` at random instants, at its writes and syncs and on full disks, and looks at what it leaves.
-By hand; the gate does not run it. The full disks are file systems in memory, which take the rights of root.
+"""Stops `tape write` at random instants, at its writes and syncs and on full disks, and checks what remains.
+Run manually; CI does not run it. The full disks are file systems in memory, which need root.
 
     ./kills.py [--program PATH] [--kills N] [--refusals N] [--disks N] [--seed N]
 
-Right is, each time: of the volumes that were begun every one but the last is whole. Its image ends by two tape
-marks and an end word, `tape check` calls its section GOOD, and its data blocks, joined to those of the
-volumes before it, are a front of the input. A full disk or a refusal is status 1 and one line, file fault 4.
-Then 9,999 inputs and 256 volumes are written with 64 open files, and the most memory of each is told beside
-that of one input and one volume. Prints a line for each wrong answer and a table; the status is 1 where
-there was one.
+Each time every volume that was begun except the last must be complete: its image ends with two tape
+marks and an end-of-medium marker, `tape check` calls its section GOOD, and its data blocks, joined to
+those of the volumes before it, are a prefix of the input. A full disk or a refusal must end with status
+1 and one line, file fault 4.
+Then 9,999 inputs and 256 volumes are written with 64 open files, and the maximum memory of each run is
+printed beside that of one input and one volume. Prints a line for each wrong result and a table; exit
+status 1 if there was one.
 """
 
 import argparse

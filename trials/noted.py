@@ -1,4 +1,4 @@
-"""What record.c noted of a run, and what it says of the run's output. For power.py."""
+"""What record.c recorded of a run, and what that says of the run's output. For power.py."""
 
 import re
 import struct

@@ -1,21 +1,21 @@
 """The files that a power cut may leave of a stage, and what `tape extract --stage` makes of each. For stage.py.
 
 Sets of volumes are made by `tape write`; copies of their reels are cut and damaged; over some days the program reads
-them with a stage. record.c notes each write, cut and sync of the stage's file. For each moment of these days files are
-made that a power cut could leave there: of the writes and cuts since the last sync any subset, in any order, each of
-them whole or torn (at sectors, at any byte, or with other bytes in its range), and any length between. Where a sync
-fails, what it was to keep is left so too; and a copy of the file that the system shows then is gone on with.
+them with a stage. record.c records each write, cut and sync of the stage's file. For each moment of these days files
+are made that a power cut could leave then: any subset of the writes and cuts since the last sync, in any order, each of
+them complete or torn (at sectors, at any byte, or with other bytes in its range), and any length between. If a sync
+fails, its data are left in the same way; and the run is continued with a copy of the file that the system then shows.
 
-From each file two runs follow, one that reads no reel and one over all volumes. Right is:
+From each file two runs follow, one that reads no reel and one over all volumes. The result is right if
 
-- the first awaits what was saved last, or what was just being saved;
-- a reader of the stage's format, written here, finds a front of the file's records in it;
+- the first run expects what was saved last, or what was just being saved;
+- a reader of the stage's format, written here, finds a prefix of the file's records in it;
 - the second run completes the file, byte for byte;
-- what was printed as AWAITS or COMPLETE stood on the disk when it was printed, and the folder was synced before;
-- OUT got its name when its bytes were synced, and the folder was synced behind that and before COMPLETE.
+- what was printed as AWAITS or COMPLETE was on the disk when it was printed, and the directory was synced before;
+- OUT got its name after its bytes were synced, and the directory was synced after that and before COMPLETE.
 
-Runs that go on from such a file are noted and cut in the same way. A power cut before the first checkpoint was kept may
-leave no stage: these files are counted by themselves.
+Runs that continue from such a file are recorded and cut in the same way. A power cut before the first checkpoint was
+saved may leave no stage: these files are counted separately.
 """
 
 import hashlib

@@ -1,4 +1,4 @@
-"""Sets of files on reels, made from docs/FORMATS.md alone, and what is to be had of damaged copies. For shelf.py."""
+"""Sets of files on reels, made from docs/FORMATS.md alone, and what can be recovered from damaged copies. For shelf.py."""
 
 import gzip
 import random

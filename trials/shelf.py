@@ -1,16 +1,17 @@
 #!/usr/bin/env python3
-"""A shelf of some 400 images, and what `tape survey` and `tape unpack` make of it. By hand; the gate does not run it.
+"""A collection of some 400 images, and what `tape survey` and `tape unpack` make of it. Run manually; CI does not run it.
 
     ./shelf.py [--program PATH] [--seed N] [--sets N] [--keep FOLDER] [--times]
 
 The images are made here, from docs/FORMATS.md alone: sets of files in the three formats on one to four volumes, one
-or two copies of each volume, whole, cut at some byte, with blocks that cannot be read in one copy or in both, a file
-whose header cannot be read, reels that are lost, two sets under one identifier, and reels that are no volumes of ours.
-They lie on the shelf in no order. What is to be had of them is reckoned here too, by positions and readings.
+or two copies of each volume, complete, cut at some byte, with blocks that are unreadable in one copy or in both, a file
+whose header is unreadable, reels that are missing, two sets with one identifier, and reels that are not our volumes.
+Their order is random. What can be recovered from them is calculated here too, by positions and readings.
 
-Three commands follow: `survey`, `unpack`, and `unpack` again with the lost reels found. Each file that can be had
-must be there, byte for byte, and no other; of each other one what is wanted is told. What `survey --tsv` tells of
-files must be what the catalogue's description says. Prints each wrong answer, and counts; status 1 where there is one.
+Three commands follow: `survey`, `unpack`, and `unpack` again with the missing reels found. Each file that can be
+recovered must exist, byte for byte, and no other; for each other one the missing block must be reported. The files that
+`survey --tsv` lists must be those of the catalogue's description. Prints each wrong result, and counts; exit status 1
+if there is one.
 
 --times: `survey` against `list` of each image, `unpack` against `extract` of each file, and 10,000 names from a list.
 """

@@ -1,22 +1,22 @@
 #!/usr/bin/env python3
-"""Stops `tape extract --stage` at every call of the system, at random instants and by power cuts, and goes on.
-By hand; the gate does not run it.
+"""Stops `tape extract --stage` at every system call, at random instants and by power cuts, and continues.
+Run manually; CI does not run it.
 
     ./stage.py [--program PATH] [--kills N] [--damages N] [--sets N] [--seed N]
 
 First each allocation, opening, read, write, sync, new name and lock is refused in turn by fail.c, alone
-and with all later ones of its kind: the answer is status 1 with one fault line, or what the report says
-of an image that is not read; and the same command behind it, in which nothing is refused, completes the
-file. A stage that was not made to its end is no stage: its file has to be removed, and then the command
-completes the file. Where a file system has no locks nothing changes. A run that finds another one at its
-stage is refused, and leaves it.
-Then the program is killed at random instants, over many reels, until a run completes: what it
-writes is each time the whole file.
+and with all later ones of its kind: the result must be status 1 with one fault line, or what the report
+says of an image that is not read; and the same command run again, with nothing refused, must complete the
+file. A stage whose creation was interrupted is not a stage: its file must be removed, and then the command
+completes the file. On a file system without locks nothing changes. A run whose stage is used by another
+run is refused, and leaves the stage alone.
+Then the program is killed at random instants, over many reels, until a run completes: what it writes must
+be the whole file each time.
 Then a stage is damaged, cut at any byte or with one of its bytes changed, and what `tape stage --damaged`
-tells and writes of it is compared with a walk over its frames as FORMATS.md has them.
+prints and writes is compared with a walk over its frames as FORMATS.md describes them.
 Last, over sets of random records, the files are made that a power cut could leave at each moment of some
-days, and each is gone on with: power.py tells what is right.
-Prints a line for each wrong answer and two tables; the status is 1 where there was one.
+days, and each is continued: power.py defines what is right.
+Prints a line for each wrong result and two tables; exit status 1 if there was one.
 """
 
 import argparse

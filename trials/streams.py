@@ -1,13 +1,13 @@
 #!/usr/bin/env python3
-"""Calls the built program with each set of its standard streams closed, and judges what it leaves.
-Run by hand before a release; CI does not run it.
+"""Calls the built program with each set of its standard streams closed, and judges the result.
+Run manually before a release; CI does not run it.
 
     ./streams.py [--program PATH]
 
-Twenty calls are made with each of the seven sets of closed streams. A closed stream has to act as
-one that fails at each read and write: the exit status and all files have to be those of a call with
-a directory as standard input, and /dev/full as standard output and standard error, in the place of
-what is closed. Prints each wrong answer, and how many calls there were. The status is 1 if one was
+Twenty calls are made with each of the seven sets of closed streams. A closed stream must behave like
+one on which every read and write fails: the exit status and all files must be those of a call with a
+directory as standard input, and /dev/full as standard output and standard error, in place of the
+closed streams. Prints each wrong result, and how many calls there were. Exit status 1 if one was
 wrong.
 """
 

@@ -1,12 +1,12 @@
 #!/usr/bin/env python3
-"""Runs tables of whole calls of the program: words, exit status, both streams and files, byte by byte.
-By hand; the gate does not run it, since there it would have to prove these tests too.
+"""Runs tables of whole calls of the program: arguments, exit status, both streams and files, byte by byte.
+Run manually; CI does not run it, since it would have to prove these tests too.
 
     ./whole.py
 
-In a copy of the repository the files of trials/whole stand among the tests of tape_tool. `rt try` compiles and
-runs them, over a system that is the real one but for its words and streams, and that notes what is opened.
-Prints what `rt` says of each test; the status is 1 where one failed.
+In a copy of the repository the files of trials/whole are added to the tests of tape_tool. `rt try` compiles and
+runs them, over a system that is the real one except for its arguments and streams, and that records what is opened.
+Prints what `rt` reports of each test; exit status 1 if one failed.
 """
 
 import shutil
