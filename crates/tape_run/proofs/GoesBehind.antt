@@ -17,20 +17,14 @@ use Rattle.tape_core.specs.Behind.{mounted_behind}
 use Rattle.tape_core.specs.Known.{is_finished}
 use Rattle.tape_core.specs.State.{State}
 use Rattle.tape_core.specs.Table.{Outcome, in_phase, passed, step_of, mount_of, mounted}
-use Rattle.tape_core.specs.Table.{unless_complete, at_reel_end}
 use Rattle.tape_core.proofs.OneFile.{step_set_id, step_file}
 use Rattle.tape_core.proofs.Behind.{step_law}
-use Rattle.tape_run.specs.Reels.{behind_items, answers_to, GoesOn, ReadsReel}
-use Rattle.tape_run.specs.ByTable.{delivered_parts, parts_by, parts_at}
+use Rattle.tape_run.specs.Reels.{behind_items, answers_to, GoesOn}
+use Rattle.tape_run.specs.ByTable.{delivered_parts, parts_by, parts_at, IsLed}
 use Rattle.tape_core.specs.Place.{rest_of, resting}
 use Rattle.tape_core.specs.Point.{Point}
 use Rattle.tape_core.specs.Weight.{IsFront}
-use Rattle.tape_run.specs.ByTable.{IsLed}
-use Rattle.tape_run.specs.GoesBehind.{EndsSection, PassesFiles}
-use Rattle.tape_run.specs.GoesBehind.{LeadsOverAll, ReeledBehind}
-use Rattle.tape_run.specs.GoesBehind.{LeavesBehind, LeavesBehindAgain}
-use Rattle.tape_image.specs.Begins.{Walks}
-use Rattle.tape_run.specs.declared.intake.ReelAnswer.{ReelAnswer}
+use Rattle.tape_run.specs.GoesBehind.{EndsSection, PassesFiles, LeadsOverAll, ReeledBehind}
 use Rattle.tape_run.specs.Given.{counted, IsGiven}
 use Rattle.tape_run.specs.Seen.{Seen}
 use Rattle.tape_run.specs.Taking.{ReadsImage}
@@ -78,7 +72,7 @@ end_one first later x (Useless why, s) p (inl on) = absurd (cc)
 end_one first later x (Useless why, s) p (inr on) = absurd (cc)
 
 -- a reader that goes on still wants something
-still_waits : (core : State) (x : TapeItem) (q : Position) → q ≡ (step_of core (Some x)).1.position
+pub still_waits : (core : State) (x : TapeItem) (q : Position) → q ≡ (step_of core (Some x)).1.position
     → GoesOn (step_of core (Some x)).0 → is_finished q ≡ false
 still_waits core x (Awaits sect b part) is on = refl
 still_waits core x Finished is (inl on) =
@@ -293,81 +287,3 @@ reeled_behind failed mounted new held now bytes unread left p notes f1 f2 r1 r2 
       table = λ xs end stop b. subst (λ (z : State). IsLed xs z (rest_of new) held now) mount
           (r.table xs end stop b);
     }
-
--- ---- from reel to reel
-
--- at the end of a reel no section ends well
-no_end : (core : State) (q : Position) (p : Phase) → is_finished q ≡ false
-    → EndsSection (unless_complete core q (at_reel_end core p)).0 → ⊥
-no_end core Finished p waits ends = absurd (cc)
-no_end core (Awaits sect b part) Broken waits (inl e) = absurd (cc)
-no_end core (Awaits sect b part) Broken waits (inr e) = absurd (cc)
-no_end core (Awaits sect b part) _ waits (inl e) = absurd (cc)
-no_end core (Awaits sect b part) _ waits (inr e) = absurd (cc)
-
-waits_on : (core : State) (xs : List TapeItem) → is_finished core.position ≡ false
-    → AllByRecursion GoesOn (answers_to core xs)
-    → is_finished (behind_items core xs).position ≡ false
-waits_on core [] waits on = waits
-waits_on core (x ∷ xs) waits (on, rest) = waits_on (step_of core (Some x)).1 xs
-    (still_waits core x (step_of core (Some x)).1.position refl on) rest
-
--- the items of a reel that ended a section well, and the one that did
-pub record EndedWell (core : State) (bytes left : List ℕ) : Type 0 where
-  pub items : List TapeItem
-  pub item : TapeItem
-  pub at : ℕ
-  pub on : AllByRecursion GoesOn (answers_to core items)
-  pub ended : EndsSection (step_of (behind_items core items) (Some item)).0
-  pub taken : Walks 0 bytes (items ++ item ∷ []) at left
-
-pub ended_well : (core : State) (bytes left : List ℕ) (answer : ReelAnswer)
-    → is_finished core.position ≡ false → ReadsReel core bytes left answer
-    → EndsSection answer.answer → EndedWell core bytes left
-ended_well core bytes left answer waits r ends = elim r.ended [
-  | inl e ↦ record {
-    items = r.items;
-    item = e.item;
-    at = e.at;
-    on = r.on;
-    ended = subst EndsSection e.last ends;
-    taken = e.taken;
-  }
-  | inr (inl e) ↦ absurd (no_end (behind_items core r.items) (behind_items core r.items).position
-      (behind_items core r.items).phase (waits_on core r.items waits r.on)
-      (subst EndsSection e.last ends))
-  | inr (inr e) ↦ absurd (no_end (behind_items core r.items) (behind_items core r.items).position
-      (behind_items core r.items).phase (waits_on core r.items waits r.on)
-      (subst EndsSection e.last ends))
-]
-
-pub leaves_behind : LeavesBehind
-leaves_behind core bytes left answer waits sound r ends =
-    let e = ended_well (mount_of core) bytes left answer waits r ends in
-    (e.items, e.item, e.at, record { sound = sound; on = e.on; ended = e.ended }, e.taken)
-
-passed_goes_on : (core : State) (xs ys : List TapeItem)
-    → AllByRecursion (λ a. a ≡ Passed) (answers_to core xs)
-    → AllByRecursion GoesOn (answers_to (behind_items core xs) ys)
-    → AllByRecursion GoesOn (answers_to core (xs ++ ys))
-passed_goes_on core [] ys passed on = on
-passed_goes_on core (x ∷ xs) ys (one, rest) on =
-    (inl one, passed_goes_on (step_of core (Some x)).1 xs ys rest on)
-
-pub leaves_behind_again : LeavesBehindAgain
-leaves_behind_again core front bytes left answer waits sound over r ends =
-    let e = ended_well (behind_of core) bytes left answer waits r ends in (
-      e.items,
-      e.item,
-      e.at,
-      record {
-        sound = sound;
-        on = passed_goes_on (mount_of core) front e.items over.answers
-            (subst (λ (z : State). AllByRecursion GoesOn (answers_to z e.items)) (sym over.behind)
-            e.on);
-        ended = subst (λ (z : State). EndsSection (step_of z (Some e.item)).0)
-            (sym (behind_app (mount_of core) front e.items
-            ∙ ap (λ (z : State). behind_items z e.items) over.behind)) e.ended;
-      },
-      e.taken,
-    )

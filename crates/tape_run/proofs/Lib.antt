@@ -27,7 +27,10 @@ pub mod KeepingPlaces
 pub mod NotedSoFar
 pub mod Noting
 pub mod GoesBehind
+pub mod GoesBehindReels
 pub mod BehindReads
+pub mod LocatedReaders
+pub mod LocatedParts
 pub mod Located
 pub mod SectionRuns
 pub mod StayingGood
@@ -84,6 +87,10 @@ mod SalvageSeen
 mod SalvageVolumes
 mod SalvageWhole
 mod SalvageGrows
+mod SalvageChoice
+mod SalvageImages
+mod SalvageOne
+mod SalvageTaking
 mod SalvageShelf
 mod SalvageRest
 mod SalvageClosings
@@ -105,6 +112,7 @@ mod MistakesOfPlaces
 mod MistakesOfReels
 mod MistakesOfReports
 mod MistakesOfRuns
+mod MistakesOfReadings
 mod MistakesOfStops
 mod MistakesOfSaves
 mod MistakesOfCauses

@@ -1,6 +1,6 @@
 -- On a volume of a lawful set the data of a section end once.
-use Rattle.std.proofs.Common.{◌≡◌, inl, inr, ℕ, ◌+◌, ◌==◌, ◌&&◌, Bool, true, false, List, [], ◌∷◌, ◌++◌, length, map}
-use Rattle.std.proofs.Common.{Some, refl, sym, ap, ◌∙◌, arith, append_assoc}
+use Rattle.std.proofs.Common.{◌≡◌, inl, inr, ℕ, ◌+◌, ◌==◌, ◌&&◌, Bool, true, false, List, [], ◌∷◌}
+use Rattle.std.proofs.Common.{◌++◌, length, map, Some, refl, sym, ap, ◌∙◌, arith, append_assoc}
 use Rattle.std.specs.Prelude.{if◌then◌else◌}
 use Rattle.std.specs.List.{AllByRecursion}
 use Rattle.tape_image.specs.Tape.{TapeItem, block, bad, mark}
@@ -13,8 +13,9 @@ use Rattle.tape_run.specs.declared.section.SectionKey.{SectionKey}
 use Rattle.tape_run.specs.Noted.{same_key}
 use Rattle.tape_run.specs.declared.salvage.walk.OpenSection.{OpenSection}
 use Rattle.tape_run.specs.declared.salvage.walk.Expected.{Expected}
-use Rattle.tape_run.specs.declared.salvage.walk.Expected.TheVariants.{Outside, Second, Headers, Data}
-use Rattle.tape_run.specs.declared.salvage.walk.Expected.TheVariants.{Trailer, Trailers, Next, Over}
+use Rattle.tape_run.specs.declared.salvage.walk.Expected.TheVariants.{Outside, Second, Headers}
+use Rattle.tape_run.specs.declared.salvage.walk.Expected.TheVariants.{Data, Trailer, Trailers}
+use Rattle.tape_run.specs.declared.salvage.walk.Expected.TheVariants.{Next, Over}
 use Rattle.tape_run.specs.SalvageWalk.{step, expected_after, section_by, begun_by, with_item}
 use Rattle.tape_run.specs.SalvageWalk.{with_unreadable}
 use Rattle.tape_run.specs.SalvageBlocks.{Salvaged}
@@ -24,9 +25,10 @@ use Rattle.tape_run.specs.SalvageSections.{read_blocks, read_section, read_secti
 use Rattle.tape_run.specs.SalvageSections.{IsRead, IsOther, read_volume, RecoversFromReading}
 use Rattle.tape_run.proofs.SalvagedSoFar.{expected_after-append}
 use Rattle.tape_run.proofs.SalvageRest.{closings-append, rest_has_nothing}
-use Rattle.tape_run.proofs.SalvageSections.{section_after, same_section_after, may_begin, second_is}
-use Rattle.tape_run.proofs.SalvageSections.{closes_it, trailer_step, key_is}
-use Rattle.tape_run.proofs.SalvageVolumes.{IsNoHead, vol1_no_head, label_no_head, recovers_from_volume}
+use Rattle.tape_run.proofs.SalvageSections.{section_after, same_section_after, may_begin}
+use Rattle.tape_run.proofs.SalvageSections.{second_is, closes_it, trailer_step, key_is}
+use Rattle.tape_run.proofs.SalvageVolumes.{IsNoHead, vol1_no_head, label_no_head}
+use Rattle.tape_run.proofs.SalvageVolumes.{recovers_from_volume}
 
 module _ (key : SectionKey) where
   record Closes (s : Expected) (xs : List TapeItem) (t : Expected) (n : ℕ) : Type 0 where
@@ -70,7 +72,8 @@ module _ (key : SectionKey) where
   unfolding section_after
   data_items u [] = record { after = refl; closes = refl }
   data_items u ((true, f) ∷ bs) =
-      chain (Data u) (Data (with_item u)) (Data (section_after (with_item u) bs)) (block f.bytes ∷ [])
+      chain (Data u) (Data (with_item u)) (Data (section_after (with_item u) bs))
+      (block f.bytes ∷ [])
       (read_blocks bs) 0 0
       (one (Data u) (Data (with_item u)) (block f.bytes) refl (no_mark (same_key u.key key)))
       (data_items (with_item u) bs)
@@ -128,8 +131,8 @@ module _ (key : SectionKey) where
       (trailer.file ∙ sym (ap (λ (k : SectionKey). k.file) whose)) in
       let all = chain s (Headers v) Next (block y.hdr1 ∷ block y.hdr2 ∷ []) _ (0 + 0) _
       (chain s (Second u) (Headers v) (block y.hdr1 ∷ []) (block y.hdr2 ∷ []) 0 0
-      (one s (Second u) (block y.hdr1) (may_begin s y.hdr1 h may (head1_again y.hdr1 h header.label))
-      (not_in s (block y.hdr1) may))
+      (one s (Second u) (block y.hdr1)
+      (may_begin s y.hdr1 h may (head1_again y.hdr1 h header.label)) (not_in s (block y.hdr1) may))
       (one (Second u) (Headers v) (block y.hdr2) two.expects refl))
       (chain (Headers v) (Headers v) Next (map block y.headers) _ 0 _ (headers v y.headers)
       (chain (Headers v) (Data v) Next (mark ∷ []) _ 0 _ (one (Headers v) (Data v) mark refl refl)
@@ -170,8 +173,8 @@ module _ (key : SectionKey) where
   labels : (ls : List (List ℕ)) → AllByRecursion IsVolumeLabel ls
       → Closes (Outside 0) (map block ls) (Outside 0) 0
   labels [] all = record { after = refl; closes = refl }
-  labels (l ∷ ls) (is, all) = chain (Outside 0) (Outside 0) (Outside 0) (block l ∷ []) (map block ls)
-      0 0 (label l (label_no_head l is)) (labels ls all)
+  labels (l ∷ ls) (is, all) = chain (Outside 0) (Outside 0) (Outside 0) (block l ∷ [])
+      (map block ls) 0 0 (label l (label_no_head l is)) (labels ls all)
 
   not_open : (s : Expected) → MayBegin s → is_in key (step s mark).0 ≡ false
   not_open Next may = refl
@@ -229,7 +232,8 @@ volume_once key set_id volumes v before x bs rest is read other read' other' own
     let front = others key set_id volumes o before refl read other in
     let here = section key set_id volumes x bs front.last true own.0 front.may same in
     let back = others key set_id volumes Next rest tt read' other' in
-    let end = one key back.last (step back.last mark).0 mark refl (not_in key back.last mark back.may)
+    let end = one key back.last (step back.last mark).0 mark refl
+    (not_in key back.last mark back.may)
     in
     let z = (step back.last mark).0 in
     let all = chain key o o z (block v.vol1 ∷ []) _ 0 _
@@ -247,8 +251,8 @@ volume_once key set_id volumes v before x bs rest is read other read' other' own
 pub recovers_from_reading : RecoversFromReading
 recovers_from_reading set_id volumes v before x bs rest form key g items is read other read' other'
     own same how =
-    let whole = recovers_from_volume set_id volumes v before x bs rest form key g is read other read'
-    other' own same in
+    let whole = recovers_from_volume set_id volumes v before x bs rest form key g is read other
+    read' other' own same in
     let all = read_volume v (before ++ (x, bs) ∷ rest) in
     let from : List TapeItem → _ = λ l.
     (salvaged_from key (length bs) (Some form) (Outside 0) g l).piece in

@@ -1,6 +1,6 @@
 -- A section of a lawful set is found to close.
-use Rattle.std.proofs.Common.{◌≡◌, ◌≤◌, ℕ, ◌+◌, Bool, true, false, List, [], ◌∷◌, ◌++◌, length, map}
-use Rattle.std.proofs.Common.{Option, Some, None, Ok, Result, refl, sym, ap, ◌∙◌, arith}
+use Rattle.std.proofs.Common.{◌≡◌, ◌≤◌, ℕ, ◌+◌, Bool, true, false, List, [], ◌∷◌, ◌++◌, length}
+use Rattle.std.proofs.Common.{map, Option, Some, None, Ok, Result, refl, sym, ap, ◌∙◌, arith}
 use Rattle.std.proofs.Common.{append_assoc, append-nil}
 use Rattle.std.specs.Prelude.{if◌then◌else◌}
 use Rattle.tape_image.specs.Tape.{TapeItem, block, mark}
@@ -15,15 +15,17 @@ use Rattle.tape_run.specs.declared.section.SectionKey.{SectionKey}
 use Rattle.tape_run.specs.declared.salvage.walk.OpenSection.{OpenSection}
 use Rattle.tape_run.specs.declared.salvage.walk.Closing.{Closing}
 use Rattle.tape_run.specs.declared.salvage.walk.Expected.{Expected}
-use Rattle.tape_run.specs.declared.salvage.walk.Expected.TheVariants.{Outside, Second, Headers, Data}
-use Rattle.tape_run.specs.declared.salvage.walk.Expected.TheVariants.{Trailer, Trailers, Next, Over}
-use Rattle.tape_run.specs.SalvageWalk.{step, expected_after, found_from, in_list, section_by, begun_by}
-use Rattle.tape_run.specs.SalvageWalk.{with_item, with_unreadable, closes, closed_by, unclosed_by, FoundSection}
+use Rattle.tape_run.specs.declared.salvage.walk.Expected.TheVariants.{Outside, Second, Headers}
+use Rattle.tape_run.specs.declared.salvage.walk.Expected.TheVariants.{Data, Trailer, Trailers}
+use Rattle.tape_run.specs.declared.salvage.walk.Expected.TheVariants.{Next, Over}
+use Rattle.tape_run.specs.SalvageWalk.{step, expected_after, found_from, in_list, section_by}
+use Rattle.tape_run.specs.SalvageWalk.{begun_by, with_item, with_unreadable, closes, closed_by}
+use Rattle.tape_run.specs.SalvageWalk.{unclosed_by, FoundSection}
 use Rattle.tape_run.specs.SalvageWhole.{Blocks}
 use Rattle.tape_run.specs.SalvageSections.{read_blocks, MayBegin, FindsSection}
 use Rattle.tape_run.proofs.SalvagedSoFar.{expected_after-append}
-use Rattle.tape_run.proofs.SalvageSections.{section_after, same_section_after, second_is, closes_it, long, key_is}
-use Rattle.tape_run.proofs.SalvageSections.{one_more}
+use Rattle.tape_run.proofs.SalvageSections.{section_after, same_section_after, second_is}
+use Rattle.tape_run.proofs.SalvageSections.{closed_of, closes_it, long, key_is, one_more}
 
 pub found_from-append : (s : Expected) (xs ys : List TapeItem)
     → found_from s (xs ++ ys) ≡ found_from s xs ++ found_from (expected_after s xs) ys
@@ -33,11 +35,13 @@ found_from-append s (x ∷ xs) ys =
     ∙ sym (append_assoc (in_list (step s x).1) (found_from (step s x).0 xs)
     (found_from (expected_after (step s x).0 xs) ys))
 
-record Finds (s : Expected) (xs : List TapeItem) (t : Expected) (ts : List FoundSection) : Type 0 where
+record Finds (s : Expected) (xs : List TapeItem) (t : Expected) (ts : List FoundSection)
+    : Type 0 where
   after : expected_after s xs ≡ t
   found : found_from s xs ≡ ts
 
-finds_append : (s t u : Expected) (xs ys : List TapeItem) (ts us : List FoundSection) → Finds s xs t ts
+finds_append : (s t u : Expected) (xs ys : List TapeItem) (ts us : List FoundSection)
+    → Finds s xs t ts
     → Finds t ys u us → Finds s (xs ++ ys) u (ts ++ us)
 finds_append s t u xs ys ts us a b = record {
   after = expected_after-append s xs ys ∙ ap (λ z. expected_after z ys) a.after ∙ b.after;
@@ -54,7 +58,8 @@ finds_step s t x o e = record {
       ∙ ap (λ (p : Expected × Option FoundSection). in_list p.1) e;
 }
 
-finds_headers : (u : OpenSection) (ls : List (List ℕ)) → Finds (Headers u) (map block ls) (Headers u) []
+finds_headers : (u : OpenSection) (ls : List (List ℕ)) → Finds (Headers u) (map block ls)
+    (Headers u) []
 finds_headers u [] = record { after = refl; found = refl }
 finds_headers u (l ∷ ls) =
     let r = finds_headers u ls in record { after = r.after; found = r.found }
@@ -64,13 +69,15 @@ finds_trailers [] = record { after = refl; found = refl }
 finds_trailers (l ∷ ls) =
     let r = finds_trailers ls in record { after = r.after; found = r.found }
 
-finds_data : (u : OpenSection) (bs : Blocks) → Finds (Data u) (read_blocks bs) (Data (section_after u bs)) []
+finds_data : (u : OpenSection) (bs : Blocks) → Finds (Data u) (read_blocks bs)
+    (Data (section_after u bs)) []
 unfolding section_after
 finds_data u [] = record { after = refl; found = refl }
 finds_data u ((true, f) ∷ bs) =
     let r = finds_data (with_item u) bs in record { after = r.after; found = r.found }
 finds_data u ((false, f) ∷ bs) =
-    let r = finds_data (with_item (with_unreadable u)) bs in record { after = r.after; found = r.found }
+    let r = finds_data (with_item (with_unreadable u)) bs in
+    record { after = r.after; found = r.found }
 
 -- its data items are counted
 counted : (u : OpenSection) (bs : Blocks) → u.blocks + length bs ≤ 4294967295
@@ -96,9 +103,6 @@ begins_all (Data u) b h may is = absurd may
 begins_all (Trailer u) b h may is = absurd may
 begins_all Trailers b h may is = absurd may
 begins_all Over b h may is = absurd may
-
-abbrev closed_of : Trail1 → Closing
-closed_of t = record { eof = t.eof; count = t.blocks }
 
 trailer_all : (u : OpenSection) (b : List ℕ) (t : Trail1) → trail1_at b ≡ Ok t → closes u t ≡ true
     → step (Trailer u) (block b) ≡ (Trailers, Some (u, Some (closed_of t)))

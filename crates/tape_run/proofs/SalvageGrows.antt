@@ -1,16 +1,17 @@
 -- What is recovered grows, and up to the first missing block nothing is left out.
-use Rattle.std.proofs.Common.{◌≡◌, Bool, true, false, List, [], ◌∷◌, ◌++◌, Result, Ok, Err, Some, ◌&&◌}
-use Rattle.std.proofs.Common.{refl, sym, ap, subst, ◌∙◌, append-nil, append_assoc}
+use Rattle.std.proofs.Common.{◌≡◌, Bool, true, false, List, [], ◌∷◌, ◌++◌, Result, Ok, Err, Some}
+use Rattle.std.proofs.Common.{◌&&◌, refl, sym, ap, subst, ◌∙◌, append-nil, append_assoc}
 use Rattle.std.specs.Prelude.{if◌then◌else◌}
 use Rattle.std.specs.List.{AllByRecursion}
 use Rattle.tape_blocks.specs.declared.check.BlockFault.{BlockFault}
 use Rattle.tape_blocks.specs.Block.{Portion}
 use Rattle.tape_blocks.specs.Spans.{continues, leaves, InOrder}
 use Rattle.tape_set.specs.Lawful.{FileForm}
-use Rattle.tape_run.specs.SalvageRecords.{Piece, nothing, with_part, with_parts, with_open, with_end, torn}
-use Rattle.tape_run.specs.SalvageRecords.{mended, mended_by, judged_at}
+use Rattle.tape_run.specs.SalvageRecords.{Piece, nothing, with_part, with_parts, with_open}
+use Rattle.tape_run.specs.SalvageRecords.{with_end, torn, mended, mended_by, judged_at}
 use Rattle.tape_core.specs.Parts.{parts_in}
-use Rattle.tape_run.specs.SalvageWhole.{Blocks, all_parts, piece_after, IsBlock, FirstStays, NeverLess}
+use Rattle.tape_run.specs.SalvageWhole.{Blocks, all_parts, piece_after, IsBlock, FirstStays}
+use Rattle.tape_run.specs.SalvageWhole.{NeverLess}
 use Rattle.tape_run.proofs.SalvageWhole.{on, is_judged, same_piece, split_order}
 
 -- ---- what was recovered remains
@@ -75,7 +76,8 @@ grown_part p x false l t = record {
 
 grown_parts : (p : Piece) (xs : List Portion) (end : Bool) → p.torn ≡ false
     → InOrder p.begun xs end → Grown p (with_parts p xs) xs end
-grown_parts p [] end t o = record { whole = t; begun = o; all = sym (append-nil (p.done ++ p.front)) }
+grown_parts p [] end t o =
+    record { whole = t; begun = o; all = sym (append-nil (p.done ++ p.front)) }
 grown_parts p (x ∷ xs) end t (c, o) =
     let one = grown_part p x (leaves x.span) refl t in
     let q = with_part p x in

@@ -1,13 +1,14 @@
 -- Nothing more of a section is recovered after the mark that ends its data.
-use Rattle.std.proofs.Common.{◌≡◌, ℕ, ◌+◌, ◌&&◌, nat_lt, Bool, true, false, List, [], ◌∷◌, ◌++◌, Option, Some, None}
-use Rattle.std.proofs.Common.{refl, sym, ap, ◌∙◌, arith, append-nil}
+use Rattle.std.proofs.Common.{◌≡◌, ℕ, ◌+◌, ◌&&◌, nat_lt, Bool, true, false, List, [], ◌∷◌, ◌++◌}
+use Rattle.std.proofs.Common.{Option, Some, None, refl, sym, ap, ◌∙◌, arith, append-nil}
 use Rattle.std.specs.Prelude.{if◌then◌else◌}
 use Rattle.tape_image.specs.Tape.{TapeItem, block, bad, mark}
 use Rattle.tape_set.specs.Lawful.{FileForm}
 use Rattle.tape_run.specs.declared.section.SectionKey.{SectionKey}
 use Rattle.tape_run.specs.declared.salvage.walk.Expected.{Expected}
-use Rattle.tape_run.specs.declared.salvage.walk.Expected.TheVariants.{Outside, Second, Headers, Data}
-use Rattle.tape_run.specs.declared.salvage.walk.Expected.TheVariants.{Trailer, Trailers, Next, Over}
+use Rattle.tape_run.specs.declared.salvage.walk.Expected.TheVariants.{Outside, Second, Headers}
+use Rattle.tape_run.specs.declared.salvage.walk.Expected.TheVariants.{Data, Trailer, Trailers}
+use Rattle.tape_run.specs.declared.salvage.walk.Expected.TheVariants.{Next, Over}
 use Rattle.tape_run.specs.SalvageWalk.{step, expected_after}
 use Rattle.tape_run.specs.SalvageBlocks.{Salvaged, salvaged_at, text_at}
 use Rattle.tape_run.specs.SalvageImage.{is_in, is_mark, number_in, salvaged_from, text_from}

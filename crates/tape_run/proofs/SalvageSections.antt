@@ -19,11 +19,13 @@ use Rattle.tape_set.specs.Lawful.{IsSection, FileForm}
 use Rattle.tape_run.specs.declared.section.SectionKey.{SectionKey}
 use Rattle.tape_run.specs.Noted.{same_key}
 use Rattle.tape_run.specs.declared.salvage.walk.OpenSection.{OpenSection}
+use Rattle.tape_run.specs.declared.salvage.walk.Closing.{Closing}
 use Rattle.tape_run.specs.declared.salvage.walk.Expected.{Expected}
-use Rattle.tape_run.specs.declared.salvage.walk.Expected.TheVariants.{Outside, Second, Headers, Data}
-use Rattle.tape_run.specs.declared.salvage.walk.Expected.TheVariants.{Trailer, Trailers, Next, Over}
-use Rattle.tape_run.specs.SalvageWalk.{step, expected_after, section_by, begun_by, with_item, with_unreadable, closes}
-use Rattle.tape_run.specs.SalvageWalk.{closed_by, second_by, unclosed_by}
+use Rattle.tape_run.specs.declared.salvage.walk.Expected.TheVariants.{Outside, Second, Headers}
+use Rattle.tape_run.specs.declared.salvage.walk.Expected.TheVariants.{Data, Trailer, Trailers}
+use Rattle.tape_run.specs.declared.salvage.walk.Expected.TheVariants.{Next, Over}
+use Rattle.tape_run.specs.SalvageWalk.{step, expected_after, section_by, begun_by, with_item}
+use Rattle.tape_run.specs.SalvageWalk.{with_unreadable, closes, closed_by, second_by, unclosed_by}
 use Rattle.tape_run.specs.SalvageBlocks.{Salvaged, salvaged_at, with_block, without_block}
 use Rattle.tape_run.specs.SalvageImage.{salvaged_from, number_in}
 use Rattle.tape_run.specs.SalvageWhole.{Blocks, piece_after}
@@ -92,7 +94,8 @@ same_section_after u ((false, f) ∷ bs) = same_section_after (with_item (with_u
 -- what is recovered of them
 salvaged_blocks : Option FileForm → ℕ → Salvaged → Blocks → Salvaged
 salvaged_blocks form n g [] = g
-salvaged_blocks form n g ((true, f) ∷ bs) = salvaged_blocks form (n + 1) (with_block form f.bytes g) bs
+salvaged_blocks form n g ((true, f) ∷ bs) =
+    salvaged_blocks form (n + 1) (with_block form f.bytes g) bs
 salvaged_blocks form n g ((false, f) ∷ bs) = salvaged_blocks form (n + 1) (without_block n g) bs
 
 piece_of : (form : FileForm) (n : ℕ) (g : Salvaged) (bs : Blocks)
@@ -105,13 +108,15 @@ piece_of form n g ((false, f) ∷ bs) = piece_of form (n + 1) (without_block n g
 pub one_more : (n : ℕ) → n < 4294967295 → min (n + 1) 4294967295 ≡ n + 1
 one_more n lt = omega (arith, lt)
 
-is_number : (key : SectionKey) (most : ℕ) (u : OpenSection) → same_key u.key key ≡ true → u.blocks < most
+is_number : (key : SectionKey) (most : ℕ) (u : OpenSection) → same_key u.key key ≡ true
+    → u.blocks < most
     → number_in key most (Data u) ≡ Some u.blocks
 is_number key most u same lt =
     let n : nat_lt u.blocks most ≡ true = grind (arith, nat_tests) in
     rw (same, n) refl
 
-goes_data : (key : SectionKey) (most : ℕ) (form : Option FileForm) (u : OpenSection) (g : Salvaged) (bs : Blocks)
+goes_data : (key : SectionKey) (most : ℕ) (form : Option FileForm) (u : OpenSection) (g : Salvaged)
+    (bs : Blocks)
     → same_key u.key key ≡ true → u.blocks + length bs ≤ most → most ≤ 4294967295
     → Goes key most form (Data u) g (read_blocks bs) (Data (section_after u bs))
     (salvaged_blocks form u.blocks g bs)
@@ -130,8 +135,8 @@ goes_data key most form u g ((true, f) ∷ bs) same few fits =
     }
 goes_data key most form u g ((false, f) ∷ bs) same few fits =
     let n = one_more u.blocks (omega (arith, few, fits)) in
-    let r = goes_data key most form (with_item (with_unreadable u)) (without_block u.blocks g) bs same
-    (omega (arith, n, few)) fits in
+    let r = goes_data key most form (with_item (with_unreadable u)) (without_block u.blocks g) bs
+    same (omega (arith, n, few)) fits in
     record {
       after = r.after;
       given = ap (λ m. salvaged_from key most form (Data (with_item (with_unreadable u)))
@@ -181,7 +186,8 @@ may_begin (Trailer u) b h may is = absurd may
 may_begin Trailers b h may is = absurd may
 may_begin Over b h may is = absurd may
 
-pub none_yet : (key : SectionKey) (most : ℕ) (s : Expected) → MayBegin s → number_in key most s ≡ None
+pub none_yet : (key : SectionKey) (most : ℕ) (s : Expected) → MayBegin s
+    → number_in key most s ≡ None
 none_yet key most (Outside n) may = refl
 none_yet key most Next may = refl
 none_yet key most (Second u) may = absurd may
@@ -198,7 +204,8 @@ pub record Heads (u : OpenSection) (s : Expected) : Type 0 where
   pub same : section.key ≡ u.key
   pub none : section.blocks ≡ u.blocks
 
-pub second_is : (u : OpenSection) (k : Option Kind) (r : Result Head2 LabelFault) → Heads u (second_by u k r)
+pub second_is : (u : OpenSection) (k : Option Kind) (r : Result Head2 LabelFault)
+    → Heads u (second_by u k r)
 second_is u None r = record { section = u; expects = refl; same = refl; none = refl }
 second_is u (Some kinds.Hdr2) r =
     record { section = _; expects = refl; same = refl; none = refl }
@@ -210,19 +217,22 @@ second_is u (Some kinds.Eov1) r = record { section = u; expects = refl; same = r
 second_is u (Some kinds.Eov2) r = record { section = u; expects = refl; same = refl; none = refl }
 
 -- its trailer label closes it
-pub closes_it : (u : OpenSection) (t : Trail1) → t.head.sect ≡ u.key.sect → t.head.sequence ≡ u.key.file
-    → closes u t ≡ true
+pub closes_it : (u : OpenSection) (t : Trail1) → t.head.sect ≡ u.key.sect
+    → t.head.sequence ≡ u.key.file → closes u t ≡ true
 closes_it u t s f =
     let a : (t.head.sect == u.key.sect) ≡ true = grind (arith, nat_tests) in
     let b : (t.head.sequence == u.key.file) ≡ true = grind (arith, nat_tests) in
     rw (a, b) refl
 
-pub trailer_step : (u : OpenSection) (b : List ℕ) (t : Trail1) → trail1_at b ≡ Ok t → closes u t ≡ true
-    → (step (Trailer u) (block b)).0 ≡ Trailers
+abbrev pub closed_of : Trail1 → Closing
+closed_of t = record { eof = t.eof; count = t.blocks }
+
+pub trailer_step : (u : OpenSection) (b : List ℕ) (t : Trail1) → trail1_at b ≡ Ok t
+    → closes u t ≡ true → (step (Trailer u) (block b)).0 ≡ Trailers
 trailer_step u b t is closed =
     ap (λ (r : Result Trail1 LabelFault). (closed_by u r (head1_at b)).0) is
-    ∙ ap (λ (c : Bool). ((if c then (Trailers, Some (u, Some (record { eof = t.eof; count = t.blocks })))
-    else unclosed_by u (head1_at b))).0) closed
+    ∙ ap (λ (c : Bool). (if c then (Trailers, Some (u, Some (closed_of t)))
+    else unclosed_by u (head1_at b)).0) closed
 
 -- ---- a section
 
@@ -239,8 +249,8 @@ key_is h set_id file sect a b c =
     ∙ ap (λ (s : ℕ). key set_id file s) c
 
 -- the walk over a section, by what it does over the section's data
-section_goes : (key : SectionKey) (most : ℕ) (form : Option FileForm) (set_id : List ℕ) (volumes : ℕ)
-    (x : Placed) (bs : Blocks) (s : Expected) (g i : Salvaged)
+section_goes : (key : SectionKey) (most : ℕ) (form : Option FileForm) (set_id : List ℕ)
+    (volumes : ℕ) (x : Placed) (bs : Blocks) (s : Expected) (g i : Salvaged)
     → IsSection set_id volumes x → MayBegin s
     → ((v : OpenSection) → v.key ≡ record { set_id = set_id; file = x.file; sect = x.sect }
     → v.blocks ≡ 0 → Goes key most form (Data v) g (read_blocks bs) (Data (section_after v bs)) i)
@@ -261,8 +271,8 @@ section_goes key most form set_id volumes x bs s g i is may goes =
     (trailer.file ∙ sym (ap (λ (k : SectionKey). k.file) whose)) in
     let none = ap (λ n. salvaged_at form g n (block y.hdr1)) (none_yet key most s may) in
     goes_append key most form s (Headers v) Next g g i (block y.hdr1 ∷ block y.hdr2 ∷ []) _
-    (goes_append key most form s (Second u) (Headers v) g g g (block y.hdr1 ∷ []) (block y.hdr2 ∷ [])
-    (goes_step key most form s (Second u) g (block y.hdr1)
+    (goes_append key most form s (Second u) (Headers v) g g g (block y.hdr1 ∷ [])
+    (block y.hdr2 ∷ []) (goes_step key most form s (Second u) g (block y.hdr1)
     (may_begin s y.hdr1 h may (head1_again y.hdr1 h header.label)) none)
     (goes_step key most form (Second u) (Headers v) g (block y.hdr2) two.expects refl))
     (goes_append key most form (Headers v) (Headers v) Next g g i (map block y.headers) _
@@ -272,8 +282,8 @@ section_goes key most form set_id volumes x bs s g i is may goes =
     (goes_append key most form (Data v) (Data w) Next g i i (read_blocks bs) _
     (goes v own two.none)
     (goes_append key most form (Data w) Trailers Next i i i (mark ∷ block y.trailer ∷ []) _
-    (goes_append key most form (Data w) (Trailer w) Trailers i i i (mark ∷ []) (block y.trailer ∷ [])
-    (goes_step key most form (Data w) (Trailer w) i mark refl
+    (goes_append key most form (Data w) (Trailer w) Trailers i i i (mark ∷ [])
+    (block y.trailer ∷ []) (goes_step key most form (Data w) (Trailer w) i mark refl
     (no_mark key most form i (number_in key most (Data w))))
     (goes_step key most form (Trailer w) Trailers i (block y.trailer)
     (trailer_step w y.trailer t (trail1_again y.trailer t trailer.label) closed) refl))

@@ -1,6 +1,6 @@
 -- The copies found after some items of an image.
-use Rattle.std.proofs.Common.{◌≡◌, ℕ, Bool, true, false, List, [], ◌∷◌, ◌++◌, Option}
-use Rattle.std.proofs.Common.{refl, sym, ap, subst, ◌∙◌, append-nil, append_assoc}
+use Rattle.std.proofs.Common.{◌≡◌, ℕ, Bool, true, false, List, [], ◌∷◌, ◌++◌, Option, refl, sym}
+use Rattle.std.proofs.Common.{ap, subst, ◌∙◌, append-nil, append_assoc}
 use Rattle.std.specs.Prelude.{if◌then◌else◌}
 use Rattle.tape_image.specs.Tape.{TapeItem}
 use Rattle.tape_image.specs.Begins.{Walks}
@@ -15,8 +15,8 @@ use Rattle.tape_run.proofs.NotedSoFar.{by_ending}
 use Rattle.tape_run.specs.declared.salvage.copies.SectionCopy.{SectionCopy}
 use Rattle.tape_run.specs.declared.salvage.walk.Expected.{Expected}
 use Rattle.tape_run.specs.declared.salvage.walk.Expected.TheVariants.{Outside}
-use Rattle.tape_run.specs.SalvageWalk.{FoundSection, step, expected_after, found_from, in_list, open_section}
-use Rattle.tape_run.specs.SalvageWalk.{sections_in}
+use Rattle.tape_run.specs.SalvageWalk.{FoundSection, step, expected_after, found_from, in_list}
+use Rattle.tape_run.specs.SalvageWalk.{open_section, sections_in}
 use Rattle.tape_run.specs.SalvageCopies.{is_of, copy_of, of_file, FindsCopies}
 use Rattle.tape_run.proofs.SalvagedSoFar.{expected_after-append}
 use Rattle.tape_run.proofs.SalvageFound.{found_from-append}
@@ -82,7 +82,8 @@ module _ (set_id : List ℕ) (file image : ℕ) where
         ∙ sym (found_from-append (Outside 0) s.items (item ∷ [])));
   }
 
-  all_seen : (all left : Option (List ℕ)) (p : ℕ) (expected : Expected) (old mid new : List SectionCopy)
+  all_seen : (all left : Option (List ℕ)) (p : ℕ) (expected : Expected)
+      (old mid new : List SectionCopy)
       → (s : SoFar all left p expected old mid) → new ≡ mid ++ its (in_list (open_section expected))
       → new ≡ old ++ its (sections_in s.items)
   all_seen all left p expected old mid new s n =
@@ -93,7 +94,8 @@ module _ (set_id : List ℕ) (file image : ℕ) where
   pub at_end : (all left next : Option (List ℕ)) (p q : ℕ) (ending : Ending) (expected : Expected)
       (old mid new : List SectionCopy) → SoFar all left p expected old mid
       → IfKnown left next (TakesEnd p [] ending q)
-      → new ≡ mid ++ its (in_list (open_section expected)) → FindsCopies all next set_id file image old new
+      → new ≡ mid ++ its (in_list (open_section expected))
+      → FindsCopies all next set_id file image old new
   at_end all left next p q ending expected old mid new s takes n = record {
     items = s.items;
     stop = stop_at ending;
@@ -102,10 +104,11 @@ module _ (set_id : List ℕ) (file image : ℕ) where
     seen = all_seen all left p expected old mid new s n;
   }
 
-  pub at_fault : (all left next : Option (List ℕ)) (p : ℕ) (fault : ImageFault) (expected : Expected)
-      (old mid new : List SectionCopy) → SoFar all left p expected old mid
+  pub at_fault : (all left next : Option (List ℕ)) (p : ℕ) (fault : ImageFault)
+      (expected : Expected) (old mid new : List SectionCopy) → SoFar all left p expected old mid
       → IfKnown left next (TakesFault p [] fault)
-      → new ≡ mid ++ its (in_list (open_section expected)) → FindsCopies all next set_id file image old new
+      → new ≡ mid ++ its (in_list (open_section expected))
+      → FindsCopies all next set_id file image old new
   at_fault all left next p fault expected old mid new s takes n = record {
     items = s.items;
     stop = Fault fault;

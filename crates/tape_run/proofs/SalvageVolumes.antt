@@ -1,6 +1,6 @@
 -- The walk over a volume of a lawful set of which only data blocks could not be read.
-use Rattle.std.proofs.Common.{◌≡◌, ℕ, List, [], ◌∷◌, length, map, Option}
-use Rattle.std.proofs.Common.{Some, Ok, Result, Err, refl, ap, ◌∙◌}
+use Rattle.std.proofs.Common.{◌≡◌, ℕ, List, [], ◌∷◌, length, map, Option, Some, Ok, Result, Err}
+use Rattle.std.proofs.Common.{refl, ap, ◌∙◌}
 use Rattle.std.specs.List.{AllByRecursion}
 use Rattle.tape_image.specs.Tape.{TapeItem, block, mark}
 use Rattle.tape_label.specs.declared.values.Kind.TheVariants as kinds
@@ -22,8 +22,8 @@ use Rattle.tape_run.specs.SalvageImage.{salvaged_from}
 use Rattle.tape_run.specs.SalvageWhole.{Blocks}
 use Rattle.tape_run.specs.SalvageSections.{read_section, read_sections, MayBegin, IsRead, IsOther}
 use Rattle.tape_run.specs.SalvageSections.{RecoversFromVolume}
-use Rattle.tape_run.proofs.SalvageSections.{Goes, goes_append, goes_step, none_yet, recovers_section_of}
-use Rattle.tape_run.proofs.SalvageSections.{passes_section}
+use Rattle.tape_run.proofs.SalvageSections.{Goes, goes_append, goes_step, none_yet}
+use Rattle.tape_run.proofs.SalvageSections.{recovers_section_of, passes_section}
 
 -- a block that is not HDR1
 pub record IsNoHead (b : List ℕ) : Type 0 where
@@ -54,7 +54,8 @@ module _ (key : SectionKey) (most : ℕ) (form : Option FileForm) where
       → Goes key most form (Outside 0) g (map block ls) (Outside 0) g
   goes_labels g [] all = record { after = refl; given = refl }
   goes_labels g (l ∷ ls) (is, all) = goes_append key most form (Outside 0) (Outside 0) (Outside 0)
-      g g g (block l ∷ []) (map block ls) (goes_label g l (label_no_head l is)) (goes_labels g ls all)
+      g g g (block l ∷ []) (map block ls) (goes_label g l (label_no_head l is))
+      (goes_labels g ls all)
 
   -- where further sections may begin
   record Passes (s : Expected) (g : Salvaged) (xs : List TapeItem) : Type 0 where
@@ -62,8 +63,8 @@ module _ (key : SectionKey) (most : ℕ) (form : Option FileForm) where
     may : MayBegin last
     goes : Goes key most form s g xs last g
 
-  goes_others : (set_id : List ℕ) (volumes : ℕ) (s : Expected) (g : Salvaged) (xs : List (Placed × Blocks))
-      (f : FileForm) → form ≡ Some f → MayBegin s
+  goes_others : (set_id : List ℕ) (volumes : ℕ) (s : Expected) (g : Salvaged)
+      (xs : List (Placed × Blocks)) (f : FileForm) → form ≡ Some f → MayBegin s
       → AllByRecursion (IsRead set_id volumes) xs → AllByRecursion (IsOther set_id key) xs
       → Passes s g (read_sections xs)
   goes_others set_id volumes s g [] f e may met others =
@@ -83,11 +84,14 @@ module _ (key : SectionKey) (most : ℕ) (form : Option FileForm) where
       }
 
 pub recovers_from_volume : RecoversFromVolume
-recovers_from_volume set_id volumes v before x bs rest form key g is met others met' others' own same =
+recovers_from_volume set_id volumes v before x bs rest form key g is met others met' others' own
+    same =
     let most = length bs in
     let f = Some form in
-    let front = goes_others key most f set_id volumes (Outside 0) g before form refl refl met others in
-    let here = recovers_section_of set_id volumes x bs form key front.last g own.0 own.1 front.may same in
+    let front = goes_others key most f set_id volumes (Outside 0) g before form refl refl met others
+    in
+    let here = recovers_section_of set_id volumes x bs form key front.last g own.0 own.1 front.may
+    same in
     let items = read_section x.section bs in
     let h = salvaged_from key most f front.last g items in
     let back = goes_others key most f set_id volumes Next h rest form refl tt met' others' in

@@ -1,6 +1,6 @@
 -- The records that are complete in the blocks that were read.
-use Rattle.std.proofs.Common.{◌≡◌, ◌≢◌, ℕ, Bool, true, false, List, [], ◌∷◌, ◌++◌}
-use Rattle.std.proofs.Common.{refl, sym, ap, subst, ◌∙◌, arith, append-nil, append_assoc, Ok, Some}
+use Rattle.std.proofs.Common.{◌≡◌, ◌≢◌, ℕ, Bool, true, false, List, [], ◌∷◌, ◌++◌, refl, sym, ap}
+use Rattle.std.proofs.Common.{subst, ◌∙◌, arith, append-nil, append_assoc, Ok, Some}
 use Rattle.std.specs.Prelude.{if◌then◌else◌}
 use Rattle.std.specs.List.{AllByRecursion}
 use Rattle.tape_blocks.specs.Block.{Portion, Holds}
@@ -11,8 +11,8 @@ use Rattle.tape_blocks.proofs.JudgedLaws.{judged_only}
 use Rattle.tape_set.specs.Lawful.{FileForm}
 use Rattle.tape_core.specs.Parts.{goes_on_at}
 use Rattle.tape_core.proofs.BlockLaws.{parts_in_it, first_begun}
-use Rattle.tape_run.specs.SalvageRecords.{Piece, nothing, with_part, with_parts, torn, mended, mended_by}
-use Rattle.tape_run.specs.SalvageRecords.{begun_at, judged_at}
+use Rattle.tape_run.specs.SalvageRecords.{Piece, nothing, with_part, with_parts, torn, mended}
+use Rattle.tape_run.specs.SalvageRecords.{mended_by, begun_at, judged_at}
 use Rattle.tape_run.specs.SalvageWhole.{Blocks, parts_of_block, parts_with, all_parts, whole_from}
 use Rattle.tape_run.specs.SalvageWhole.{piece_after, IsBlock, RecoversWhole, AllWhole}
 
@@ -86,7 +86,8 @@ part_there p begun all front x rest false l c (within t o b a) = record {
 part_there p begun all front x rest true l c (behind t o b e a) = record {
   later = front ++ x ∷ [];
   still = true;
-  follows = rw (t, c ∙ b, l) (on refl refl (ap (λ (z : List Portion). z ++ x ∷ []) (o ∙ sym e)) refl);
+  follows = rw (t, c ∙ b, l)
+      (on refl refl (ap (λ (z : List Portion). z ++ x ∷ []) (o ∙ sym e)) refl);
   same = rw (t, c ∙ b, l, a) refl;
 }
 part_there p begun all front x rest false l c (behind t o b e a) = record {
@@ -108,8 +109,10 @@ parts_there p begun all end front [] rest o f = record {
   same = refl;
 }
 parts_there p begun all end front (x ∷ xs) rest (c, o) f =
-    let one = part_there p begun all front x (parts_of_block true xs ++ rest) (leaves x.span) refl c f in
-    let more = parts_there (with_part p x) (leaves x.span) one.still end one.later xs rest o one.follows in
+    let one = part_there p begun all front x (parts_of_block true xs ++ rest) (leaves x.span) refl c
+    f in
+    let more = parts_there (with_part p x) (leaves x.span) one.still end one.later xs rest o
+    one.follows in
     record {
       later = more.later;
       still = more.still;
@@ -178,7 +181,8 @@ pub same_piece : (form : FileForm) (p : Piece) (block : List ℕ) (parts : List 
 same_piece form p block parts end h j =
     ap (mended_by form p block) j ∙ ap (with_parts p) (parts_in_it form block parts h)
 
-judged_from : (form : FileForm) (p : Piece) (block : List ℕ) (parts : List Portion) (begun end : Bool)
+judged_from : (form : FileForm) (p : Piece) (block : List ℕ) (parts : List Portion)
+    (begun end : Bool)
     → Holds form.format form.rec_len form.offset block parts → InOrder begun parts end
     → begun_at form p block ≡ begun → judged_at form p block ≡ Ok end
 judged_from form p block parts begun end h o e =
@@ -193,7 +197,8 @@ at_torn : (form : FileForm) (p : Piece) (block : List ℕ) → p.torn ≡ true
     → begun_at form p block ≡ goes_on_at form.format form.offset block
 at_torn form p block t = rw t refl
 
-judged_torn : (form : FileForm) (p : Piece) (block : List ℕ) (parts : List Portion) (begun end : Bool)
+judged_torn : (form : FileForm) (p : Piece) (block : List ℕ) (parts : List Portion)
+    (begun end : Bool)
     → Holds form.format form.rec_len form.offset block parts → InOrder begun parts end
     → p.torn ≡ true → (some : Bool) × (judged_at form p block ≡ Ok some)
 judged_torn form p block [] begun end h o t =
@@ -205,8 +210,8 @@ judged_torn form p block (x ∷ xs) begun end h o t = (
       (at_torn form p block t ∙ first_begun form block (x ∷ xs) begun end 0 h o (omega arith)),
 )
 
-pub is_judged : (form : FileForm) (p : Piece) (block : List ℕ) (parts : List Portion) (begun end all : Bool)
-    (front : List Portion)
+pub is_judged : (form : FileForm) (p : Piece) (block : List ℕ) (parts : List Portion)
+    (begun end all : Bool) (front : List Portion)
     → Holds form.format form.rec_len form.offset block parts → InOrder begun parts end
     → Follows p begun front all → (some : Bool) × (judged_at form p block ≡ Ok some)
 is_judged form p block parts begun end all front h o (on t b e a) =
@@ -216,7 +221,8 @@ is_judged form p block parts begun end all front h o (within t e b a) =
 is_judged form p block parts begun end all front h o (behind t e b f a) =
     judged_torn form p block parts begun end h o t
 
-block_there : (form : FileForm) (p : Piece) (begun all end : Bool) (front : List Portion) (f : Filled)
+block_there : (form : FileForm) (p : Piece) (begun all end : Bool) (front : List Portion)
+    (f : Filled)
     (rest : List (Bool × Portion)) → Holds form.format form.rec_len form.offset f.bytes f.parts
     → InOrder begun f.parts end → Follows p begun front all
     → Gives p (mended (Some form) p f.bytes) front all end (parts_of_block true f.parts) rest
@@ -241,8 +247,10 @@ split_order begun end (x ∷ xs) ys (c, o) =
     (more.0, (c, more.1), more.2)
 
 -- what is recovered of blocks, after what was recovered before
-pub given_of : (form : FileForm) (p : Piece) (begun all end : Bool) (front : List Portion) (bs : Blocks)
-    → AllByRecursion (IsBlock form) bs → InOrder begun (all_parts bs) end → Follows p begun front all
+pub given_of : (form : FileForm) (p : Piece) (begun all end : Bool) (front : List Portion)
+    (bs : Blocks)
+    → AllByRecursion (IsBlock form) bs → InOrder begun (all_parts bs) end
+    → Follows p begun front all
     → (piece_after form p bs).done ≡ p.done ++ whole_from front all (parts_with bs)
 given_of form p begun all end front [] blocks o s = sym (append-nil p.done)
 given_of form p begun all end front ((true, f) ∷ bs) (b, blocks) o s =

@@ -55,16 +55,17 @@ pub expected_after-append : (s : Expected) (xs ys : List TapeItem)
 expected_after-append s [] ys = refl
 expected_after-append s (x ∷ xs) ys = expected_after-append (step s x).0 xs ys
 
-pub salvaged_from-append : (key : SectionKey) (most : ℕ) (form : Option FileForm) (s : Expected) (g : Salvaged)
-    (xs ys : List TapeItem)
+pub salvaged_from-append : (key : SectionKey) (most : ℕ) (form : Option FileForm) (s : Expected)
+    (g : Salvaged) (xs ys : List TapeItem)
     → salvaged_from key most form s g (xs ++ ys)
     ≡ salvaged_from key most form (expected_after s xs) (salvaged_from key most form s g xs) ys
 salvaged_from-append key most form s g [] ys = refl
 salvaged_from-append key most form s g (x ∷ xs) ys =
-    salvaged_from-append key most form (step s x).0 (salvaged_at form g (number_in key most s) x) xs ys
+    salvaged_from-append key most form (step s x).0 (salvaged_at form g (number_in key most s) x) xs
+    ys
 
-pub text_from-append : (key : SectionKey) (most : ℕ) (form : Option FileForm) (s : Expected) (g : Salvaged)
-    (xs ys : List TapeItem)
+pub text_from-append : (key : SectionKey) (most : ℕ) (form : Option FileForm) (s : Expected)
+    (g : Salvaged) (xs ys : List TapeItem)
     → text_from key most form s g (xs ++ ys)
     ≡ text_from key most form s g xs
     ++ text_from key most form (expected_after s xs) (salvaged_from key most form s g xs) ys
@@ -91,7 +92,8 @@ pub salvaged_more : {W : Type 0} (contents : W → Option (List ℕ)) (key : Sec
     → Recovers contents old new said now
     (λ g. salvaged_from key most form (Outside 0) g (items ++ item ∷ []))
     (λ g. text_from key most form (Outside 0) g (items ++ item ∷ []))
-salvaged_more contents key most form expected items item old mid new said says now at first next start g h =
+salvaged_more contents key most form expected items item old mid new said says now at first next
+    start g h =
     let one = first start g h in
     let g' = salvaged_from key most form (Outside 0) g items in
     let two = next start g' one.0 in
@@ -107,8 +109,9 @@ salvaged_more contents key most form expected items item old mid new said says n
           (Appends-trans said says now _ _ one.1 two.1),
     )
 
-abbrev pub one_more : {W : Type 0} (contents : W → Option (List ℕ)) (all left next : Option (List ℕ))
-    (p q : ℕ) (key : SectionKey) (most : ℕ) (form : Option FileForm) (expected after : Expected)
+abbrev pub one_more : {W : Type 0} (contents : W → Option (List ℕ))
+    (all left next : Option (List ℕ)) (p q : ℕ) (key : SectionKey) (most : ℕ)
+    (form : Option FileForm) (expected after : Expected)
     (item : TapeItem) (old mid new : Recovery W) (said says now : Option (List ℕ))
     → SoFar contents all left p key most form expected old mid said says
     → IfKnown left next (TakesItem p item q) → after ≡ (step expected item).0
@@ -116,14 +119,15 @@ abbrev pub one_more : {W : Type 0} (contents : W → Option (List ℕ)) (all lef
     (λ g. salvaged_at form g (number_in key most expected) item)
     (λ g. text_at key.sect form g (number_in key most expected) item)
     → SoFar contents all next q key most form after old new said now
-one_more contents all left next p q key most form expected after item old mid new said says now s takes e taken =
+one_more contents all left next p q key most form expected after item old mid new said says now s
+    takes e taken =
     record {
       items = s.items ++ item ∷ [];
       known = known_item all left next 0 p q s.items item s.known takes;
       expects = e ∙ (ap (λ z. (step z item).0) s.expects
           ∙ sym (expected_after-append (Outside 0) s.items (item ∷ [])));
-      recovers = salvaged_more contents key most form expected s.items item old mid new said says now s.expects
-          s.recovers taken;
+      recovers = salvaged_more contents key most form expected s.items item old mid new said says
+          now s.expects s.recovers taken;
     }
 
 -- the items were read
@@ -144,14 +148,19 @@ pub ends_data : {W : Type 0} (contents : W → Option (List ℕ)) (all left next
     (λ g. salvaged_at form g (number_in key most expected) item)
     (λ g. text_at key.sect form g (number_in key most expected) item)
     → RecoversSection contents all next key most form old new said now true
-ends_data contents all left next p q key most form expected item old mid new said says now s takes is e taken =
-    let more = one_more contents all left next p q key most form expected (step expected item).0 item old mid
-    new said says now s takes refl taken in
+ends_data contents all left next p q key most form expected item old mid new said says now s takes
+    is e taken =
+    let more = one_more contents all left next p q key most form expected (step expected item).0
+    item old mid new said says now s takes refl taken in
     record {
       items = more.items;
       reads = record {
         walked = placed all next q more.items more.known;
-        at_mark = λ _. (s.items, ap (λ x. s.items ++ x ∷ []) e, ap (is_in key) (sym s.expects) ∙ is);
+        at_mark = λ _. (
+          s.items,
+          ap (λ x. s.items ++ x ∷ []) e,
+          ap (is_in key) (sym s.expects) ∙ is,
+        );
         all = λ f. absurd (cc);
       };
       recovers = more.recovers;
@@ -159,8 +168,8 @@ ends_data contents all left next p q key most form expected item old mid new sai
 
 -- all items were read
 pub at_end : {W : Type 0} (contents : W → Option (List ℕ)) (all left next : Option (List ℕ))
-    (p q : ℕ) (ending : Ending) (key : SectionKey) (most : ℕ) (form : Option FileForm) (expected : Expected)
-    (old new : Recovery W) (said says : Option (List ℕ))
+    (p q : ℕ) (ending : Ending) (key : SectionKey) (most : ℕ) (form : Option FileForm)
+    (expected : Expected) (old new : Recovery W) (said says : Option (List ℕ))
     → SoFar contents all left p key most form expected old new said says
     → IfKnown left next (TakesEnd p [] ending q)
     → RecoversSection contents all next key most form old new said says false
@@ -196,8 +205,8 @@ at_fault contents all left next p fault key most form expected old new said says
 
 -- an item was taken by its number
 pub numbered : {W : Type 0} (contents : W → Option (List ℕ)) (key : SectionKey) (most : ℕ)
-    (form : Option FileForm) (expected : Expected) (n : Option ℕ) (item : TapeItem) (mid new : Recovery W)
-    (says now : Option (List ℕ)) → n ≡ number_in key most expected
+    (form : Option FileForm) (expected : Expected) (n : Option ℕ) (item : TapeItem)
+    (mid new : Recovery W) (says now : Option (List ℕ)) → n ≡ number_in key most expected
     → Recovers contents mid new says now (λ g. salvaged_at form g n item)
     (λ g. text_at key.sect form g n item)
     → Recovers contents mid new says now

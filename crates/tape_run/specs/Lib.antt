@@ -94,6 +94,9 @@ pub mod SalvageRecords
 pub mod SalvageLine
 pub mod SalvageBlocks
 pub mod SalvageImage
+pub mod SalvageEnds
+pub mod SalvageChoice
+pub mod SalvageTaking
 pub mod Salvaging
 pub mod SalvageWhole
 pub mod SalvageSections

@@ -20,7 +20,8 @@ abbrev pub is_in : SectionKey → Expected → Bool
 is_in key (Data u) = same_key u.key key
 is_in key _ = false
 
--- the number of the next item among the data items of this section, if it is one of the first `most`
+-- the number of the next item among the data items of this section, if it is one of the first
+-- `most`
 abbrev pub number_in : SectionKey → ℕ → Expected → Option ℕ
 number_in key most (Data u) =
     if same_key u.key key && nat_lt u.blocks most then Some u.blocks else None
@@ -76,8 +77,8 @@ closings key s [] = 0
 closings key s (x ∷ xs) =
     (if is_in key s && is_mark x then 1 else 0) + closings key (step s x).0 xs
 
--- If the data of the section end once on the image, and are not open at its end, then nothing more is
--- recovered from the items after the mark that ends them.
+-- If the data of the section end once on the image, and are not open at its end, then nothing more
+-- is recovered from the items after the mark that ends them.
 abbrev pub RestHasNothing : Type 0
 RestHasNothing = (key : SectionKey) (most : ℕ) (form : Option FileForm) (items rest : List TapeItem)
     (g : Salvaged) → EndsData key items → closings key (Outside 0) (items ++ rest) ≡ 1

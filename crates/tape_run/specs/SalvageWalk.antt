@@ -1,11 +1,11 @@
 -- Reading the items of an image for the sections on it, past what could not be read.
 --
--- A section extends from its first label to its trailer label. When no section is open, a block that
--- reads as HDR1 begins one. It closes if its data and a tape mark are followed by a trailer label
--- with its numbers; then the marks before and after its data were read, and all items between them
--- are its data.
-use Rattle.std.specs.Prelude.{ℕ, ◌+◌, min, ◌==◌, ◌&&◌, nat_lt, Bool, if◌then◌else◌, List}
-use Rattle.std.specs.Prelude.{[], ◌∷◌, ◌++◌, Option, Some, None, Result, Ok, Err}
+-- A section extends from its first label to its trailer label. When no section is open, a block
+-- that reads as HDR1 begins one. It closes if its data and a tape mark are followed by a trailer
+-- label with its numbers; then the marks before and after its data were read, and all items between
+-- them are its data.
+use Rattle.std.specs.Prelude.{ℕ, ◌+◌, min, ◌==◌, ◌&&◌, nat_lt, Bool, if◌then◌else◌, List, [], ◌∷◌}
+use Rattle.std.specs.Prelude.{◌++◌, Option, Some, None, Result, Ok, Err}
 use Rattle.tape_image.specs.Tape.{TapeItem, block, bad, mark}
 use Rattle.tape_label.specs.declared.label.LabelFault.{LabelFault}
 use Rattle.tape_label.specs.declared.values.Kind.{Kind}
@@ -21,8 +21,9 @@ use Rattle.tape_core.specs.Range.{form_in_range}
 use Rattle.tape_run.specs.declared.salvage.walk.OpenSection.{OpenSection}
 use Rattle.tape_run.specs.declared.salvage.walk.Closing.{Closing}
 use Rattle.tape_run.specs.declared.salvage.walk.Expected.{Expected}
-use Rattle.tape_run.specs.declared.salvage.walk.Expected.TheVariants.{Outside, Second, Headers, Data}
-use Rattle.tape_run.specs.declared.salvage.walk.Expected.TheVariants.{Trailer, Trailers, Next, Over}
+use Rattle.tape_run.specs.declared.salvage.walk.Expected.TheVariants.{Outside, Second, Headers}
+use Rattle.tape_run.specs.declared.salvage.walk.Expected.TheVariants.{Data, Trailer, Trailers}
+use Rattle.tape_run.specs.declared.salvage.walk.Expected.TheVariants.{Next, Over}
 
 -- a section that ended, and how, if a trailer label with its numbers was read
 abbrev pub FoundSection : Type 0
@@ -70,7 +71,8 @@ abbrev pub form_of : List ℕ → Head2 → FileForm
 form_of file_id g = known_of g.format (binding_len g.format g.rec_len) g.offset file_id
 
 abbrev pub form_by : List ℕ → Result Head2 LabelFault → Option FileForm
-form_by file_id (Ok g) = if form_in_range (form_of file_id g) then Some (form_of file_id g) else None
+form_by file_id (Ok g) =
+    if form_in_range (form_of file_id g) then Some (form_of file_id g) else None
 form_by file_id (Err _) = None
 
 -- after a block at which a second label is expected
@@ -161,4 +163,5 @@ found_from s (x ∷ xs) = in_list (step s x).1 ++ found_from (step s x).0 xs
 
 -- the sections on an image with these items
 abbrev pub sections_in : List TapeItem → List FoundSection
-sections_in items = found_from (Outside 0) items ++ in_list (open_section (expected_after (Outside 0) items))
+sections_in items = found_from (Outside 0) items
+    ++ in_list (open_section (expected_after (Outside 0) items))

@@ -3,10 +3,10 @@
 ghost use Rattle.std.specs.Prelude.{◌≡◌, ◌++◌, ◌∷◌, max, [], List, OnOk, None, Some};
 ghost use Rattle.tape_image.specs.Reader.{going};
 ghost use Rattle.tape_run.specs.SalvageWalk.{in_list};
-ghost use Rattle.tape_run.specs.SalvageCopies.{FindsCopies, believed, of_file, is_of, wrong_count};
-ghost use Rattle.tape_run.specs.SalvageCopies.{rank};
-ghost use Rattle.tape_run.specs.Salvaging.{IsBest, IsChoice, firsts, is_considered, last_section};
-ghost use Rattle.tape_run.specs.Salvaging.{form_of_file};
+ghost use Rattle.tape_run.specs.SalvageCopies.{FindsCopies, believed, of_file, is_of};
+ghost use Rattle.tape_run.specs.SalvageCopies.{wrong_count, rank};
+ghost use Rattle.tape_run.specs.SalvageChoice.{IsBest, IsChoice, firsts, is_considered};
+ghost use Rattle.tape_run.specs.SalvageChoice.{last_section, form_of_file};
 ghost use Rattle.tape_run.specs.declared.salvage.copies.SectionCopy.{SectionCopy};
 
 use crate::fault::{EngineFault, NO_MEMORY};

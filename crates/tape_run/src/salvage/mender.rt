@@ -70,7 +70,8 @@ fn goes_on_at(format: Format, offset: u8, block: &[u8]) -> bool
 impl<W: Write> Mender<W> {
     /// Creates a mender that writes to `out`, and has written nothing.
     pub fn new(alloc: Global, out: W, form: Form) -> Mender<W>
-        ensures { HasPiece W.contents (record { had = W.contents out; form = form }) result nothing }
+        ensures { HasPiece W.contents (record { had = W.contents out; form = form }) result
+            nothing }
     {
         Mender {
             out,
@@ -96,8 +97,8 @@ impl<W: Write> Mender<W> {
         self.begun
     }
 
-    /// Returns whether something is missing before the block, and the block continues a record whose
-    /// beginning is missing.
+    /// Returns whether something is missing before the block, and the block continues a record
+    /// whose beginning is missing.
     pub fn is_cut(&self, form: &Option<Known>, block: &[u8]) -> bool
         ensures { (p : Piece) → self.now.torn ≡ p.torn → result ≡ is_cut form.now p block.now }
     {

@@ -5,11 +5,12 @@ ghost use Rattle.std.specs.Io.KnownBytes.{Appends};
 ghost use Rattle.tape_image.specs.Reader.{tape_item};
 ghost use Rattle.tape_image.specs.Tape.{IsTapeItem};
 ghost use Rattle.tape_blocks.specs.Packing.{longest_block};
-ghost use Rattle.tape_run.specs.SalvageBlocks.{HasSalvaged, Recovers, none_salvaged, gap_text, torn_text};
-ghost use Rattle.tape_run.specs.SalvageBlocks.{refused_text, without_block, without_block_text};
-ghost use Rattle.tape_run.specs.SalvageBlocks.{with_block, with_block_text, salvaged_at, text_at};
-ghost use Rattle.tape_run.specs.Salvaging.{without_rest, rest_text, without_gap, with_count};
-ghost use Rattle.tape_run.specs.Salvaging.{count_text};
+ghost use Rattle.tape_run.specs.SalvageBlocks.{HasSalvaged, Recovers, none_salvaged, gap_text};
+ghost use Rattle.tape_run.specs.SalvageBlocks.{torn_text, refused_text, without_block};
+ghost use Rattle.tape_run.specs.SalvageBlocks.{without_block_text, with_block, with_block_text};
+ghost use Rattle.tape_run.specs.SalvageBlocks.{salvaged_at, text_at};
+ghost use Rattle.tape_run.specs.SalvageEnds.{without_rest, rest_text, without_gap, with_count};
+ghost use Rattle.tape_run.specs.SalvageEnds.{count_text};
 
 use crate::fault::{EngineFault, WriteFailed};
 use crate::salvage::line::{count_line, gap_line, refused_line, torn_line};
@@ -126,8 +127,8 @@ impl<W: Write> Recovery<W> {
         Ok(())
     }
 
-    /// Notes that something is missing from this block on, and reports the unfinished record that is
-    /// left out, if there is one.
+    /// Notes that something is missing from this block on, and reports the unfinished record that
+    /// is left out, if there is one.
     pub fn tear<P: Write>(
         &mut self,
         sect: u16,

@@ -159,7 +159,7 @@ fn second_by(section: OpenSection, kind: Option<Kind>, read: Result<Head2, Label
     }
 }
 
-/// After a block at which a section's trailer label is expected, and which is not its trailer label.
+/// After a block at which a section's trailer label is expected, and which is not it.
 fn unclosed_by(
     section: OpenSection,
     read: Result<Head1, LabelFault>,

@@ -1,5 +1,5 @@
-use Rattle.tape_run.proofs.GoesBehind.{passes_files, leads_over_all, leaves_behind}
-use Rattle.tape_run.proofs.GoesBehind.{leaves_behind_again}
+use Rattle.tape_run.proofs.GoesBehind.{passes_files, leads_over_all}
+use Rattle.tape_run.proofs.GoesBehindReels.{leaves_behind, leaves_behind_again}
 use Rattle.tape_run.proofs.BehindReads.{reads_by_history}
 use Rattle.tape_run.proofs.laws.passes_files.Goals as goal
 

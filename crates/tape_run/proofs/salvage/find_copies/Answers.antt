@@ -1,5 +1,5 @@
 use Rattle.std.proofs.Common.{rules}
-use Rattle.tape_run.proofs.SalvageShelf.{none_found, one_found}
+use Rattle.tape_run.proofs.SalvageImages.{none_found, one_found}
 use Rattle.tape_run.proofs.salvage.find_copies.Goals as goal
 
 pub loop-number-init : goal.loop-number-init

@@ -1,4 +1,4 @@
-use Rattle.tape_run.proofs.SalvageShelf.{FoundSoFar}
+use Rattle.tape_run.proofs.SalvageImages.{FoundSoFar}
 use Rattle.tape_run.proofs.salvage.find_copies.Given as goal
 
 abbrev pub invariant-loop-number : goal.invariant-loop-number

@@ -1,6 +1,7 @@
 use Rattle.std.proofs.Common.{◌∙◌}
 use Rattle.tape_run.specs.Given.{is_device}
-use Rattle.tape_run.proofs.Located.{part_on, held_on, not_finished}
+use Rattle.tape_run.proofs.LocatedParts.{part_on}
+use Rattle.tape_run.proofs.LocatedReaders.{held_on, not_finished}
 use Rattle.tape_run.proofs.extract.located.read_on.Goals as goal
 
 pub returns-then-ends_section-clause-ok : goal.returns-then-ends_section-clause-ok

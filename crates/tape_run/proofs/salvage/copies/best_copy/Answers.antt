@@ -1,5 +1,5 @@
 use Rattle.std.proofs.Common.{rules, take}
-use Rattle.tape_run.proofs.SalvageShelf.{choice_up_to}
+use Rattle.tape_run.proofs.SalvageChoice.{choice_up_to}
 use Rattle.tape_run.proofs.salvage.copies.best_copy.Goals as goal
 
 pub loop-copy-preserved : goal.loop-copy-preserved

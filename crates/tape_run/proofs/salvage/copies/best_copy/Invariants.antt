@@ -1,5 +1,5 @@
 use Rattle.std.proofs.Common.{take}
-use Rattle.tape_run.specs.Salvaging.{IsChoice}
+use Rattle.tape_run.specs.SalvageChoice.{IsChoice}
 use Rattle.tape_run.proofs.salvage.copies.best_copy.Given as goal
 
 abbrev pub invariant-loop-copy : goal.invariant-loop-copy

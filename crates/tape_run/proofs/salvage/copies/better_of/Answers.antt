@@ -1,6 +1,6 @@
 use Rattle.std.proofs.Common.{subst, arith}
-use Rattle.tape_run.specs.Salvaging.{IsBest}
-use Rattle.tape_run.proofs.SalvageShelf.{still_best, new_best}
+use Rattle.tape_run.specs.SalvageChoice.{IsBest}
+use Rattle.tape_run.proofs.SalvageChoice.{still_best, new_best}
 use Rattle.tape_run.proofs.salvage.copies.better_of.Goals as goal
 
 pub returns-then-rank : goal.returns-then-rank

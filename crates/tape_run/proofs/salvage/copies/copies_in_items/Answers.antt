@@ -47,7 +47,8 @@ returns-in-Ok-None-clause-ok g c =
     (c.in-Ok-None.is ∙ ap Ok c.in-Ok-None.field-0-is) in
     on_ok c.add_copy-in-Ok-None.result (λ noted. at_end c.args.set_id.now c.args.file c.args.number
     c.args.image.now.left c.items.image.left next.left c.items.image.place next.place met.ending
-    c.items.expected c.args.copies.now.items c.items.copies.items c.add_copy-in-Ok-None.new.copies.items
+    c.items.expected c.args.copies.now.items c.items.copies.items
+    c.add_copy-in-Ok-None.new.copies.items
     c.items.invariant.so_far met.takes (noted ∙ ap (λ o. c.items.copies.items
     ++ of_file c.args.set_id.now c.args.file c.args.number (in_list o)) c.open_section.ensures))
     c.add_copy-in-Ok-None.ensures.ok
@@ -61,5 +62,5 @@ returns-in-Err-clause-ok g c =
     c.args.image.now.left c.items.image.left next.left c.items.image.place c.in-Err.field-0
     c.items.expected c.args.copies.now.items c.items.copies.items c.add_copy-in-Err.new.copies.items
     c.items.invariant.so_far met.takes (noted ∙ ap (λ o. c.items.copies.items
-    ++ of_file c.args.set_id.now c.args.file c.args.number (in_list o)) c.open_section-in-Err.ensures))
-    c.add_copy-in-Err.ensures.ok
+    ++ of_file c.args.set_id.now c.args.file c.args.number (in_list o))
+    c.open_section-in-Err.ensures)) c.add_copy-in-Err.ensures.ok

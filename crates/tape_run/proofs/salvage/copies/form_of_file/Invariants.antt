@@ -1,5 +1,5 @@
 use Rattle.std.proofs.Common.{◌≡◌, drop}
-use Rattle.tape_run.specs.Salvaging.{form_of_file}
+use Rattle.tape_run.specs.SalvageChoice.{form_of_file}
 use Rattle.tape_run.proofs.salvage.copies.form_of_file.Given as goal
 
 abbrev pub invariant-loop-copy : goal.invariant-loop-copy

@@ -1,5 +1,5 @@
 use Rattle.std.proofs.Common.{rules}
-use Rattle.tape_run.proofs.SalvageShelf.{last_up_to}
+use Rattle.tape_run.proofs.SalvageChoice.{last_up_to}
 use Rattle.tape_run.proofs.salvage.copies.last_section.Goals as goal
 
 pub loop-copy-preserved : goal.loop-copy-preserved

@@ -1,5 +1,5 @@
 use Rattle.std.proofs.Common.{◌≡◌, take}
-use Rattle.tape_run.specs.Salvaging.{last_section}
+use Rattle.tape_run.specs.SalvageChoice.{last_section}
 use Rattle.tape_run.proofs.salvage.copies.last_section.Given as goal
 
 abbrev pub invariant-loop-copy : goal.invariant-loop-copy

@@ -20,9 +20,12 @@ returns-then-is_mark-clause-ok g c =
     let item = tape_item c.in-Ok-Some.item in
     let step = gave c.items.image _ next c.in-Ok-Some.item c.next.follows.holds-at-none
     c.items.invariant.on (c.in-Ok-Some.is ∙ ap Ok c.in-Ok-Some.field-0-is) in
-    let given = numbered g.W.Write.contents c.args.key.now c.args.most c.args.form.now c.items.expected
-    c.number_in-number.result item c.items.recovery c.take_item.new.self (g.P.Write.contents c.items.report)
-    (g.P.Write.contents c.take_item.new.report) c.number_in-number.ensures c.in_ok-take_item-in-Ok-Some.ensures.ok in
+    let given = numbered g.W.Write.contents c.args.key.now c.args.most c.args.form.now
+    c.items.expected
+    c.number_in-number.result item c.items.recovery c.take_item.new.self
+    (g.P.Write.contents c.items.report)
+    (g.P.Write.contents c.take_item.new.report) c.number_in-number.ensures
+    c.in_ok-take_item-in-Ok-Some.ensures.ok in
     ends_data g.W.Write.contents c.args.image.now.left c.items.image.left next.left
     c.items.image.place next.place c.args.key.now c.args.most c.args.form.now c.items.expected item
     c.args.recovery.now c.items.recovery c.take_item.new.self (g.P.Write.contents c.args.report.now)
@@ -37,9 +40,12 @@ items-preserved g c =
     let item = tape_item c.in-Ok-Some.item in
     let step = gave c.items.image _ next c.in-Ok-Some.item c.next.follows.holds-at-none
     c.items.invariant.on (c.in-Ok-Some.is ∙ ap Ok c.in-Ok-Some.field-0-is) in
-    let given = numbered g.W.Write.contents c.args.key.now c.args.most c.args.form.now c.items.expected
-    c.number_in-number.result item c.items.recovery c.take_item.new.self (g.P.Write.contents c.items.report)
-    (g.P.Write.contents c.take_item.new.report) c.number_in-number.ensures c.in_ok-take_item-in-Ok-Some.ensures.ok in
+    let given = numbered g.W.Write.contents c.args.key.now c.args.most c.args.form.now
+    c.items.expected
+    c.number_in-number.result item c.items.recovery c.take_item.new.self
+    (g.P.Write.contents c.items.report)
+    (g.P.Write.contents c.take_item.new.report) c.number_in-number.ensures
+    c.in_ok-take_item-in-Ok-Some.ensures.ok in
     record {
       on = step.goes_on;
       limit = step.within;

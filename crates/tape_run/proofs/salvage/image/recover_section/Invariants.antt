@@ -10,7 +10,8 @@ invariant-items g l = record {
   limit : l.image.place ≤ image_limit;
   same_device : l.image.device ≡ l.fn.image.device;
   so_far : SoFar g.W.Write.contents l.fn.image.left l.image.left l.image.place l.key l.most l.form
-      l.expected l.fn.recovery l.recovery (g.P.Write.contents l.fn.report) (g.P.Write.contents l.report);
+      l.expected l.fn.recovery l.recovery (g.P.Write.contents l.fn.report)
+      (g.P.Write.contents l.report);
 }
 
 abbrev pub decreases-items : goal.decreases-items

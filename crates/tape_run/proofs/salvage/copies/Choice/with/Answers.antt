@@ -1,6 +1,6 @@
 use Rattle.std.proofs.Common.{◌∷◌, ◌++◌, [], sym, subst, ◌∙◌}
-use Rattle.tape_run.specs.Salvaging.{IsChoice}
-use Rattle.tape_run.proofs.SalvageShelf.{passes_copy, takes_copy}
+use Rattle.tape_run.specs.SalvageChoice.{IsChoice}
+use Rattle.tape_run.proofs.SalvageChoice.{passes_copy, takes_copy}
 use Rattle.tape_run.proofs.salvage.copies.Choice.with.Goals as goal
 
 pub returns-then-is_considered : goal.returns-then-is_considered

@@ -1,8 +1,8 @@
 use Rattle.std.proofs.Common.{◌++◌, ◌&&◌, subst}
 use Rattle.std.specs.Io.KnownBytes.{Appends}
 use Rattle.tape_run.specs.SalvageBlocks.{HasSalvaged, gap_text, torn_text}
-use Rattle.tape_run.specs.Salvaging.{with_count, without_gap, with_end, count_text}
-use Rattle.tape_run.proofs.SalvageShelf.{three_texts}
+use Rattle.tape_run.specs.SalvageEnds.{with_count, without_gap, with_end, count_text}
+use Rattle.tape_run.proofs.SalvageOne.{three_texts}
 use Rattle.tape_run.proofs.salvage.recovery.Recovery.end_closed.Goals as goal
 
 pub returns : goal.returns
@@ -15,7 +15,8 @@ returns g c =
           let label = c.wrong_count.result in
           let one = c.in_ok-end_gap.ensures.ok start z h in
           let two = c.in_ok-take_count.ensures.ok start (without_gap z) one.0 in
-          let three = c.in_ok-end_record.ensures.ok start (with_count label (without_gap z)) two.0 in
+          let three =
+          c.in_ok-end_record.ensures.ok start (with_count label (without_gap z)) two.0 in
           subst (λ l. HasSalvaged g.W.Write.contents start c.end_record.new.self
           (with_end eof (with_count l (without_gap z)))
           × Appends (g.P.Write.contents c.args.report.now)

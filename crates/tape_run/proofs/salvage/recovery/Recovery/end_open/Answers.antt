@@ -2,8 +2,8 @@ use Rattle.std.proofs.Common.{◌≡◌, ap, subst, ◌∙◌}
 use Rattle.std.specs.Io.KnownBytes.{Appends}
 use Rattle.tape_run.specs.SalvageCopies.{believed}
 use Rattle.tape_run.specs.SalvageLine.{open_gap_line}
-use Rattle.tape_run.specs.Salvaging.{rest_text, unsure_text}
-use Rattle.tape_run.proofs.SalvageShelf.{three_texts}
+use Rattle.tape_run.specs.SalvageEnds.{rest_text, unsure_text}
+use Rattle.tape_run.proofs.SalvageOne.{three_texts}
 use Rattle.tape_run.proofs.salvage.recovery.Recovery.end_open.Goals as goal
 
 pub returns : goal.returns

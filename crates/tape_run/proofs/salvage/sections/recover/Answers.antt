@@ -1,7 +1,8 @@
 use Rattle.std.proofs.Common.{◌≡◌, None, true, false, refl, sym, ap, subst, ◌∙◌}
-use Rattle.tape_run.specs.Salvaging.{IsBest, firsts, form_for, has_form, TakesCopy}
-use Rattle.tape_run.proofs.SalvageShelf.{no_copy, no_form, no_image, from_copy, if_ok}
-use Rattle.tape_run.proofs.salvage.recover.Goals as goal
+use Rattle.tape_run.specs.SalvageChoice.{IsBest, firsts}
+use Rattle.tape_run.specs.SalvageTaking.{form_for, has_form, TakesCopy}
+use Rattle.tape_run.proofs.SalvageOne.{no_copy, no_form, no_image, from_copy, if_ok}
+use Rattle.tape_run.proofs.salvage.sections.recover.Goals as goal
 
 pub returns-in_default : goal.returns-in_default
 returns-in_default g c = record {

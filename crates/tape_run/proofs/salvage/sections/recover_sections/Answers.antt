@@ -1,9 +1,11 @@
 use Rattle.std.proofs.Common.{◌≡◌, subst, arith}
 use Rattle.tape_run.specs.SalvageBlocks.{Recovers}
-use Rattle.tape_run.specs.Salvaging.{last_section, next_section, no_section_text, without_rest}
-use Rattle.tape_run.proofs.SalvageShelf.{none_taken, more_taken, ends_file, continues_file}
-use Rattle.tape_run.proofs.SalvageShelf.{on_ok}
-use Rattle.tape_run.proofs.salvage.recover_sections.Goals as goal
+use Rattle.tape_run.specs.SalvageChoice.{last_section}
+use Rattle.tape_run.specs.SalvageTaking.{next_section}
+use Rattle.tape_run.specs.SalvageEnds.{no_section_text, without_rest}
+use Rattle.tape_run.proofs.SalvageTaking.{none_taken, more_taken, ends_file, continues_file}
+use Rattle.tape_run.proofs.SalvageOne.{on_ok}
+use Rattle.tape_run.proofs.salvage.sections.recover_sections.Goals as goal
 
 pub loop-before-init : goal.loop-before-init
 loop-before-init g c =

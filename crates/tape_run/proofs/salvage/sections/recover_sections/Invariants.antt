@@ -1,5 +1,5 @@
-use Rattle.tape_run.proofs.SalvageShelf.{TakenSoFar}
-use Rattle.tape_run.proofs.salvage.recover_sections.Given as goal
+use Rattle.tape_run.proofs.SalvageTaking.{TakenSoFar}
+use Rattle.tape_run.proofs.salvage.sections.recover_sections.Given as goal
 
 abbrev pub invariant-loop-before : goal.invariant-loop-before
 invariant-loop-before g l = TakenSoFar g.W.Write.contents g.L.Shelf.gives g.R.Read.remaining

@@ -1,15 +1,15 @@
 use Rattle.std.proofs.Common.{◌≡◌, ap, subst, ◌∙◌}
 use Rattle.std.specs.Io.KnownBytes.{Appends}
 use Rattle.tape_run.specs.SalvageLine.{section_line}
-use Rattle.tape_run.specs.Salvaging.{image_number}
-use Rattle.tape_run.proofs.SalvageShelf.{copy_taken, if_ok}
-use Rattle.tape_run.proofs.salvage.recover_copy.Goals as goal
+use Rattle.tape_run.specs.SalvageTaking.{image_number}
+use Rattle.tape_run.proofs.SalvageOne.{copy_taken, if_ok}
+use Rattle.tape_run.proofs.salvage.sections.recover_copy.Goals as goal
 
 pub returns : goal.returns
 returns g c =
     let k = c.args.copy.now in
-    let line : c.deref.result.now ≡ section_line c.args.sect (image_number k.image) k.section.blocks =
-    c.deref.ensures.0 ∙ c.section_line-line.ensures
+    let line : c.deref.result.now ≡ section_line c.args.sect (image_number k.image)
+    k.section.blocks = c.deref.ensures.0 ∙ c.section_line-line.ensures
     ∙ ap (λ n. section_line c.args.sect n k.section.blocks) c.saturating_add.ensures in
     record {
       ok = if_ok c.end_section.result _ _

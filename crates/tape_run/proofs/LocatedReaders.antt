@@ -1,0 +1,222 @@
+-- Readers that stay mounted, and go on with the next file.
+use Rattle.std.proofs.Common.{◌≡◌, ◌≢◌, ◌⊎◌, inl, inr, ℕ, ◌+◌, ◌<◌, false, List, [], ◌∷◌, ◌++◌}
+use Rattle.std.proofs.Common.{Option, Some, None, refl, sym, ap, subst, ◌∙◌, arith, append_assoc}
+use Rattle.tape_blocks.specs.Block.{Portion}
+use Rattle.tape_image.specs.Begins.{Walks}
+use Rattle.tape_image.specs.Reader.{IfKnown}
+use Rattle.tape_image.specs.Tape.{TapeItem, block, bad, mark}
+use Rattle.tape_image.proofs.Walks.{Walks-trans}
+use Rattle.tape_set.specs.declared.position.Position.{Position}
+use Rattle.tape_set.specs.declared.position.Position.TheVariants.{Awaits, Finished}
+use Rattle.tape_core.specs.Behind.{AreInOrder, behind_of, mounted_behind}
+use Rattle.tape_core.specs.Known.{is_finished}
+use Rattle.tape_core.specs.Place.{rest_of}
+use Rattle.tape_core.specs.State.{State}
+use Rattle.tape_core.specs.Table.{Outcome, at_item, in_phase, unless_complete, step_of, mount_of}
+use Rattle.tape_core.specs.Table.{mounted}
+use Rattle.tape_core.specs.declared.event.Answer.{Answer}
+use Rattle.tape_core.specs.declared.event.Answer.TheVariants.{Useless}
+use Rattle.tape_core.specs.declared.event.Phase.{Phase}
+use Rattle.tape_core.specs.declared.event.Phase.TheVariants as phases
+use Rattle.tape_core.specs.declared.event.Phase.TheVariants.{Broken}
+use Rattle.tape_core.specs.declared.event.Reason.TheVariants as reasons
+use Rattle.tape_run.specs.ByTable.{parts_by, delivered_parts, IsLed}
+use Rattle.tape_run.specs.ExtractingLocated.{PassesTo}
+use Rattle.tape_run.specs.GoesBehind.{EndsSection, PassedOver, ReadsBehind}
+use Rattle.tape_run.specs.Reels.{behind_items, Reads, ReadsReel}
+use Rattle.tape_run.specs.declared.intake.ReelAnswer.{ReelAnswer}
+use Rattle.tape_run.specs.declared.survey.files.FileKey.{FileKey}
+use Rattle.tape_run.proofs.GoesBehindReels.{ended_well, leaves_behind, leaves_behind_again}
+use Rattle.tape_run.proofs.GoesBehind.{leads_over_all, passes_files}
+
+-- ---- a reader that is broken
+
+broken_or : (p : Phase) → (p ≡ Broken) ⊎ (p ≢ Broken)
+broken_or Broken = inl refl
+broken_or phases.Over = inr (λ e. cc)
+broken_or phases.Volume = inr (λ e. cc)
+broken_or phases.VolumeLabels = inr (λ e. cc)
+broken_or (phases.Header2 h w) = inr (λ e. cc)
+broken_or (phases.Headers h w) = inr (λ e. cc)
+broken_or (phases.DataPassed h) = inr (λ e. cc)
+broken_or (phases.DataWanted h f n) = inr (λ e. cc)
+broken_or (phases.TrailerPassed h) = inr (λ e. cc)
+broken_or (phases.TrailerWanted h f) = inr (λ e. cc)
+broken_or phases.Trailers = inr (λ e. cc)
+broken_or phases.NextFile = inr (λ e. cc)
+
+broken_item : (core : State) (x : TapeItem) → core.phase ≡ Broken
+    → at_item core Broken x ≡ (Useless reasons.Broken, core)
+broken_item core (block b) e = ap (λ p. (Useless reasons.Broken, in_phase core p)) (sym e)
+broken_item core mark e = ap (λ p. (Useless reasons.Broken, in_phase core p)) (sym e)
+broken_item core bad e = ap (λ p. (Useless reasons.Broken, in_phase core p)) (sym e)
+
+broken_step : (core : State) (x : TapeItem) (q : Position) → q ≡ core.position
+    → is_finished q ≡ false → core.phase ≡ Broken
+    → step_of core (Some x) ≡ (Useless reasons.Broken, core)
+broken_step core x Finished is waits e = absurd (cc)
+broken_step core x (Awaits sect b part) is waits e =
+    ap (λ q. unless_complete core q (at_item core core.phase x)) (sym is)
+    ∙ ap (λ p. at_item core p x) e ∙ broken_item core x e
+
+-- no item changes it, and none delivers anything
+broken_items : (core : State) (xs : List TapeItem) → is_finished core.position ≡ false
+    → core.phase ≡ Broken
+    → (behind_items core xs ≡ core) × (delivered_parts core xs ≡ [])
+broken_items core [] waits e = (refl, refl)
+broken_items core (x ∷ xs) waits e =
+    let one = broken_step core x core.position refl waits e in
+    let same : (step_of core (Some x)).1 ≡ core = ap (λ (z : Outcome). z.1) one in
+    let (behind, none) = broken_items core xs waits e in (
+      ap (λ (z : State). behind_items z xs) same ∙ behind,
+      ap (λ (a : Answer). parts_by a x core.position (step_of core (Some x)).1.known
+          ++ delivered_parts (step_of core (Some x)).1 xs) (ap (λ (z : Outcome). z.0) one)
+          ∙ ap (λ (z : State). delivered_parts z xs) same ∙ none,
+    )
+
+never_useless : (a : Answer) → a ≡ Useless reasons.Broken → EndsSection a → ⊥
+never_useless a e (inl is) = absurd (let c = sym e ∙ is in cc)
+never_useless a e (inr is) = absurd (let c = sym e ∙ is in cc)
+
+-- so no section ends
+never_ends : (core : State) (xs : List TapeItem) (x : TapeItem)
+    → is_finished core.position ≡ false → core.phase ≡ Broken
+    → EndsSection (step_of (behind_items core xs) (Some x)).0 → ⊥
+never_ends core xs x waits e ends =
+    let (behind, none) = broken_items core xs waits e in
+    never_useless (step_of core (Some x)).0
+    (ap (λ (z : Outcome). z.0) (broken_step core x core.position refl waits e))
+    (subst (λ (z : State). EndsSection (step_of z (Some x)).0) behind ends)
+
+mounted_broken : (p : Phase) (q : Position) → p ≡ Broken
+    → (mounted p q ≡ Broken) × (mounted_behind p q ≡ Broken)
+mounted_broken p q e =
+    (ap (λ r. mounted r q) e ∙ refl, ap (λ r. mounted_behind r q) e ∙ refl)
+
+-- The whole image leads where the reading on leads: its front is passed over, or the reader is
+-- broken.
+pub leads_on : (core new : State) (front more : List TapeItem) (held now : List Portion)
+    → is_finished core.position ≡ false → (core.phase ≢ Broken → PassedOver core front)
+    → IsLed more (behind_of core) new held now → IsLed (front ++ more) (mount_of core) new held now
+leads_on core new front more held now waits over led = elim (broken_or core.phase) [
+  | inl broken ↦
+      let (first, behind) = mounted_broken core.phase core.position broken in
+      let all = broken_items (mount_of core) (front ++ more) waits first in
+      let rest = broken_items (behind_of core) more waits behind in
+      let same : behind_of core ≡ mount_of core =
+      ap (λ p. in_phase core p) (behind ∙ sym first) in
+      record {
+        place = led.place ∙ ap rest_of (rest.0 ∙ same ∙ sym all.0);
+        parts = led.parts ∙ ap (λ (l : List Portion). held ++ l) (rest.1 ∙ sym all.1);
+      }
+  | inr sound ↦ leads_over_all core new front more held now (over sound) led
+]
+
+-- ---- what stays mounted
+
+in_order : (core later : State) (key : FileKey) → is_finished core.position ≡ false
+    → key.set_id ≡ core.set_id → key.file ≡ core.file → later.set_id ≡ key.set_id
+    → key.file < later.file → is_finished later.position ≡ false → AreInOrder core later
+in_order core later key waits set file same less later_waits = record {
+  same_set = same ∙ set;
+  earlier = subst (λ n. n < later.file) file less;
+  first_waits = waits;
+  later_waits = later_waits;
+}
+
+pub passes_front : (core : State) (bytes left : List ℕ) (answer : ReelAnswer) (key : FileKey)
+    → is_finished core.position ≡ false → key.set_id ≡ core.set_id → key.file ≡ core.file
+    → EndsSection answer.answer → ReadsReel (mount_of core) bytes left answer
+    → PassesTo key bytes left
+passes_front core bytes left answer key waits set file ends r = elim (broken_or core.phase) [
+  | inl broken ↦
+      let e = ended_well (mount_of core) bytes left answer waits r ends in
+      absurd (never_ends (mount_of core) e.items e.item waits
+      (mounted_broken core.phase core.position broken).0 e.ended)
+  | inr sound ↦
+      let (items, item, at, s, walks) = leaves_behind core bytes left answer waits sound r ends in
+      record {
+        front = items ++ item ∷ [];
+        at = at;
+        walks = walks;
+        passed = λ later same less later_waits whole. passes_files core later items item
+            (in_order core later key waits set file same less later_waits) whole s;
+      }
+]
+
+pub passes_on : (core : State) (front : List TapeItem) (place : ℕ) (whole bytes left : List ℕ)
+    (answer : ReelAnswer) (key : FileKey) → is_finished core.position ≡ false
+    → key.set_id ≡ core.set_id → key.file ≡ core.file → EndsSection answer.answer
+    → (core.phase ≢ Broken → PassedOver core front) → Walks 0 whole front place bytes
+    → ReadsReel (behind_of core) bytes left answer → PassesTo key whole left
+passes_on core front place whole bytes left answer key waits set file ends over before r =
+    elim (broken_or core.phase) [
+      | inl broken ↦
+          let e = ended_well (behind_of core) bytes left answer waits r ends in
+          absurd (never_ends (behind_of core) e.items e.item waits
+          (mounted_broken core.phase core.position broken).1 e.ended)
+      | inr sound ↦
+          let (items, item, at, s, walks) = leaves_behind_again core front bytes left answer waits
+          sound (over sound) r ends in
+          let moved : Walks place bytes (items ++ item ∷ []) (place + at) left =
+          record { leads = walks.leads; moves = omega (arith, walks.moves) } in
+          record {
+            front = (front ++ items) ++ item ∷ [];
+            at = place + at;
+            walks = subst (λ xs. Walks 0 whole xs (place + at) left)
+                (sym (append_assoc front items (item ∷ [])))
+                (Walks-trans 0 place (place + at) whole bytes left front (items ++ item ∷ [])
+                before moved);
+            passed = λ later same less later_waits sound. passes_files core later
+                (front ++ items) item
+                (in_order core later key waits set file same less later_waits) sound s;
+          }
+    ]
+
+pub not_finished : (p : Position) → p ≢ Finished → is_finished p ≡ false
+not_finished (Awaits sect b part) waits = refl
+not_finished Finished waits = absurd (waits refl)
+
+pub reads_waits : (p : Position) (core : State) (bytes left : List ℕ) (answer : ReelAnswer)
+    → is_finished p ≡ false → Reads p core bytes left answer
+    → ReadsReel (mount_of core) bytes left answer
+reads_waits (Awaits sect b part) core bytes left answer waits r = r
+reads_waits Finished core bytes left answer waits r = absurd (cc)
+
+pub behind_waits : (p : Position) (core : State) (bytes left : List ℕ) (answer : ReelAnswer)
+    → is_finished p ≡ false → ReadsBehind p core bytes left answer
+    → ReadsReel (behind_of core) bytes left answer
+behind_waits (Awaits sect b part) core bytes left answer waits r = r
+behind_waits Finished core bytes left answer waits r = absurd (cc)
+
+pub held_front : (had left : Option (List ℕ)) (core : State) (answer : ReelAnswer) (key : FileKey)
+    → is_finished core.position ≡ false → key.set_id ≡ core.set_id → key.file ≡ core.file
+    → EndsSection answer.answer
+    → IfKnown had left (λ bytes rest. Reads core.position core bytes rest answer)
+    → IfKnown had left (PassesTo key)
+held_front None left core answer key waits set file ends r = tt
+held_front (Some bytes) None core answer key waits set file ends r = r
+held_front (Some bytes) (Some left) core answer key waits set file ends r =
+    passes_front core bytes left answer key waits set file ends
+    (reads_waits core.position core bytes left answer waits r)
+
+-- what the image that was mounted left: its front, where its bytes are known
+abbrev pub front_of : (whole had : Option (List ℕ)) (key : FileKey)
+    → IfKnown whole had (PassesTo key) → List TapeItem
+front_of None had key p = []
+front_of (Some bytes) None key p = absurd p
+front_of (Some bytes) (Some left) key p = p.front
+
+pub held_on : (whole had left : Option (List ℕ)) (core : State) (answer : ReelAnswer)
+    (before key : FileKey) → is_finished core.position ≡ false → before.set_id ≡ core.set_id
+    → before.file < core.file → key.set_id ≡ core.set_id → key.file ≡ core.file
+    → EndsSection answer.answer → IfKnown whole had (PassesTo before)
+    → IfKnown had left (λ bytes rest. ReadsBehind core.position core bytes rest answer)
+    → IfKnown whole left (PassesTo key)
+held_on None had left core answer before key waits same less set file ends p r = tt
+held_on (Some whole) None left core answer before key waits same less set file ends p r = absurd p
+held_on (Some whole) (Some had) None core answer before key waits same less set file ends p r = r
+held_on (Some whole) (Some had) (Some left) core answer before key waits same less set file ends p r
+    = passes_on core p.front p.at whole had left answer key waits set file ends
+    (λ sound. p.passed core (sym same) less waits sound) p.walks
+    (behind_waits core.position core had left answer waits r)

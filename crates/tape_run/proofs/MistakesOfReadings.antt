@@ -1,0 +1,178 @@
+-- Answers that the contracts of whole readings exclude: each is what a wrong body would give.
+use Rattle.std.proofs.Common.{◌≡◌, ◌⊎◌, inl, inr, ℕ, List, [], ◌∷◌, ◌++◌, map, Bool, true, false}
+use Rattle.std.proofs.Common.{refl, sym, ap, ◌∙◌, subst, arith, codes, length, append-nil}
+use Rattle.std.specs.Prelude.{Option, Some, None, Ok, IsSome, replicate}
+use Rattle.tape_core.specs.Memory.{portions}
+use Rattle.tape_blocks.specs.Block.{Portion}
+use Rattle.tape_set.specs.declared.position.Position.TheVariants.{Awaits}
+use Rattle.tape_set.specs.Position.{part_of, start}
+use Rattle.tape_set.specs.Before.{before}
+use Rattle.tape_set.specs.Layout.{FileSet, file_of}
+use Rattle.tape_set.specs.Lawful.{IsLawful}
+use Rattle.tape_set.specs.Reach.{far}
+use Rattle.tape_set.proofs.Reaching.{far_keeps_part}
+use Rattle.tape_core.specs.Stands.{Stands}
+use Rattle.tape_run.specs.declared.script.Step.TheVariants.{Reel}
+use Rattle.tape_run.specs.Given.{IsGiven, AreGivenBy, counted_up, failed_of}
+use Rattle.tape_run.specs.Headline.{begins, IsRead}
+use Rattle.tape_run.specs.History.{Course, IsHistory, course, after}
+use Rattle.tape_run.specs.Mount.{Happening, reads, foreign_reel, saves, restarts, IsMountOf}
+use Rattle.tape_run.specs.Seen.{seen}
+use Rattle.tape_run.specs.WorkedHistory.{first, middle, worked_set, reel_1, reading}
+use Rattle.tape_run.proofs.Back.{none_failed, none_of}
+use Rattle.tape_run.proofs.Lives.{goes_on}
+use Rattle.tape_run.proofs.WorkedHistory.{is_lawful}
+use Rattle.tape_run.proofs.WorkedReels.{whole_1}
+use Rattle.tape_run.proofs.script.run.Reads as run
+use Rattle.tape_run.proofs.whole.go_on.Reads as go_on
+use Rattle.tape_run.proofs.whole.read_file.Reads as read_file
+use Rattle.tape_run.proofs.MistakesOfRuns.{HoldsOne}
+
+-- ---- whole readings
+
+-- a mount takes the start of a file to the front of a block
+to_a_front : (set : FileSet) (file : ℕ) (bytes : List ℕ) (m : Happening) → IsMountOf set bytes m
+    → part_of (after set file begins m).at ≡ 0
+to_a_front set file bytes (reads r) m = at_front (far_keeps_part set file start r)
+  where
+    at_front : (far set file start r ≡ start) ⊎ (part_of (far set file start r) ≡ 0)
+        → part_of (far set file start r) ≡ 0
+    at_front (inl e) = ap part_of e
+    at_front (inr e) = e
+to_a_front set file bytes foreign_reel m = refl
+to_a_front set file bytes saves (xs, end, stop, b, m) = absurd m
+to_a_front set file bytes (restarts n) (xs, end, stop, b, m) = absurd m
+
+-- whatever a reader gives of its bytes is a copy of a volume of the set, or none of the set: so it
+-- is with the image of a volume, any front of which is a reading that was cut there
+abbrev GivesMounts : FileSet → List ℕ → Type 0
+GivesMounts set bytes =
+    (failed : Bool) (left : Option (List ℕ)) (given : List ℕ) → IsGiven failed bytes left given
+    → (m : Happening) × IsMountOf set given m
+
+-- what was given of one reader
+one_given : (set : FileSet) (bytes : List ℕ) (failed : List Bool)
+    (left : List (Option (List ℕ))) (given : List (List ℕ))
+    → GivesMounts set bytes → AreGivenBy failed (bytes ∷ []) left given
+    → (m : Happening) × IsHistory set 0 (Reel ∷ []) given (m ∷ [])
+    × ((file : ℕ) → part_of (course set file begins (m ∷ [])).at ≡ 0)
+one_given set bytes [] left given all e =
+    let (m, of) = all false None bytes refl in (
+      m,
+      subst (λ z. IsHistory set 0 (Reel ∷ []) z (m ∷ [])) (sym e) ((of, tt)),
+      λ file. to_a_front set file bytes m of,
+    )
+one_given set bytes (f ∷ failed) [] given all a = absurd a
+one_given set bytes (f ∷ failed) (l ∷ left) [] all a = absurd a
+one_given set bytes (f ∷ failed) (l ∷ left) (x ∷ xs) all (is, rest) =
+    let (m, of) = all f l x is in (m, (of, tt), λ file. to_a_front set file x m of)
+
+-- partial_file_given: the sink refused part 3 of a block, and the file is given as one that was
+-- read.
+partial_file_given : (R : _) (LR : _) (h : _) (d : _) (κs : _) (a : _) (session : _) (s : _)
+    (set : FileSet) (bytes : List ℕ) → read_file.Learnt-named R LR h d κs a (Ok (session, Ok tt)) s
+    → IsLawful set → a.1.0 ≡ set.set_id → IsSome (file_of set a.1.1.0) → GivesMounts set bytes
+    → a.1.1.1.0.now ≡ Reel ∷ [] → map h.remaining a.1.1.1.1.0.now ≡ Some bytes ∷ []
+    → session.core.position ≡ Awaits 1 0 3 → ⊥
+partial_file_given R LR h d κs a session s set bytes k lawful id file all one known stands =
+    let r = k.read (bytes ∷ []) known in
+    let (m, history, front) = one_given set bytes r.5.which (map h.remaining s.1.1.1.1.0.now)
+    r.5.given all r.5.are_given in
+    let steps : IsHistory set 0 a.1.1.1.0.now r.5.given (m ∷ [])
+    = subst (λ v. IsHistory set 0 v r.5.given (m ∷ [])) (sym one) history in
+    let c = (r.5.reads set (m ∷ []) lawful id file steps).0 in
+    let n : 3 ≡ 0 = sym (ap part_of stands) ∙ sym (ap (λ v. part_of v.position) r.2)
+    ∙ ap (λ v. part_of v.at) c ∙ front a.1.1.0 in
+    absurd (omega (arith, n))
+
+-- of one reader that has nothing left all was given, whether it failed or not
+nothing_left : (which : List Bool) (bytes : List ℕ) (given : List (List ℕ))
+    → AreGivenBy which (bytes ∷ []) (Some [] ∷ []) given → given ≡ bytes ∷ []
+nothing_left [] bytes given e = e
+nothing_left (f ∷ which) bytes [] a = absurd a
+nothing_left (f ∷ other ∷ which) bytes (g ∷ given) (is, none) = absurd none
+nothing_left (false ∷ []) bytes (g ∷ given) (is, none) =
+    ap (λ z. z ∷ given) is ∙ ap (λ z. bytes ∷ z) none
+nothing_left (true ∷ []) bytes (g ∷ given) ((rest, told, whole), none) =
+    let over : rest ≡ [] = cc told in
+    let all : bytes ≡ g = whole ∙ (ap (λ z. g ++ z) over ∙ append-nil g) in
+    ap (λ z. z ∷ given) (sym all) ∙ ap (λ z. bytes ∷ z) none
+
+-- volume 1, read to its end
+abbrev all_of_1 : Happening
+all_of_1 = reads (reading 1 (replicate 11 true))
+
+-- failing_reader_gives_nothing: the reader of volume 1 came to the end of its bytes, and failed
+-- there or did not, and nothing of them is in memory.
+failing_reader_gives_nothing : (R : _) (LR : _) (h : _) (d : _) (κs : _) (a : _) (session : _)
+    (s : _) → read_file.Learnt-named R LR h d κs a (Ok (session, Ok tt)) s
+    → a.1.0 ≡ codes "ABC001" → a.1.1.0 ≡ 1 → a.1.1.1.0.now ≡ Reel ∷ []
+    → map h.remaining a.1.1.1.1.0.now ≡ Some reel_1 ∷ []
+    → map h.remaining s.1.1.1.1.0.now ≡ Some [] ∷ [] → portions session.sink ≡ [] → ⊥
+failing_reader_gives_nothing R LR h d κs a session s k id file one known over none =
+    let r = k.read (reel_1 ∷ []) known in
+    let is : IsRead (codes "ABC001") 1 (Reel ∷ []) (reel_1 ∷ []) (Some [] ∷ []) r.0
+    = subst (λ v. IsRead v 1 (Reel ∷ []) (reel_1 ∷ []) (Some [] ∷ []) r.0) id
+    (subst (λ v. IsRead a.1.0 v (Reel ∷ []) (reel_1 ∷ []) (Some [] ∷ []) r.0) file
+    (subst (λ v. IsRead a.1.0 a.1.1.0 v (reel_1 ∷ []) (Some [] ∷ []) r.0) one
+    (subst (λ v. IsRead a.1.0 a.1.1.0 a.1.1.1.0.now (reel_1 ∷ []) v r.0) over r.5))) in
+    let all = nothing_left is.which reel_1 is.given is.are_given in
+    let history : IsHistory worked_set 0 (Reel ∷ []) is.given (all_of_1 ∷ [])
+    = subst (λ z. IsHistory worked_set 0 (Reel ∷ []) z (all_of_1 ∷ [])) (sym all) (whole_1, tt) in
+    let two : first ∷ middle ∷ [] ≡ []
+    = sym (is.reads worked_set (all_of_1 ∷ []) is_lawful refl refl history).1 ∙ r.1 ∙ none in
+    let n : 2 ≡ 0 = ap length two in absurd (omega (arith, n))
+
+-- stopped_run_told_as_done: the sink refused a part, and the run is told as done. What it holds
+-- lies before no position that the readers' histories lead to: all of these are at the front of a
+-- block, and it has some parts of one.
+stopped_run_told_as_done : (S : _) (R : _) (LS : _) (LR : _) (g : _) (d : _) (h : _) (e : _)
+    (κs : _) (a : _) (session : _) (s : _) (set : FileSet) (held now : List Portion)
+    (bytes : List (List ℕ))
+    → go_on.Learnt-named S R LS LR g d h e κs a (session, Ok tt) s
+    → g.holds a.1.1.0 held → IsLawful set → Stands set a.1.0.now.file a.1.0.now held
+    → map h.remaining a.1.1.1.1.0.now ≡ map Some bytes
+    → HoldsOne (g.holds session.sink) → g.holds session.sink now
+    → ((which : List Bool) (left : List (Option (List ℕ))) (given : List (List ℕ))
+    → AreGivenBy which bytes left given
+    → (hs : List Happening) × IsHistory set 0 a.1.1.1.0.now given hs
+    × (now ≡ before set a.1.0.now.file (course set a.1.0.now.file
+    (record { at = a.1.0.now.position; notes = [] }) hs).at → ⊥)) → ⊥
+stopped_run_told_as_done S R LS LR g d h e κs a session s set held now bytes l was lawful stands
+    known one there none =
+    let (began, from, (new, has, runs)) = l.delivers held was in
+    let run = runs bytes known in
+    let left = map h.remaining s.1.1.1.1.0.now in
+    let (hs, history, other) = none run.which left run.given run.are_given in
+    let (at, parts) = goes_on set a.1.0.now held began (seen g session new) a.1.1.1.0.now bytes left
+    hs
+    lawful stands from run history in
+    other (one now new there has ∙ parts
+    ∙ ap (λ (c : Course). before set a.1.0.now.file c.at) (sym at))
+
+-- gone_on_without_reading: no reader failed, and the session is given back as it was resumed. What
+-- it held lies before no position that the reels lead to.
+gone_on_without_reading : (S : _) (R : _) (LS : _) (LR : _) (g : _) (d : _) (h : _) (e : _)
+    (κs : _) (a : _) (session : _) (s : _) (set : FileSet) (held : List Portion)
+    (bytes : List (List ℕ)) (hs : List Happening)
+    → go_on.Learnt-named S R LS LR g d h e κs a (session, Ok tt) s
+    → g.holds a.1.1.0 held → IsLawful set → Stands set a.1.0.now.file a.1.0.now held
+    → map h.remaining a.1.1.1.1.0.now ≡ map Some bytes → session.failures ≡ 0
+    → HoldsOne (g.holds session.sink) → g.holds session.sink held
+    → IsHistory set 0 a.1.1.1.0.now bytes hs
+    → (held ≡ before set a.1.0.now.file (course set a.1.0.now.file
+    (record { at = a.1.0.now.position; notes = [] }) hs).at → ⊥) → ⊥
+gone_on_without_reading S R LS LR g d h e κs a session s set held bytes hs l was lawful stands
+    known calm one there history other =
+    let (began, from, (new, has, runs)) = l.delivers held was in
+    let run = runs bytes known in
+    let none : failed_of run.which ≡ 0 =
+    none_failed (failed_of run.which) (sym (sym calm ∙ run.count
+    ∙ ap (counted_up (failed_of run.which)) from.failures)) in
+    let left = map h.remaining s.1.1.1.1.0.now in
+    let given : run.given ≡ bytes = none_of run.which bytes run.given left none run.are_given in
+    let (at, parts) = goes_on set a.1.0.now held began (seen g session new) a.1.1.1.0.now bytes left
+    hs lawful stands from run
+    (subst (λ z. IsHistory set 0 a.1.1.1.0.now z hs) (sym given) history) in
+    other (one held new there has ∙ parts
+    ∙ ap (λ (c : Course). before set a.1.0.now.file c.at) (sym at))

@@ -1,0 +1,142 @@
+-- The best copy of a section, and what the copies say of the file.
+use Rattle.std.proofs.Common.{◌≡◌, ℕ, ◌+◌, ◌<◌, ◌≤◌, Bool, true, false, max, take, get_or, List}
+use Rattle.std.proofs.Common.{[], ◌∷◌, ◌++◌, length, Option, Some, None, refl, sym, ap, subst}
+use Rattle.std.proofs.Common.{◌∙◌, arith, append_assoc, append-nil}
+use Rattle.std.specs.Prelude.{if◌then◌else◌}
+use Rattle.std.specs.List.{AllByRecursion}
+use Rattle.std.proofs.lemmas.List.{take_more}
+use Rattle.tape_run.specs.declared.salvage.copies.SectionCopy.{SectionCopy}
+use Rattle.tape_run.specs.SalvageCopies.{rank}
+use Rattle.tape_run.specs.SalvageChoice.{is_considered, firsts, last_image, IsBest, IsChoice}
+use Rattle.tape_run.specs.SalvageChoice.{last_section}
+
+-- ---- the best copy
+
+pub all_append : {X : Type 0} (P : X → Type 0) (xs ys : List X) → AllByRecursion P xs
+    → AllByRecursion P ys → AllByRecursion P (xs ++ ys)
+all_append P [] ys a b = b
+all_append P (x ∷ xs) ys (h, a) b = (h, all_append P xs ys a b)
+
+all_map : {X : Type 0} (P Q : X → Type 0) → ((x : X) → P x → Q x) → (xs : List X)
+    → AllByRecursion P xs → AllByRecursion Q xs
+all_map P Q f [] a = tt
+all_map P Q f (x ∷ xs) (h, a) = (f x h, all_map P Q f xs a)
+
+-- one more copy
+pub record More (sect : ℕ) (last : Option ℕ) (cs : List SectionCopy) (c : SectionCopy) (b : Bool)
+    : Type 0 where
+  pub first : firsts sect last (cs ++ c ∷ [])
+      ≡ firsts sect last cs ++ (if b then c ∷ [] else [])
+  pub image : last_image sect last (cs ++ c ∷ [])
+      ≡ (if b then Some c.image else last_image sect last cs)
+
+more_by : (sect : ℕ) (x c : SectionCopy) (cs : List SectionCopy) (last : Option ℕ) (a b : Bool)
+    → ((l : Option ℕ) → is_considered sect (last_image sect l cs) c ≡ b → More sect l cs c b)
+    → is_considered sect (if a then last_image sect (Some x.image) cs else last_image sect last cs)
+    c ≡ b
+    → ((if a then x ∷ firsts sect (Some x.image) (cs ++ c ∷ []) else firsts sect last (cs ++ c ∷
+    [])) ≡ (if a then x ∷ firsts sect (Some x.image) cs else firsts sect last cs)
+    ++ (if b then c ∷ [] else []))
+    × ((if a then last_image sect (Some x.image) (cs ++ c ∷ []) else last_image sect last (cs ++ c
+    ∷ [])) ≡ (if b then Some c.image else (if a then last_image sect (Some x.image) cs else
+    last_image sect last cs)))
+more_by sect x c cs last true b ih e =
+    let h = ih (Some x.image) e in (ap (λ (l : List SectionCopy). x ∷ l) h.first, h.image)
+more_by sect x c cs last false b ih e = let h = ih last e in (h.first, h.image)
+
+more_none : (c : SectionCopy) (sect : ℕ) (last : Option ℕ) (b : Bool)
+    → ((if b then c ∷ [] else []) ≡ [] ++ (if b then c ∷ [] else []))
+    × ((if b then Some c.image else last) ≡ (if b then Some c.image else last))
+more_none c sect last b = (refl, refl)
+
+pub more : (sect : ℕ) (last : Option ℕ) (cs : List SectionCopy) (c : SectionCopy) (b : Bool)
+    → is_considered sect (last_image sect last cs) c ≡ b → More sect last cs c b
+more sect last [] c true e = record { first = rw e refl; image = rw e refl }
+more sect last [] c false e = record { first = rw e refl; image = rw e refl }
+more sect last (x ∷ cs) c b e =
+    let h = more_by sect x c cs last (is_considered sect last x) b
+    (λ l f. more sect l cs c b f) e in
+    record { first = h.0; image = h.1 }
+
+-- it is the first, or is after one that is no worse, or is better
+pub first_best : (cs : List SectionCopy) (c : SectionCopy) → IsBest cs None
+    → IsBest (cs ++ c ∷ []) (Some c)
+first_best cs c none = ([], [], ap (λ (l : List SectionCopy). l ++ c ∷ []) none, tt, tt)
+
+pub still_best : (cs : List SectionCopy) (b c : SectionCopy) → rank c ≤ rank b
+    → IsBest cs (Some b) → IsBest (cs ++ c ∷ []) (Some b)
+still_best cs b c lower (front, rest, is, less, most) = (
+  front,
+  rest ++ c ∷ [],
+  ap (λ (l : List SectionCopy). l ++ c ∷ []) is ∙ append_assoc front (b ∷ rest) (c ∷ []),
+  less,
+  all_append (λ d. rank d ≤ rank b) rest (c ∷ []) most (lower, tt),
+)
+
+pub new_best : (cs : List SectionCopy) (b c : SectionCopy) → rank b < rank c
+    → IsBest cs (Some b) → IsBest (cs ++ c ∷ []) (Some c)
+new_best cs b c more_rank (front, rest, is, less, most) = (
+  cs,
+  [],
+  refl,
+  subst (AllByRecursion (λ d. rank d < rank c)) (sym is)
+      (all_append (λ d. rank d < rank c) front (b ∷ rest)
+      (all_map (λ d. rank d < rank b) (λ d. rank d < rank c)
+      (λ d h. omega (arith, h, more_rank)) front less) (
+        more_rank,
+        all_map (λ d. rank d ≤ rank b) (λ d. rank d < rank c)
+            (λ d h. omega (arith, h, more_rank)) rest most,
+      )),
+  tt,
+)
+
+-- one more copy, which is considered or not
+pub passes_copy : (sect : ℕ) (cs : List SectionCopy) (c : SectionCopy) (best : Option SectionCopy)
+    (last : Option ℕ) → is_considered sect last c ≡ false → IsChoice sect cs best last
+    → IsChoice sect (cs ++ c ∷ []) best last
+passes_copy sect cs c best last off h =
+    let m = more sect None cs c false (ap (λ l. is_considered sect l c) (sym h.at) ∙ off) in
+    record {
+      is_best = subst (λ l. IsBest l best)
+          (sym (m.first ∙ append-nil (firsts sect None cs))) h.is_best;
+      at = h.at ∙ sym m.image;
+    }
+
+pub takes_copy : (sect : ℕ) (cs : List SectionCopy) (c : SectionCopy)
+    (best new : Option SectionCopy) (last : Option ℕ) → is_considered sect last c ≡ true
+    → IsChoice sect cs best last
+    → ((ds : List SectionCopy) → IsBest ds best → IsBest (ds ++ c ∷ []) new)
+    → IsChoice sect (cs ++ c ∷ []) new (Some c.image)
+takes_copy sect cs c best new last on h better =
+    let m = more sect None cs c true (ap (λ l. is_considered sect l c) (sym h.at) ∙ on) in
+    record {
+      is_best = subst (λ l. IsBest l new) (sym m.first) (better (firsts sect None cs) h.is_best);
+      at = sym m.image;
+    }
+
+-- ---- what is found among the copies
+
+pub last_more : (cs : List SectionCopy) (c : SectionCopy)
+    → last_section (cs ++ c ∷ []) ≡ max (last_section cs) c.section.key.sect
+last_more [] c = omega arith
+last_more (d ∷ cs) c = let r = last_more cs c in omega (arith, r)
+
+-- one more of these copies
+taken_more : {X : Type 0} (xs : List X) (place : ℕ) (x z : X) → place < length xs
+    → x ≡ get_or xs place z → take (place + 1) xs ≡ take place xs ++ x ∷ []
+taken_more xs place x z within is =
+    take_more xs place z within ∙ ap (λ y. take place xs ++ y ∷ []) (sym is)
+
+pub last_up_to : (cs : List SectionCopy) (place : ℕ) (c : SectionCopy) (old new : ℕ)
+    → place < length cs → c ≡ get_or cs place c → old ≡ last_section (take place cs)
+    → new ≡ max old c.section.key.sect → new ≡ last_section (take (place + 1) cs)
+last_up_to cs place c old new within is before more =
+    more ∙ ap (λ n. max n c.section.key.sect) before
+    ∙ sym (ap last_section (taken_more cs place c c within is) ∙ last_more (take place cs) c)
+
+pub choice_up_to : (sect : ℕ) (cs : List SectionCopy) (place : ℕ) (c : SectionCopy)
+    (best : Option SectionCopy) (last : Option ℕ) → place < length cs → c ≡ get_or cs place c
+    → IsChoice sect (take place cs ++ c ∷ []) best last
+    → IsChoice sect (take (place + 1) cs) best last
+choice_up_to sect cs place c best last within is h =
+    subst (λ l. IsChoice sect l best last) (sym (taken_more cs place c c within is)) h

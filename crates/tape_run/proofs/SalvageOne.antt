@@ -1,0 +1,154 @@
+-- One section recovered from its best copy.
+use Rattle.std.proofs.Common.{◌≡◌, ℕ, Bool, true, false, Result, Ok, Err, IfOk, OnOk, List, ◌++◌}
+use Rattle.std.proofs.Common.{Option, Some, None, refl, sym, ap, subst, ◌∙◌}
+use Rattle.std.specs.Prelude.{if◌then◌else◌}
+use Rattle.std.specs.Io.KnownBytes.{Appends}
+use Rattle.std.proofs.KnownBytes.{Appends-trans}
+use Rattle.tape_set.specs.Lawful.{FileForm}
+use Rattle.tape_run.specs.declared.salvage.Content.{Content}
+use Rattle.tape_run.specs.declared.salvage.ending.SectionEnd.{SectionEnd}
+use Rattle.tape_run.specs.declared.salvage.ending.SectionEnd.TheVariants.{Unknown}
+use Rattle.tape_run.specs.declared.salvage.copies.SectionCopy.{SectionCopy}
+use Rattle.tape_run.specs.declared.salvage.recovery.Recovery.{Recovery}
+use Rattle.tape_run.specs.Reeling.{Mounting}
+use Rattle.tape_run.specs.SalvageCopies.{believed}
+use Rattle.tape_run.specs.SalvageLine.{section_line}
+use Rattle.tape_run.specs.SalvageImage.{RecoversSection, salvaged_from, text_from}
+use Rattle.tape_run.specs.declared.salvage.walk.Expected.TheVariants.{Outside}
+use Rattle.tape_run.specs.SalvageBlocks.{Salvaged, Recovers}
+use Rattle.tape_run.specs.SalvageChoice.{firsts, IsBest}
+use Rattle.tape_run.specs.SalvageTaking.{TakesSection, TakesCopy, end_by, image_number, form_for}
+use Rattle.tape_run.specs.SalvageTaking.{has_form, MountsIf, after_copy, copy_text}
+use Rattle.tape_run.specs.SalvageEnds.{without_rest, no_section_text, ended, ended_text}
+use Rattle.tape_run.specs.SalvageEnds.{no_form_text}
+
+-- one recovery after another
+pub recovers_then : {W : Type 0} (contents : W → Option (List ℕ)) (old mid new : Recovery W)
+    (said says now : Option (List ℕ)) (f g : Salvaged → Salvaged) (s t : Salvaged → List ℕ)
+    → Recovers contents old mid said says f s → Recovers contents mid new says now g t
+    → Recovers contents old new said now (λ z. g (f z)) (λ z. s z ++ t (f z))
+recovers_then contents old mid new said says now f g s t a b start z h =
+    let one = a start z h in
+    let two = b start (f z) one.0 in
+    (two.0, Appends-trans said says now (s z) (t (f z)) one.1 two.1)
+
+pub three_texts : (a b c d : Option (List ℕ)) (t u v : List ℕ) → Appends a b t → Appends b c u
+    → Appends c d v → Appends a d (t ++ (u ++ v))
+three_texts a b c d t u v h i j = Appends-trans a b d t (u ++ v) h (Appends-trans b c d u v i j)
+
+-- what follows from an answer
+pub if_ok : {A E : Type 0} (r : Result A E) (P Q : A → Type 0) → ((x : A) → P x → Q x) → IfOk r P
+    → IfOk r Q
+if_ok (Ok x) P Q f h = f x h
+if_ok (Err e) P Q f h = tt
+
+pub on_ok : {A E P Q : Type 0} (r : Result A E) → (P → Q) → OnOk r P → OnOk r Q
+on_ok (Ok x) f h = f h
+on_ok (Err e) f h = tt
+
+-- a section was recovered from its copy
+pub copy_taken : {W : Type 0} (contents : W → Option (List ℕ)) (before after : Option (List ℕ))
+    (c : SectionCopy) (sect : ℕ) (form : Option FileForm) (most : ℕ) (old mid new : Recovery W)
+    (said one two says : Option (List ℕ)) (end : SectionEnd)
+    (is_ended : Bool) → most ≡ believed c
+    → Appends said one (section_line sect (image_number c.image) c.section.blocks)
+    → RecoversSection contents before after c.section.key most form old mid one two is_ended
+    → Recovers contents mid new two says (ended c c.closed) (ended_text c c.closed)
+    → end ≡ end_by c.closed
+    → TakesCopy contents before c sect form old new said says end
+copy_taken contents before after c sect form most old mid new said one two says end is_ended
+    same line r e is =
+    let key = c.section.key in
+    record {
+      items = r.items;
+      after = after;
+      is_ended = is_ended;
+      reads = r.reads;
+      recovers = subst (λ m. Recovers contents old new said says
+          (λ g. ended c c.closed (salvaged_from key m form (Outside 0) g r.items))
+          (λ g. section_line sect (image_number c.image) c.section.blocks
+          ++ (text_from key m form (Outside 0) g r.items
+          ++ ended_text c c.closed (salvaged_from key m form (Outside 0) g r.items)))) same
+          (λ start g h.
+          let a = r.recovers start g h in
+          let b = e start (salvaged_from key most form (Outside 0) g r.items) a.0 in
+          (b.0, three_texts said one two says _ _ _ line a.1 b.1));
+      ends = is;
+    }
+
+module _ {W L R : Type 0} (contents : W → Option (List ℕ)) (gives : Mounting L R)
+    (remaining : R → Option (List ℕ)) (copies : List SectionCopy) (content : Content)
+    (known : Option FileForm) where
+  -- whether the blocks of a copy can be read
+  abbrev form_of : SectionCopy → Option FileForm
+  form_of c = form_for content c.section.form known
+
+  abbrev can_read : SectionCopy → Bool
+  can_read c = has_form content (form_of c)
+
+  -- what is recovered of a section without items, if its blocks can be read or not
+  abbrev WithoutItems : ℕ → SectionCopy → Bool → Recovery W → Recovery W → Option (List ℕ)
+      → Option (List ℕ) → Type 0
+  WithoutItems sect c b old new said says = Recovers contents old new said says
+      (λ g. if b then without_rest g else without_rest g)
+      (λ g. if b then no_section_text sect g else no_form_text sect g)
+
+  pub no_copy : (sect : ℕ) (shelf left : L) (old new : Recovery W) (said says : Option (List ℕ))
+      → IsBest (firsts sect None copies) None → left ≡ shelf
+      → Recovers contents old new said says without_rest (no_section_text sect)
+      → TakesSection contents gives remaining copies content known sect shelf left old new said says
+      Unknown
+  no_copy sect shelf left old new said says best same r = record {
+    taken = record { copy = None; items = None };
+    best = best;
+    mounts = (same, refl);
+    recovers = r;
+    ends = refl;
+  }
+
+  pub no_form : (sect : ℕ) (c : SectionCopy) (shelf left : L) (old new : Recovery W)
+      (said says : Option (List ℕ)) → IsBest (firsts sect None copies) (Some c)
+      → can_read c ≡ false → left ≡ shelf
+      → Recovers contents old new said says without_rest (no_form_text sect)
+      → TakesSection contents gives remaining copies content known sect shelf left old new said says
+      Unknown
+  no_form sect c shelf left old new said says best off same r = record {
+    taken = record { copy = Some c; items = None };
+    best = best;
+    mounts = subst (λ b. MountsIf b gives remaining c shelf left None) (sym off) (same, refl);
+    recovers = subst (λ b. WithoutItems sect c b old new said says) (sym off) r;
+    ends = refl;
+  }
+
+  pub no_image : (sect : ℕ) (c : SectionCopy) (shelf left : L) (old new : Recovery W)
+      (said says : Option (List ℕ)) → IsBest (firsts sect None copies) (Some c)
+      → can_read c ≡ true → gives shelf c.image None left
+      → Recovers contents old new said says without_rest (no_section_text sect)
+      → TakesSection contents gives remaining copies content known sect shelf left old new said says
+      Unknown
+  no_image sect c shelf left old new said says best on gave r = record {
+    taken = record { copy = Some c; items = None };
+    best = best;
+    mounts = subst (λ b. MountsIf b gives remaining c shelf left None) (sym on) (None, gave, refl);
+    recovers = subst (λ b. WithoutItems sect c b old new said says) (sym on) r;
+    ends = refl;
+  }
+
+  pub from_copy : (sect : ℕ) (c : SectionCopy) (device : R) (shelf left : L) (old new : Recovery W)
+      (said says : Option (List ℕ)) (end : SectionEnd)
+      → IsBest (firsts sect None copies) (Some c) → can_read c ≡ true
+      → gives shelf c.image (Some device) left
+      → TakesCopy contents (remaining device) c sect (form_of c) old new said says end
+      → TakesSection contents gives remaining copies content known sect shelf left old new said says
+      end
+  from_copy sect c device shelf left old new said says end best on gave t = record {
+    taken = record { copy = Some c; items = Some t.items };
+    best = best;
+    mounts = subst (λ b. MountsIf b gives remaining c shelf left (Some t.items)) (sym on)
+        (Some device, gave, (t.after, t.is_ended, t.reads));
+    recovers = subst (λ b. Recovers contents old new said says
+        (λ g. if b then after_copy c (form_of c) (Some t.items) g else without_rest g)
+        (λ g. if b then copy_text sect c (form_of c) (Some t.items) g else no_form_text sect g))
+        (sym on) t.recovers;
+    ends = t.ends ∙ ap (λ b. if b then end_by c.closed else Unknown) (sym on);
+  }

@@ -1,0 +1,48 @@
+-- Which copy of a section is read, and what the copies say of the file.
+use Rattle.std.specs.Prelude.{◌≡◌, ℕ, ◌<◌, ◌≤◌, ◌==◌, ◌&&◌, not, max, Bool, false, if◌then◌else◌}
+use Rattle.std.specs.Prelude.{List, [], ◌∷◌, ◌++◌, Option, Some, None, is_some}
+use Rattle.std.specs.List.{AllByRecursion}
+use Rattle.tape_set.specs.Lawful.{FileForm}
+use Rattle.tape_run.specs.declared.salvage.copies.SectionCopy.{SectionCopy}
+use Rattle.tape_run.specs.SalvageCopies.{rank}
+
+-- the copies of a section that are considered: the first of it on each image
+abbrev pub is_on : ℕ → Option ℕ → Bool
+is_on image None = false
+is_on image (Some last) = last == image
+
+abbrev pub is_considered : ℕ → Option ℕ → SectionCopy → Bool
+is_considered sect last c = (c.section.key.sect == sect) && not (is_on c.image last)
+
+abbrev pub firsts : ℕ → Option ℕ → List SectionCopy → List SectionCopy
+firsts sect last [] = []
+firsts sect last (c ∷ cs) = if is_considered sect last c then c ∷ firsts sect (Some c.image) cs
+    else firsts sect last cs
+
+-- the first of those with the greatest rank, if there is one
+abbrev pub IsBest : List SectionCopy → Option SectionCopy → Type 0
+IsBest cs None = cs ≡ []
+IsBest cs (Some b) = (front rest : List SectionCopy) × (cs ≡ front ++ b ∷ rest)
+    × AllByRecursion (λ c. rank c < rank b) front × AllByRecursion (λ c. rank c ≤ rank b) rest
+
+-- the image of the last of them
+abbrev pub last_image : ℕ → Option ℕ → List SectionCopy → Option ℕ
+last_image sect last [] = last
+last_image sect last (c ∷ cs) =
+    if is_considered sect last c then last_image sect (Some c.image) cs else last_image sect last cs
+
+-- the best of these copies was chosen
+pub record IsChoice (sect : ℕ) (cs : List SectionCopy) (best : Option SectionCopy)
+    (last : Option ℕ) : Type 0 where
+  pub is_best : IsBest (firsts sect None cs) best
+  pub at : last ≡ last_image sect None cs
+
+-- the form of the file's blocks that the first label with a form records
+abbrev pub form_of_file : List SectionCopy → Option FileForm
+form_of_file [] = None
+form_of_file (c ∷ cs) = if is_some c.section.form then c.section.form else form_of_file cs
+
+-- the greatest number of a section
+abbrev pub last_section : List SectionCopy → ℕ
+last_section [] = 0
+last_section (c ∷ cs) = max c.section.key.sect (last_section cs)

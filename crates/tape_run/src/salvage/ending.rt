@@ -1,0 +1,155 @@
+//! The end of a section, and what is reported as missing there.
+
+ghost use Rattle.std.specs.Prelude.{◌≡◌, ◌≢◌, ◌&&◌, true, false, Some, OnOk, IfOk};
+ghost use Rattle.std.specs.Io.KnownBytes.{Appends};
+ghost use Rattle.tape_run.specs.SalvageBlocks.{Recovers, torn_text};
+ghost use Rattle.tape_run.specs.SalvageEnds.{without_rest, no_section_text, no_form_text};
+ghost use Rattle.tape_run.specs.SalvageEnds.{open_text, ended, ended_text, unsure_text, with_end};
+ghost use Rattle.tape_run.specs.SalvageTaking.{end_by};
+ghost use Rattle.tape_run.specs.declared.salvage.ending.SectionEnd.TheVariants.{FileEnds};
+
+use crate::fault::{EngineFault, WriteFailed};
+use crate::salvage::copies::SectionCopy;
+use crate::salvage::line::{no_form_line, no_section_line, open_gap_line, unsure_line};
+use crate::salvage::recovery::Recovery;
+use crate::salvage::walk::Closing;
+use crate::text::write_text;
+use std::io::Write;
+
+/// How a section ended.
+#[derive(Clone, Copy)]
+pub enum SectionEnd {
+    /// The file ends with it.
+    FileEnds,
+    /// The file continues in the next section.
+    Continues,
+    /// That is not known.
+    Unknown,
+}
+
+impl SectionEnd {
+    /// Returns whether the file ends with it.
+    pub fn ends_file(self) -> bool
+        ensures yes { result ≡ true → self ≡ FileEnds }
+        ensures no { result ≡ false → self ≢ FileEnds }
+    {
+        match self {
+            SectionEnd::FileEnds => true,
+            SectionEnd::Continues | SectionEnd::Unknown => false,
+        }
+    }
+}
+
+/// Writes which items after those that are believed may be blocks, if there are some.
+fn write_unsure<P: Write>(
+    report: &mut P,
+    sect: u16,
+    first: u32,
+    blocks: u32,
+) -> Result<(), WriteFailed>
+    ensures ok { OnOk result (Appends (P.contents report.old) (P.contents report.new)
+        (unsure_text sect first blocks)) }
+{
+    if first < blocks {
+        return write_text(report, &unsure_line(sect, first, blocks - 1));
+    }
+    Ok(())
+}
+
+impl<W: Write> Recovery<W> {
+    /// Reports that a section was not found, or could not be read.
+    pub fn miss_section<P: Write>(&mut self, sect: u16, report: &mut P) -> Result<(), EngineFault>
+        ensures ok { OnOk result (Recovers W.contents self.old self.new (P.contents report.old)
+            (P.contents report.new) without_rest (no_section_text sect)) }
+    {
+        self.tear(sect, 0, report)?;
+        write_text(report, &no_section_line(sect, self.mender.records()))?;
+        Ok(())
+    }
+
+    /// Reports that no label records how the records of a section are stored in its blocks.
+    pub fn miss_form<P: Write>(&mut self, sect: u16, report: &mut P) -> Result<(), EngineFault>
+        ensures ok { OnOk result (Recovers W.contents self.old self.new (P.contents report.old)
+            (P.contents report.new) without_rest (no_form_text sect)) }
+    {
+        self.tear(sect, 0, report)?;
+        write_text(report, &no_form_line(sect, self.mender.records()))?;
+        Ok(())
+    }
+
+    /// Reports what is missing after the blocks of a section that did not close.
+    fn end_open<P: Write>(&mut self, copy: &SectionCopy, report: &mut P) -> Result<(), EngineFault>
+        ensures ok { OnOk result (Recovers W.contents self.old self.new (P.contents report.old)
+            (P.contents report.new) without_rest (open_text copy.now)) }
+    {
+        let sect = copy.section.key.sect;
+        let first = copy.believed();
+        self.tear(sect, first, report)?;
+        write_text(report, &open_gap_line(sect, first, self.mender.records()))?;
+        write_unsure(report, sect, first, copy.section.blocks)?;
+        Ok(())
+    }
+
+    /// Leaves out a record that is unfinished at the end of the file, and reports it.
+    fn end_record<P: Write>(
+        &mut self,
+        eof: bool,
+        sect: u16,
+        number: u32,
+        report: &mut P,
+    ) -> Result<(), EngineFault>
+        ensures ok { OnOk result (Recovers W.contents self.old self.new (P.contents report.old)
+            (P.contents report.new) (with_end eof)
+            (λ g. torn_text (eof && g.piece.begun) sect number g.piece.records)) }
+    {
+        if eof && self.mender.is_begun() {
+            return self.tear(sect, number, report);
+        }
+        Ok(())
+    }
+
+    /// Reports what is missing after the blocks of a section that closed.
+    fn end_closed<P: Write>(
+        &mut self,
+        copy: &SectionCopy,
+        closed: Closing,
+        report: &mut P,
+    ) -> Result<(), EngineFault>
+        ensures ok { OnOk result (Recovers W.contents self.old self.new (P.contents report.old)
+            (P.contents report.new) (ended copy.now (Some closed))
+            (ended_text copy.now (Some closed))) }
+    {
+        let sect = copy.section.key.sect;
+        let blocks = copy.section.blocks;
+        self.end_gap(sect, blocks, report)?;
+        self.take_count(sect, copy.wrong_count(), blocks, report)?;
+        self.end_record(closed.eof, sect, blocks, report)?;
+        Ok(())
+    }
+
+    /// Reports what is missing after the blocks of a section, and returns how the section ended.
+    pub fn end_section<P: Write>(
+        &mut self,
+        copy: &SectionCopy,
+        report: &mut P,
+    ) -> Result<SectionEnd, EngineFault>
+        ensures ok { IfOk result (λ end. (end ≡ end_by copy.now.closed)
+            × Recovers W.contents self.old self.new (P.contents report.old) (P.contents report.new)
+            (ended copy.now copy.now.closed) (ended_text copy.now copy.now.closed)) }
+    {
+        match copy.closed {
+            None => {
+                self.end_open(copy, report)?;
+                Ok(SectionEnd::Unknown)
+            }
+            Some(closed) => {
+                self.end_closed(copy, closed, report)?;
+                Ok(if closed.eof {
+                    SectionEnd::FileEnds
+                } else {
+                    SectionEnd::Continues
+                })
+            }
+        }
+    }
+}
