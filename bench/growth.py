@@ -2,14 +2,15 @@
 """How the work of `tape` grows with files, volumes and sections: bytes read and written, calls and instructions, no seconds.
 Run manually, before a release; CI does not run it.
 
-    ./growth.py [--program PATH] [--files N] [--large] [--instructions]
+    ./growth.py [--program PATH] [--files N] [--large] [--instructions] [--folder DIR]
 
 Makes sets of volumes by docs/FORMATS.md, runs the built program over them, and compares what the system counted for it
 (/proc/PID/io, strace for syncs) with a bound. Prints a line for each measurement, with `WRONG` if it is over its bound or
 if the program's answer is not the expected one; the status is 1 if there was such a line.
 
 --files N       how many files there are on one image (5,000)
---large         also 9,999 files on an image of 11.7 MB, and 2,000 files over ten images
+--large         also 9,999 files on an image of 11.7 MB, 2,000 files over ten images, and a shelf of 580 images
+--folder DIR    where the images and outputs are (default: in memory)
 --instructions  also counts instructions by valgrind (some minutes)
 """
 
@@ -202,13 +203,15 @@ class Bench:
             folder = self.fresh("again")
             names, _ = self.write(folder, made)
             words = [self.program, "extract", "SETAAA", "1", "OUT", *order(names), "--again", "--stage", "stage"]
-            calls = subprocess.run(["strace", "-f", "-e", "trace=fsync,fdatasync", "-o", "calls", *map(str, words)],
-                cwd=folder, stdin=subprocess.DEVNULL, capture_output=True, check=False)
-            syncs = len(re.findall(r"f(?:data)?sync\(", (folder / "calls").read_text()))
-            right = calls.returncode == 0 and (folder / "OUT").read_bytes() == text
-            readings = calls.stdout.count(b"REEL ")
-            self.line(f"extract --again, {volumes} volumes, {how}: readings of an image", readings / volumes, 3, right)
+            syncs = self.syncs(folder, *words)
+            right = (folder / "OUT").read_bytes() == text
             self.line(f"extract --again, {volumes} volumes, {how}: syncs a volume", syncs / volumes, 8, right)
+            for name in ("OUT", "stage"):
+                (folder / name).unlink()
+            run = Counted(words, folder)
+            right = run.status == 0 and (folder / "OUT").read_bytes() == text
+            readings = run.text.count(b"REEL ")
+            self.line(f"extract --again, {volumes} volumes, {how}: readings of an image", readings / volumes, 3, right)
 
     # ---- reports
 
@@ -238,13 +241,47 @@ class Bench:
     # ---- stages
 
     def stages(self, length):
+        """A stage of parts of this length, opened by a run that adds nothing to it, and shown."""
         image = volume("VOL001", [section("SETAAA", 1, 1, 6_000_000 // length, False, length, length)])
         folder = self.fresh("stage")
-        names, size = self.write(folder, [image])
-        run = Counted([self.program, "extract", "SETAAA", "1", "OUT", *names, "--stage", "stage"], folder)
+        names, _ = self.write(folder, [image])
+        (folder / "blank.tap").write_bytes(volume("VOL002", []))
+        words = [self.program, "extract", "SETAAA", "1", "OUT"]
+        run = Counted([*words, *names, "--stage", "stage"], folder)
         staged = (folder / "stage").stat().st_size
+        right = run.status == 3
+        run = Counted([*words, "blank.tap", "--stage", "stage"], folder)
+        self.line(f"opening a stage, parts of {length:,}: times read", run.read / staged, 1.05, right and run.status == 3)
         run = Counted([self.program, "stage", "stage"], folder)
         self.line(f"stage, parts of {length:,}: times read", run.read / staged, 2.05, run.status == 3)
+
+    def syncs(self, folder, *words):
+        """How many syncs a run asks for."""
+        subprocess.run(["strace", "-f", "-e", "trace=fsync,fdatasync", "-o", "calls", *map(str, words)], cwd=folder,
+            stdin=subprocess.DEVNULL, capture_output=True, check=False)
+        return len(re.findall(r"f(?:data)?sync\(", (folder / "calls").read_text()))
+
+    def shelf(self, sets):
+        """Sets of three images with six files each; of every tenth set the last image is missing."""
+        made, stages = [], 0
+        for at in range(sets):
+            set_id, lacks = f"S{at:05}", at % 10 == 9
+            images = [volume(f"V{at:04}1", [section(set_id, 1, 1, 2, True), section(set_id, 2, 1, 3, False)]),
+                volume(f"V{at:04}2", [section(set_id, 2, 2, 3, True), section(set_id, 3, 1, 2, True),
+                    section(set_id, 4, 1, 3, False)]),
+                volume(f"V{at:04}3", [section(set_id, 4, 2, 3, True), section(set_id, 5, 1, 2, True),
+                    section(set_id, 6, 1, 2, True)])]
+            made += images[:2] if lacks else images
+            stages += lacks
+        folder = self.fresh("shelf")
+        names, _ = self.write(folder, made)
+        (folder / "out").mkdir()
+        for call, files in (("first", 6 * sets - 3 * stages), ("second", 0)):
+            syncs = self.syncs(folder, self.program, "unpack", "out", *names)
+            there = [name.endswith(".stage") for name in os.listdir(folder / "out")]
+            right = there.count(True) == stages and there.count(False) == 6 * sets - 3 * stages
+            self.line(f"unpack, {len(made)} images, {call} call: syncs above two a file written", syncs - 2 * files,
+                8 * stages, right)
 
     # ---- instructions
 
@@ -255,6 +292,9 @@ class Bench:
         return int(re.search(r"Collected : (\d+)", log.read_text()).group(1))
 
     def ratios(self):
+        """Instructions a block, compared with one another and with the C program that writes records as they come."""
+        c = self.folder / "extract"
+        subprocess.run(["cc", "-O2", "-o", c, Path(__file__).resolve().parent / "extract.c"], check=True)
         for length, record, blocks, bounds in ((80, 80, 20_000, (1.15, 1.5)), (8160, 80, 400, (1.15, 2.0))):
             folder = self.fresh("instructions")
             image = volume("VOL001", [section("SETAAA", 1, 1, blocks, True, length, record)])
@@ -265,17 +305,20 @@ class Bench:
             def count(*words):
                 for name in ("OUT", "stage"):
                     (folder / name).unlink(missing_ok=True)
-                return self.instructions(self.program, *words, folder=folder)
+                return self.instructions(*words, folder=folder)
 
             def each(command):
                 return (count(*command("large.tap")) - count(*command("small.tap"))) / blocks
 
-            check = each(lambda image: ("check", image))
-            survey = each(lambda image: ("survey", image))
-            extract = each(lambda image: ("extract", "SETAAA", "1", "OUT", image))
-            stage = each(lambda image: ("extract", "SETAAA", "1", "OUT", image, "--stage", "stage"))
+            tape, words = self.program, ("SETAAA", "1", "OUT")
+            check = each(lambda image: (tape, "check", image))
+            survey = each(lambda image: (tape, "survey", image))
+            extract = each(lambda image: (tape, "extract", *words, image))
+            stage = each(lambda image: (tape, "extract", *words, image, "--stage", "stage"))
+            plain = each(lambda image: (c, "--stream", *words, image))
             print(f"instructions a block of {length:,}: check {check:,.0f}, survey {survey:,.0f}, extract {extract:,.0f}, "
-                f"extract --stage {stage:,.0f}")
+                f"extract --stage {stage:,.0f}, C {plain:,.0f}")
+            self.line(f"extract over C, blocks of {length:,}", extract / plain, 1.25)
             self.line(f"survey over check, blocks of {length:,}", survey / check, bounds[0])
             self.line(f"extract --stage over extract, blocks of {length:,}", stage / extract, bounds[1])
 
@@ -296,9 +339,9 @@ def main():
     parser.add_argument("--files", type=int, default=5000)
     parser.add_argument("--large", action="store_true")
     parser.add_argument("--instructions", action="store_true")
+    parser.add_argument("--folder", default="/dev/shm" if os.path.isdir("/dev/shm") else None)
     options = parser.parse_args()
-    memory = "/dev/shm" if os.path.isdir("/dev/shm") else None
-    with tempfile.TemporaryDirectory(dir=memory) as folder:
+    with tempfile.TemporaryDirectory(dir=options.folder) as folder:
         bench = Bench(options, Path(folder))
         for count in (100, 1000, options.files, *((9999,) if options.large else ())):
             bench.one_image(count)
@@ -307,6 +350,7 @@ def main():
         bench.cut_copy(100)
         bench.incomplete(20)
         bench.again(60)
+        bench.shelf(200 if options.large else 20)
         bench.sparse(50)
         bench.items(100_000)
         for length in (80, 20_000, 40_000, 99_999):

@@ -6,6 +6,7 @@ use Rattle.std.proofs.lemmas.List.{length-take-le, take_at, drop_at}
 use Rattle.std.proofs.lemmas.List.{take-append-drop, take-take, drop-take, drop-drop}
 use Rattle.std.proofs.lemmas.Bool.{cases_lt}
 use Rattle.std.proofs.Math.ListN.{drop_of_length-le}
+use Rattle.std.proofs.Math.Seq.{take-add}
 use Rattle.tape_stage.specs.Calls.{over}
 use Rattle.tape_stage.proofs.Torn.{alike_less, torn_high}
 use Rattle.tape_stage.specs.Disk.{Torn, CutShort, Elapses, NoMore, Holds, Allows, Follows}
@@ -330,3 +331,17 @@ slice_of_slice xs held out start place n is from inside fits o =
     (ap (λ k. take k (drop start xs)) whole ∙ is) fits o
     ∙ ap (λ k. take n (drop k xs)) there
     ∙ ap (λ k. take k (drop place xs)) many
+
+-- one slice and the next are the slice of both
+pub slices_join : (xs front rest : List ℕ) (place n m size : ℕ) → n + m ≡ size
+    → front ≡ take (place + n - place) (drop place xs)
+    → rest ≡ take (place + n + m - (place + n)) (drop (place + n) xs)
+    → front ++ rest ≡ take (place + size - place) (drop place xs)
+slices_join xs front rest place n m size all first second =
+    let ys : List ℕ = drop place xs in
+    let f : front ≡ take n ys = first ∙ ap (λ k. take k ys) (omega arith) in
+    let r : rest ≡ take m (drop n ys) = second
+    ∙ ap (λ k. take k (drop (place + n) xs)) (omega arith)
+    ∙ ap (take m) (sym (drop-drop n place xs)) in
+    ap (λ l. l ++ rest) f ∙ ap (λ l. take n ys ++ l) r ∙ sym (take-add n m ys)
+    ∙ ap (λ k. take k ys) (omega (arith, all))

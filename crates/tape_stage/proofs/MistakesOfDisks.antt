@@ -14,10 +14,10 @@ use Rattle.tape_stage.proofs.disk.file.FileDiskDisk.write_at.Reads as write_at
 use Rattle.tape_stage.proofs.disk.memory.MemoryDisk.crash.Reads as crash
 use Rattle.tape_stage.proofs.disk.read_ahead.ReadAhead.give.Reads as give
 use Rattle.tape_stage.proofs.disk.read_ahead.ReadAhead.look.Reads as look
-use Rattle.tape_stage.proofs.disk.write_behind.WriteBehind.hold.Reads as hold
+use Rattle.tape_stage.proofs.disk.write_behind.WriteBehind.continues.Reads as continues
 use Rattle.tape_stage.proofs.disk.write_behind.WriteBehind.pass_on.Reads as pass_on
-use Rattle.tape_stage.proofs.disk.write_behind.WriteBehind.takes.Reads as takes
 use Rattle.tape_stage.proofs.disk.write_behind.WriteBehindDisk.sync.Reads as sync
+use Rattle.tape_stage.proofs.disk.write_behind.WriteBehindDisk.write_at.Reads as held_write
 
 -- ---- a disk in memory
 
@@ -33,6 +33,10 @@ crash_leaves_what_is_read κs a z s two l first calls is w =
     let worst : worst_by (1 ∷ []) (1 ∷ []) (Write 0 two ∷ []) ≡ 255 ∷ []
     = ap (λ t. take 0 (1 ∷ []) ++ replicate (length t) 255 ++ drop (0 + length t) (1 ∷ [])) is in
     absurd (let n : 2 ≡ 255 = ap (λ t. get_or t 0 0) (sym w ∙ e ∙ worst) in omega arith)
+
+none_rose : Rose 3 3 → ⊥
+none_rose (inl e) = absurd (omega (arith, e))
+none_rose (inr e) = absurd (omega (arith, e))
 
 -- ---- bytes that are held before a disk
 
@@ -63,7 +67,7 @@ written_one_byte_off D L g d κs a s l honest was is =
 
 -- held_one_byte_off: over 1 2 the byte 7 is written at place 1, and 7 2 is read
 held_one_byte_off : (D : _) (L : _) (g : _) (d : _) (κs : _) (a : _) (s : _)
-    → hold.Learnt-named D L g d κs a (Ok tt) s → g.is_honest a.0.now.disk
+    → held_write.Learnt-named D L g d κs a (Ok tt) s → g.is_honest a.0.now.disk
     → with_held a.0.now.start a.0.now.bytes.items (g.seen a.0.now.disk) ≡ 1 ∷ 2 ∷ []
     → a.1.0 ≡ 1 → a.1.1.0.now ≡ 7 ∷ []
     → with_held s.0.now.start s.0.now.bytes.items (g.seen s.0.now.disk) ≡ 7 ∷ 2 ∷ [] → ⊥
@@ -77,11 +81,18 @@ held_one_byte_off D L g d κs a s l honest was at bytes is =
 
 -- write_elsewhere_added: behind two bytes from place 10 on, a write at 11 is taken for the next
 write_elsewhere_added : (D : _) (L : _) (g : _) (d : _) (κs : _) (a : _) (s : _)
-    → takes.Learnt-named D L g d κs a true s
+    → continues.Learnt-named D L g d κs a true s
     → a.0.now.start ≡ 10 → length a.0.now.bytes.items ≡ 2 → a.1.0 ≡ 11 → ⊥
 write_elsewhere_added D L g d κs a s l from size at =
     let e : a.0.now.start + length a.0.now.bytes.items ≡ a.1.0 = l.end in
     absurd (omega arith)
+
+-- fails_where_the_disk_does_not: a write is refused, and the disk has not failed
+fails_where_the_disk_does_not : (D : _) (L : _) (g : _) (d : _) (κs : _) (a : _) (s : _)
+    → held_write.Learnt-named D L g d κs a (Err Device) s
+    → g.faults a.0.now.disk ≡ 3 → g.faults s.0.now.disk ≡ 3 → ⊥
+fails_where_the_disk_does_not D L g d κs a s l was is =
+    none_rose (subst (Rose 3) is (subst (λ n. Rose n (g.faults s.0.now.disk)) was l.cause))
 
 -- sync_not_asked: the byte 1 was read, and behind a sync a crash may leave no byte
 sync_not_asked : (D : _) (L : _) (g : _) (d : _) (κs : _) (a : _) (s : _)
@@ -94,16 +105,14 @@ sync_not_asked D L g d κs a s l honest was left =
 
 -- window_read_from_its_start: of 1 2 3 a read of one byte at place 1 gives the 1
 window_read_from_its_start : (D : _) (L : _) (g : _) (d : _) (κs : _) (a : _) (s : _)
-    → give.Learnt-named D L g d κs a true s → g.is_honest a.0.now.disk
-    → g.seen a.0.now.disk ≡ 1 ∷ 2 ∷ 3 ∷ [] → a.1.0 ≡ 1 → length a.1.1.0.now ≡ 1
-    → s.1.1.0.now ≡ 1 ∷ [] → ⊥
-window_read_from_its_start D L g d κs a s l honest seen at size w =
-    let e : s.1.1.0.now ≡ slice_range (1 ∷ 2 ∷ 3 ∷ []) 1 (1 + 1)
+    → give.Learnt-named D L g d κs a 1 s → g.is_honest a.0.now.disk
+    → g.seen a.0.now.disk ≡ 1 ∷ 2 ∷ 3 ∷ [] → a.1.0 ≡ 1 → s.1.1.0.now ≡ 1 ∷ [] → ⊥
+window_read_from_its_start D L g d κs a s l honest seen at w =
+    let e : take 1 s.1.1.0.now ≡ slice_range (1 ∷ 2 ∷ 3 ∷ []) 1 (1 + 1)
     = l.bytes honest
-    ∙ ap (λ t. slice_range t a.1.0 (a.1.0 + length a.1.1.0.now)) seen
-    ∙ ap (λ n. slice_range (1 ∷ 2 ∷ 3 ∷ []) n (n + length a.1.1.0.now)) at
-    ∙ ap (λ n. slice_range (1 ∷ 2 ∷ 3 ∷ []) 1 (1 + n)) size in
-    absurd (let n : 1 ≡ 2 = ap (λ t. get_or t 0 0) (sym w ∙ e) in omega arith)
+    ∙ ap (λ t. slice_range t a.1.0 (a.1.0 + 1)) seen
+    ∙ ap (λ n. slice_range (1 ∷ 2 ∷ 3 ∷ []) n (n + 1)) at in
+    absurd (let n : 1 ≡ 2 = ap (λ t. get_or t 0 0) (sym (ap (take 1) w) ∙ e) in omega arith)
 
 -- more_held_than_was_read: of 1 2 a read of one byte at place 1 gives the 9 of another read
 more_held_than_was_read : (D : _) (L : _) (g : _) (d : _) (κs : _) (a : _) (s : _)

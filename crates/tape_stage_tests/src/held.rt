@@ -162,6 +162,27 @@ fn small_calls_are_put_together(rt: HostRuntime) {
     assert_eq!(rt; (file.writes, file.reads), (22, 22));
 }
 
+/// Whether the disk has a frame of 20,005 bytes of this number: five bytes are read, and then the
+/// others.
+fn has_frame<D: Disk>(disk: &mut D, number: u64) -> bool {
+    let (mut header, mut content) = ([0; 5], [0; 20_000]);
+    let place = number.min(4) * 20_005;
+    read(disk, place, &mut header) && read(disk, place + 5, &mut content)
+}
+
+#[test]
+fn frames_that_cross_the_buffer_are_read_once(rt: HostRuntime) {
+    let Some(mut disk) = disk_counting(rt.alloc(), 102_000, 0) else {
+        assert!(rt; false);
+        return;
+    };
+    for number in 0..5u64 {
+        assert!(rt; has_frame(&mut disk, number), "{number}");
+    }
+    // Three times 32,768 bytes, which take seven calls of the file each, and the rest.
+    assert_eq!(rt; file_of(disk).reads, 22);
+}
+
 #[test]
 fn a_write_elsewhere_comes_behind_what_is_held(rt: HostRuntime) {
     let Some(mut disk) = disk_counting(rt.alloc(), 12, 0) else {

@@ -1,14 +1,13 @@
 //! Read-ahead for disks.
-ghost use Rattle.std.specs.Prelude.{◌≡◌, ◌+◌, ◌≤◌, length, take, slice_range, OnOk, OnErr, IfOk};
-ghost use Rattle.std.specs.Prelude.{List, ℕ};
-ghost use Rattle.std.specs.Bool.{OnTrue};
+ghost use Rattle.std.specs.Prelude.{◌≡◌, ◌+◌, ◌≤◌, ◌<◌, ◌^◌, length, take, slice_range};
+ghost use Rattle.std.specs.Prelude.{OnOk, OnErr, IfOk, List, ℕ};
 ghost use Rattle.tape_core.specs.Weight.{Rose};
 ghost use Rattle.tape_stage.specs.OnlyReading.{Looks};
 
 use crate::disk::{Disk, DiskFault};
 
-/// A disk with read-ahead, so that consecutive small reads need one read of the disk. Writes and
-/// cuts drop the bytes read ahead.
+/// A disk with read-ahead, so that consecutive small reads need one read of the disk. Consecutive
+/// reads of any lengths read each byte of the disk once. Writes and cuts drop the bytes read ahead.
 #[derive(Drop)]
 pub struct ReadAhead<D: Disk> {
     pub(crate) disk: D,
@@ -19,6 +18,7 @@ pub struct ReadAhead<D: Disk> {
     pub(crate) failed: u64,
     ghost fits: { held ≤ length bytes.items },
     ghost within: { start + held ≤ D.length_of disk },
+    ghost low: { start + held < 2 ^ 64 },
     ghost right: { D.is_honest disk → slice_range (D.seen disk) start (start + held)
         ≡ take held bytes.items },
 }
@@ -62,22 +62,25 @@ impl<D: Disk> ReadAhead<D> {
         self.disk
     }
 
-    /// Fills the buffer with the bytes at an offset, if all of them were read ahead.
-    fn give(&self, place: u64, buf: &mut [u8]) -> bool
+    /// Fills the start of the buffer with the bytes at an offset that were read ahead. Returns how
+    /// many there are.
+    fn give(&self, place: u64, buf: &mut [u8]) -> usize
         ensures same_size { length buf.new ≡ length buf.old }
-        ensures bytes { D.is_honest self.now.disk → OnTrue result (buf.new
-            ≡ slice_range (D.seen self.now.disk) place (place + length buf.old)) }
+        ensures few { result ≤ length buf.old }
+        ensures low { place + result < 2 ^ 64 }
+        ensures within { place ≤ D.length_of self.now.disk
+            → place + result ≤ D.length_of self.now.disk }
+        ensures bytes { D.is_honest self.now.disk → take result buf.new
+            ≡ slice_range (D.seen self.now.disk) place (place + result) }
     {
         let held = &self.bytes[..self.held];
         if place < self.start || place - self.start > held.len() as u64 {
-            return false;
+            return 0;
         }
         let rest = &held[(place - self.start) as usize..];
-        if buf.len() > rest.len() {
-            return false;
-        }
-        buf.copy_from_slice(&rest[..buf.len()]);
-        true
+        let count = rest.len().min(buf.len());
+        buf[..count].copy_from_slice(&rest[..count]);
+        count
     }
 
     /// Drops what was read ahead.
@@ -112,7 +115,8 @@ impl<D: Disk> ReadAhead<D> {
         }
     }
 
-    /// Reads bytes from an offset on, and fills the buffer.
+    /// Reads bytes from an offset on, and fills the buffer. If the buffer is smaller than the
+    /// read-ahead, reads ahead first.
     fn look(&mut self, place: u64, buf: &mut [u8]) -> Result<(), DiskFault>
         requires there { place + length buf.old ≤ D.length_of self.old.disk }
         ensures bytes { D.is_honest self.old.disk → OnOk result (buf.new
@@ -120,12 +124,9 @@ impl<D: Disk> ReadAhead<D> {
         ensures looks { Looks D.Disk self.old.disk self.new.disk }
         ensures calm { self.new.failed ≡ self.old.failed }
     {
-        if self.give(place, buf) {
-            return Ok(());
-        }
         if buf.len() < self.bytes.len() {
             self.look_ahead(place);
-            if self.give(place, buf) {
+            if self.give(place, buf) == buf.len() {
                 return Ok(());
             }
         }
@@ -173,7 +174,12 @@ impl<D: Disk> Disk for ReadAhead<D> {
     }
 
     fn read(&mut self, place: u64, buf: &mut [u8]) -> Result<(), DiskFault> {
-        match self.look(place, buf) {
+        let given = self.give(place, buf);
+        let rest = &mut buf[given..];
+        if rest.is_empty() {
+            return Ok(());
+        }
+        match self.look(place + given as u64, rest) {
             Ok(()) => Ok(()),
             Err(_) => Err(self.fail()),
         }

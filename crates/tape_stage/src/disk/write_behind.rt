@@ -15,15 +15,15 @@ use crate::disk::{Disk, DiskFault};
 /// buffered, and a sync makes it durable.
 ///
 /// If writing the buffer fails, the call is `Device` and the bytes stay buffered: a failure does
-/// not change what a read returns, and the next call tries to write them again. Dropping the disk
-/// drops the buffer, which no sync has promised to keep.
+/// not change what a read returns, and the next call tries to write them again. No call fails
+/// unless the disk fails in it. Dropping the disk drops the buffer, which no sync has promised to
+/// keep.
 #[derive(Drop)]
 pub struct WriteBehind<D: Disk> {
     pub(crate) disk: D,
     pub(crate) start: u64,
     /// The buffer, whose capacity is the limit. It never grows.
     pub(crate) bytes: Vec<u8>,
-    pub(crate) failed: u64,
     ghost within: { start ≤ D.length_of disk },
     ghost low: { start + length bytes.items < 2 ^ 64 },
 }
@@ -42,7 +42,6 @@ impl<D: Disk> WriteBehind<D> {
             disk,
             start: 0,
             bytes,
-            failed: 0,
         }
     }
 
@@ -60,7 +59,8 @@ impl<D: Disk> WriteBehind<D> {
         ensures looks { Looks ⟦<Self as Disk>⟧ self.old self.new }
         ensures stays { D.is_honest self.old.disk → let w = ⟦<Self as Disk>⟧ in
             NoMore (w.may_leave self.new) (w.may_leave self.old) }
-        ensures calm { self.new.failed ≡ self.old.failed }
+        ensures cause { OnErr result (Rose (D.faults self.old.disk) (D.faults self.new.disk)) }
+        ensures calm { OnOk result (D.faults self.new.disk ≡ D.faults self.old.disk) }
     {
         if self.bytes.is_empty() {
             self.start = 0;
@@ -76,16 +76,20 @@ impl<D: Disk> WriteBehind<D> {
         }
     }
 
-    /// Whether a write of this length at this offset is adjacent to the end of the buffer, and
-    /// fits.
-    fn takes(&self, place: u64, size: usize) -> bool
+    /// Whether so many bytes fit in the buffer, and have offsets below 2^64 from this one on.
+    fn fits(&self, place: u64, size: usize) -> bool
         ensures fits { OnTrue result
             (length self.now.bytes.items + size ≤ vec_capacity self.now.bytes) }
+        ensures low { OnTrue result (place + size < 2 ^ 64) }
+    {
+        size <= self.bytes.capacity() - self.bytes.len() && place.checked_add(size as u64).is_some()
+    }
+
+    /// Whether this offset is the one after the end of the buffer.
+    fn continues(&self, place: u64) -> bool
         ensures end { OnTrue result (self.now.start + length self.now.bytes.items ≡ place) }
     {
-        size <= self.bytes.capacity() - self.bytes.len()
-            && self.start <= place
-            && place - self.start == self.bytes.len() as u64
+        self.start <= place && place - self.start == self.bytes.len() as u64
     }
 
     /// Appends bytes to the buffer.
@@ -96,63 +100,11 @@ impl<D: Disk> WriteBehind<D> {
         ensures disk { self.new.disk ≡ self.old.disk }
         ensures start { self.new.start ≡ self.old.start }
         ensures bytes { self.new.bytes.items ≡ self.old.bytes.items ++ bytes.now }
-        ensures calm { self.new.failed ≡ self.old.failed }
     {
         match self.bytes.extend_from_slice(bytes) {
             Ok(()) => {}
             Err(_) => unreachable!(),
         }
-    }
-
-    /// Counts a call that failed.
-    fn fail(&mut self) -> DiskFault
-        ensures disk { self.new.disk ≡ self.old.disk }
-        ensures start { self.new.start ≡ self.old.start }
-        ensures bytes { self.new.bytes.items ≡ self.old.bytes.items }
-        ensures counted { Rose self.old.failed self.new.failed }
-    {
-        self.failed = self.failed.saturating_add(1);
-        DiskFault::Device
-    }
-
-    /// Buffers bytes to be written at an offset, or writes them if they do not fit.
-    fn hold(&mut self, place: u64, bytes: &[u8]) -> Result<(), DiskFault>
-        requires there { place ≤ ⟦<Self as Disk>⟧.length_of self.old }
-        requires low { place + length bytes.now < 2 ^ 64 }
-        ensures written { D.is_honest self.old.disk → let w = ⟦<Self as Disk>⟧ in
-            OnOk result (Holds (w.seen self.old) place bytes.now (w.seen self.new)) }
-        ensures long { let w = ⟦<Self as Disk>⟧ in OnOk result
-            (w.length_of self.new ≡ max (w.length_of self.old) (place + length bytes.now)) }
-        ensures no_shorter { let w = ⟦<Self as Disk>⟧ in
-            w.length_of self.old ≤ w.length_of self.new }
-        ensures no_longer { let w = ⟦<Self as Disk>⟧ in
-            w.length_of self.new ≤ max (w.length_of self.old) (place + length bytes.now) }
-        ensures partly { D.is_honest self.old.disk → let w = ⟦<Self as Disk>⟧ in
-            OnErr result (Torn place (length bytes.now) (w.seen self.old) (w.seen self.new)) }
-        ensures crash { D.is_honest self.old.disk → let w = ⟦<Self as Disk>⟧ in
-            Follows (Torn place (length bytes.now)) (w.may_leave self.old) (w.may_leave self.new) }
-        ensures stays { D.is_honest self.old.disk → let w = ⟦<Self as Disk>⟧ in
-            NoMore (w.may_leave self.new) (w.may_leave self.old) }
-        ensures any { D.is_honest self.old.disk → let w = ⟦<Self as Disk>⟧ in OnOk result
-            (Allows (Torn place (length bytes.now)) (w.may_leave self.old)
-            (w.may_leave self.new)) }
-        ensures time { D.is_honest self.old.disk → let w = ⟦<Self as Disk>⟧ in
-            IsLater w.moment w.left_since w.may_leave self.old self.new }
-        ensures calm { self.new.failed ≡ self.old.failed }
-        ensures honest { SameFact (D.is_honest self.old.disk) (D.is_honest self.new.disk) }
-    {
-        if self.takes(place, bytes.len()) {
-            self.add(bytes);
-            return Ok(());
-        }
-        self.pass_on()?;
-        if bytes.len() > self.bytes.capacity() {
-            self.disk.write_at(place, bytes)?;
-            return Ok(());
-        }
-        self.start = place;
-        self.add(bytes);
-        Ok(())
     }
 }
 
@@ -170,7 +122,7 @@ impl<D: Disk> Disk for WriteBehind<D> {
     ghost left_since = { λ h. LeftSince (D.left_since h.disk) (D.may_leave h.disk) h.start
         h.bytes.items };
 
-    ghost faults = { λ h. h.failed };
+    ghost faults = { λ h. D.faults h.disk };
 
     ghost long_as_seen = { λ h honest. held_long h.start h.bytes.items (D.seen h.disk)
         (D.length_of h.disk) (D.long_as_seen h.disk honest) h.within };
@@ -190,49 +142,38 @@ impl<D: Disk> Disk for WriteBehind<D> {
         h.start h.bytes.items (D.moment h.disk) c (λ was. D.only_now h.disk c honest was) left };
 
     fn len(&mut self) -> Result<u64, DiskFault> {
-        match self.disk.len() {
-            Ok(len) => Ok(len.max(self.start + self.bytes.len() as u64)),
-            Err(_) => Err(self.fail()),
-        }
+        let len = self.disk.len()?;
+        Ok(len.max(self.start + self.bytes.len() as u64))
     }
 
     fn read(&mut self, place: u64, buf: &mut [u8]) -> Result<(), DiskFault> {
-        match self.pass_on() {
-            Ok(()) => match self.disk.read(place, buf) {
-                Ok(()) => Ok(()),
-                Err(_) => Err(self.fail()),
-            },
-            Err(_) => Err(self.fail()),
-        }
+        self.pass_on()?;
+        self.disk.read(place, buf)
     }
 
     fn write_at(&mut self, place: u64, bytes: &[u8]) -> Result<(), DiskFault> {
-        if place.checked_add(bytes.len() as u64).is_none() {
-            return Err(self.fail());
+        if self.fits(place, bytes.len()) {
+            if self.continues(place) {
+                self.add(bytes);
+                return Ok(());
+            }
         }
-        match self.hold(place, bytes) {
-            Ok(()) => Ok(()),
-            Err(_) => Err(self.fail()),
+        self.pass_on()?;
+        if !self.fits(place, bytes.len()) {
+            return self.disk.write_at(place, bytes);
         }
+        self.start = place;
+        self.add(bytes);
+        Ok(())
     }
 
     fn cut(&mut self, len: u64) -> Result<(), DiskFault> {
-        match self.pass_on() {
-            Ok(()) => match self.disk.cut(len) {
-                Ok(()) => Ok(()),
-                Err(_) => Err(self.fail()),
-            },
-            Err(_) => Err(self.fail()),
-        }
+        self.pass_on()?;
+        self.disk.cut(len)
     }
 
     fn sync(&mut self) -> Result<(), DiskFault> {
-        match self.pass_on() {
-            Ok(()) => match self.disk.sync() {
-                Ok(()) => Ok(()),
-                Err(_) => Err(self.fail()),
-            },
-            Err(_) => Err(self.fail()),
-        }
+        self.pass_on()?;
+        self.disk.sync()
     }
 }

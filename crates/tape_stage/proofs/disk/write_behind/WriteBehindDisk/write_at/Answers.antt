@@ -1,9 +1,87 @@
-use Rattle.std.proofs.Common.{sym}
-use Rattle.tape_stage.proofs.HoldingLaws.{same_left}
+use Rattle.std.proofs.Common.{length, sym, arith}
+use Rattle.tape_stage.specs.Holding.{torn_same}
+use Rattle.tape_stage.proofs.HoldingLaws.{then_elapses, then_stays, then_allows}
+use Rattle.tape_stage.proofs.HoldingLaws.{holds_more, same_elapses, more_elapses}
+use Rattle.tape_stage.proofs.HoldingLaws.{added_follows, added_stays, added_allows}
+use Rattle.tape_stage.proofs.HoldingLaws.{begun_stays, begun_allows}
+use Rattle.tape_stage.proofs.Results.{on_ok}
 use Rattle.tape_stage.proofs.disk.write_behind.WriteBehindDisk.write_at.Goals as goal
 
-pub returns-in-Err-clause-stays : goal.returns-in-Err-clause-stays
-returns-in-Err-clause-stays g c honest x left =
-    let failed = c.fail-in-Err.ensures in
-    same_left g.D.Disk.may_leave _ _ _ _ _ _ x (sym failed.disk) (sym failed.start)
-    (sym failed.bytes) (c.hold.ensures.stays honest x left)
+-- ---- added to those that are held
+
+pub returns-then-continues-clause-written : goal.returns-then-continues-clause-written
+returns-then-continues-clause-written g c honest =
+    let h = c.args.self.now in
+    let added = c.add.ensures in
+    rw (added.disk, added.start, added.bytes, sym c.if-continues.ensures.end)
+    (holds_more h.start h.bytes.items c.args.bytes.now (g.D.Disk.seen h.disk)
+    (omega (arith, g.met.D.Disk.long_as_seen h.disk honest, h.within)))
+
+pub returns-then-continues-clause-crash : goal.returns-then-continues-clause-crash
+returns-then-continues-clause-crash g c honest =
+    let added = c.add.ensures in
+    added_follows g.D.Disk.may_leave _ _ _ _ _ _ _ _ added.disk added.start added.bytes
+    c.if-continues.ensures.end
+
+pub returns-then-continues-clause-stays : goal.returns-then-continues-clause-stays
+returns-then-continues-clause-stays g c honest =
+    let added = c.add.ensures in
+    added_stays g.D.Disk.may_leave _ _ _ _ _ _ _ _ added.disk added.start added.bytes
+    c.if-continues.ensures.end
+
+pub returns-then-continues-clause-any : goal.returns-then-continues-clause-any
+returns-then-continues-clause-any g c honest =
+    let added = c.add.ensures in
+    added_allows g.D.Disk.may_leave _ _ _ _ _ _ _ _ added.disk added.start added.bytes
+    c.if-continues.ensures.end
+
+pub returns-then-continues-clause-time : goal.returns-then-continues-clause-time
+returns-then-continues-clause-time g c honest =
+    let added = c.add.ensures in
+    same_elapses g.D.Disk.moment g.D.Disk.left_since g.D.Disk.may_leave _ _ _ _ _ _ _ _ added.disk
+    added.start added.bytes (more_elapses _ _ _ _ _ c.args.bytes.now)
+
+-- ---- passed on, and held anew
+
+pub returns-in_err-pass_on-clause-crash : goal.returns-in_err-pass_on-clause-crash
+returns-in_err-pass_on-clause-crash g c honest x left = (
+  x,
+  c.pass_on.ensures.looks.crash honest x left,
+  torn_same c.args.place (length c.args.bytes.now) x,
+)
+
+pub returns-clause-stays : goal.returns-clause-stays
+returns-clause-stays g c honest =
+    let passed = c.in_ok-pass_on.ensures in
+    let added = c.add-2.ensures in
+    begun_stays g.D.Disk.may_leave _ _ _ _ _ _ _ _ _ passed.empty added.disk added.start
+    added.bytes (passed.stays honest)
+
+pub returns-clause-any : goal.returns-clause-any
+returns-clause-any g c honest =
+    let passed = c.in_ok-pass_on.ensures in
+    let added = c.add-2.ensures in
+    begun_allows g.D.Disk.may_leave _ _ _ _ _ _ _ _ _ passed.empty added.disk added.start
+    added.bytes (passed.stays honest)
+
+-- ---- passed on, and more written than is ever held
+
+pub returns-then-not-fits-clause-stays : goal.returns-then-not-fits-clause-stays
+returns-then-not-fits-clause-stays g c honest =
+    let passed = c.in_ok-pass_on.ensures in
+    then_stays _ _ _ _ _ passed.empty (passed.stays honest)
+    (c.write_at.ensures.stays (passed.looks.honest.onward honest))
+
+pub returns-then-not-fits-clause-any : goal.returns-then-not-fits-clause-any
+returns-then-not-fits-clause-any g c honest =
+    let passed = c.in_ok-pass_on.ensures in
+    on_ok c.write_at.result (then_allows _ _ _ _ _ _ passed.empty (passed.stays honest))
+    (c.write_at.ensures.any (passed.looks.honest.onward honest))
+
+pub returns-then-not-fits-clause-time : goal.returns-then-not-fits-clause-time
+returns-then-not-fits-clause-time g c honest =
+    let passed = c.in_ok-pass_on.ensures in
+    let onward = passed.looks.honest.onward honest in
+    then_elapses _ _ _ _ _ _ _ _ _ _ _ _ _ passed.empty (passed.looks.crash honest)
+    (λ t x le now. g.met.D.Disk.counts_now c.pass_on.new.self.disk t x onward le now)
+    (passed.looks.time honest) (c.write_at.ensures.time onward)
