@@ -119,14 +119,17 @@ mod MistakesOfCauses
 mod MergeReadings
 mod MergePlaces
 mod MergeAsking
+mod MergeNext
 mod MergeRounds
 mod MergeRefusals
+mod MergeCounts
 mod MergeLoops
 mod MergeJoins
 mod MergeBest
 mod MergeGiven
 mod MergeBytes
 mod MergeOpening
+mod MergeNow
 mod MergedBetter
 mod MergedCopies
 mod MergedFar

@@ -1,19 +1,17 @@
--- Readers that are asked for one item, one after another: what they have returned then, and the best
--- item.
-use Rattle.std.proofs.Common.{◌≡◌, ◌≢◌, ◌⊎◌, inl, inr, ℕ, zero, suc, ◌+◌, List, [], ◌∷◌, ◌++◌}
-use Rattle.std.proofs.Common.{length, Option, Some, None, Result, Ok, Err, Bool, true, false, refl}
+-- Readers that are asked for one item, one after another: what they have returned then, and the
+-- best item.
+use Rattle.std.proofs.Common.{◌≡◌, ◌≢◌, ◌⊎◌, inl, inr, ℕ, ◌+◌, List, [], ◌∷◌, ◌++◌}
+use Rattle.std.proofs.Common.{length, Option, Some, None, Bool, true, false, refl}
 use Rattle.std.proofs.Common.{sym, ap, subst}
 use Rattle.std.proofs.Common.{◌∙◌, length-append}
 use Rattle.std.specs.Prelude.{◌&&◌}
-use Rattle.tape_image.specs.declared.item.Item.{Item}
 use Rattle.tape_image.specs.declared.item.ImageFault.{ImageFault}
 use Rattle.tape_image.specs.Tape.{TapeItem}
-use Rattle.tape_image.specs.Reader.{Reader, Status, going, ended, failed, seen, tape_item}
-use Rattle.tape_image.specs.Step.{GivesItem, MeetsEnd, MeetsFault, Meets, Answers}
-use Rattle.tape_image.specs.Next.{HasMoved}
+use Rattle.tape_image.specs.Reader.{Reader, going}
+use Rattle.tape_image.specs.Step.{GivesItem, MeetsEnd, MeetsFault}
 use Rattle.tape_image.specs.Calls.{Gave}
 use Rattle.tape_run.specs.Merging.{IsReadFrom, AreReadFrom}
-use Rattle.tape_run.specs.MergeSteps.{joined, best_items, Takes, Stopped, Asked, gives, stops}
+use Rattle.tape_run.specs.MergeSteps.{joined, best_items, Stopped, Asked, gives, stops}
 use Rattle.tape_run.specs.MergeSteps.{AskedAll, HasRead, HaveRead, AllStopped}
 use Rattle.tape_run.proofs.MergeReadings.{reads_self, reads_front, reads_trans, are_better}
 use Rattle.tape_run.proofs.MergePlaces.{best_better, reads_best, best_least, best_differs}
@@ -71,10 +69,10 @@ AtPlace (n ∷ nows) [] m = Unit {0}
 AtPlace (n ∷ nows) (r ∷ rs) m = (n.status ≡ going → length r ≡ m) × AtPlace nows rs m
 
 -- what is known of readers that were asked for the item after these: the best item now, of which
--- tapes that makes a reading if other readings are of these tapes too, and that there is none only if
--- every reader has stopped
-pub record HaveCandidate (firsts nows : List Reader) (m : List TapeItem) (best now : Option TapeItem)
-    (others : List TapeItem → Type 0) : Type 0 where
+-- tapes that makes a reading if other readings are of these tapes too, and that there is none only
+-- if every reader has stopped
+pub record HaveCandidate (firsts nows : List Reader) (m : List TapeItem)
+    (best now : Option TapeItem) (others : List TapeItem → Type 0) : Type 0 where
   pub readings : List (List TapeItem)
   pub have : HaveRead firsts nows readings
   pub at : AtPlace nows readings (length m + 1)
@@ -206,11 +204,12 @@ all_best _ _ _ _ m best now all others h at reads least asked agreed = absurd h
 -- a reader that was asked has returned the same items, or one more
 has_more : (f o n : Reader) (r : List TapeItem) (best now : Option TapeItem) (b : Bool)
     → HasRead f o r → Asked o n best b now
-    → (s : List TapeItem) × (HasRead f n s × ((t : List TapeItem) → IsReadFrom s t → IsReadFrom r t))
+    → (s : List TapeItem) × HasRead f n s
+    × ((t : List TapeItem) → IsReadFrom s t → IsReadFrom r t)
 has_more f o n r best now b h (gives x on given takes) =
-    (r ++ x ∷ [], (has_given f o n r x h on given, λ t k. reads_front r (x ∷ []) t k))
+    (r ++ x ∷ [], has_given f o n r x h on given, λ t k. reads_front r (x ∷ []) t k)
 has_more f o n r best now b h (stops off all_agreed same) =
-    (r, (has_stopped f o n r h off, λ t k. k))
+    (r, has_stopped f o n r h off, λ t k. k)
 
 -- so have readers
 record HaveMore (firsts nows : List Reader) (rs : List (List TapeItem)) : Type 0 where
@@ -227,7 +226,7 @@ have_more [] [] (n ∷ nows) [] best now all h asked = absurd asked
 have_more (f ∷ firsts) (o ∷ olds) [] (r ∷ rs) best now all h asked = absurd asked
 have_more (f ∷ firsts) (o ∷ olds) (n ∷ nows) (r ∷ rs) best now all h
     (mid, this, those, one, rest, is) =
-    let (s, (has, front)) = has_more f o n r best mid this h.0 one in
+    let (s, has, front) = has_more f o n r best mid this h.0 one in
     let more = have_more firsts olds nows rs mid now those h.1 rest in
     record {
       readings = s ∷ more.readings;
@@ -289,7 +288,8 @@ pub all_differ : (firsts olds nows : List Reader) (rs : List (List TapeItem))
     → ((tape : List TapeItem) → others tape → AreReadFrom rs tape
     → IsReadFrom (m ++ best_items best) tape)
     → AskedAll olds nows best now all → all ≡ false → HaveDiffered firsts nows others
-all_differ [] [] [] [] m best now all others h at reads least (same, is) not_so = absurd (cc (is, not_so))
+all_differ [] [] [] [] m best now all others h at reads least (same, is) not_so =
+    absurd (cc (is, not_so))
 all_differ [] [] (n ∷ nows) [] m best now all others h at reads least asked not_so = absurd asked
 all_differ (f ∷ firsts) (o ∷ olds) [] (r ∷ rs) m best now all others h at reads least asked not_so =
     absurd asked
@@ -307,63 +307,3 @@ all_differ (f ∷ firsts) (o ∷ olds) (n ∷ nows) (r ∷ rs) m best now all ot
     (λ e. one_differs f o n firsts olds nows r rs m best mid now those others h.0 h.1 at.0 least
     (subst (λ (b : Bool). Asked o n best b mid) e one) rest)
 all_differ _ _ _ _ m best now all others h at reads least asked not_so = absurd h
-
--- ---- asking them in a loop
-
--- so many of them were asked, and whether these agreed; the others were not asked
-abbrev pub AskedFirst :
-    ℕ → List Reader → List Reader → Option TapeItem → Option TapeItem → Bool → Type 0
-AskedFirst zero olds nows best now all = (nows ≡ olds) × (now ≡ best) × (all ≡ true)
-AskedFirst (suc k) (o ∷ olds) (n ∷ nows) best now all =
-    (mid : Option TapeItem) × (agreed rest : Bool) × Asked o n best agreed mid
-    × AskedFirst k olds nows mid now rest × (all ≡ agreed && rest)
-AskedFirst (suc k) _ _ best now all = ⊥
-
--- ---- what a call of `next` returned
-
-status_gives : (s : Status) (old new : Reader) (r : Result (Option TapeItem) ImageFault)
-    (x : TapeItem) → Answers s old r new → r ≡ Ok (Some x) → (s ≡ going) × GivesItem old x new
-status_gives going old new r x a e =
-    (refl, subst (λ (q : Result (Option TapeItem) ImageFault). Meets old q new) e a)
-status_gives (ended ending) old new r x a e = absurd (cc (a.0, e))
-status_gives (failed fault) old new r x a e = absurd (cc (a.0, e))
-
--- it gave an item
-pub asked_gives : (old new : Reader) (result : Result (Option Item) ImageFault) (item : Item)
-    (best now : Option TapeItem) (agreed : Bool) → HasMoved old result new
-    → result ≡ Ok (Some item) → Takes best (tape_item item) agreed now
-    → Asked old new best agreed now
-asked_gives old new result item best now agreed h e takes =
-    let (on, given) = status_gives old.status old new (seen result) (tape_item item) h.answers
-    (ap seen e) in
-    gives (tape_item item) on given takes
-
-status_ends : (s : Status) (old new : Reader) (r : Result (Option TapeItem) ImageFault)
-    → old.status ≡ s → Answers s old r new → r ≡ Ok None → Stopped old new
-status_ends going old new r is a e =
-    inl (is, inl (subst (λ (q : Result (Option TapeItem) ImageFault). Meets old q new) e a))
-status_ends (ended ending) old new r is a e = inr (λ on. cc (is, on), a.1)
-status_ends (failed fault) old new r is a e = inr (λ on. cc (is, on), a.1)
-
--- it ended
-pub asked_ends : (old new : Reader) (result : Result (Option Item) ImageFault)
-    (best : Option TapeItem) → HasMoved old result new → result ≡ Ok None
-    → Asked old new best true best
-asked_ends old new result best h e =
-    stops (status_ends old.status old new (seen result) refl h.answers (ap seen e)) refl refl
-
-status_fails : (s : Status) (old new : Reader) (r : Result (Option TapeItem) ImageFault)
-    (fault : ImageFault) → old.status ≡ s → Answers s old r new → r ≡ Err fault → Stopped old new
-status_fails going old new r fault is a e = inl (
-  is,
-  inr (fault, subst (λ (q : Result (Option TapeItem) ImageFault). Meets old q new) e a),
-)
-status_fails (ended ending) old new r fault is a e = inr (λ on. cc (is, on), a.1)
-status_fails (failed other) old new r fault is a e = inr (λ on. cc (is, on), a.1)
-
--- it reached a fault
-pub asked_fails : (old new : Reader) (result : Result (Option Item) ImageFault)
-    (fault : ImageFault) (best : Option TapeItem) → HasMoved old result new → result ≡ Err fault
-    → Asked old new best true best
-asked_fails old new result fault best h e =
-    stops (status_fails old.status old new (seen result) fault refl h.answers (ap seen e)) refl refl

@@ -1,20 +1,19 @@
 -- What readers gave of images with known bytes.
-use Rattle.std.proofs.Common.{◌≡◌, ◌≢◌, ◌⊎◌, inl, inr, ℕ, ◌≤◌, List, [], ◌∷◌, ◌++◌, length, map}
+use Rattle.std.proofs.Common.{◌≡◌, ◌⊎◌, inl, inr, ℕ, ◌≤◌, List, [], ◌∷◌, ◌++◌, map}
 use Rattle.std.specs.Prelude.{IfOk, IfErr}
 use Rattle.tape_run.specs.declared.merge.Merged.{Merged}
-use Rattle.std.proofs.Common.{Option, Some, Result, Ok, Err, refl, sym, ap, subst, ◌∙◌, arith}
+use Rattle.std.proofs.Common.{Option, Some, Result, Ok, Err, sym, ap, subst, arith}
 use Rattle.tape_image.specs.declared.item.Ending.{Ending}
 use Rattle.tape_image.specs.declared.item.ImageFault.{ImageFault}
 use Rattle.tape_image.specs.Tape.{TapeItem}
 use Rattle.tape_image.specs.Begins.{image_limit, Stop, Begins, Walks}
-use Rattle.tape_image.specs.Reader.{Reader, going}
+use Rattle.tape_image.specs.Reader.{Reader}
 use Rattle.tape_image.specs.Step.{TakesEnd, TakesFault}
 use Rattle.tape_image.specs.Calls.{Gave}
 use Rattle.tape_image.specs.Writer.{Writer}
 use Rattle.tape_image.proofs.Callers.{Gave-walks, front_of_image}
 use Rattle.tape_run.specs.declared.merge.MergeFault.{MergeFault}
 use Rattle.tape_run.specs.declared.merge.MergeFault.TheVariants as faults
-use Rattle.tape_run.specs.Merging.{Differ}
 use Rattle.tape_run.specs.MergeSteps.{HasRead, HaveRead, AllStopped}
 use Rattle.tape_run.specs.MergeCalls.{AreAtFront, Merges, FitsFault}
 use Rattle.tape_run.specs.MergedImages.{GivesItems, GiveItems, AllBegin, MergesImages, FaultsImages}

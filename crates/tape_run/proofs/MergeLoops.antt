@@ -1,128 +1,28 @@
 -- What merging has done after some items, and what it does from there.
-use Rattle.std.proofs.Common.{◌≡◌, ◌≢◌, ℕ, ◌+◌, ◌≤◌, List, [], ◌∷◌, ◌++◌, length}
-use Rattle.std.proofs.Common.{Option, Some, None, Bool, true, false, refl, sym, ap, subst, ◌∙◌, arith, inl}
+use Rattle.std.proofs.Common.{◌≡◌, ◌≢◌, ℕ, ◌+◌, ◌≤◌, List, [], ◌∷◌, ◌++◌, length, Option, Some}
+use Rattle.std.proofs.Common.{None, Bool, true, false, Result, Err, refl, sym, ap, subst, ◌∙◌, inl}
 use Rattle.std.proofs.Common.{length-append, append-nil}
-use Rattle.std.specs.Prelude.{is_some}
-use Rattle.tape_image.specs.Tape.{TapeItem, block, bad, mark}
+use Rattle.std.specs.Prelude.{is_some, IfSome, IfErr}
+use Rattle.tape_image.specs.declared.item.ImageWriteFault.{ImageWriteFault}
+use Rattle.tape_image.specs.Tape.{TapeItem}
 use Rattle.tape_image.specs.Begins.{image_limit}
 use Rattle.tape_image.specs.Reader.{Reader}
-use Rattle.tape_image.specs.Written.{written}
 use Rattle.tape_image.specs.Writer.{Writer, writing, PutItem, PutItems}
-use Rattle.tape_image.proofs.WrittenItems.{put_item}
-use Rattle.tape_run.specs.Merging.{IsReadFrom, AreReadFrom, IsMerged}
-use Rattle.tape_run.specs.MergeSteps.{best_items, AskedAll, HaveRead}
-use Rattle.std.proofs.Common.{Result, Err}
-use Rattle.std.specs.Prelude.{IfErr}
-use Rattle.tape_image.specs.declared.item.ImageWriteFault.{ImageWriteFault}
+use Rattle.tape_run.specs.declared.merge.Merged.{Merged}
 use Rattle.tape_run.specs.declared.merge.MergeFault.{MergeFault}
 use Rattle.tape_run.specs.declared.merge.MergeFault.TheVariants as faults
-use Rattle.std.specs.Prelude.{IfSome}
-use Rattle.tape_run.specs.declared.merge.Merged.{Merged}
 use Rattle.tape_run.specs.declared.passing.Phase.{Phase}
 use Rattle.tape_run.specs.declared.passing.Phase.TheVariants.{Volume}
-use Rattle.tape_run.specs.Passing.{Told, step, in_list, phase_after, told_from, blocks_of}
-use Rattle.tape_run.specs.MergeCalls.{Counts, bads, is_bad_one, one_if, miscounted_in}
-use Rattle.tape_run.specs.MergeCalls.{miscounted_of, has_wrong_count}
-use Rattle.tape_run.specs.declared.section.SectionState.{SectionState}
-use Rattle.tape_run.specs.declared.section.SectionState.TheVariants as states
-use Rattle.tape_run.proofs.NotedSoFar.{phase_after-append, told_from-append, one_block}
+use Rattle.tape_run.specs.Passing.{Told, step, phase_after, blocks_of}
+use Rattle.tape_run.specs.Merging.{IsReadFrom, AreReadFrom, IsMerged}
+use Rattle.tape_run.specs.MergeSteps.{best_items, AskedAll, HaveRead}
+use Rattle.tape_run.specs.MergeCalls.{Counts, is_bad_one, one_if, miscounted_of, AsksAll, Puts}
+use Rattle.tape_run.specs.MergeCalls.{Merges, DiffersAt, FitsFault, RefusesCandidate}
+use Rattle.tape_run.proofs.NotedSoFar.{one_block}
 use Rattle.tape_run.proofs.MergeRefusals.{best_fits}
-use Rattle.tape_run.specs.MergeCalls.{AsksAll, Puts, Merges, DiffersAt, FitsFault, RefusesCandidate}
 use Rattle.tape_run.proofs.MergeAsking.{AtPlace, HaveCandidate, all_best, all_differ}
-
--- ---- writing
-
-pub put_one_more : (items : List TapeItem) (a b c : Writer) (x : TapeItem) → PutItems items a b
-    → PutItem x b c → PutItems (items ++ x ∷ []) a c
-put_one_more [] a b c x same put = (c, subst (λ (w : Writer). PutItem x w c) same put, refl)
-put_one_more (y ∷ items) a b c x (mid, first, then) put =
-    (mid, first, put_one_more items mid b c x then put)
-
-written_some : (x : TapeItem) → 4 ≤ length (written x)
-written_some (block bytes) = omega arith
-written_some bad = omega arith
-written_some mark = omega arith
-
-pub put_moves : (x : TapeItem) (a b : Writer) → PutItem x a b
-    → (a.size + 4 ≤ b.size) × (b.size ≤ image_limit) × (b.standing ≡ writing)
-put_moves x a b put =
-    let all = (put_item x a b put).1 in
-    (omega (arith, all.size, written_some x), all.within, all.stands)
-
-pub was_put : (best : Option TapeItem) (a b : Writer) → Puts best true a b
-    → (x : TapeItem) × (best ≡ Some x) × PutItem x a b
-was_put None a b h = absurd (cc h.0)
-was_put (Some x) a b h = (x, refl, h.1)
-
-pub was_none : (best : Option TapeItem) (a b : Writer) → Puts best false a b
-    → (best ≡ None) × (b ≡ a)
-was_none None a b h = (refl, h.1)
-was_none (Some x) a b h = absurd (cc h.0)
-
--- ---- counting
-
-bads-append : (xs ys : List TapeItem) → bads (xs ++ ys) ≡ bads xs + bads ys
-bads-append [] ys = omega arith
-bads-append (x ∷ xs) ys =
-    let ih : bads (xs ++ ys) ≡ bads xs + bads ys = bads-append xs ys in
-    omega arith
-
-miscounted-append : (ts us : List Told)
-    → miscounted_in (ts ++ us) ≡ miscounted_in ts + miscounted_in us
-miscounted-append [] us = omega arith
-miscounted-append (t ∷ ts) us =
-    let ih : miscounted_in (ts ++ us) ≡ miscounted_in ts + miscounted_in us =
-    miscounted-append ts us in
-    omega arith
-
-pub one_at_most : (b : Bool) → one_if b ≤ 1
-one_at_most true = omega arith
-one_at_most false = omega arith
-
-wrong_one : (s : SectionState) → has_wrong_count s ≤ 1
-wrong_one states.Good = omega arith
-wrong_one states.Bad = omega arith
-wrong_one states.Count = omega arith
-wrong_one states.Cut = omega arith
-
-pub wrong_at_most : (t : Option Told) → miscounted_of t ≤ 1
-wrong_at_most None = omega arith
-wrong_at_most (Some t) = wrong_one t.1.state
-
-miscounted_one : (t : Option Told) → miscounted_in (in_list t ++ []) ≡ miscounted_of t
-miscounted_one None = refl
-miscounted_one (Some t) = omega arith
-
--- what counting one more item changes
-pub record CountsOne (a b : Merged) (p q : Phase) (x : TapeItem) : Type 0 where
-  pub items : b.items ≡ a.items + 1
-  pub bad : b.bad ≡ a.bad + one_if (is_bad_one (Some x))
-  pub miscounted : b.miscounted ≡ a.miscounted + miscounted_of (step p x).1
-  pub phase : q ≡ (step p x).0
-
-counts_more : (merged : List TapeItem) (x : TapeItem) (a b : Merged) (p q : Phase)
-    → Counts merged a → p ≡ phase_after Volume merged → CountsOne a b p q x
-    → Counts (merged ++ x ∷ []) b
-counts_more merged x a b p q counts at one =
-    let more : miscounted_in (told_from Volume (merged ++ x ∷ []))
-    ≡ miscounted_in (told_from Volume merged) + miscounted_of (step p x).1 =
-    ap miscounted_in (told_from-append Volume merged (x ∷ []))
-    ∙ miscounted-append (told_from Volume merged) (told_from (phase_after Volume merged) (x ∷ []))
-    ∙ ap (λ (s : Phase). miscounted_in (told_from Volume merged) + miscounted_in (told_from s (x ∷ [])))
-    (sym at)
-    ∙ ap (λ k. miscounted_in (told_from Volume merged) + k) (miscounted_one (step p x).1) in
-    record {
-      items = omega (arith, length-append merged (x ∷ []), counts.items, one.items);
-      bad = omega (arith, bads-append merged (x ∷ []), counts.bad, one.bad);
-      miscounted = omega (arith, more, counts.miscounted, one.miscounted);
-    }
-
-phase_more : (merged : List TapeItem) (x : TapeItem) (a b : Merged) (p q : Phase)
-    → p ≡ phase_after Volume merged → CountsOne a b p q x
-    → q ≡ phase_after Volume (merged ++ x ∷ [])
-phase_more merged x a b p q at one =
-    one.phase ∙ ap (λ (s : Phase). (step s x).0) at
-    ∙ sym (phase_after-append Volume merged (x ∷ []))
+use Rattle.tape_run.proofs.MergeCounts.{put_one_more, put_moves, was_put, was_none, CountsOne}
+use Rattle.tape_run.proofs.MergeCounts.{counts_more, phase_more}
 
 -- ---- the loop
 
@@ -192,7 +92,8 @@ goes_on firsts olds nows a b p q old mid new now x s asked is put one =
     let h = round firsts olds nows a p old mid now s asked in
     let shown : s.merged ++ best_items now ≡ s.merged ++ x ∷ [] =
     ap (λ (t : Option TapeItem). s.merged ++ best_items t) is in
-    let long : length (s.merged ++ x ∷ []) ≡ length s.merged + 1 = length-append s.merged (x ∷ []) in
+    let long : length (s.merged ++ x ∷ []) ≡ length s.merged + 1 =
+    length-append s.merged (x ∷ []) in
     record {
       readings = h.readings;
       have = h.have;
@@ -236,7 +137,8 @@ pub differs : (firsts olds nows : List Reader) (a : Merged) (p : Phase) (old new
     → DiffersAt firsts nows (a.items + 1) old new
 differs firsts olds nows a p old new now s asked =
     let empty : s.merged ≡ s.merged ++ [] = sym (append-nil s.merged) in
-    let h = all_differ firsts olds nows s.readings s.merged None now false (λ _. Unit {0}) s.have s.at
+    let h = all_differ firsts olds nows s.readings s.merged None now false (λ _. Unit {0}) s.have
+    s.at
     (subst (λ (l : List TapeItem). AreReadFrom s.readings l) empty s.is.all)
     (λ tape k reads. subst (λ (l : List TapeItem). IsReadFrom l tape) empty
     (s.is.least tape reads)) asked refl in
@@ -307,7 +209,8 @@ pub counted : (a b : Merged) (p : Phase) (next : Phase × Option Told) (now : Op
     → is_bad ≡ is_bad_one now → b.items ≡ a.items + 1 → b.bad ≡ a.bad + one_if is_bad
     → b.miscounted ≡ a.miscounted + miscounted_of next.1 → CountsOne a b p next.0 x
 counted a b p next now x is_bad is stepped kind items more_bad miscounted =
-    let here : next ≡ step p x = subst (λ (t : Option TapeItem). IfSome t (λ x. next ≡ step p x)) is stepped in
+    let here : next ≡ step p x =
+    subst (λ (t : Option TapeItem). IfSome t (λ x. next ≡ step p x)) is stepped in
     record {
       items = items;
       bad = more_bad ∙ ap (λ (b : Bool). a.bad + one_if b) (kind ∙ ap is_bad_one is);

@@ -1,6 +1,6 @@
 -- Readers at the beginning of images, one for each device that an iterator yielded.
-use Rattle.std.proofs.Common.{◌≡◌, ℕ, List, [], ◌∷◌, ◌++◌, length, map, Option, refl, sym, ap, subst}
-use Rattle.std.proofs.Common.{◌∙◌, arith, append_assoc, append-nil}
+use Rattle.std.proofs.Common.{◌≡◌, ℕ, List, [], ◌∷◌, ◌++◌, length, map, Option, refl, sym, ap}
+use Rattle.std.proofs.Common.{subst, ◌∙◌, arith, append_assoc, append-nil}
 use Rattle.std.proofs.lemmas.List.{map-append}
 use Rattle.tape_image.specs.Reader.{Reader, going}
 use Rattle.tape_run.specs.MergeCalls.{AreAtFront}

@@ -1,6 +1,6 @@
 -- Why a merged item is not written.
-use Rattle.std.proofs.Common.{◌≡◌, ◌≢◌, ◌<◌, ◌≤◌, ℕ, List, [], ◌∷◌, length, Option, Some, None, Bool}
-use Rattle.std.proofs.Common.{true, false, Err, sym, subst, arith}
+use Rattle.std.proofs.Common.{◌≡◌, ◌≢◌, ◌<◌, ◌≤◌, ℕ, List, [], ◌∷◌, length, Option, Some, None}
+use Rattle.std.proofs.Common.{Bool, true, false, Err, sym, subst, arith}
 use Rattle.std.specs.Prelude.{MatchBool}
 use Rattle.std.proofs.lemmas.Bool.Decides.{nat_tests}
 use Rattle.tape_image.specs.declared.item.ImageWriteFault.{ImageWriteFault}
@@ -10,8 +10,8 @@ use Rattle.tape_image.specs.Tape.{TapeItem, block, bad, mark, IsTapeItem}
 use Rattle.tape_image.specs.Reader.{Reader}
 use Rattle.tape_image.specs.Written.{written, is_no_block}
 use Rattle.tape_image.specs.Writer.{Writer, Standing, writing, Puts, PutsFrom, BlockFrom}
-use Rattle.tape_run.specs.MergeSteps.{agrees, joined, Takes, Asked, gives, stops, AskedAll}
-use Rattle.tape_run.specs.MergeCalls.{Refuses, RefusesCandidate}
+use Rattle.tape_run.specs.MergeSteps.{joined, Takes, Asked, gives, stops, AskedAll}
+use Rattle.tape_run.specs.MergeCalls.{Refuses}
 
 abbrev FitsCandidate : Option TapeItem → Type 0
 FitsCandidate None = Unit {0}

@@ -9,7 +9,15 @@ use Rattle.tape_image.specs.Reader.{Reader}
 use Rattle.tape_run.specs.MergeSteps.{Asked, AskedAll}
 use Rattle.std.specs.Prelude.{◌&&◌}
 use Rattle.tape_run.specs.MergeCalls.{AsksAll, Clashes}
-use Rattle.tape_run.proofs.MergeAsking.{AskedFirst}
+
+-- so many of them were asked, and whether these agreed; the others were not asked
+abbrev pub AskedFirst :
+    ℕ → List Reader → List Reader → Option TapeItem → Option TapeItem → Bool → Type 0
+AskedFirst zero olds nows best now all = (nows ≡ olds) × (now ≡ best) × (all ≡ true)
+AskedFirst (suc k) (o ∷ olds) (n ∷ nows) best now all =
+    (mid : Option TapeItem) × (agreed rest : Bool) × Asked o n best agreed mid
+    × AskedFirst k olds nows mid now rest × (all ≡ agreed && rest)
+AskedFirst (suc k) _ _ best now all = ⊥
 
 -- the same of equal readers and equal best items
 moved : (o p n : Reader) (best mid now : Option TapeItem) (b : _) → o ≡ p → mid ≡ best
@@ -41,8 +49,8 @@ first_more zero (y ∷ ys) (x ∷ xs) best mid now o n all b (same, e, so) lt is
 )
 first_more (suc i) [] nows best mid now o n all b h lt is asked = absurd h
 first_more (suc i) (y ∷ ys) [] best mid now o n all b h lt is asked = absurd h
-first_more (suc i) (y ∷ ys) (x ∷ xs) best mid now o n all b (then, this, those, first, rest, e) lt is
-    asked = (
+first_more (suc i) (y ∷ ys) (x ∷ xs) best mid now o n all b (then, this, those, first, rest, e)
+    lt is asked = (
       then,
       this,
       those && b,

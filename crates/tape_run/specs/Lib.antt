@@ -84,6 +84,7 @@ pub mod MergeSteps
 pub mod MergeCalls
 pub mod MergedImages
 pub mod MergeLines
+pub mod MergeNow
 -- Laws of those.
 pub mod MergeLaws
 pub mod MergedCopies

@@ -1,6 +1,6 @@
 -- Laws of readings, and of the tape that they make together.
-use Rattle.std.specs.Prelude.{◌≡◌, ◌≢◌, ◌⊎◌, ◌<◌, ◌↔◌, ℕ, List, [], ◌∷◌, ◌++◌, length, max, slice_get}
-use Rattle.std.specs.Prelude.{Some, None, ⊤}
+use Rattle.std.specs.Prelude.{◌≡◌, ◌≢◌, ◌⊎◌, ◌<◌, ◌↔◌, ℕ, List, [], ◌∷◌, ◌++◌, length, max}
+use Rattle.std.specs.Prelude.{slice_get, Some, None, ⊤}
 use Rattle.tape_image.specs.declared.item.Ending.{Ending}
 use Rattle.tape_image.specs.declared.item.ImageFault.{ImageFault}
 use Rattle.tape_image.specs.Tape.{TapeItem, bad}
@@ -66,8 +66,8 @@ OrderDoesNotMatter = (rs ss : List (List TapeItem)) (m : List TapeItem)
     → IsMerged rs m → IsMerged ss m
 
 -- What a reader returned from the beginning of an image until it stopped: the items that its bytes
--- begin with, up to the end of the medium or to a fault of the image. If the device failed, those of
--- the bytes that it returned.
+-- begin with, up to the end of the medium or to a fault of the image. If the device failed, those
+-- of the bytes that it returned.
 abbrev pub ReadersGiveImages : Type 0
 ReadersGiveImages = (first now : Reader) (items : List TapeItem) (bytes : List ℕ)
     → HasRead first now items → first.status ≡ going → now.status ≢ going

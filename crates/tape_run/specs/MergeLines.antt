@@ -1,5 +1,7 @@
--- The lines of `merge` and `compare`. Numbers are plain decimals, and a name is the rest of its line.
-use Rattle.std.specs.Prelude.{ℕ, ◌+◌, List, [], ◌∷◌, ◌++◌, codes, decimal, suc, zero, Option, Some, None}
+-- The lines of `merge` and `compare`. Numbers are plain decimals, and a name is the rest of its
+-- line.
+use Rattle.std.specs.Prelude.{ℕ, List, [], ◌∷◌, ◌++◌, codes, decimal, suc, zero, Option, Some}
+use Rattle.std.specs.Prelude.{None}
 use Rattle.tape_run.specs.declared.section.ImageStop.{ImageStop}
 use Rattle.tape_run.specs.declared.merge.Merged.{Merged}
 use Rattle.tape_run.specs.declared.merge.line.ReadingLine.{ReadingLine}
@@ -25,10 +27,6 @@ abbrev pub reading_text : ℕ → ReadingLine → List ℕ
 reading_text n r =
     codes "IMAGE " ++ decimal n ++ codes " " ++ decimal r.items ++ codes " " ++ decimal r.bad
     ++ codes " " ++ end_text r.stop
-
--- the same, and its name
-abbrev pub reading_line : ℕ → ReadingLine → List ℕ → List ℕ
-reading_line n r name = with_name (reading_text n r) name
 
 -- how the merged image ends
 abbrev pub merged_end : MergedEnd → List ℕ
@@ -62,7 +60,3 @@ abbrev pub has_text : ℕ → HasLine → List ℕ
 has_text n has =
     codes "HAS " ++ decimal n ++ codes " " ++ has.letter ∷ codes " " ++ kind_text has.kind
     ++ codes " " ++ decimal has.from
-
--- the same, and its name
-abbrev pub has_line : ℕ → HasLine → List ℕ → List ℕ
-has_line n has name = with_name (has_text n has) name

@@ -112,15 +112,15 @@ fn ask_all<R: Read>(
 
 /// Reads the readings side by side, item by item, and writes the tape that they make together.
 ///
-/// `best` and `other` hold the item under way: the best one that was read, and one that differs from
-/// it. At a difference every reading was asked for its item, and `verdict` of each says how that
-/// compares.
+/// `best` and `other` hold the item under way: the best one that was read, and one that differs
+/// from it. At a difference every reading was asked for its item, and `verdict` of each says how
+/// that compares.
 ///
 /// # Errors
 ///
 /// `Differ` at the first item at which two readings have different items, both readable.
-/// `OutOfMemory` if a block cannot be copied. `Write` with `Device`, or with `TooLong` if the merged
-/// image would be longer than an image may be. What was written before stays written.
+/// `OutOfMemory` if a block cannot be copied. `Write` with `Device`, or with `TooLong` if the
+/// merged image would be longer than an image may be. What was written before stays written.
 pub fn merge_items<R: Read, W: Write + Drop>(
     readings: &mut [Reading<'_, R>],
     best: &mut Candidate,

@@ -34,8 +34,8 @@ pub fn readers_give_images()
     ensures { ReadersGiveImages }
 {}
 
-/// The merged image of copies of a volume is a copy of it. Read once, it takes each position at least
-/// as far as they do, each alone and all of them in turn.
+/// The merged image of copies of a volume is a copy of it. Read once, it takes each position at
+/// least as far as they do, each alone and all of them in turn.
 pub fn merged_copies()
     ensures copy { MergedIsCopy }
     ensures far { BetterIsAsFar }

@@ -2,9 +2,9 @@
 
 ghost use Rattle.std.specs.Prelude.{◌≡◌, ◌≤◌, ◌++◌, length, IfOk};
 ghost use Rattle.arrayvec.specs.ArrayVec.{array_vec_len};
-ghost use Rattle.tape_run.specs.MergeLines.{reading_text, reading_line, end_text, merged_line};
-ghost use Rattle.tape_run.specs.MergeLines.{merged_end, miscounted_text, differ_line, has_text, has_line};
-ghost use Rattle.tape_run.specs.MergeLines.{kind_text, with_name};
+ghost use Rattle.tape_run.specs.MergeLines.{reading_text, end_text, merged_line, merged_end};
+ghost use Rattle.tape_run.specs.MergeLines.{miscounted_text, differ_line, has_text, kind_text};
+ghost use Rattle.tape_run.specs.MergeLines.{with_name};
 
 use super::Merged;
 use crate::check_line::stop_text;
@@ -54,20 +54,8 @@ pub(crate) struct HasLine {
     pub from: u64,
 }
 
-/// The line of the reading with this number and name.
-pub(crate) fn reading_line(
-    alloc: Global,
-    number: usize,
-    reading: &ReadingLine,
-    name: &str,
-) -> Result<Vec<u8>, AllocError>
-    ensures { IfOk result (λ line. line.items ≡ reading_line number reading.now name.now) }
-{
-    with_name(alloc, &reading_text(number, reading), name)
-}
-
-/// The same without its name.
-fn reading_text(number: usize, reading: &ReadingLine) -> Text
+/// What was read of the reading with this number: a line without its name.
+pub(crate) fn reading_text(number: usize, reading: &ReadingLine) -> Text
     ensures { result.items ≡ reading_text number reading.now }
 {
     let mut line = Text::new();
@@ -94,7 +82,7 @@ fn put_end(line: &mut Text, stop: &Option<ImageStop>)
 }
 
 /// A line that ends with a name.
-fn with_name(alloc: Global, text: &[u8], name: &str) -> Result<Vec<u8>, AllocError>
+pub(crate) fn with_name(alloc: Global, text: &[u8], name: &str) -> Result<Vec<u8>, AllocError>
     ensures { IfOk result (λ line. line.items ≡ with_name text.now name.now) }
 {
     let mut line = Vec::from_slice(alloc, text)?;
@@ -161,20 +149,8 @@ pub(crate) fn differ_line(item: u64) -> Text
     line
 }
 
-/// The line of what the reading with this number and name has there.
-pub(crate) fn has_line(
-    alloc: Global,
-    number: usize,
-    has: &HasLine,
-    name: &str,
-) -> Result<Vec<u8>, AllocError>
-    ensures { IfOk result (λ line. line.items ≡ has_line number has.now name.now) }
-{
-    with_name(alloc, &has_text(number, has), name)
-}
-
-/// The same without its name.
-fn has_text(number: usize, has: &HasLine) -> Text
+/// What the reading with this number has there: a line without its name.
+pub(crate) fn has_text(number: usize, has: &HasLine) -> Text
     ensures { result.items ≡ has_text number has.now }
 {
     let mut line = Text::new();

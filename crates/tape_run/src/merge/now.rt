@@ -1,13 +1,18 @@
 //! `merge` and `compare` over images: they are read side by side, and the merged one is put in its
 //! place.
 
-ghost use Rattle.std.specs.Prelude.{◌≡◌, ◌≢◌, IfOk};
+ghost use Rattle.std.specs.Prelude.{◌≡◌, map, IfOk, IfErr};
+ghost use Rattle.std.specs.Io.KnownBytes.{Appends};
+ghost use Rattle.tape_run.specs.MergeNow.{MountsAll, IsMissing, Misses, MergesNow, LeavesPlace};
+ghost use Rattle.tape_run.specs.MergeNow.{ReadersComeTo, FitsEnd, end_bytes};
+ghost use Rattle.tape_run.specs.declared.merge.now.MergeEnd.{MergeEnd};
 ghost use Rattle.tape_run.specs.declared.merge.now.MergeEnd.TheVariants.{Differs};
 ghost use Rattle.tape_run.specs.declared.merge.now.MergeStop.TheVariants as stops;
 
 use super::candidate::Candidate;
 use super::line::{
-    HasLine, ItemKind, MergedEnd, ReadingLine, differ_line, has_line, merged_line, reading_line,
+    HasLine, ItemKind, MergedEnd, ReadingLine, differ_line, has_text, merged_line, reading_text,
+    with_name,
 };
 use super::open::open_all;
 use super::reading::{Reading, Verdict};
@@ -63,7 +68,9 @@ impl From<WriteFailed> for MergeStop {
 }
 
 /// Why the merged image of so many bytes could not be written on.
-fn write_stop(fault: ImageWriteFault, size: u64) -> MergeStop {
+fn write_stop(fault: ImageWriteFault, size: u64) -> MergeStop
+    ensures { Misses (λ _. ⊥) result }
+{
     match fault {
         ImageWriteFault::TooLong => MergeStop::TooLong(size),
         _ => MergeStop::WriteFailed,
@@ -71,16 +78,17 @@ fn write_stop(fault: ImageWriteFault, size: u64) -> MergeStop {
 }
 
 /// Reads the images of a shelf side by side, all of them opened first, and writes to `out` the tape
-/// that they make together. Then `out` comes to stand in its place, and the report ends with its
+/// that they make together. Then `place` puts `out` in its place, and the report ends with its
 /// line. If the images differ, the place is not touched, and the report says what each image has
-/// there.
+/// at that item.
 ///
 /// It allocates 100,000 bytes for each image, what mounting takes, and 200,000.
 ///
 /// # Errors
 ///
 /// `NotOpened` before anything is read; `OutOfMemory`; `WriteFailed` if `out`, its place or the
-/// report failed; `TooLong`.
+/// report failed; `TooLong`. The place was not touched, unless placing `out` failed, which changes
+/// nothing there, or the last line could not be written.
 pub fn merge_now<R: Read + Drop, L: Shelf<R>, W: Write + Drop, O: Place<W>, P: Write>(
     alloc: Global,
     images: &mut L,
@@ -89,7 +97,13 @@ pub fn merge_now<R: Read + Drop, L: Shelf<R>, W: Write + Drop, O: Place<W>, P: W
     place: &mut O,
     report: &mut P,
 ) -> Result<MergeEnd, MergeStop>
+    ensures ok { IfOk result (MergesNow L.size L.gives R.remaining images.old images.new
+        (W.contents out) (O.stands place.new)) }
     ensures untouched { IfOk result (λ end. end ≡ Differs → place.new ≡ place.old) }
+    ensures err { IfErr result (LeavesPlace O.stands place.old place.new
+        (IsMissing L.gives images.old images.new) ((end : MergeEnd)
+        × MergesNow L.size L.gives R.remaining images.old images.new (W.contents out)
+        (O.stands place.new) end)) }
 {
     let mut devices = mount_all(alloc, images)?;
     let mut readings = open_all(alloc, devices.as_mut_slice())?;
@@ -100,7 +114,11 @@ pub fn merge_now<R: Read + Drop, L: Shelf<R>, W: Write + Drop, O: Place<W>, P: W
 fn mount_all<R: Read + Drop, L: Shelf<R>>(
     alloc: Global,
     images: &mut L,
-) -> Result<Vec<R>, MergeStop> {
+) -> Result<Vec<R>, MergeStop>
+    ensures ok { IfOk result (λ devices. MountsAll L.size L.gives images.old images.new
+        devices.items) }
+    ensures err { IfErr result (Misses (IsMissing L.gives images.old images.new)) }
+{
     let mut devices = Vec::new(alloc);
     for number in 0..images.count() {
         let Some(device) = images.mount(number)? else {
@@ -122,7 +140,12 @@ fn merge_readings<R: Read, W: Write + Drop, O: Place<W>, P: Write>(
     place: &mut O,
     report: &mut P,
 ) -> Result<MergeEnd, MergeStop>
+    ensures ok { IfOk result (ReadersComeTo (map (λ r. r.image) readings.old) (W.contents out)
+        (O.stands place.new)) }
     ensures untouched { IfOk result (λ end. end ≡ Differs → place.new ≡ place.old) }
+    ensures err { IfErr result (LeavesPlace O.stands place.old place.new (λ _. ⊥) ((end : MergeEnd)
+        × ReadersComeTo (map (λ r. r.image) readings.old) (W.contents out) (O.stands place.new)
+        end)) }
 {
     let mut best = Candidate::new(alloc)?;
     let mut other = Candidate::new(alloc)?;
@@ -130,14 +153,8 @@ fn merge_readings<R: Read, W: Write + Drop, O: Place<W>, P: Write>(
     match merge_items(readings, &mut best, &mut other, &mut image) {
         Ok(merged) => {
             let end = end_of(readings, merged.items);
-            if end == MergedEnd::Marked {
-                if let Err(fault) = image.finish() {
-                    return Err(write_stop(fault, image.size()));
-                }
-            }
             report_readings(alloc, readings, names, report)?;
-            let mut written = image.into_device();
-            flush(&mut written)?;
+            let written = end_image(image, end)?;
             place.place(written)?;
             pass_on(report, &merged_line(&merged, end))?;
             Ok(whole_or_partial(&merged, end))
@@ -153,14 +170,39 @@ fn merge_readings<R: Read, W: Write + Drop, O: Place<W>, P: Write>(
     }
 }
 
+/// Writes the end-of-medium marker, if the image ends with one, and flushes the device.
+fn end_image<W: Write + Drop>(image: ImageWriter<W>, end: MergedEnd) -> Result<W, MergeStop>
+    ensures ok { IfOk result (λ device. Appends image.contents (W.contents device)
+        (end_bytes end)) }
+    ensures err { IfErr result (Misses (λ _. ⊥)) }
+{
+    let mut image = image;
+    match end {
+        MergedEnd::Marked => match image.finish() {
+            Ok(()) => Ok(image.into_device()),
+            Err(fault) => Err(write_stop(fault, image.size())),
+        },
+        MergedEnd::Physical | MergedEnd::Cut => {
+            let mut device = image.into_device();
+            flush(&mut device)?;
+            Ok(device)
+        }
+    }
+}
+
 /// Whether the merged image is whole.
 fn whole_or_partial(merged: &Merged, end: MergedEnd) -> MergeEnd
-    ensures { result ≢ Differs }
+    ensures { FitsEnd merged.now.bad merged.now.miscounted end result }
 {
-    if merged.bad == 0 && merged.miscounted == 0 && end != MergedEnd::Cut {
-        MergeEnd::Whole
-    } else {
-        MergeEnd::Partial
+    if merged.bad > 0 {
+        return MergeEnd::Partial;
+    }
+    if merged.miscounted > 0 {
+        return MergeEnd::Partial;
+    }
+    match end {
+        MergedEnd::Cut => MergeEnd::Partial,
+        MergedEnd::Marked | MergedEnd::Physical => MergeEnd::Whole,
     }
 }
 
@@ -185,10 +227,13 @@ fn report_readings<R: Read, P: Write>(
     readings: &[Reading<'_, R>],
     names: &[&str],
     report: &mut P,
-) -> Result<(), MergeStop> {
+) -> Result<(), MergeStop>
+    ensures err { IfErr result (Misses (λ _. ⊥)) }
+{
     for number in 0..readings.len() {
         let name = names.get(number).unwrap_or(&"");
-        let line = reading_line(alloc, number + 1, &line_of(&readings[number]), *name)?;
+        let text = reading_text(number + 1, &line_of(&readings[number]));
+        let line = with_name(alloc, &text, *name)?;
         pass_on(report, line.as_slice())?;
     }
     Ok(())
@@ -214,11 +259,13 @@ fn report_items<R: Read, P: Write>(
     readings: &[Reading<'_, R>],
     names: &[&str],
     report: &mut P,
-) -> Result<(), MergeStop> {
+) -> Result<(), MergeStop>
+    ensures err { IfErr result (Misses (λ _. ⊥)) }
+{
     for number in 0..readings.len() {
         if let Some(has) = has_of(&readings[number]) {
             let name = names.get(number).unwrap_or(&"");
-            let line = has_line(alloc, number + 1, &has, *name)?;
+            let line = with_name(alloc, &has_text(number + 1, &has), *name)?;
             pass_on(report, line.as_slice())?;
         }
     }

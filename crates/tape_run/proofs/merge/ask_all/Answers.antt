@@ -10,7 +10,8 @@ loop-number-init g c = loop_starts (λ r. r.image) c.args.readings.now c.args.be
 pub loop-number-preserved : goal.loop-number-preserved
 loop-number-preserved g c = loop_more (λ r. r.image) c.args.readings.now c.loop-number.readings
     c.loop-number.number c.args.best.now c.loop-number.best c.ask.new.best c.loop-number.other
-    c.ask.new.other c.index-readings-number.result c.ask.new.reading (agreed c.ask.new.reading.verdict)
+    c.ask.new.other c.index-readings-number.result c.ask.new.reading
+    (agreed c.ask.new.reading.verdict)
     c.loop-number.invariant (omega arith) c.index-readings-number.is
     (asked_at (λ r. r.image) c.loop-number.readings c.loop-number.number
     c.index-readings-number.result c.ask.new.reading c.loop-number.best c.ask.new.best

@@ -1,7 +1,7 @@
 use Rattle.std.proofs.Common.{arith, rules, sym, ◌∙◌}
 use Rattle.std.specs.Prelude.{◌==◌}
 use Rattle.tape_run.proofs.MergeLoops.{starts, stops_at, comes_to_end, one_more, refused_now}
-use Rattle.tape_run.proofs.MergeLoops.{one_at_most, wrong_at_most}
+use Rattle.tape_run.proofs.MergeCounts.{one_at_most, wrong_at_most}
 use Rattle.tape_run.proofs.merge.merge_items.Goals as goal
 
 pub items-init : goal.items-init
