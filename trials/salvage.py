@@ -76,9 +76,9 @@ def first_label(item, names):
     return {"name": item[:4], "set": item[21:27], "section": section, "file": file, "count": count}
 
 
-def form_in(item):
-    """The format and the record length in an HDR2."""
-    if not is_block(item) or item[:4] != b"HDR2" or item[4:5] not in b"FDS":
+def form_in(item, names=(b"HDR2",)):
+    """The format and the record length in a second label of one of these names."""
+    if not is_block(item) or item[:4] not in names or item[4:5] not in b"FDS":
         return None
     return chr(item[4]), int(item[10:15])
 
@@ -153,6 +153,7 @@ def sections_on(items, image):
             while at < len(items) and is_block(items[at]):
                 at += 1
             is_next = at < len(items) and items[at] is MARK
+                section.form = section.form or form_in(items[at], (b"EOF2", b"EOV2"))
             at += 1
     return found
 

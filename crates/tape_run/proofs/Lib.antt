@@ -81,6 +81,8 @@ mod Now
 mod OneEntry
 mod SalvagePieces
 mod SalvagedSoFar
+mod SalvageOpened
+mod SalvageSteps
 mod SalvageSections
 mod SalvageFound
 mod SalvageSeen

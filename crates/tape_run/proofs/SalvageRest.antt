@@ -33,7 +33,7 @@ module _ (key : SectionKey) where
   stays_in (Second u) x h m = absurd (cc h)
   stays_in (Headers u) x h m = absurd (cc h)
   stays_in (Trailer u) x h m = absurd (cc h)
-  stays_in Trailers x h m = absurd (cc h)
+  stays_in (Trailers u k) x h m = absurd (cc h)
   stays_in Next x h m = absurd (cc h)
   stays_in Over x h m = absurd (cc h)
 
@@ -63,7 +63,7 @@ module _ (key : SectionKey) where
   no_number most (Second u) h = refl
   no_number most (Headers u) h = refl
   no_number most (Trailer u) h = refl
-  no_number most Trailers h = refl
+  no_number most (Trailers u k) h = refl
   no_number most Next h = refl
   no_number most Over h = refl
 
@@ -90,7 +90,7 @@ module _ (key : SectionKey) where
   after_mark (Second u) h = absurd (cc h)
   after_mark (Headers u) h = absurd (cc h)
   after_mark (Trailer u) h = absurd (cc h)
-  after_mark Trailers h = absurd (cc h)
+  after_mark (Trailers u k) h = absurd (cc h)
   after_mark Next h = absurd (cc h)
   after_mark Over h = absurd (cc h)
 

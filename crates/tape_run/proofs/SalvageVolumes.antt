@@ -1,6 +1,6 @@
--- The walk over a volume of a lawful set of which only data blocks could not be read.
-use Rattle.std.proofs.Common.{◌≡◌, ℕ, List, [], ◌∷◌, length, map, Option, Some, Ok, Result, Err}
-use Rattle.std.proofs.Common.{refl, ap, ◌∙◌}
+-- The walk over a volume of a lawful set, and what is recovered of it.
+use Rattle.std.proofs.Common.{◌≡◌, ℕ, Bool, true, false, List, [], ◌∷◌, ◌++◌, length, Some, Ok}
+use Rattle.std.proofs.Common.{Result, Err, refl, sym, ap, subst, ◌∙◌, append_assoc}
 use Rattle.std.specs.List.{AllByRecursion}
 use Rattle.tape_image.specs.Tape.{TapeItem, block, mark}
 use Rattle.tape_label.specs.declared.values.Kind.TheVariants as kinds
@@ -11,101 +11,142 @@ use Rattle.tape_label.specs.Reading.{head1_at}
 use Rattle.tape_label.proofs.First.{head1_found}
 use Rattle.tape_label.proofs.Apart.{HasKind-unique}
 use Rattle.tape_label.proofs.VolumeLabels.{volume_label_again, no_volume_label}
-use Rattle.tape_set.specs.Layout.{Placed}
-use Rattle.tape_set.specs.Lawful.{IsVolumeLabel, FileForm}
+use Rattle.tape_set.specs.Layout.{Volume}
+use Rattle.tape_set.specs.Lawful.{IsVolume, IsVolumeLabel}
 use Rattle.tape_run.specs.declared.section.SectionKey.{SectionKey}
 use Rattle.tape_run.specs.declared.salvage.walk.Expected.{Expected}
-use Rattle.tape_run.specs.declared.salvage.walk.Expected.TheVariants.{Outside, Next}
-use Rattle.tape_run.specs.SalvageWalk.{step, begun_by}
-use Rattle.tape_run.specs.SalvageBlocks.{Salvaged, salvaged_at}
-use Rattle.tape_run.specs.SalvageImage.{salvaged_from}
-use Rattle.tape_run.specs.SalvageWhole.{Blocks}
-use Rattle.tape_run.specs.SalvageSections.{read_section, read_sections, MayBegin, IsRead, IsOther}
+use Rattle.tape_run.specs.declared.salvage.walk.Expected.TheVariants.{Outside}
+use Rattle.tape_run.specs.SalvageWalk.{step}
+use Rattle.tape_run.specs.SalvageBlocks.{Salvaged}
+use Rattle.tape_run.specs.SalvageSections.{Labels, labels_of, read_labels, SectionRead, IsNoHead}
+use Rattle.tape_run.specs.SalvageSections.{AreNoHeads, IsRead, IsOther, MayBegin, after_trailers}
+use Rattle.tape_run.specs.SalvageSections.{read_section, read_sections, read_volume, AreLabels}
 use Rattle.tape_run.specs.SalvageSections.{RecoversFromVolume}
-use Rattle.tape_run.proofs.SalvageSections.{Goes, goes_append, goes_step, none_yet}
-use Rattle.tape_run.proofs.SalvageSections.{recovers_section_of, passes_section}
+use Rattle.tape_run.proofs.SalvageOpened.{may_after}
+use Rattle.tape_run.proofs.SalvageSteps.{Walk, Quiet, follow, one, outside}
+use Rattle.tape_run.proofs.SalvageSections.{taken, same_gathered, quiet, own_walked, other_walked}
+use Rattle.tape_run.proofs.SalvageSections.{salvaged_blocks, piece_of}
 
--- a block that is not HDR1
-pub record IsNoHead (b : List ℕ) : Type 0 where
-  pub fault : LabelFault
-  pub is : head1_at b ≡ Err fault
+-- ---- its labels
 
 no_head : (b : List ℕ) (r : Result Head1 LabelFault) → head1_at b ≡ r
     → (HasKind b kinds.Hdr1 → ⊥) → IsNoHead b
-no_head b (Err f) e not = record { fault = f; is = e }
+no_head b (Err f) e not = (f, e)
 no_head b (Ok h) e not = absurd (not (head1_found b h e).kind)
 
-pub vol1_no_head : (b : List ℕ) → HasKind b kinds.Vol1 → IsNoHead b
+vol1_no_head : (b : List ℕ) → HasKind b kinds.Vol1 → IsNoHead b
 vol1_no_head b has = no_head b (head1_at b) refl
     (λ h. absurd (let e = HasKind-unique b kinds.Vol1 kinds.Hdr1 has h in cc))
 
-pub label_no_head : (b : List ℕ) → IsVolumeLabel b → IsNoHead b
+label_no_head : (b : List ℕ) → IsVolumeLabel b → IsNoHead b
 label_no_head b is = no_head b (head1_at b) refl
     (λ h. absurd (let e = no_volume_label b kinds.Hdr1 h (λ e. absurd (cc)) in
     let f = volume_label_again b (is.size, is.named) in cc))
 
-module _ (key : SectionKey) (most : ℕ) (form : Option FileForm) where
-  goes_label : (g : Salvaged) (b : List ℕ) → IsNoHead b
-      → Goes key most form (Outside 0) g (block b ∷ []) (Outside 0) g
-  goes_label g b n = goes_step key most form (Outside 0) (Outside 0) g (block b)
-      (ap (λ r. begun_by r (Outside 0)) n.is) refl
+labels_no_heads : (ls : Labels) (bs : List (List ℕ)) → labels_of ls ≡ bs
+    → AllByRecursion IsVolumeLabel bs → AreNoHeads ls
+labels_no_heads [] bs e all = tt
+labels_no_heads ((true, b) ∷ ls) [] e all = absurd (cc e)
+labels_no_heads ((false, b) ∷ ls) [] e all = absurd (cc e)
+labels_no_heads ((true, b) ∷ ls) (c ∷ bs) e (is, all) =
+    let h : c ≡ b = cc in
+    let t : labels_of ls ≡ bs = cc in
+    (subst IsNoHead h (label_no_head c is), labels_no_heads ls bs t all)
+labels_no_heads ((false, b) ∷ ls) (c ∷ bs) e (is, all) =
+    let t : labels_of ls ≡ bs = cc in labels_no_heads ls bs t all
 
-  goes_labels : (g : Salvaged) (ls : List (List ℕ)) → AllByRecursion IsVolumeLabel ls
-      → Goes key most form (Outside 0) g (map block ls) (Outside 0) g
-  goes_labels g [] all = record { after = refl; given = refl }
-  goes_labels g (l ∷ ls) (is, all) = goes_append key most form (Outside 0) (Outside 0) (Outside 0)
-      g g g (block l ∷ []) (map block ls) (goes_label g l (label_no_head l is))
-      (goes_labels g ls all)
+volume_no_heads : (v : Volume) (ls : Labels) → IsVolume v → AreLabels v ls → AreNoHeads ls
+volume_no_heads v [] is e = absurd (cc e)
+volume_no_heads v ((true, b) ∷ ls) is e =
+    let h : v.vol1 ≡ b = cc in
+    let t : labels_of ls ≡ v.labels = cc in
+    (subst IsNoHead h (vol1_no_head v.vol1 is.vol1), labels_no_heads ls v.labels t is.labels)
+volume_no_heads v ((false, b) ∷ ls) is e =
+    let t : labels_of ls ≡ v.labels = cc in labels_no_heads ls v.labels t is.labels
 
-  -- where further sections may begin
-  record Passes (s : Expected) (g : Salvaged) (xs : List TapeItem) : Type 0 where
+-- ---- its sections
+
+sections_append : (rs qs : List SectionRead)
+    → read_sections (rs ++ qs) ≡ read_sections rs ++ read_sections qs
+sections_append [] qs = refl
+sections_append (r ∷ rs) qs =
+    ap (λ (l : List TapeItem). read_section r ++ l) (sections_append rs qs)
+    ∙ sym (append_assoc (read_section r) (read_sections rs) (read_sections qs))
+
+module _ {A : Type 0} (act : Expected → A → TapeItem → A) (q : Quiet act) (set_id : List ℕ)
+    (volumes : ℕ) (key : SectionKey) where
+  -- nothing is gathered from other sections
+  abbrev pub PassesOthers : Type 0
+  PassesOthers = (r : SectionRead) (s : Expected) (a : A) → IsRead set_id volumes r → MayBegin s
+      → IsOther set_id key r → Walk act s a (read_section r) (after_trailers r.trailers) a
+
+  -- further sections may begin after these
+  record Passed (s : Expected) (a : A) (xs : List TapeItem) : Type 0 where
     last : Expected
     may : MayBegin last
-    goes : Goes key most form s g xs last g
+    walk : Walk act s a xs last a
 
-  goes_others : (set_id : List ℕ) (volumes : ℕ) (s : Expected) (g : Salvaged)
-      (xs : List (Placed × Blocks)) (f : FileForm) → form ≡ Some f → MayBegin s
-      → AllByRecursion (IsRead set_id volumes) xs → AllByRecursion (IsOther set_id key) xs
-      → Passes s g (read_sections xs)
-  goes_others set_id volumes s g [] f e may met others =
-      record { last = s; may = may; goes = record { after = refl; given = refl } }
-  goes_others set_id volumes s g (x ∷ xs) f e may (m, met) (o, others) =
-      let one = passes_section set_id volumes x.0 x.1 f key most s g m.0 m.1 may o in
-      let rest = goes_others set_id volumes Next g xs f e tt met others in
-      let first : Goes key most form s g (read_section x.0.section x.1) Next g = record {
-        after = one.0;
-        given = ap (λ z. salvaged_from key most z s g (read_section x.0.section x.1)) e ∙ one.1;
-      } in
+  others : PassesOthers → (s : Expected) (a : A) (rs : List SectionRead) → MayBegin s
+      → AllByRecursion (IsRead set_id volumes) rs → AllByRecursion (IsOther set_id key) rs
+      → Passed s a (read_sections rs)
+  others pass s a [] may read other =
+      record { last = s; may = may; walk = record { after = refl; gives = refl } }
+  others pass s a (r ∷ rs) may (m, read) (o, other) =
+      let t = after_trailers r.trailers in
+      let rest = others pass t a rs (may_after r.trailers) read other in
       record {
         last = rest.last;
         may = rest.may;
-        goes = goes_append key most form s Next rest.last g g g (read_section x.0.section x.1)
-            (read_sections xs) first rest.goes;
+        walk = follow act s t rest.last a a a (read_section r) (read_sections rs)
+            (pass r s a m may o) rest.walk;
       }
 
+  pub record VolumeWalked (a : A) (xs : List TapeItem) (b : A) : Type 0 where
+    pub last : Expected
+    pub may : MayBegin last
+    pub walk : Walk act (Outside 0) a xs (step last mark).0 b
+
+  pub volume_walked : PassesOthers → (v : Volume) (ls : Labels) (before : List SectionRead)
+      (r : SectionRead) (rest : List SectionRead) (a b : A) → IsVolume v → AreLabels v ls
+      → AllByRecursion (IsRead set_id volumes) before → AllByRecursion (IsOther set_id key) before
+      → AllByRecursion (IsRead set_id volumes) rest → AllByRecursion (IsOther set_id key) rest
+      → ((s : Expected) → MayBegin s
+      → Walk act s a (read_section r) (after_trailers r.trailers) b)
+      → VolumeWalked a (read_volume ls (before ++ r ∷ rest)) b
+  volume_walked pass v ls before r rest a b is labels read other read' other' own =
+      let o = Outside 0 in
+      let t = after_trailers r.trailers in
+      let front = others pass o a before refl read other in
+      let back = others pass t b rest (may_after r.trailers) read' other' in
+      let z = (step back.last mark).0 in
+      let both = follow act o front.last back.last a a b (read_sections before)
+      (read_section r ++ read_sections rest) front.walk
+      (follow act front.last t back.last a b b (read_section r) (read_sections rest)
+      (own front.last front.may) back.walk) in
+      let all = subst (λ l. Walk act o a l back.last b) (sym (sections_append before (r ∷ rest)))
+      both in
+      record {
+        last = back.last;
+        may = back.may;
+        walk = follow act o o z a a b (read_labels ls) _
+            (outside act q a ls (volume_no_heads v ls is labels))
+            (follow act o back.last z a b b (read_sections (before ++ r ∷ rest)) (mark ∷ []) all
+            (one act back.last z b b mark refl (q.begin back.last b mark back.may)));
+      }
+
+-- ---- what is recovered
+
 pub recovers_from_volume : RecoversFromVolume
-recovers_from_volume set_id volumes v before x bs rest form key g is met others met' others' own
-    same =
-    let most = length bs in
+recovers_from_volume set_id volumes v ls before r rest form key g is labels read other read' other'
+    own same =
+    let n = length r.blocks in
     let f = Some form in
-    let front = goes_others key most f set_id volumes (Outside 0) g before form refl refl met others
-    in
-    let here = recovers_section_of set_id volumes x bs form key front.last g own.0 own.1 front.may
-    same in
-    let items = read_section x.section bs in
-    let h = salvaged_from key most f front.last g items in
-    let back = goes_others key most f set_id volumes Next h rest form refl tt met' others' in
-    let mid : Goes key most f front.last g items Next h = record { after = here.0; given = refl } in
-    let end : Goes key most f back.last h (mark ∷ []) (step back.last mark).0 h =
-    goes_step key most f back.last (step back.last mark).0 h mark refl
-    (ap (λ n. salvaged_at f h n mark) (none_yet key most back.last back.may)) in
-    let all = goes_append key most f (Outside 0) (Outside 0) (step back.last mark).0 g g h
-    (block v.vol1 ∷ []) _ (goes_label key most f g v.vol1 (vol1_no_head v.vol1 is.vol1))
-    (goes_append key most f (Outside 0) (Outside 0) (step back.last mark).0 g g h
-    (map block v.labels) _ (goes_labels key most f g v.labels is.labels)
-    (goes_append key most f (Outside 0) front.last (step back.last mark).0 g g h
-    (read_sections before) _ front.goes
-    (goes_append key most f front.last Next (step back.last mark).0 g h h items _ mid
-    (goes_append key most f Next back.last (step back.last mark).0 h h h (read_sections rest)
-    (mark ∷ []) back.goes end)))) in
-    ap (λ (d : Salvaged). d.piece) all.given ∙ here.1
+    let act = taken key n f in
+    let h = salvaged_blocks f 0 g r.blocks in
+    let w = volume_walked act (quiet key n f) set_id volumes key
+    (λ x s a m may o. other_walked key n f set_id volumes x s a m may o) v ls before r rest g h is
+    labels read other read' other'
+    (λ s may. own_walked key f set_id volumes r s g own may same) in
+    ap (λ (d : Salvaged). d.piece)
+    (same_gathered key n f (Outside 0) g (read_volume ls (before ++ r ∷ rest)) ∙ w.walk.gives)
+    ∙ piece_of form 0 g r.blocks

@@ -84,12 +84,21 @@ second_by u _ g = Headers u
 abbrev pub unclosed_by : OpenSection → Result Head1 LabelFault → Expected × Option FoundSection
 unclosed_by u h = (begun_by h (Outside 0), Some (u, None))
 
+-- the form that was recorded first
+abbrev pub form_or : Option FileForm → Option FileForm → Option FileForm
+form_or None other = other
+form_or (Some form) other = Some form
+
+-- a label after the trailer label: EOF2 and EOV2 record the form too
+abbrev pub with_trailer : OpenSection → Result Head2 LabelFault → OpenSection
+with_trailer u g = record u { form = form_or u.form (form_by u.file_id g) }
+
 -- after a block at which a trailer label is expected
 abbrev pub closed_by : OpenSection → Result Trail1 LabelFault → Result Head1 LabelFault
     → Expected × Option FoundSection
 closed_by u (Ok t) h =
     if closes u t
-    then (Trailers, Some (u, Some (record { eof = t.eof; count = t.blocks })))
+    then (Trailers u (record { eof = t.eof; count = t.blocks }), None)
     else unclosed_by u h
 closed_by u (Err _) h = unclosed_by u h
 
@@ -131,19 +140,20 @@ step (Data u) mark = (Trailer u, None)
 step (Trailer u) (block b) = closed_by u (trail1_at b) (head1_at b)
 step (Trailer u) bad = (Outside 0, Some (u, None))
 step (Trailer u) mark = (Outside 1, Some (u, None))
-step Trailers (block b) = (Trailers, None)
-step Trailers bad = (Outside 0, None)
-step Trailers mark = (Next, None)
+step (Trailers u k) (block b) = (Trailers (with_trailer u (head2_at b)) k, None)
+step (Trailers u k) bad = (Outside 0, Some (u, Some k))
+step (Trailers u k) mark = (Next, Some (u, Some k))
 step Next (block b) = (begun_by (head1_at b) (Outside 0), None)
 step Next bad = (Outside 0, None)
 step Next mark = (Over, None)
 step Over _ = (Over, None)
 
--- the section that has begun and not ended, if the items end here
+-- the section that is under way, if the items end here
 abbrev pub open_section : Expected → Option FoundSection
 open_section (Headers u) = Some (u, None)
 open_section (Data u) = Some (u, None)
 open_section (Trailer u) = Some (u, None)
+open_section (Trailers u k) = Some (u, Some k)
 open_section _ = None
 
 -- what is expected after these items

@@ -17,8 +17,9 @@ pub fn all_records_are_recovered()
     ensures { AllWhole }
 {}
 
-/// From a section of a lawful set whose labels and tape marks were read, exactly the records of the
-/// blocks that were read are recovered. After it another section may begin.
+/// From a section of a lawful set of which HDR1, the trailer label and the tape marks were read,
+/// exactly the records of the blocks that were read are recovered, whichever of its other labels
+/// were read. After it another section may begin.
 pub fn sections_are_recovered()
     ensures { RecoversSectionOf }
 {}
@@ -34,8 +35,9 @@ pub fn sections_are_found()
     ensures { FindsSection }
 {}
 
-/// From a volume of a lawful set of which only data blocks could not be read, exactly the records
-/// of the section's blocks that were read are recovered.
+/// From a volume of a lawful set of which HDR1, the trailer label and the tape marks of each section
+/// were read, exactly the records of the section's blocks that were read are recovered. VOL1, HDR2,
+/// EOF2 and further labels need not be readable.
 pub fn volumes_are_recovered()
     ensures { RecoversFromVolume }
 {}
@@ -63,9 +65,8 @@ pub fn the_rest_has_nothing_more()
     ensures { RestHasNothing }
 {}
 
-/// From a reading of a volume of which only data blocks could not be read, and which ends at the
-/// mark after the section's data or has all items, exactly the records of the section's blocks that
-/// were read are recovered.
+/// From a reading of such a volume which ends at the mark after the section's data, or has all
+/// items, exactly the records of the section's blocks that were read are recovered.
 pub fn readings_are_recovered()
     ensures { RecoversFromReading }
 {}

@@ -21,7 +21,7 @@ pub struct OpenSection {
     pub key: SectionKey,
     /// The file identifier of its HDR1.
     pub file_id: Field<17>,
-    /// The form of its blocks that its HDR2 records, if it was read.
+    /// The form of its blocks that its HDR2 records, or else its EOF2 or EOV2, if one was read.
     pub form: Option<Known>,
     /// How many data items it has so far, including those that could not be read.
     pub blocks: u32,
@@ -45,8 +45,8 @@ pub enum Expected {
     Data(OpenSection),
     /// A section's first trailer label.
     Trailer(OpenSection),
-    /// What follows a trailer label, up to a tape mark.
-    Trailers,
+    /// What follows a section's trailer label, up to a tape mark.
+    Trailers(OpenSection, Closing),
     /// The next section, or the mark that ends the volume.
     Next,
     /// Nothing: the volume has ended.
@@ -98,6 +98,19 @@ impl OpenSection {
         OpenSection {
             unreadable: count.saturating_add(1),
             ..doubted
+        }
+    }
+
+    /// Takes a label after its trailer label: EOF2 and EOV2 record the form of its blocks too.
+    fn with_trailer(self, read: Result<Head2, LabelFault>) -> OpenSection
+        ensures { result ≡ Walk.with_trailer self read }
+    {
+        match self.form {
+            Some(_) => self,
+            None => OpenSection {
+                form: form_by(self.file_id, read),
+                ..self
+            },
         }
     }
 
@@ -183,7 +196,7 @@ fn closed_by(
                 eof: trail.eof,
                 count: trail.blocks,
             };
-            (Expected::Trailers, Some((section, Some(closed))))
+            (Expected::Trailers(section, closed), None)
         }
         _ => unclosed_by(section, head),
     }
@@ -212,7 +225,10 @@ fn block_step(expected: Expected, bytes: &[u8]) -> (Expected, Option<FoundSectio
         Expected::Headers(section) => (Expected::Headers(section), None),
         Expected::Data(section) => (Expected::Data(section.with_item()), None),
         Expected::Trailer(section) => closed_by(section, read_trail1(bytes), read_head1(bytes)),
-        Expected::Trailers => (Expected::Trailers, None),
+        Expected::Trailers(section, closed) => {
+            let section = section.with_trailer(read_head2(bytes));
+            (Expected::Trailers(section, closed), None)
+        }
         Expected::Next => (begun_by(read_head1(bytes), Expected::Outside(0)), None),
         Expected::Over => (Expected::Over, None),
     }
@@ -229,7 +245,7 @@ fn mark_step(expected: Expected) -> (Expected, Option<FoundSection>)
         Expected::Second(section) | Expected::Headers(section) => (Expected::Data(section), None),
         Expected::Data(section) => (Expected::Trailer(section), None),
         Expected::Trailer(section) => (Expected::Outside(1), Some((section, None))),
-        Expected::Trailers => (Expected::Next, None),
+        Expected::Trailers(section, closed) => (Expected::Next, Some((section, Some(closed)))),
         Expected::Next | Expected::Over => (Expected::Over, None),
     }
 }
@@ -248,7 +264,10 @@ fn bad_step(expected: Expected) -> (Expected, Option<FoundSection>)
         ),
         Expected::Data(section) => (Expected::Data(section.with_unreadable().with_item()), None),
         Expected::Trailer(section) => (Expected::Outside(0), Some((section, None))),
-        Expected::Trailers | Expected::Next => (Expected::Outside(0), None),
+        Expected::Trailers(section, closed) => {
+            (Expected::Outside(0), Some((section, Some(closed))))
+        }
+        Expected::Next => (Expected::Outside(0), None),
     }
 }
 
@@ -264,7 +283,7 @@ pub fn step(expected: Expected, item: Item<'_>) -> (Expected, Option<FoundSectio
 }
 
 impl Expected {
-    /// Returns the section that has begun and not ended, if the items end here.
+    /// Returns the section that is under way, if the items end here.
     pub fn open_section(&self) -> Option<FoundSection>
         ensures { result ≡ Walk.open_section self.now }
     {
@@ -272,6 +291,7 @@ impl Expected {
             Expected::Headers(section) | Expected::Data(section) | Expected::Trailer(section) => {
                 Some((section, None))
             }
+            Expected::Trailers(section, closed) => Some((section, Some(closed))),
             _ => None,
         }
     }

@@ -1,0 +1,159 @@
+-- A section of a lawful set on the walk over its items: what its labels and blocks make of it.
+use Rattle.std.proofs.Common.{◌≡◌, ◌<◌, ◌≤◌, ℕ, ◌+◌, Bool, true, false, List, [], ◌∷◌, suc}
+use Rattle.std.proofs.Common.{length, Option, Some, None, Ok, Result, refl, ap, ◌∙◌, arith}
+use Rattle.std.specs.Prelude.{if◌then◌else◌, ◌==◌, min}
+use Rattle.std.proofs.lemmas.Bool.Decides.{nat_tests}
+use Rattle.tape_image.specs.Tape.{block}
+use Rattle.tape_label.specs.declared.values.Kind.{Kind}
+use Rattle.tape_label.specs.declared.values.Kind.TheVariants as kinds
+use Rattle.tape_label.specs.declared.values.Head1.{Head1}
+use Rattle.tape_label.specs.declared.values.Head2.{Head2}
+use Rattle.tape_label.specs.declared.values.Trail1.{Trail1}
+use Rattle.tape_label.specs.declared.label.LabelFault.{LabelFault}
+use Rattle.tape_label.specs.Reading.{head1_at, head2_at, trail1_at}
+use Rattle.tape_run.specs.declared.section.SectionKey.{SectionKey}
+use Rattle.tape_run.specs.declared.salvage.walk.OpenSection.{OpenSection}
+use Rattle.tape_run.specs.declared.salvage.walk.Closing.{Closing}
+use Rattle.tape_run.specs.declared.salvage.walk.Expected.{Expected}
+use Rattle.tape_run.specs.declared.salvage.walk.Expected.TheVariants.{Outside, Second, Headers}
+use Rattle.tape_run.specs.declared.salvage.walk.Expected.TheVariants.{Data, Trailer, Trailers}
+use Rattle.tape_run.specs.declared.salvage.walk.Expected.TheVariants.{Next, Over}
+use Rattle.tape_run.specs.SalvageWalk.{step, section_by, begun_by, with_item, with_unreadable}
+use Rattle.tape_run.specs.SalvageWalk.{doubted, closes, closed_by, second_by, unclosed_by}
+use Rattle.tape_run.specs.SalvageWalk.{with_trailer}
+use Rattle.tape_run.specs.SalvageWhole.{Blocks}
+use Rattle.tape_run.specs.SalvageSections.{Labels, filled_of, MayBegin, after_trailers}
+
+-- ---- labels
+
+-- if a section may begin, its first label begins it
+pub may_begin : (s : Expected) (b : List ℕ) (h : Head1) → MayBegin s → head1_at b ≡ Ok h
+    → (step s (block b)).0 ≡ Second (section_by h)
+may_begin (Outside n) b h may is = rw may (ap (λ r. begun_by r (Outside 0)) is)
+may_begin Next b h may is = ap (λ r. begun_by r (Outside 0)) is
+may_begin (Second u) b h may is = absurd may
+may_begin (Headers u) b h may is = absurd may
+may_begin (Data u) b h may is = absurd may
+may_begin (Trailer u) b h may is = absurd may
+may_begin (Trailers u k) b h may is = absurd may
+may_begin Over b h may is = absurd may
+
+-- after its second label
+pub record Heads (u : OpenSection) (s : Expected) : Type 0 where
+  pub section : OpenSection
+  pub expects : s ≡ Headers section
+  pub same : section.key ≡ u.key
+  pub none : section.blocks ≡ u.blocks
+
+pub second_is : (u : OpenSection) (k : Option Kind) (r : Result Head2 LabelFault)
+    → Heads u (second_by u k r)
+second_is u None r = record { section = u; expects = refl; same = refl; none = refl }
+second_is u (Some kinds.Hdr2) r =
+    record { section = _; expects = refl; same = refl; none = refl }
+second_is u (Some kinds.Vol1) r = record { section = u; expects = refl; same = refl; none = refl }
+second_is u (Some kinds.Hdr1) r = record { section = u; expects = refl; same = refl; none = refl }
+second_is u (Some kinds.Eof1) r = record { section = u; expects = refl; same = refl; none = refl }
+second_is u (Some kinds.Eof2) r = record { section = u; expects = refl; same = refl; none = refl }
+second_is u (Some kinds.Eov1) r = record { section = u; expects = refl; same = refl; none = refl }
+second_is u (Some kinds.Eov2) r = record { section = u; expects = refl; same = refl; none = refl }
+
+-- its trailer label closes it
+pub closes_it : (u : OpenSection) (t : Trail1) → t.head.sect ≡ u.key.sect
+    → t.head.sequence ≡ u.key.file → closes u t ≡ true
+closes_it u t s f =
+    let a : (t.head.sect == u.key.sect) ≡ true = grind (arith, nat_tests) in
+    let b : (t.head.sequence == u.key.file) ≡ true = grind (arith, nat_tests) in
+    rw (a, b) refl
+
+abbrev pub closed_of : Trail1 → Closing
+closed_of t = record { eof = t.eof; count = t.blocks }
+
+pub trailer_step : (u : OpenSection) (b : List ℕ) (t : Trail1) → trail1_at b ≡ Ok t
+    → closes u t ≡ true → step (Trailer u) (block b) ≡ (Trailers u (closed_of t), None)
+trailer_step u b t is closed =
+    ap (λ (r : Result Trail1 LabelFault). closed_by u r (head1_at b)) is
+    ∙ ap (λ (c : Bool). (if c then (Trailers u (closed_of t), None)
+    else unclosed_by u (head1_at b))) closed
+
+pub key_is : (h : Head1) (set_id : List ℕ) (file sect : ℕ) → h.set_id ≡ set_id → h.sequence ≡ file
+    → h.sect ≡ sect
+    → (section_by h).key ≡ record { set_id = set_id; file = file; sect = sect }
+key_is h set_id file sect a b c =
+    let key : List ℕ → ℕ → ℕ → SectionKey = λ i f s. record { set_id = i; file = f; sect = s } in
+    ap (λ (i : List ℕ). key i h.sequence h.sect) a ∙ ap (λ (f : ℕ). key set_id f h.sect) b
+    ∙ ap (λ (s : ℕ). key set_id file s) c
+
+pub may_after : (ls : Labels) → MayBegin (after_trailers ls)
+may_after [] = tt
+may_after ((true, b) ∷ ls) = may_after ls
+may_after ((false, b) ∷ ls) = refl
+
+-- ---- the section on the way
+
+-- after these labels before its data, of which the first is its second label or follows it
+unfoldable pub headed : OpenSection → Labels → OpenSection
+headed u [] = u
+headed u ((true, b) ∷ ls) = headed u ls
+headed u ((false, b) ∷ ls) = headed (doubted u) ls
+
+pub same_headed : (u : OpenSection) (ls : Labels) → (headed u ls).key ≡ u.key
+unfolding headed
+same_headed u [] = refl
+same_headed u ((true, b) ∷ ls) = same_headed u ls
+same_headed u ((false, b) ∷ ls) = same_headed (doubted u) ls
+
+pub none_headed : (u : OpenSection) (ls : Labels) → (headed u ls).blocks ≡ u.blocks
+unfolding headed
+none_headed u [] = refl
+none_headed u ((true, b) ∷ ls) = none_headed u ls
+none_headed u ((false, b) ∷ ls) = none_headed (doubted u) ls
+
+-- after these data items
+unfoldable pub section_after : OpenSection → Blocks → OpenSection
+section_after u [] = u
+section_after u ((true, f) ∷ bs) = section_after (with_item u) bs
+section_after u ((false, f) ∷ bs) = section_after (with_item (with_unreadable u)) bs
+
+pub same_section_after : (u : OpenSection) (bs : Blocks) → (section_after u bs).key ≡ u.key
+unfolding section_after
+same_section_after u [] = refl
+same_section_after u ((true, f) ∷ bs) = same_section_after (with_item u) bs
+same_section_after u ((false, f) ∷ bs) = same_section_after (with_item (with_unreadable u)) bs
+
+pub one_more : (n : ℕ) → n < 4294967295 → min (n + 1) 4294967295 ≡ n + 1
+one_more n lt = omega (arith, lt)
+
+pub counted : (u : OpenSection) (bs : Blocks) → u.blocks + length bs ≤ 4294967295
+    → (section_after u bs).blocks ≡ u.blocks + length bs
+unfolding section_after
+counted u [] few = omega arith
+counted u ((true, f) ∷ bs) few =
+    let n = one_more u.blocks (omega (arith, few)) in
+    let r = counted (with_item u) bs (omega (arith, n, few)) in
+    omega (arith, n, r)
+counted u ((false, f) ∷ bs) few =
+    let n = one_more u.blocks (omega (arith, few)) in
+    let r = counted (with_item (with_unreadable u)) bs (omega (arith, n, few)) in
+    omega (arith, n, r)
+
+pub long : (bs : Blocks) → length (filled_of bs) ≡ length bs
+long [] = refl
+long (b ∷ bs) = ap suc (long bs)
+
+-- after these labels behind its trailer label, up to the first that could not be read
+unfoldable pub trailed : OpenSection → Labels → OpenSection
+trailed u [] = u
+trailed u ((true, b) ∷ ls) = trailed (with_trailer u (head2_at b)) ls
+trailed u ((false, b) ∷ ls) = u
+
+pub same_trailed : (u : OpenSection) (ls : Labels) → (trailed u ls).key ≡ u.key
+unfolding trailed
+same_trailed u [] = refl
+same_trailed u ((true, b) ∷ ls) = same_trailed (with_trailer u (head2_at b)) ls
+same_trailed u ((false, b) ∷ ls) = refl
+
+pub counted_trailed : (u : OpenSection) (ls : Labels) → (trailed u ls).blocks ≡ u.blocks
+unfolding trailed
+counted_trailed u [] = refl
+counted_trailed u ((true, b) ∷ ls) = counted_trailed (with_trailer u (head2_at b)) ls
+counted_trailed u ((false, b) ∷ ls) = refl

@@ -1,0 +1,227 @@
+-- The walk over a section of a lawful set, with whatever is gathered on the way.
+use Rattle.std.proofs.Common.{◌≡◌, ℕ, true, false, List, [], ◌∷◌, ◌++◌, length, Ok, refl, sym, ap}
+use Rattle.std.proofs.Common.{◌∙◌, arith}
+use Rattle.tape_image.specs.Tape.{TapeItem, block, bad, mark}
+use Rattle.tape_label.specs.declared.values.Trail1.{Trail1}
+use Rattle.tape_label.specs.Kinds.{kind_at}
+use Rattle.tape_label.specs.Reading.{head2_at, trail1_at}
+use Rattle.tape_label.proofs.First.{head1_again, trail1_again}
+use Rattle.tape_set.specs.Lawful.{label_count}
+use Rattle.tape_run.specs.declared.section.SectionKey.{SectionKey}
+use Rattle.tape_run.specs.declared.salvage.walk.OpenSection.{OpenSection}
+use Rattle.tape_run.specs.declared.salvage.walk.Closing.{Closing}
+use Rattle.tape_run.specs.declared.salvage.walk.Expected.{Expected}
+use Rattle.tape_run.specs.declared.salvage.walk.Expected.TheVariants.{Outside, Second, Headers}
+use Rattle.tape_run.specs.declared.salvage.walk.Expected.TheVariants.{Data, Trailer, Trailers}
+use Rattle.tape_run.specs.declared.salvage.walk.Expected.TheVariants.{Next}
+use Rattle.tape_run.specs.SalvageWalk.{step, expected_after, section_by, begun_by, with_item}
+use Rattle.tape_run.specs.SalvageWalk.{with_unreadable, doubted, closes, with_trailer}
+use Rattle.tape_run.specs.SalvageWhole.{Blocks}
+use Rattle.tape_run.specs.SalvageSections.{Labels, read_labels, labels_of, read_blocks}
+use Rattle.tape_run.specs.SalvageSections.{SectionRead, read_section, AreNoHeads, NoneBegins}
+use Rattle.tape_run.specs.SalvageSections.{IsRead, key_of, MayBegin, after_trailers}
+use Rattle.tape_run.proofs.SalvagedSoFar.{expected_after-append}
+use Rattle.tape_run.proofs.SalvageOpened.{may_begin, second_is, closes_it, closed_of}
+use Rattle.tape_run.proofs.SalvageOpened.{trailer_step, key_is, headed, same_headed, none_headed}
+use Rattle.tape_run.proofs.SalvageOpened.{section_after, same_section_after, counted, long}
+use Rattle.tape_run.proofs.SalvageOpened.{trailed, same_trailed, counted_trailed}
+
+-- ---- the walk
+
+-- what is gathered from these items
+abbrev pub gathered : {A : Type 0} → (Expected → A → TapeItem → A) → Expected → A
+    → List TapeItem → A
+gathered act s a [] = a
+gathered act s a (x ∷ xs) = gathered act (step s x).0 (act s a x) xs
+
+gathered-append : {A : Type 0} (act : Expected → A → TapeItem → A) (s : Expected) (a : A)
+    (xs ys : List TapeItem)
+    → gathered act s a (xs ++ ys) ≡ gathered act (expected_after s xs) (gathered act s a xs) ys
+gathered-append act s a [] ys = refl
+gathered-append act s a (x ∷ xs) ys = gathered-append act (step s x).0 (act s a x) xs ys
+
+-- these items lead from here to there, and gather this
+pub record Walk {A : Type 0} (act : Expected → A → TapeItem → A) (s : Expected) (a : A)
+    (xs : List TapeItem) (t : Expected) (b : A) : Type 0 where
+  pub after : expected_after s xs ≡ t
+  pub gives : gathered act s a xs ≡ b
+
+-- nothing is gathered from labels, and from marks between sections
+pub record Quiet {A : Type 0} (act : Expected → A → TapeItem → A) : Type 0 where
+  pub begin : (s : Expected) (a : A) (x : TapeItem) → MayBegin s → act s a x ≡ a
+  pub second : (u : OpenSection) (a : A) (x : TapeItem) → act (Second u) a x ≡ a
+  pub headers : (u : OpenSection) (a : A) (x : TapeItem) → act (Headers u) a x ≡ a
+  pub trailer : (u : OpenSection) (a : A) (b : List ℕ) (t : Trail1) → trail1_at b ≡ Ok t
+      → closes u t ≡ true → act (Trailer u) a (block b) ≡ a
+  pub trailers : (u : OpenSection) (k : Closing) (a : A) (b : List ℕ)
+      → act (Trailers u k) a (block b) ≡ a
+
+module _ {A : Type 0} (act : Expected → A → TapeItem → A) where
+  pub follow : (s t u : Expected) (a b c : A) (xs ys : List TapeItem) → Walk act s a xs t b
+      → Walk act t b ys u c → Walk act s a (xs ++ ys) u c
+  follow s t u a b c xs ys one two = record {
+    after = expected_after-append s xs ys ∙ ap (λ z. expected_after z ys) one.after ∙ two.after;
+    gives = gathered-append act s a xs ys
+        ∙ ap (λ z. gathered act z (gathered act s a xs) ys) one.after
+        ∙ ap (λ z. gathered act t z ys) one.gives ∙ two.gives;
+  }
+
+  pub one : (s t : Expected) (a b : A) (x : TapeItem) → (step s x).0 ≡ t → act s a x ≡ b
+      → Walk act s a (x ∷ []) t b
+  one s t a b x e f = record { after = e; gives = f }
+
+  pub first : (s t u : Expected) (a b c : A) (x : TapeItem) (xs : List TapeItem)
+      → (step s x).0 ≡ t → act s a x ≡ b → Walk act t b xs u c → Walk act s a (x ∷ xs) u c
+  first s t u a b c x xs e f rest = follow s t u a b c (x ∷ []) xs (one s t a b x e f) rest
+
+  -- data of a section of which nothing is gathered
+  pub quiet_data : (key : SectionKey) (u : OpenSection) (a : A) (bs : Blocks) → u.key ≡ key
+      → ((v : OpenSection) (b : List ℕ) → v.key ≡ key → act (Data v) a (block b) ≡ a)
+      → ((v : OpenSection) → v.key ≡ key → act (Data v) a bad ≡ a)
+      → Walk act (Data u) a (read_blocks bs) (Data (section_after u bs)) a
+  unfolding section_after
+  quiet_data key u a [] own f g = record { after = refl; gives = refl }
+  quiet_data key u a ((true, x) ∷ bs) own f g =
+      let v = with_item u in
+      first (Data u) (Data v) (Data (section_after v bs)) a a a (block x.bytes) (read_blocks bs)
+      refl (f u x.bytes own) (quiet_data key v a bs own f g)
+  quiet_data key u a ((false, x) ∷ bs) own f g =
+      let v = with_item (with_unreadable u) in
+      first (Data u) (Data v) (Data (section_after v bs)) a a a bad (read_blocks bs)
+      refl (g u own) (quiet_data key v a bs own f g)
+
+  -- labels outside of sections
+  pub outside : Quiet act → (a : A) (ls : Labels) → AreNoHeads ls
+      → Walk act (Outside 0) a (read_labels ls) (Outside 0) a
+  outside q a [] none = record { after = refl; gives = refl }
+  outside q a ((true, b) ∷ ls) (n, none) =
+      first (Outside 0) (Outside 0) (Outside 0) a a a (block b) (read_labels ls)
+      (ap (λ r. begun_by r (Outside 0)) n.1) (q.begin (Outside 0) a (block b) refl)
+      (outside q a ls none)
+  outside q a ((false, b) ∷ ls) none =
+      first (Outside 0) (Outside 0) (Outside 0) a a a bad (read_labels ls) refl
+      (q.begin (Outside 0) a bad refl) (outside q a ls none)
+
+  headers : Quiet act → (u : OpenSection) (a : A) (ls : Labels)
+      → Walk act (Headers u) a (read_labels ls) (Headers (headed u ls)) a
+  unfolding headed
+  headers q u a [] = record { after = refl; gives = refl }
+  headers q u a ((true, b) ∷ ls) =
+      first (Headers u) (Headers u) (Headers (headed u ls)) a a a (block b) (read_labels ls) refl
+      (q.headers u a (block b)) (headers q u a ls)
+  headers q u a ((false, b) ∷ ls) =
+      let v = doubted u in
+      first (Headers u) (Headers v) (Headers (headed v ls)) a a a bad (read_labels ls) refl
+      (q.headers u a bad) (headers q v a ls)
+
+  -- the labels after HDR1, of which there is one at least
+  record AfterHead (u : OpenSection) (a : A) (ls : Labels) : Type 0 where
+    section : OpenSection
+    walk : Walk act (Second u) a (read_labels ls) (Headers section) a
+    same : section.key ≡ u.key
+    none : section.blocks ≡ u.blocks
+
+  after_head : Quiet act → (u : OpenSection) (a : A) (ls : Labels) (b : List ℕ)
+      (more : List (List ℕ)) → labels_of ls ≡ b ∷ more → AfterHead u a ls
+  after_head q u a [] b more e = absurd (cc e)
+  after_head q u a ((true, x) ∷ ls) b more e =
+      let two = second_is u (kind_at x) (head2_at x) in
+      let v = two.section in
+      record {
+        section = headed v ls;
+        walk = first (Second u) (Headers v) (Headers (headed v ls)) a a a (block x)
+            (read_labels ls) two.expects (q.second u a (block x)) (headers q v a ls);
+        same = same_headed v ls ∙ two.same;
+        none = none_headed v ls ∙ two.none;
+      }
+  after_head q u a ((false, x) ∷ ls) b more e =
+      let v = doubted u in
+      record {
+        section = headed v ls;
+        walk = first (Second u) (Headers v) (Headers (headed v ls)) a a a bad (read_labels ls)
+            refl (q.second u a bad) (headers q v a ls);
+        same = same_headed v ls;
+        none = none_headed v ls;
+      }
+
+  -- the labels after a trailer label, and the mark after them
+  trailers : Quiet act → (u : OpenSection) (k : Closing) (a b : A) (ls : Labels) → NoneBegins ls
+      → act (Trailers (trailed u ls) k) a mark ≡ b → act (Trailers (trailed u ls) k) a bad ≡ b
+      → Walk act (Trailers u k) a (read_labels ls ++ mark ∷ []) (after_trailers ls) b
+  unfolding trailed
+  trailers q u k a b [] none m n = one (Trailers u k) Next a b mark refl m
+  trailers q u k a b ((true, x) ∷ ls) none m n =
+      let v = with_trailer u (head2_at x) in
+      first (Trailers u k) (Trailers v k) (after_trailers ls) a a b (block x)
+      (read_labels ls ++ mark ∷ []) refl (q.trailers u k a x) (trailers q v k a b ls none m n)
+  trailers q u k a b ((false, x) ∷ ls) none m n =
+      first (Trailers u k) (Outside 0) (Outside 1) a b b bad (read_labels ls ++ mark ∷ []) refl n
+      (follow (Outside 0) (Outside 0) (Outside 1) b b b (read_labels ls) (mark ∷ [])
+      (outside q b ls none)
+      (one (Outside 0) (Outside 1) b b mark refl (q.begin (Outside 0) b mark refl)))
+
+  -- ---- a section
+
+  -- The walk over a section that closes. `ends` is what is gathered where its trailer labels end.
+  pub record Walked (set_id : List ℕ) (r : SectionRead) (s : Expected) (a : A)
+      (ends : OpenSection → Closing → A) : Type 0 where
+    pub section : OpenSection
+    pub closing : Closing
+    pub walk : Walk act s a (read_section r) (after_trailers r.trailers) (ends section closing)
+    pub key : section.key ≡ key_of set_id r
+    pub blocks : section.blocks ≡ length r.blocks
+    pub count : closing.count ≡ label_count (length r.blocks)
+
+  pub section_walked : Quiet act → (set_id : List ℕ) (volumes : ℕ) (r : SectionRead)
+      (s : Expected) (a b c : A) (ends : OpenSection → Closing → A) → IsRead set_id volumes r
+      → MayBegin s
+      → ((v : OpenSection) → v.key ≡ key_of set_id r → v.blocks ≡ 0
+      → Walk act (Data v) a (read_blocks r.blocks) (Data (section_after v r.blocks)) b)
+      → ((w : OpenSection) → w.key ≡ key_of set_id r → act (Data w) b mark ≡ c)
+      → ((z : OpenSection) (k : Closing) → act (Trailers z k) c mark ≡ ends z k)
+      → ((z : OpenSection) (k : Closing) → act (Trailers z k) c bad ≡ ends z k)
+      → Walked set_id r s a ends
+  section_walked q set_id volumes r s a b c ends read may on_data on_mark on_end on_bad =
+      let x = r.placed in
+      let y = x.section in
+      let (h, header) = read.is.header in
+      let (t, trailer) = read.is.trailer in
+      let u = section_by h in
+      let two = after_head q u a r.headers y.hdr2 y.headers read.headers in
+      let v = two.section in
+      let own = two.same
+      ∙ key_is h set_id x.file x.sect header.set_id header.file header.sect in
+      let w = section_after v r.blocks in
+      let whose : w.key ≡ key_of set_id r = same_section_after v r.blocks ∙ own in
+      let closed = closes_it w t (trailer.sect ∙ sym (ap (λ (k : SectionKey). k.sect) whose))
+      (trailer.file ∙ sym (ap (λ (k : SectionKey). k.file) whose)) in
+      let at = trail1_again y.trailer t trailer.label in
+      let k = closed_of t in
+      let z = trailed w r.trailers in
+      let d = ends z k in
+      let e = after_trailers r.trailers in
+      let n = sym (long r.blocks) ∙ ap length read.blocks in
+      let all = counted v r.blocks (omega (arith, two.none, n, read.is.few)) in
+      let later = counted_trailed w r.trailers in
+      record {
+        section = z;
+        closing = k;
+        walk = follow s (Second u) e a a d (block y.hdr1 ∷ []) _
+            (one s (Second u) a a (block y.hdr1)
+            (may_begin s y.hdr1 h may (head1_again y.hdr1 h header.label))
+            (q.begin s a (block y.hdr1) may))
+            (follow (Second u) (Headers v) e a a d (read_labels r.headers) _ two.walk
+            (follow (Headers v) (Data v) e a a d (mark ∷ []) _
+            (one (Headers v) (Data v) a a mark refl (q.headers v a mark))
+            (follow (Data v) (Data w) e a b d (read_blocks r.blocks) _ (on_data v own two.none)
+            (follow (Data w) (Trailers w k) e b c d (mark ∷ block y.trailer ∷ []) _
+            (first (Data w) (Trailer w) (Trailers w k) b c c mark (block y.trailer ∷ []) refl
+            (on_mark w whose)
+            (one (Trailer w) (Trailers w k) c c (block y.trailer)
+            (ap (λ p. p.0) (trailer_step w y.trailer t at closed))
+            (q.trailer w c y.trailer t at closed)))
+            (trailers q w k c d r.trailers read.none (on_end z k) (on_bad z k))))));
+        key = same_trailed w r.trailers ∙ whose;
+        blocks = omega (arith, later, all, two.none);
+        count = trailer.count ∙ ap label_count (sym n);
+      }
