@@ -134,4 +134,5 @@ mod MergeOpening
 mod MergeNow
 mod MergedBetter
 mod MergedCopies
+mod MergedOrders
 mod MergedFar

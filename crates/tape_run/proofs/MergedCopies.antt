@@ -5,7 +5,8 @@ use Rattle.std.proofs.Common.{sym, ap, subst, ◌∙◌, arith, append-nil, leng
 use Rattle.std.proofs.lemmas.Bool.{cases_lt}
 use Rattle.std.specs.Prelude.{IsSome, max}
 use Rattle.tape_image.specs.Tape.{TapeItem, block, bad, mark}
-use Rattle.tape_set.specs.Layout.{FileSet, Entry, a_label, a_data_block, a_mark, nth, items, entries}
+use Rattle.tape_set.specs.Layout.{FileSet, Entry, a_label, a_data_block, a_mark, nth, items}
+use Rattle.tape_set.specs.Layout.{entries}
 use Rattle.tape_set.specs.Layout.{item_of}
 use Rattle.tape_set.specs.Reading.{Reading, as_read}
 use Rattle.tape_set.specs.Reach.{passes}

@@ -1,6 +1,8 @@
--- Reading the merged image once takes a position at least as far as its copies, read again and again.
-use Rattle.std.proofs.Common.{◌≡◌, ◌≢◌, ◌<◌, ◌≤◌, ◌⊎◌, inl, inr, ℕ, zero, suc, ◌+◌, ◌-◌, List, [], ◌∷◌}
-use Rattle.std.proofs.Common.{length, take, drop, Bool, true, false, cond, ltb, Option, Some, None}
+-- Reading the merged image once takes a position at least as far as its copies, read again and
+-- again.
+use Rattle.std.proofs.Common.{◌≡◌, ◌≢◌, ◌<◌, ◌≤◌, ◌⊎◌, inl, inr, ℕ, zero, suc, ◌+◌, ◌-◌, List, []}
+use Rattle.std.proofs.Common.{◌∷◌, length, take, drop, Bool, true, false, cond, ltb, Option, Some}
+use Rattle.std.proofs.Common.{None}
 use Rattle.std.proofs.Common.{refl, sym, ap, subst, ◌∙◌, arith}
 use Rattle.std.specs.Prelude.{◌==◌, ◌&&◌}
 use Rattle.std.specs.List.{AllByRecursion}
@@ -18,53 +20,7 @@ use Rattle.tape_set.proofs.Reaching.{and_left, first_unread_most, far_never_fall
 use Rattle.tape_set.proofs.AllVolumes.{goes_on_on_next}
 use Rattle.tape_run.specs.MergedCopies.{IsBetter, OnceIsEnough}
 use Rattle.tape_run.proofs.MergedBetter.{up_to_behind, better_is_as_far}
-
--- ---- the order of positions
-
-before_trans : (p q r : Position) → IsBefore p q → IsBefore q r → IsBefore p r
-before_trans (Awaits s b j) (Awaits t c k) (Awaits u d l) (inl x) (inl y) = inl (omega (arith, x, y))
-before_trans (Awaits s b j) (Awaits t c k) (Awaits u d l) (inl x) (inr (e, y)) =
-    inl (omega (arith, x, e))
-before_trans (Awaits s b j) (Awaits t c k) (Awaits u d l) (inr (e, x)) (inl y) =
-    inl (omega (arith, e, y))
-before_trans (Awaits s b j) (Awaits t c k) (Awaits u d l) (inr (e, inl x)) (inr (f, inl y)) =
-    inr (e ∙ f, inl (omega (arith, x, y)))
-before_trans (Awaits s b j) (Awaits t c k) (Awaits u d l) (inr (e, inl x)) (inr (f, inr (g, y))) =
-    inr (e ∙ f, inl (omega (arith, x, g)))
-before_trans (Awaits s b j) (Awaits t c k) (Awaits u d l) (inr (e, inr (g, x))) (inr (f, inl y)) =
-    inr (e ∙ f, inl (omega (arith, g, y)))
-before_trans (Awaits s b j) (Awaits t c k) (Awaits u d l) (inr (e, inr (g, x)))
-    (inr (f, inr (h, y))) = inr (e ∙ f, inr (g ∙ h, omega (arith, x, y)))
-before_trans (Awaits s b j) (Awaits t c k) Finished h g = tt
-before_trans (Awaits s b j) Finished r h g = absurd g
-before_trans Finished q r h g = absurd h
-
-before_never : (p : Position) → IsBefore p p → ⊥
-before_never (Awaits s b j) (inl x) = absurd (omega (arith, x))
-before_never (Awaits s b j) (inr (e, inl x)) = absurd (omega (arith, x))
-before_never (Awaits s b j) (inr (e, inr (f, x))) = absurd (omega (arith, x))
-before_never Finished h = h
-
-up_trans : (p q r : Position) → IsUpTo p q → IsUpTo q r → IsUpTo p r
-up_trans p q r (inl x) (inl y) = inl (before_trans p q r x y)
-up_trans p q r (inl x) (inr e) = inl (subst (λ (s : Position). IsBefore p s) e x)
-up_trans p q r (inr e) h = subst (λ (s : Position). IsUpTo s r) (sym e) h
-
-up_both : (p q : Position) → IsUpTo p q → IsUpTo q p → p ≡ q
-up_both p q (inr e) h = e
-up_both p q (inl x) (inr e) = sym e
-up_both p q (inl x) (inl y) = absurd (before_never p (before_trans p q p x y))
-
-up_sect : (s b j t c k : ℕ) → IsUpTo (Awaits s b j) (Awaits t c k) → s ≤ t
-up_sect s b j t c k (inl (inl x)) = omega (arith, x)
-up_sect s b j t c k (inl (inr (e, x))) = omega (arith, e)
-up_sect s b j t c k (inr e) = omega (arith, ap sect_of e)
-
-up_block : (s b j c k : ℕ) → IsUpTo (Awaits s b j) (Awaits s c k) → b ≤ c
-up_block s b j c k (inl (inl x)) = absurd (omega (arith, x))
-up_block s b j c k (inl (inr (e, inl x))) = omega (arith, x)
-up_block s b j c k (inl (inr (e, inr (f, x)))) = omega (arith, f)
-up_block s b j c k (inr e) = omega (arith, ap block_of e)
+use Rattle.tape_run.proofs.MergedOrders.{up_trans, up_both, up_sect, up_block}
 
 -- ---- the first block that was not read well is the same from any block before it
 
@@ -114,7 +70,8 @@ data Goes (t b j : ℕ) (w : Section) (good : List Bool) (there : Position) : Ty
   reaches : b ≤ length w.blocks → first_unread good b (length w.blocks) < length w.blocks
       → there ≡ awaiting t (first_unread good b (length w.blocks)) → Goes t b j w good there
   completes : length w.blocks ≤ first_unread good b (length w.blocks)
-      → both_good (drop (length w.blocks) good) ≡ true → there ≡ behind t w → Goes t b j w good there
+      → both_good (drop (length w.blocks) good) ≡ true → there ≡ behind t w
+      → Goes t b j w good there
   ends : b ≤ length w.blocks → length w.blocks ≤ first_unread good b (length w.blocks)
       → both_good (drop (length w.blocks) good) ≡ false → there ≡ awaiting t (length w.blocks)
       → Goes t b j w good there
@@ -125,7 +82,8 @@ goes t b j w good = one (ltb (length w.blocks) b) refl
   where
     at_block : (x : Bool) → b ≤ length w.blocks
         → first_unread good b (length w.blocks) < length w.blocks
-        → Goes t b j w good (cond x (Awaits t b j) (awaiting t (first_unread good b (length w.blocks))))
+        → Goes t b j w good
+        (cond x (Awaits t b j) (awaiting t (first_unread good b (length w.blocks))))
     at_block true le lt = stays refl
     at_block false le lt = reaches le lt refl
 
@@ -149,7 +107,8 @@ goes t b j w good = one (ltb (length w.blocks) b) refl
         (stopped (Awaits t b j) t b (first_unread good b (length w.blocks)))
         (cond (both_good (drop (length w.blocks) good)) (behind t w)
         (stopped (Awaits t b j) t b (length w.blocks))))
-    two true e le = at_block (first_unread good b (length w.blocks) == b) le (grind (arith, nat_tests))
+    two true e le =
+        at_block (first_unread good b (length w.blocks) == b) le (grind (arith, nat_tests))
     two false e le =
         whole (both_good (drop (length w.blocks) good)) refl le (grind (arith, nat_tests))
 
@@ -337,7 +296,8 @@ module _ (set : FileSet) (file : ℕ) (s : Reading) (lawful : GoesOnOnNext set) 
           (subst (λ (y : Position). Goes t b j w (rest t w) y) (sym (far_passed t b j w true e f))
           (goes t b j w (rest t w)))
       passed w e f (inl is) =
-          subst (λ (y : ℕ). IsUpTo (far set file (Awaits y c i) s) (far set file (Awaits t b j) s)) is
+          subst (λ (y : ℕ).
+          IsUpTo (far set file (Awaits y c i) s) (far set file (Awaits t b j) s)) is
           (same_section t b j c i w e f
           (subst (λ (y : ℕ). IsUpTo (Awaits t b j) (Awaits y c i)) (sym is) below)
           (subst (λ (y : ℕ). IsUpTo (Awaits y c i) (far set file (Awaits t b j) s)) (sym is) on))
@@ -354,7 +314,8 @@ module _ (set : FileSet) (file : ℕ) (s : Reading) (lawful : GoesOnOnNext set) 
       go (Some w) e = tried w (past t w) e refl
 
 pub once_is_enough : OnceIsEnough
-once_is_enough set file p rs s lawful all = go rs p (up_to_same p) (far_never_falls set file p s) all
+once_is_enough set file p rs s lawful all =
+    go rs p (up_to_same p) (far_never_falls set file p s) all
   where
     go : (rs : List Reading) (q : Position) → IsUpTo p q → IsUpTo q (far set file p s)
         → AllByRecursion (λ r. IsBetter s r) rs

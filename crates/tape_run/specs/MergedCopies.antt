@@ -28,8 +28,8 @@ abbrev pub AreWithin : List Reading → Reading → Type 0
 AreWithin [] s = ⊤
 AreWithin (r ∷ rs) s = IsWithin r.good s.good × AreWithin rs s
 
--- The merged items of copies of a volume are a copy of it, with a reading in which each item was read
--- well that was read well in one of theirs.
+-- The merged items of copies of a volume are a copy of it, with a reading in which each item was
+-- read well that was read well in one of theirs.
 abbrev pub MergedIsCopy : Type 0
 MergedIsCopy = (set : FileSet) (k : ℕ) (images : List (List TapeItem)) (rs : List Reading)
     (merged : List TapeItem) → IsSome (nth set.volumes k) → AreCopies set k images rs
@@ -45,8 +45,8 @@ BetterIsAsFar = (set : FileSet) (file : ℕ) (p : Position) (r s : Reading) → 
 abbrev pub IsBetter : Reading → Reading → Type 0
 IsBetter s r = (r.volume ≡ s.volume) × IsWithin r.good s.good
 
--- In a lawful set, it takes a position at least as far as all the others together, one after another,
--- in any order and each as often as one likes.
+-- In a lawful set, it takes a position at least as far as all the others together, one after
+-- another, in any order and each as often as one likes.
 abbrev pub OnceIsEnough : Type 0
 OnceIsEnough = (set : FileSet) (file : ℕ) (p : Position) (rs : List Reading) (s : Reading)
     → IsLawful set → AllByRecursion (λ r. IsBetter s r) rs

@@ -2,7 +2,8 @@
 
 ghost use Rattle.std.specs.Prelude.{IfOk, IfErr};
 ghost use Rattle.clap.specs.Words.{found_of, rows_of};
-ghost use Rattle.tape_tool.specs.Words.{AreTooMany, AsksToMerge, IsNoMerge, NamesImages, RefusedFor};
+ghost use Rattle.tape_tool.specs.Words.{AreTooMany, AsksToMerge, IsNoMerge, NamesImages};
+ghost use Rattle.tape_tool.specs.Words.{RefusedFor};
 
 use crate::help;
 use crate::images::Named;
