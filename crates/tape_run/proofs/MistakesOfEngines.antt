@@ -2,7 +2,8 @@
 use Rattle.std.proofs.Common.{◌≡◌, ℕ, List, [], ◌∷◌, ◌++◌, length, true, false, refl}
 use Rattle.std.proofs.Common.{ap, ◌∙◌, sym, subst, arith, codes}
 use Rattle.std.specs.Prelude.{Bool, Option, Some, None, Ok, slice_index, map, option_map}
-use Rattle.std.specs.Prelude.{◌<◌, ◌≤◌}
+use Rattle.std.specs.Prelude.{◌<◌, ◌≤◌, nat_lt, if◌then◌else◌}
+use Rattle.std.proofs.lemmas.Bool.{lt-ltb}
 use Rattle.std.specs.Fmt.{digits}
 use Rattle.std.specs.Io.KnownBytes.{Appends}
 use Rattle.tape_core.specs.State.{State}
@@ -19,6 +20,10 @@ use Rattle.tape_run.specs.ReelLine.{reel_lines, last_line}
 use Rattle.tape_run.specs.Reeling.{Turn, answer_of, AreTurns, Follows, IsKeptFor, goes_back}
 use Rattle.tape_run.specs.Reeling.{Mounting, IsTurn}
 use Rattle.tape_run.specs.Reeling.{AreMounted}
+use Rattle.tape_run.specs.declared.salvage.copies.SectionCopy.{SectionCopy}
+use Rattle.tape_run.specs.SalvageCopies.{believed}
+use Rattle.tape_run.specs.SalvageBlocks.{Salvaged}
+use Rattle.tape_run.specs.SalvageEnds.{ended, stopped, read_again}
 use Rattle.tape_run.proofs.check.check_to.Reads as check_to
 use Rattle.tape_run.proofs.extract.extract_to.Reads as extract_to
 
@@ -255,3 +260,18 @@ images_checked_from_1 : (R : _) (L : _) (P : _) (LR : _) (LL : _) (LP : _) (g : 
 images_checked_from_1 R L P LR LL LP g d h i m n j κs a found s l one other =
     first_stays h.gives g.remaining a.1.0.now s.1.0.now l.ok.reels l.ok.mounted (l.ok.all ∙ one)
     other
+
+-- ---- what is readable of a file
+
+either_missing : (b : Bool) (x y : Salvaged) → b ≡ true → x.missing ≡ true
+    → (if b then x else y).missing ≡ false → ⊥
+either_missing true x y is one off = absurd (cc)
+either_missing false x y is one off = absurd (cc)
+
+-- stopped_reading_told_as_complete: of a section fewer blocks were read again than it certainly
+-- has, and nothing is missing
+stopped_reading_told_as_complete : (n : ℕ) (c : SectionCopy) (g : Salvaged) → n < believed c
+    → (read_again n c g).missing ≡ false → ⊥
+stopped_reading_told_as_complete n c g fewer off =
+    either_missing (nat_lt n (believed c)) (stopped g) (ended c c.closed g)
+    (lt-ltb n (believed c) fewer) refl off

@@ -13,14 +13,15 @@ use Rattle.tape_run.specs.declared.salvage.recovery.Recovery.{Recovery}
 use Rattle.tape_run.specs.Reeling.{Mounting}
 use Rattle.tape_run.specs.SalvageCopies.{believed}
 use Rattle.tape_run.specs.SalvageLine.{section_line}
-use Rattle.tape_run.specs.SalvageImage.{RecoversSection, salvaged_from, text_from}
+use Rattle.tape_run.specs.SalvageWalk.{expected_after}
+use Rattle.tape_run.specs.SalvageImage.{RecoversSection, read_in, salvaged_from, text_from}
 use Rattle.tape_run.specs.declared.salvage.walk.Expected.TheVariants.{Outside}
 use Rattle.tape_run.specs.SalvageBlocks.{Salvaged, Recovers}
 use Rattle.tape_run.specs.SalvageChoice.{firsts, IsBest}
 use Rattle.tape_run.specs.SalvageTaking.{TakesSection, TakesCopy, end_by, image_number, form_for}
 use Rattle.tape_run.specs.SalvageTaking.{has_form, MountsIf, after_copy, copy_text}
-use Rattle.tape_run.specs.SalvageEnds.{without_rest, no_section_text, ended, ended_text}
-use Rattle.tape_run.specs.SalvageEnds.{no_form_text}
+use Rattle.tape_run.specs.SalvageEnds.{without_rest, no_section_text, no_form_text}
+use Rattle.tape_run.specs.SalvageEnds.{read_again, read_again_text}
 
 -- one recovery after another
 pub recovers_then : {W : Type 0} (contents : W → Option (List ℕ)) (old mid new : Recovery W)
@@ -49,29 +50,32 @@ on_ok (Err e) f h = tt
 -- a section was recovered from its copy
 pub copy_taken : {W : Type 0} (contents : W → Option (List ℕ)) (before after : Option (List ℕ))
     (c : SectionCopy) (sect : ℕ) (form : Option FileForm) (most : ℕ) (old mid new : Recovery W)
-    (said one two says : Option (List ℕ)) (end : SectionEnd)
-    (is_ended : Bool) → most ≡ believed c
+    (said one two says : Option (List ℕ)) (end : SectionEnd) (read : ℕ) → most ≡ believed c
     → Appends said one (section_line sect (image_number c.image) c.section.blocks)
-    → RecoversSection contents before after c.section.key most form old mid one two is_ended
-    → Recovers contents mid new two says (ended c c.closed) (ended_text c c.closed)
+    → RecoversSection contents before after c.section.key most form old mid one two read
+    → Recovers contents mid new two says (read_again read c) (read_again_text read c)
     → end ≡ end_by c.closed
     → TakesCopy contents before c sect form old new said says end
-copy_taken contents before after c sect form most old mid new said one two says end is_ended
+copy_taken contents before after c sect form most old mid new said one two says end read
     same line r e is =
     let key = c.section.key in
     record {
       items = r.items;
       after = after;
-      is_ended = is_ended;
+      is_ended = r.is_ended;
       reads = r.reads;
       recovers = subst (λ m. Recovers contents old new said says
-          (λ g. ended c c.closed (salvaged_from key m form (Outside 0) g r.items))
+          (λ g. read_again (read_in key (expected_after (Outside 0) r.items)) c
+          (salvaged_from key m form (Outside 0) g r.items))
           (λ g. section_line sect (image_number c.image) c.section.blocks
           ++ (text_from key m form (Outside 0) g r.items
-          ++ ended_text c c.closed (salvaged_from key m form (Outside 0) g r.items)))) same
+          ++ read_again_text (read_in key (expected_after (Outside 0) r.items)) c
+          (salvaged_from key m form (Outside 0) g r.items)))) same
           (λ start g h.
           let a = r.recovers start g h in
-          let b = e start (salvaged_from key most form (Outside 0) g r.items) a.0 in
+          let b = subst (λ n. Recovers contents mid new two says (read_again n c)
+          (read_again_text n c)) r.count e start
+          (salvaged_from key most form (Outside 0) g r.items) a.0 in
           (b.0, three_texts said one two says _ _ _ line a.1 b.1));
       ends = is;
     }

@@ -19,10 +19,10 @@ use Rattle.tape_set.specs.Lawful.{FileForm}
 use Rattle.tape_run.specs.declared.section.SectionKey.{SectionKey}
 use Rattle.tape_run.specs.declared.salvage.recovery.Recovery.{Recovery}
 use Rattle.tape_run.specs.declared.salvage.walk.Expected.{Expected}
-use Rattle.tape_run.specs.declared.salvage.walk.Expected.TheVariants.{Outside}
+use Rattle.tape_run.specs.declared.salvage.walk.Expected.TheVariants.{Outside, Data}
 use Rattle.tape_run.specs.SalvageWalk.{step, expected_after}
 use Rattle.tape_run.specs.SalvageBlocks.{Salvaged, HasSalvaged, Recovers, salvaged_at, text_at}
-use Rattle.tape_run.specs.SalvageImage.{is_in, number_in, salvaged_from, text_from}
+use Rattle.tape_run.specs.SalvageImage.{is_in, read_in, number_in, salvaged_from, text_from}
 use Rattle.tape_run.specs.SalvageImage.{RecoversSection}
 
 -- Of the bytes `all` the items up to a place were read, and `left` is left; the blocks of the
@@ -138,22 +138,30 @@ placed None left q items h = tt
 placed (Some xs) None q items h = absurd h
 placed (Some xs) (Some ys) q items h = (q, ys, h)
 
+-- the mark that ends the section's data is none of them
+read_at_mark : (key : SectionKey) (s : Expected) → is_in key s ≡ true
+    → read_in key s ≡ read_in key (step s mark).0
+read_at_mark key (Data u) is = refl
+read_at_mark key _ is = absurd (cc)
+
 -- the section's data ended
 pub ends_data : {W : Type 0} (contents : W → Option (List ℕ)) (all left next : Option (List ℕ))
     (p q : ℕ) (key : SectionKey) (most : ℕ) (form : Option FileForm) (expected : Expected)
     (item : TapeItem) (old mid new : Recovery W) (said says now : Option (List ℕ))
     → SoFar contents all left p key most form expected old mid said says
     → IfKnown left next (TakesItem p item q) → is_in key expected ≡ true → item ≡ mark
+    → (n : ℕ) → n ≡ read_in key expected
     → Recovers contents mid new says now
     (λ g. salvaged_at form g (number_in key most expected) item)
     (λ g. text_at key.sect form g (number_in key most expected) item)
-    → RecoversSection contents all next key most form old new said now true
+    → RecoversSection contents all next key most form old new said now n
 ends_data contents all left next p q key most form expected item old mid new said says now s takes
-    is e taken =
+    is e n count taken =
     let more = one_more contents all left next p q key most form expected (step expected item).0
     item old mid new said says now s takes refl taken in
     record {
       items = more.items;
+      is_ended = true;
       reads = record {
         walked = placed all next q more.items more.known;
         at_mark = λ _. (
@@ -163,6 +171,8 @@ ends_data contents all left next p q key most form expected item old mid new sai
         );
         all = λ f. absurd (cc);
       };
+      count = count ∙ read_at_mark key expected is
+          ∙ ap (λ x. read_in key (step expected x).0) (sym e) ∙ ap (read_in key) more.expects;
       recovers = more.recovers;
     }
 
@@ -171,37 +181,43 @@ pub at_end : {W : Type 0} (contents : W → Option (List ℕ)) (all left next : 
     (p q : ℕ) (ending : Ending) (key : SectionKey) (most : ℕ) (form : Option FileForm)
     (expected : Expected) (old new : Recovery W) (said says : Option (List ℕ))
     → SoFar contents all left p key most form expected old new said says
-    → IfKnown left next (TakesEnd p [] ending q)
-    → RecoversSection contents all next key most form old new said says false
-at_end contents all left next p q ending key most form expected old new said says s takes = record {
-  items = s.items;
-  reads = record {
-    walked = placed all left p s.items s.known;
-    at_mark = λ f. absurd (cc);
-    all = λ _. (
-      stop_at ending,
-      IfKnown-map all next (TakesEnd 0 s.items ending q) (StopsBehind s.items (stop_at ending))
-          (by_ending s.items ending q) (known_end all left next 0 p q s.items ending s.known takes),
-    );
-  };
-  recovers = s.recovers;
-}
+    → IfKnown left next (TakesEnd p [] ending q) → (n : ℕ) → n ≡ read_in key expected
+    → RecoversSection contents all next key most form old new said says n
+at_end contents all left next p q ending key most form expected old new said says s takes n count
+    = record {
+      items = s.items;
+      is_ended = false;
+      reads = record {
+        walked = placed all left p s.items s.known;
+        at_mark = λ f. absurd (cc);
+        all = λ _. (
+          stop_at ending,
+          IfKnown-map all next (TakesEnd 0 s.items ending q) (StopsBehind s.items (stop_at ending))
+              (by_ending s.items ending q) (known_end all left next 0 p q s.items ending s.known takes),
+        );
+      };
+      count = count ∙ ap (read_in key) s.expects;
+      recovers = s.recovers;
+    }
 
 pub at_fault : {W : Type 0} (contents : W → Option (List ℕ)) (all left next : Option (List ℕ))
     (p : ℕ) (fault : ImageFault) (key : SectionKey) (most : ℕ) (form : Option FileForm)
     (expected : Expected) (old new : Recovery W) (said says : Option (List ℕ))
     → SoFar contents all left p key most form expected old new said says
-    → IfKnown left next (TakesFault p [] fault)
-    → RecoversSection contents all next key most form old new said says false
-at_fault contents all left next p fault key most form expected old new said says s takes = record {
-  items = s.items;
-  reads = record {
-    walked = placed all left p s.items s.known;
-    at_mark = λ f. absurd (cc);
-    all = λ _. (Fault fault, known_fault all left next 0 p s.items fault s.known takes);
-  };
-  recovers = s.recovers;
-}
+    → IfKnown left next (TakesFault p [] fault) → (n : ℕ) → n ≡ read_in key expected
+    → RecoversSection contents all next key most form old new said says n
+at_fault contents all left next p fault key most form expected old new said says s takes n count
+    = record {
+      items = s.items;
+      is_ended = false;
+      reads = record {
+        walked = placed all left p s.items s.known;
+        at_mark = λ f. absurd (cc);
+        all = λ _. (Fault fault, known_fault all left next 0 p s.items fault s.known takes);
+      };
+      count = count ∙ ap (read_in key) s.expects;
+      recovers = s.recovers;
+    }
 
 -- an item was taken by its number
 pub numbered : {W : Type 0} (contents : W → Option (List ℕ)) (key : SectionKey) (most : ℕ)

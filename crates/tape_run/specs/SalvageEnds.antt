@@ -66,3 +66,20 @@ ended_text c (Some closed) g =
     let blocks = c.section.blocks in
     gap_text sect g.gap blocks g.piece.records ++ (count_text sect (wrong_count c) blocks
     ++ torn_text (closed.eof && g.piece.begun) sect blocks g.piece.records)
+
+-- after a copy that was not read again from some block on
+abbrev pub stopped : Salvaged → Salvaged
+stopped g = without_rest (without_gap g)
+
+abbrev pub stopped_text : ℕ → ℕ → Salvaged → List ℕ
+stopped_text sect n g = gap_text sect g.gap n g.piece.records
+    ++ (rest_text sect n g ++ open_gap_line sect n g.piece.records)
+
+-- after a copy of which so many data items were read again: all that are certain, or too few
+abbrev pub read_again : ℕ → SectionCopy → Salvaged → Salvaged
+read_again n c g = if nat_lt n (believed c) then stopped g else ended c c.closed g
+
+abbrev pub read_again_text : ℕ → SectionCopy → Salvaged → List ℕ
+read_again_text n c g =
+    if nat_lt n (believed c) then stopped_text c.section.key.sect n g
+    else ended_text c c.closed g

@@ -11,7 +11,7 @@ use Rattle.tape_run.specs.Added.{StopsBehind}
 use Rattle.tape_run.specs.Noted.{same_key}
 use Rattle.tape_run.specs.declared.salvage.recovery.Recovery.{Recovery}
 use Rattle.tape_run.specs.declared.salvage.walk.Expected.{Expected}
-use Rattle.tape_run.specs.declared.salvage.walk.Expected.TheVariants.{Outside, Data}
+use Rattle.tape_run.specs.declared.salvage.walk.Expected.TheVariants.{Outside, Data, Trailer}
 use Rattle.tape_run.specs.SalvageWalk.{step, expected_after}
 use Rattle.tape_run.specs.SalvageBlocks.{Salvaged, Recovers, salvaged_at, text_at}
 
@@ -19,6 +19,12 @@ use Rattle.tape_run.specs.SalvageBlocks.{Salvaged, Recovers, salvaged_at, text_a
 abbrev pub is_in : SectionKey → Expected → Bool
 is_in key (Data u) = same_key u.key key
 is_in key _ = false
+
+-- how many data items of this section were read, if nothing more is read
+abbrev pub read_in : SectionKey → Expected → ℕ
+read_in key (Data u) = if same_key u.key key then u.blocks else 0
+read_in key (Trailer u) = if same_key u.key key then u.blocks else 0
+read_in key _ = 0
 
 -- the number of the next item among the data items of this section, if it is one of the first
 -- `most`
@@ -55,12 +61,15 @@ pub record ReadsSection (before after : Option (List ℕ)) (key : SectionKey) (i
   pub at_mark : is_ended ≡ true → EndsData key items
   pub all : is_ended ≡ false → (stop : ImageStop) × IfKnown before after (StopsBehind items stop)
 
--- Items of the image were read, and the blocks of the section among them were taken.
+-- Items of the image were read, so many of them data items of the section, and its blocks were
+-- taken.
 pub record RecoversSection {W : Type 0} (contents : W → Option (List ℕ))
     (before after : Option (List ℕ)) (key : SectionKey) (most : ℕ) (form : Option FileForm)
-    (old new : Recovery W) (said says : Option (List ℕ)) (is_ended : Bool) : Type 0 where
+    (old new : Recovery W) (said says : Option (List ℕ)) (read : ℕ) : Type 0 where
   pub items : List TapeItem
+  pub is_ended : Bool
   pub reads : ReadsSection before after key items is_ended
+  pub count : read ≡ read_in key (expected_after (Outside 0) items)
   pub recovers : Recovers contents old new said says
       (λ g. salvaged_from key most form (Outside 0) g items)
       (λ g. text_from key most form (Outside 0) g items)

@@ -18,9 +18,10 @@ use Rattle.tape_run.specs.Reeling.{Mounting}
 use Rattle.tape_run.specs.SalvageCopies.{believed}
 use Rattle.tape_run.specs.SalvageLine.{section_line}
 use Rattle.tape_run.specs.SalvageBlocks.{Salvaged, Recovers}
-use Rattle.tape_run.specs.SalvageImage.{ReadsSection, salvaged_from, text_from}
-use Rattle.tape_run.specs.SalvageEnds.{without_rest, no_section_text, no_form_text, ended}
-use Rattle.tape_run.specs.SalvageEnds.{ended_text}
+use Rattle.tape_run.specs.SalvageWalk.{expected_after}
+use Rattle.tape_run.specs.SalvageImage.{ReadsSection, read_in, salvaged_from, text_from}
+use Rattle.tape_run.specs.SalvageEnds.{without_rest, no_section_text, no_form_text}
+use Rattle.tape_run.specs.SalvageEnds.{read_again, read_again_text}
 use Rattle.tape_run.specs.SalvageChoice.{firsts, IsBest, form_of_file, last_section}
 
 -- the form in which a section's blocks are read: its own, otherwise that of the file
@@ -47,7 +48,8 @@ image_number n = min (n + 1) 18446744073709551615
 -- after the items that were read of the copy's image
 abbrev pub after_copy : SectionCopy → Option FileForm → Option (List TapeItem) → Salvaged → Salvaged
 after_copy c form None g = without_rest g
-after_copy c form (Some items) g = ended c c.closed
+after_copy c form (Some items) g =
+    read_again (read_in c.section.key (expected_after (Outside 0) items)) c
     (salvaged_from c.section.key (believed c) form (Outside 0) g items)
 
 abbrev pub copy_text : ℕ → SectionCopy → Option FileForm → Option (List TapeItem) → Salvaged
@@ -55,7 +57,8 @@ abbrev pub copy_text : ℕ → SectionCopy → Option FileForm → Option (List 
 copy_text sect c form None g = no_section_text sect g
 copy_text sect c form (Some items) g = section_line sect (image_number c.image) c.section.blocks
     ++ (text_from c.section.key (believed c) form (Outside 0) g items
-    ++ ended_text c c.closed (salvaged_from c.section.key (believed c) form (Outside 0) g items))
+    ++ read_again_text (read_in c.section.key (expected_after (Outside 0) items)) c
+    (salvaged_from c.section.key (believed c) form (Outside 0) g items))
 
 -- after a section
 abbrev pub after_taken : Content → Option FileForm → Option SectionCopy → Option (List TapeItem)

@@ -47,6 +47,8 @@ mod refusals;
 #[cfg(test)]
 mod rounds;
 #[cfg(test)]
+mod salvaged;
+#[cfg(test)]
 mod scripts;
 #[cfg(test)]
 mod sections;

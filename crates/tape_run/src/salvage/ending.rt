@@ -5,6 +5,7 @@ ghost use Rattle.std.specs.Io.KnownBytes.{Appends};
 ghost use Rattle.tape_run.specs.SalvageBlocks.{Recovers, torn_text};
 ghost use Rattle.tape_run.specs.SalvageEnds.{without_rest, no_section_text, no_form_text};
 ghost use Rattle.tape_run.specs.SalvageEnds.{open_text, ended, ended_text, unsure_text, with_end};
+ghost use Rattle.tape_run.specs.SalvageEnds.{stopped, stopped_text, read_again, read_again_text};
 ghost use Rattle.tape_run.specs.SalvageTaking.{end_by};
 ghost use Rattle.tape_run.specs.declared.salvage.ending.SectionEnd.TheVariants.{FileEnds};
 
@@ -127,29 +128,58 @@ impl<W: Write> Recovery<W> {
         Ok(())
     }
 
-    /// Reports what is missing after the blocks of a section, and returns how the section ended.
+    /// Reports that the blocks of a section were not read again from this one on.
+    fn end_stopped<P: Write>(
+        &mut self,
+        sect: u16,
+        first: u32,
+        report: &mut P,
+    ) -> Result<(), EngineFault>
+        ensures ok { OnOk result (Recovers W.contents self.old self.new (P.contents report.old)
+            (P.contents report.new) stopped (stopped_text sect first)) }
+    {
+        self.end_gap(sect, first, report)?;
+        self.tear(sect, first, report)?;
+        write_text(report, &open_gap_line(sect, first, self.mender.records()))?;
+        Ok(())
+    }
+
+    /// Reports what is missing of the blocks of a section, of which so many were read again.
+    fn end_blocks<P: Write>(
+        &mut self,
+        copy: &SectionCopy,
+        read: u32,
+        report: &mut P,
+    ) -> Result<(), EngineFault>
+        ensures ok { OnOk result (Recovers W.contents self.old self.new (P.contents report.old)
+            (P.contents report.new) (read_again read copy.now) (read_again_text read copy.now)) }
+    {
+        if read < copy.believed() {
+            return self.end_stopped(copy.section.key.sect, read, report);
+        }
+        match copy.closed {
+            None => self.end_open(copy, report),
+            Some(closed) => self.end_closed(copy, closed, report),
+        }
+    }
+
+    /// Reports what is missing after the blocks of a section, of which so many were read again, and
+    /// returns how the section ended.
     pub fn end_section<P: Write>(
         &mut self,
         copy: &SectionCopy,
+        read: u32,
         report: &mut P,
     ) -> Result<SectionEnd, EngineFault>
         ensures ok { IfOk result (λ end. (end ≡ end_by copy.now.closed)
             × Recovers W.contents self.old self.new (P.contents report.old) (P.contents report.new)
-            (ended copy.now copy.now.closed) (ended_text copy.now copy.now.closed)) }
+            (read_again read copy.now) (read_again_text read copy.now)) }
     {
-        match copy.closed {
-            None => {
-                self.end_open(copy, report)?;
-                Ok(SectionEnd::Unknown)
-            }
-            Some(closed) => {
-                self.end_closed(copy, closed, report)?;
-                Ok(if closed.eof {
-                    SectionEnd::FileEnds
-                } else {
-                    SectionEnd::Continues
-                })
-            }
-        }
+        self.end_blocks(copy, read, report)?;
+        Ok(match copy.closed {
+            None => SectionEnd::Unknown,
+            Some(closed) if closed.eof => SectionEnd::FileEnds,
+            Some(_) => SectionEnd::Continues,
+        })
     }
 }

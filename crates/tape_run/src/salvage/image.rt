@@ -4,7 +4,7 @@ ghost use Rattle.std.specs.Prelude.{◌≡◌, IfOk, true};
 ghost use Rattle.tape_image.specs.Reader.{going, tape_item};
 ghost use Rattle.tape_image.specs.Tape.{mark};
 ghost use Rattle.tape_run.specs.Noted.{same_key};
-ghost use Rattle.tape_run.specs.SalvageImage.{number_in, is_in, RecoversSection};
+ghost use Rattle.tape_run.specs.SalvageImage.{number_in, is_in, read_in, RecoversSection};
 
 use crate::fault::EngineFault;
 use crate::salvage::recovery::Recovery;
@@ -21,6 +21,22 @@ fn is_in(key: &SectionKey, expected: &Expected) -> bool
     match expected {
         Expected::Data(section) => same_section(&section.key, key),
         _ => false,
+    }
+}
+
+/// How many data items of this section were read, if nothing more is read.
+fn read_in(key: &SectionKey, expected: &Expected) -> u32
+    ensures { result ≡ read_in key.now expected.now }
+{
+    match expected {
+        Expected::Data(section) | Expected::Trailer(section) => {
+            if same_section(&section.key, key) {
+                section.blocks
+            } else {
+                0
+            }
+        }
+        _ => 0,
     }
 }
 
@@ -45,8 +61,9 @@ fn number_in(key: &SectionKey, most: u32, expected: &Expected) -> Option<u32>
 }
 
 /// Recovers the blocks of a section from an image of which nothing was read yet: the first `most`
-/// of the first section with this key on it. Returns whether the tape mark after its data was read;
-/// nothing after that mark is read.
+/// of the first section with this key on it. Returns how many data items of the section were read;
+/// nothing after the tape mark that ends them is read. The end of the medium, a fault of the image
+/// or a reader that fails may end the reading before.
 ///
 /// # Errors
 ///
@@ -58,13 +75,13 @@ pub fn recover_section<R: Read, W: Write, P: Write>(
     form: &Option<Known>,
     recovery: &mut Recovery<W>,
     report: &mut P,
-) -> Result<bool, EngineFault>
+) -> Result<u32, EngineFault>
     requires going { image.old.status ≡ going }
     requires first { image.old.place ≡ 0 }
     ensures same_device { image.new.device ≡ image.old.device }
-    ensures ok { IfOk result (λ ended. RecoversSection W.contents image.old.left image.new.left
+    ensures ok { IfOk result (λ read. RecoversSection W.contents image.old.left image.new.left
         key.now most form.now recovery.old recovery.new (P.contents report.old)
-        (P.contents report.new) ended) }
+        (P.contents report.new) read) }
 {
     let mut expected = Expected::Outside(0);
     'items: loop {
@@ -73,12 +90,12 @@ pub fn recover_section<R: Read, W: Write, P: Write>(
                 let number = number_in(key, most, &expected);
                 recovery.take_item(key.sect, form, number, item, report)?;
                 if is_in(key, &expected) && is_mark(item) {
-                    return Ok(true);
+                    return Ok(read_in(key, &expected));
                 }
                 expected = step(expected, item).0;
             }
-            Ok(None) => return Ok(false),
-            Err(_) => return Ok(false),
+            Ok(None) => return Ok(read_in(key, &expected)),
+            Err(_) => return Ok(read_in(key, &expected)),
         }
     }
 }

@@ -32,7 +32,7 @@ returns-then-is_mark-clause-ok g c =
     (g.P.Write.contents c.items.report) (g.P.Write.contents c.take_item.new.report)
     c.items.invariant.so_far step.takes
     (sym c.is_in.ensures ∙ c.if-is_in.true)
-    (c.is_mark.ensures c.if-is_mark.true) given
+    (c.is_mark.ensures c.if-is_mark.true) c.read_in.result c.read_in.ensures given
 
 pub items-preserved : goal.items-preserved
 items-preserved g c =
@@ -66,7 +66,8 @@ returns-in-Ok-None-clause-ok g c =
     at_end g.W.Write.contents c.args.image.now.left c.items.image.left next.left
     c.items.image.place next.place met.ending c.args.key.now c.args.most c.args.form.now
     c.items.expected c.args.recovery.now c.items.recovery (g.P.Write.contents c.args.report.now)
-    (g.P.Write.contents c.items.report) c.items.invariant.so_far met.takes
+    (g.P.Write.contents c.items.report) c.items.invariant.so_far met.takes c.read_in-in-Ok-None.result
+    c.read_in-in-Ok-None.ensures
 
 pub returns-in-Err-clause-ok : goal.returns-in-Err-clause-ok
 returns-in-Err-clause-ok g c =
@@ -76,4 +77,5 @@ returns-in-Err-clause-ok g c =
     at_fault g.W.Write.contents c.args.image.now.left c.items.image.left next.left
     c.items.image.place c.in-Err.field-0 c.args.key.now c.args.most c.args.form.now
     c.items.expected c.args.recovery.now c.items.recovery (g.P.Write.contents c.args.report.now)
-    (g.P.Write.contents c.items.report) c.items.invariant.so_far met.takes
+    (g.P.Write.contents c.items.report) c.items.invariant.so_far met.takes c.read_in-in-Err.result
+    c.read_in-in-Err.ensures

@@ -14,9 +14,9 @@ returns g c =
     record {
       ok = if_ok c.end_section.result _ _
           (λ end e. copy_taken g.W.Write.contents _ _ k c.args.sect c.args.form.now
-          c.believed.result _ _ _ _ _ _ _ end c.in_ok-recover_section.field-0 c.believed.ensures
+          c.believed.result _ _ _ _ _ _ _ end c.in_ok-read.read c.believed.ensures
           (subst (Appends (g.P.Write.contents c.args.report.now)
           (g.P.Write.contents c.write_text.new.writer)) line c.in_ok-write_text.ensures.ok)
-          c.in_ok-recover_section.ensures.ok e.1 e.0)
+          c.in_ok-read.ensures.ok e.1 e.0)
           c.end_section.ensures.ok;
     }
