@@ -2,6 +2,7 @@ pub mod Assembled
 pub mod Backs
 pub mod Bodies
 pub mod CallLaws
+pub mod Caused
 pub mod Did
 pub mod Examples
 pub mod ExamplesOfLaws

@@ -4,6 +4,8 @@ use Rattle.std.proofs.Common.{true, inl, inr, sym, ap, ◌∙◌, subst, arith}
 use Rattle.std.specs.Prelude.{max, replicate, slice_range, Some, Ok, Err, IfSome}
 use Rattle.tape_core.specs.Weight.{Rose}
 use Rattle.tape_stage.specs.Calls.{worst_by}
+use Rattle.tape_stage.specs.declared.disk.Disk.{Ghosts}
+use Rattle.tape_stage.specs.declared.disk.read_ahead.ReadAhead.{ReadAhead}
 use Rattle.tape_stage.specs.Holding.{with_held, LeftTorn}
 use Rattle.tape_stage.specs.Memory.{first_of, memory_bytes}
 use Rattle.tape_stage.specs.declared.disk.content.Call.TheVariants.{Write}
@@ -102,6 +104,11 @@ sync_not_asked : (D : _) (L : _) (g : _) (d : _) (κs : _) (a : _) (s : _)
 sync_not_asked D L g d κs a s l honest was left =
     let e : [] ≡ 1 ∷ [] = l.durable honest [] left ∙ was in
     absurd (let n : 0 ≡ 1 = ap length e in omega arith)
+
+-- counts_a_failure_of_nobody: one failure is counted, and the disk has not failed
+counts_a_failure_of_nobody : (D : Type 0) (g : Ghosts D) (h : ReadAhead D g) → h.failed ≡ 1
+    → g.faults h.disk ≡ 0 → ⊥
+counts_a_failure_of_nobody D g h one none = absurd (omega (arith, h.caused))
 
 -- window_read_from_its_start: of 1 2 3 a read of one byte at place 1 gives the 1
 window_read_from_its_start : (D : _) (L : _) (g : _) (d : _) (κs : _) (a : _) (s : _)

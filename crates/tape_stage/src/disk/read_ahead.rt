@@ -8,6 +8,8 @@ use crate::disk::{Disk, DiskFault};
 
 /// A disk with read-ahead, so that consecutive small reads need one read of the disk. Consecutive
 /// reads of any lengths read each byte of the disk once. Writes and cuts drop the bytes read ahead.
+///
+/// It fails at most as often as its disk.
 #[derive(Drop)]
 pub struct ReadAhead<D: Disk> {
     pub(crate) disk: D,
@@ -16,6 +18,8 @@ pub struct ReadAhead<D: Disk> {
     /// How many bytes of the buffer were read. Those after them are undefined.
     pub(crate) held: usize,
     pub(crate) failed: u64,
+    ghost caused: { failed ≤ D.faults disk },
+    ghost small: { failed ≤ 18446744073709551615 },
     ghost fits: { held ≤ length bytes.items },
     ghost within: { start + held ≤ D.length_of disk },
     ghost low: { start + held < 2 ^ 64 },
@@ -35,6 +39,8 @@ fn read_front<D: Disk>(
     ensures bytes { D.is_honest disk.old → OnOk result
         (slice_range (D.seen disk.old) place (place + count) ≡ take count room.new) }
     ensures looks { Looks D.Disk disk.old disk.new }
+    ensures cause { OnErr result (Rose (D.faults disk.old) (D.faults disk.new)) }
+    ensures calm { OnOk result (D.faults disk.new ≡ D.faults disk.old) }
 {
     disk.read(place, &mut room[..count])
 }
@@ -123,6 +129,7 @@ impl<D: Disk> ReadAhead<D> {
             ≡ slice_range (D.seen self.old.disk) place (place + length buf.old)) }
         ensures looks { Looks D.Disk self.old.disk self.new.disk }
         ensures calm { self.new.failed ≡ self.old.failed }
+        ensures cause { OnErr result (Rose self.new.failed (D.faults self.new.disk)) }
     {
         if buf.len() < self.bytes.len() {
             self.look_ahead(place);
@@ -133,8 +140,9 @@ impl<D: Disk> ReadAhead<D> {
         self.disk.read(place, buf)
     }
 
-    /// Counts a call that failed.
+    /// Counts a call in which the disk failed.
     fn fail(&mut self) -> DiskFault
+        requires { Rose self.old.failed (D.faults self.old.disk) }
         ensures disk { self.new.disk ≡ self.old.disk }
         ensures counted { Rose self.old.failed self.new.failed }
     {

@@ -1,0 +1,34 @@
+use Rattle.std.proofs.Common.{◌≡◌, ◌+◌, ◌≤◌, take, slice_range, sym, subst, refl, arith}
+use Rattle.tape_stage.proofs.Caused.{caused_on}
+use Rattle.tape_stage.proofs.disk.read_ahead.ReadAhead.look_ahead.Goals as goal
+
+pub invariant_of-self : goal.invariant_of-self
+invariant_of-self g c =
+    let h = c.args.self.now in
+    let done = c.len.ensures in
+    record {
+      caused = caused_on c.len.result h.failed _ _ h.small h.caused done.cause done.calm;
+      small = h.small;
+      fits = h.fits;
+      within = subst (λ n. h.start + h.held ≤ n) (sym done.same_length) h.within;
+      low = h.low;
+      right = λ now. let was = done.honest.back now in
+          subst (λ xs. slice_range xs h.start (h.start + h.held) ≡ take h.held h.bytes.items)
+          (sym (done.same was)) (h.right was);
+    }
+
+pub invariant_of-self-else-is_ok : goal.invariant_of-self-else-is_ok
+invariant_of-self-else-is_ok g c =
+    let h = c.args.self.now in
+    let len = c.len.ensures in
+    let done = c.read_front.ensures in
+    record {
+      caused = caused_on c.read_front.result h.failed _ _ h.small
+          (caused_on c.len.result h.failed _ _ h.small h.caused len.cause len.calm) done.cause
+          done.calm;
+      small = h.small;
+      fits = omega arith;
+      within = omega arith;
+      low = omega arith;
+      right = λ now. refl;
+    }
