@@ -1,5 +1,6 @@
 -- A file recovered from the images of a shelf.
-use Rattle.std.proofs.Common.{◌≡◌, ℕ, not, List, Option, Some, None, sym, ap, subst, ◌∙◌}
+use Rattle.std.proofs.Common.{◌≡◌, ℕ, Bool, not, List, ◌++◌, Option, Some, None, refl, sym, ap, subst, ◌∙◌}
+use Rattle.std.specs.Prelude.{option_map}
 use Rattle.std.specs.Io.KnownBytes.{Appends, Keeps}
 use Rattle.std.proofs.KnownBytes.{Appends-trans}
 use Rattle.tape_run.specs.declared.salvage.copies.SectionCopy.{SectionCopy}
@@ -17,6 +18,18 @@ kept None b c t h k = tt
 kept (Some xs) None c t h k = absurd h
 kept (Some xs) (Some ys) None t h k = absurd k
 kept (Some xs) (Some ys) (Some zs) t h k = k ∙ h
+
+-- what a report has after a line that might have been written
+abbrev with_line : Option (List ℕ) → List ℕ → Option (List ℕ)
+with_line w line = option_map (λ xs. xs ++ line) w
+
+grows : (w : Option (List ℕ)) (line : List ℕ) → Appends w (with_line w line) line
+grows None line = tt
+grows (Some xs) line = refl
+
+stays : (o : Option (List ℕ)) → Keeps o o
+stays None = tt
+stays (Some xs) = refl
 
 pub file_salvaged : {W L R : Type 0} (contents : W → Option (List ℕ)) (size : L → ℕ)
     (gives : Mounting L R) (remaining : R → Option (List ℕ)) (task : SalvageTask) (out : W)
@@ -59,3 +72,26 @@ file_salvaged contents size gives remaining task out shelf middle left cs ds old
           (last_line (not new.missing) g.piece.records) r.1
           (subst (Appends w one) text wrote)) last;
     }
+
+-- the same, whatever becomes of the last line
+pub file_placed : {W L R : Type 0} (contents : W → Option (List ℕ)) (size : L → ℕ)
+    (gives : Mounting L R) (remaining : R → Option (List ℕ)) (task : SalvageTask) (out : W)
+    (shelf middle left : L) (cs ds : List SectionCopy) (old new : Recovery W) (written flushed : W)
+    (stands said found w : Option (List ℕ)) (records : ℕ) (line : List ℕ)
+    → FindsAll size gives remaining task.set_id task.file shelf middle cs said found
+    → TakesFile contents gives remaining ds task.content middle left old new found w → ds ≡ cs
+    → HasSalvaged contents (record { had = contents out; form = task.form }) old none_salvaged
+    → written ≡ new.mender.out → Keeps (contents written) (contents flushed)
+    → stands ≡ contents flushed → records ≡ new.mender.records
+    → line ≡ last_line (not new.missing) records
+    → (complete : Bool) × (says : Option (List ℕ))
+    × Salvages contents size gives remaining task out shelf left stands said says complete
+file_placed contents size gives remaining task out shelf middle left cs ds old new written flushed
+    stands said found w records line finds takes same begins gave keeps placed counts is =
+    let one = with_line w line in (
+      not new.missing,
+      one,
+      file_salvaged contents size gives remaining task out shelf middle left cs ds old new written
+          flushed stands said found w one one records line finds takes same begins gave keeps placed
+          counts is (grows w line) (stays one),
+    )

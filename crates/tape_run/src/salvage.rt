@@ -1,7 +1,9 @@
 //! `salvage`: recovers what is readable of a file of which no image has all.
 
-ghost use Rattle.std.specs.Prelude.{◌<◌, Some, List, ℕ, option_map, OnOk, IfOk};
+ghost use Rattle.std.specs.Prelude.{◌≡◌, ◌<◌, ◌⊎◌, Bool, Option, Some, List, ℕ, option_map, OnOk};
+ghost use Rattle.std.specs.Prelude.{OnErr, IfOk, IfErr};
 ghost use Rattle.std.specs.Io.KnownBytes.{Appends};
+ghost use Rattle.tape_run.specs.Checked.{IsCheckFault};
 ghost use Rattle.tape_run.specs.Salvaging.{FindsOn, FindsAll, Salvages};
 
 mod copies;
@@ -58,7 +60,8 @@ pub struct SalvageTask {
 ///
 /// # Errors
 ///
-/// `Run(OutOfMemory)`; `WriteFailed` if `out`, its name or the report failed.
+/// `Run(OutOfMemory)`; `WriteFailed` if `out`, its name or the report failed. What has the name is
+/// unchanged, or all is written and has it, and the last line could not be reported.
 pub fn salvage_to<W: Write + Drop, R: Read + Drop, L: Shelf<R>, O: Place<W>, P: Write>(
     alloc: Global,
     task: &SalvageTask,
@@ -70,6 +73,12 @@ pub fn salvage_to<W: Write + Drop, R: Read + Drop, L: Shelf<R>, O: Place<W>, P: 
     ensures ok { IfOk result (λ complete. Salvages W.contents L.size L.gives R.remaining task.now
         out images.old images.new (O.stands place.new) (P.contents report.old)
         (P.contents report.new) complete) }
+    // An error leaves what has the name, or all is written and has it: only the report failed.
+    ensures err { OnErr result ((O.stands place.new ≡ O.stands place.old)
+        ⊎ ((complete : Bool) × (says : Option (List ℕ)) × Salvages W.contents L.size L.gives
+        R.remaining task.now out images.old images.new (O.stands place.new) (P.contents report.old)
+        says complete)) }
+    ensures fault { IfErr result IsCheckFault }
 {
     let copies = find_copies(alloc, task, images, report)?;
     let mut recovery = Recovery::new(alloc, out, task.form);
@@ -101,6 +110,7 @@ fn find_copies<R: Read + Drop, L: Shelf<R>, P: Write>(
     ensures ok { IfOk result (λ copies. FindsAll L.size L.gives R.remaining task.now.set_id
         task.now.file images.old images.new copies.items (P.contents report.old)
         (P.contents report.new)) }
+    ensures fault { IfErr result IsCheckFault }
 {
     let mut copies = Vec::new(alloc);
     for number in 0..images.count() {
@@ -125,6 +135,7 @@ fn find_on<R: Read + Drop, P: Write>(
     ensures ok { OnOk result ((text : List ℕ) × FindsOn task.now.set_id task.now.file number
         (option_map R.remaining image) copies.old.items copies.new.items text
         × Appends (P.contents report.old) (P.contents report.new) text) }
+    ensures fault { IfErr result IsCheckFault }
 {
     match image {
         Some(device) => {

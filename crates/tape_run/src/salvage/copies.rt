@@ -1,7 +1,8 @@
 //! The copies of a file's sections on images, and how much of each is certain.
 
-ghost use Rattle.std.specs.Prelude.{◌≡◌, ◌++◌, ◌∷◌, max, [], List, OnOk, None, Some};
+ghost use Rattle.std.specs.Prelude.{◌≡◌, ◌++◌, ◌∷◌, max, [], List, OnOk, IfErr, None, Some};
 ghost use Rattle.tape_image.specs.Reader.{going};
+ghost use Rattle.tape_run.specs.Checked.{IsCheckFault};
 ghost use Rattle.tape_run.specs.SalvageWalk.{in_list};
 ghost use Rattle.tape_run.specs.SalvageCopies.{FindsCopies, believed, of_file, is_of};
 ghost use Rattle.tape_run.specs.SalvageCopies.{wrong_count, rank};
@@ -86,6 +87,7 @@ pub fn copies_on<R: Read>(
 ) -> Result<(), EngineFault>
     ensures ok { OnOk result (FindsCopies (R.remaining device.old) (R.remaining device.new)
         set_id.now file number copies.old.items copies.new.items) }
+    ensures fault { IfErr result IsCheckFault }
 {
     let mut image = match ImageReader::new(alloc, device) {
         Ok(image) => image,
@@ -110,6 +112,7 @@ fn copies_in_items<R: Read>(
     ensures same_device { image.new.device ≡ image.old.device }
     ensures ok { OnOk result (FindsCopies image.old.left image.new.left set_id.now file number
         copies.old.items copies.new.items) }
+    ensures fault { IfErr result IsCheckFault }
 {
     let mut expected = Expected::Outside(0);
     'items: loop {
@@ -142,6 +145,7 @@ fn add_copy(
 ) -> Result<(), EngineFault>
     ensures ok { OnOk result (copies.new.items
         ≡ copies.old.items ++ of_file set_id.now file image (in_list found)) }
+    ensures fault { IfErr result IsCheckFault }
 {
     let Some((section, closed)) = found else {
         return Ok(());

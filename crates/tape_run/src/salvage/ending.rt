@@ -1,7 +1,8 @@
 //! The end of a section, and what is reported as missing there.
 
-ghost use Rattle.std.specs.Prelude.{◌≡◌, ◌≢◌, ◌&&◌, true, false, Some, OnOk, IfOk};
+ghost use Rattle.std.specs.Prelude.{◌≡◌, ◌≢◌, ◌&&◌, true, false, Some, OnOk, IfOk, IfErr};
 ghost use Rattle.std.specs.Io.KnownBytes.{Appends};
+ghost use Rattle.tape_run.specs.Checked.{IsCheckFault};
 ghost use Rattle.tape_run.specs.SalvageBlocks.{Recovers, torn_text};
 ghost use Rattle.tape_run.specs.SalvageEnds.{without_rest, no_section_text, no_form_text};
 ghost use Rattle.tape_run.specs.SalvageEnds.{open_text, ended, ended_text, unsure_text, with_end};
@@ -62,6 +63,7 @@ impl<W: Write> Recovery<W> {
     pub fn miss_section<P: Write>(&mut self, sect: u16, report: &mut P) -> Result<(), EngineFault>
         ensures ok { OnOk result (Recovers W.contents self.old self.new (P.contents report.old)
             (P.contents report.new) without_rest (no_section_text sect)) }
+        ensures fault { IfErr result IsCheckFault }
     {
         self.tear(sect, 0, report)?;
         write_text(report, &no_section_line(sect, self.mender.records()))?;
@@ -72,6 +74,7 @@ impl<W: Write> Recovery<W> {
     pub fn miss_form<P: Write>(&mut self, sect: u16, report: &mut P) -> Result<(), EngineFault>
         ensures ok { OnOk result (Recovers W.contents self.old self.new (P.contents report.old)
             (P.contents report.new) without_rest (no_form_text sect)) }
+        ensures fault { IfErr result IsCheckFault }
     {
         self.tear(sect, 0, report)?;
         write_text(report, &no_form_line(sect, self.mender.records()))?;
@@ -82,6 +85,7 @@ impl<W: Write> Recovery<W> {
     fn end_open<P: Write>(&mut self, copy: &SectionCopy, report: &mut P) -> Result<(), EngineFault>
         ensures ok { OnOk result (Recovers W.contents self.old self.new (P.contents report.old)
             (P.contents report.new) without_rest (open_text copy.now)) }
+        ensures fault { IfErr result IsCheckFault }
     {
         let sect = copy.section.key.sect;
         let first = copy.believed();
@@ -102,6 +106,7 @@ impl<W: Write> Recovery<W> {
         ensures ok { OnOk result (Recovers W.contents self.old self.new (P.contents report.old)
             (P.contents report.new) (with_end eof)
             (λ g. torn_text (eof && g.piece.begun) sect number g.piece.records)) }
+        ensures fault { IfErr result IsCheckFault }
     {
         if eof && self.mender.is_begun() {
             return self.tear(sect, number, report);
@@ -119,6 +124,7 @@ impl<W: Write> Recovery<W> {
         ensures ok { OnOk result (Recovers W.contents self.old self.new (P.contents report.old)
             (P.contents report.new) (ended copy.now (Some closed))
             (ended_text copy.now (Some closed))) }
+        ensures fault { IfErr result IsCheckFault }
     {
         let sect = copy.section.key.sect;
         let blocks = copy.section.blocks;
@@ -137,6 +143,7 @@ impl<W: Write> Recovery<W> {
     ) -> Result<(), EngineFault>
         ensures ok { OnOk result (Recovers W.contents self.old self.new (P.contents report.old)
             (P.contents report.new) stopped (stopped_text sect first)) }
+        ensures fault { IfErr result IsCheckFault }
     {
         self.end_gap(sect, first, report)?;
         self.tear(sect, first, report)?;
@@ -153,6 +160,7 @@ impl<W: Write> Recovery<W> {
     ) -> Result<(), EngineFault>
         ensures ok { OnOk result (Recovers W.contents self.old self.new (P.contents report.old)
             (P.contents report.new) (read_again read copy.now) (read_again_text read copy.now)) }
+        ensures fault { IfErr result IsCheckFault }
     {
         if read < copy.believed() {
             return self.end_stopped(copy.section.key.sect, read, report);
@@ -174,6 +182,7 @@ impl<W: Write> Recovery<W> {
         ensures ok { IfOk result (λ end. (end ≡ end_by copy.now.closed)
             × Recovers W.contents self.old self.new (P.contents report.old) (P.contents report.new)
             (read_again read copy.now) (read_again_text read copy.now)) }
+        ensures fault { IfErr result IsCheckFault }
     {
         self.end_blocks(copy, read, report)?;
         Ok(match copy.closed {

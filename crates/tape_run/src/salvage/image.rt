@@ -1,8 +1,9 @@
 //! A section recovered from one image.
 
-ghost use Rattle.std.specs.Prelude.{◌≡◌, IfOk, true};
+ghost use Rattle.std.specs.Prelude.{◌≡◌, IfOk, IfErr, true};
 ghost use Rattle.tape_image.specs.Reader.{going, tape_item};
 ghost use Rattle.tape_image.specs.Tape.{mark};
+ghost use Rattle.tape_run.specs.Checked.{IsCheckFault};
 ghost use Rattle.tape_run.specs.Noted.{same_key};
 ghost use Rattle.tape_run.specs.SalvageImage.{number_in, is_in, read_in, RecoversSection};
 
@@ -82,6 +83,7 @@ pub fn recover_section<R: Read, W: Write, P: Write>(
     ensures ok { IfOk result (λ read. RecoversSection W.contents image.old.left image.new.left
         key.now most form.now recovery.old recovery.new (P.contents report.old)
         (P.contents report.new) read) }
+    ensures fault { IfErr result IsCheckFault }
 {
     let mut expected = Expected::Outside(0);
     'items: loop {

@@ -1,10 +1,11 @@
 //! The complete records of blocks of which some are missing.
 
-ghost use Rattle.std.specs.Prelude.{◌≡◌, ◌≤◌, length, IfOk, OnOk, Ok, Bool, Some};
+ghost use Rattle.std.specs.Prelude.{◌≡◌, ◌≤◌, length, IfOk, IfErr, OnOk, Ok, Bool, Some};
 ghost use Rattle.tape_blocks.specs.Judged.{judged};
 ghost use Rattle.tape_blocks.specs.Parts.{view};
 ghost use Rattle.tape_blocks.specs.Packing.{longest_block};
 ghost use Rattle.tape_core.specs.Parts.{goes_on_at, parts_in};
+ghost use Rattle.tape_run.specs.Checked.{IsCheckFault};
 ghost use Rattle.tape_run.specs.SalvageRecords.{Piece, Start, HasPiece, nothing, with_part};
 ghost use Rattle.tape_run.specs.SalvageRecords.{with_parts, torn, mended, found_fault, is_cut};
 
@@ -132,6 +133,7 @@ impl<W: Write> Mender<W> {
             → HasPiece W.contents start self.old p
             → HasPiece W.contents start self.new (mended form.now p block.now)
             × (fault ≡ found_fault form.now p block.now)) }
+        ensures fault { IfErr result IsCheckFault }
     {
         match form {
             Some(form) => self.take_records(form, block),
@@ -156,6 +158,7 @@ impl<W: Write> Mender<W> {
             → HasPiece W.contents start self.old p
             → HasPiece W.contents start self.new (mended (Some form.now) p block.now)
             × (fault ≡ found_fault (Some form.now) p block.now)) }
+        ensures fault { IfErr result IsCheckFault }
     {
         let shape = shape_of(form);
         let begun = if self.torn {
@@ -193,6 +196,7 @@ impl<W: Write> Mender<W> {
         ensures ok { OnOk result ((start : Start) (p : Piece)
             → HasPiece W.contents start self.old p
             → HasPiece W.contents start self.new (with_parts p (parts_in form.now block.now))) }
+        ensures fault { IfErr result IsCheckFault }
     {
         for part in Parts::new(&shape_of(form), block) {
             self.put(part)?;
@@ -205,6 +209,7 @@ impl<W: Write> Mender<W> {
         ensures ok { OnOk result ((start : Start) (p : Piece)
             → HasPiece W.contents start self.old p
             → HasPiece W.contents start self.new (with_part p (view part.entry))) }
+        ensures fault { IfErr result IsCheckFault }
     {
         if self.torn && part.span.continues() {
             return Ok(());

@@ -1,10 +1,11 @@
 //! The data items of a section taken one after another, with a line for each gap.
 
-ghost use Rattle.std.specs.Prelude.{◌≡◌, ◌≤◌, length, OnOk};
+ghost use Rattle.std.specs.Prelude.{◌≡◌, ◌≤◌, length, OnOk, IfErr};
 ghost use Rattle.std.specs.Io.KnownBytes.{Appends};
 ghost use Rattle.tape_image.specs.Reader.{tape_item};
 ghost use Rattle.tape_image.specs.Tape.{IsTapeItem};
 ghost use Rattle.tape_blocks.specs.Packing.{longest_block};
+ghost use Rattle.tape_run.specs.Checked.{IsCheckFault};
 ghost use Rattle.tape_run.specs.SalvageBlocks.{HasSalvaged, Recovers, none_salvaged, gap_text};
 ghost use Rattle.tape_run.specs.SalvageBlocks.{torn_text, refused_text, without_block};
 ghost use Rattle.tape_run.specs.SalvageBlocks.{without_block_text, with_block, with_block_text};
@@ -121,6 +122,7 @@ impl<W: Write> Recovery<W> {
     ) -> Result<(), EngineFault>
         ensures ok { OnOk result (Recovers W.contents self.old self.new (P.contents report.old)
             (P.contents report.new) without_gap (λ g. gap_text sect g.gap next g.piece.records)) }
+        ensures fault { IfErr result IsCheckFault }
     {
         write_gap(report, sect, self.gap, next, self.mender.records())?;
         self.gap = None;
@@ -137,6 +139,7 @@ impl<W: Write> Recovery<W> {
     ) -> Result<(), EngineFault>
         ensures ok { OnOk result (Recovers W.contents self.old self.new (P.contents report.old)
             (P.contents report.new) without_rest (rest_text sect number)) }
+        ensures fault { IfErr result IsCheckFault }
     {
         write_torn(
             report,
@@ -160,6 +163,7 @@ impl<W: Write> Recovery<W> {
     ) -> Result<(), EngineFault>
         ensures ok { OnOk result (Recovers W.contents self.old self.new (P.contents report.old)
             (P.contents report.new) (with_count label) (λ _. count_text sect label blocks)) }
+        ensures fault { IfErr result IsCheckFault }
     {
         if let Some(label) = label {
             write_text(report, &count_line(sect, label, blocks))?;
@@ -177,6 +181,7 @@ impl<W: Write> Recovery<W> {
     ) -> Result<(), EngineFault>
         ensures ok { OnOk result (Recovers W.contents self.old self.new (P.contents report.old)
             (P.contents report.new) (without_block number) (without_block_text sect number)) }
+        ensures fault { IfErr result IsCheckFault }
     {
         self.tear(sect, number, report)?;
         if self.gap.is_none() {
@@ -198,6 +203,7 @@ impl<W: Write> Recovery<W> {
         ensures ok { OnOk result (Recovers W.contents self.old self.new (P.contents report.old)
             (P.contents report.new) (with_block form.now block.now)
             (with_block_text sect form.now number block.now)) }
+        ensures fault { IfErr result IsCheckFault }
     {
         let records = self.mender.records();
         let begun = self.mender.is_begun();
@@ -234,6 +240,7 @@ impl<W: Write> Recovery<W> {
         ensures ok { OnOk result (Recovers W.contents self.old self.new (P.contents report.old)
             (P.contents report.new) (λ g. salvaged_at form.now g number (tape_item item.entry))
             (λ g. text_at sect form.now g number (tape_item item.entry))) }
+        ensures fault { IfErr result IsCheckFault }
     {
         let Some(number) = number else {
             return Ok(());

@@ -1,7 +1,8 @@
 //! The sections of a file, each recovered from its best copy.
 
-ghost use Rattle.std.specs.Prelude.{◌≡◌, true, Some, OnOk, IfOk};
+ghost use Rattle.std.specs.Prelude.{◌≡◌, true, Some, OnOk, IfOk, IfErr};
 ghost use Rattle.tape_image.specs.Reader.{going};
+ghost use Rattle.tape_run.specs.Checked.{IsCheckFault};
 ghost use Rattle.tape_run.specs.SalvageTaking.{form_for, has_form, TakesSection, TakesCopy};
 ghost use Rattle.tape_run.specs.SalvageTaking.{TakesFile};
 ghost use Rattle.tape_run.specs.declared.salvage.ending.SectionEnd.TheVariants.{FileEnds};
@@ -35,6 +36,7 @@ pub fn recover_sections<W: Write, R: Read + Drop, L: Shelf<R>, P: Write>(
 ) -> Result<(), EngineFault>
     ensures ok { OnOk result (TakesFile W.contents L.gives R.remaining copies.now content images.old
         images.new recovery.old recovery.new (P.contents report.old) (P.contents report.new)) }
+    ensures fault { IfErr result IsCheckFault }
 {
     let form = form_of_file(copies);
     let last = last_section(copies);
@@ -89,6 +91,7 @@ fn recover<W: Write, R: Read + Drop, L: Shelf<R>, P: Write>(
     ensures ok { IfOk result (TakesSection W.contents L.gives R.remaining copies.now content
         known.now sect images.old images.new recovery.old recovery.new (P.contents report.old)
         (P.contents report.new)) }
+    ensures fault { IfErr result IsCheckFault }
 {
     let Some(copy) = best_copy(copies, sect) else {
         recovery.miss_section(sect, report)?;
@@ -126,6 +129,7 @@ fn recover_copy<W: Write, R: Read, P: Write>(
     requires first { image.old.place ≡ 0 }
     ensures ok { IfOk result (TakesCopy W.contents image.old.left copy.now sect form.now
         recovery.old recovery.new (P.contents report.old) (P.contents report.new)) }
+    ensures fault { IfErr result IsCheckFault }
 {
     let line = section_line(sect, copy.image.saturating_add(1), copy.section.blocks);
     write_text(report, &line)?;

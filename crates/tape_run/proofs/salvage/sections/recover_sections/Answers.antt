@@ -18,17 +18,15 @@ loop-before-preserved g c =
     c.args.content _ c.loop-before.before _ _ _ _ _ _ _ _ _ _ _ c.loop-before.invariant
     c.in_ok-end.ensures.ok (c.ends_file.ensures.no c.if-ends_file.false)
 
-pub returns-then-ends_file : goal.returns-then-ends_file
-returns-then-ends_file g c = record {
-  ok = ends_file g.W.Write.contents g.L.Shelf.gives g.R.Read.remaining c.args.copies.now
-      c.args.content _ c.loop-before.before _ _ _ _ _ _ _ _ _ _ _
-      (omega (arith, c.loop-before-test.true, c.last_section-last.ensures)) c.loop-before.invariant
-      c.in_ok-end.ensures.ok (c.ends_file.ensures.yes c.if-ends_file.true)
-      c.form_of_file-form.ensures;
-}
+pub returns-then-ends_file-clause-ok : goal.returns-then-ends_file-clause-ok
+returns-then-ends_file-clause-ok g c = ends_file g.W.Write.contents g.L.Shelf.gives g.R.Read.remaining c.args.copies.now
+    c.args.content _ c.loop-before.before _ _ _ _ _ _ _ _ _ _ _
+    (omega (arith, c.loop-before-test.true, c.last_section-last.ensures)) c.loop-before.invariant
+    c.in_ok-end.ensures.ok (c.ends_file.ensures.yes c.if-ends_file.true)
+    c.form_of_file-form.ensures
 
-pub returns-in-Continues : goal.returns-in-Continues
-returns-in-Continues g c =
+pub returns-in-Continues-clause-ok : goal.returns-in-Continues-clause-ok
+returns-in-Continues-clause-ok g c =
     let n = c.loop-before.before in
     let all : n ≡ last_section c.args.copies.now =
     omega (
@@ -39,11 +37,9 @@ returns-in-Continues g c =
     ) in
     let next : c.saturating_add.result ≡ next_section n =
     omega (arith, c.saturating_add.ensures, all, c.last_section-last.ensures) in
-    record {
-      ok = on_ok c.miss_section.result (λ missed. continues_file g.W.Write.contents
-          g.L.Shelf.gives g.R.Read.remaining c.args.copies.now c.args.content _ n _ _ _ _ _ _ _ _ _
-          all c.loop-before.invariant c.in-Continues.is c.form_of_file-form.ensures
-          (subst (λ m. Recovers g.W.Write.contents c.loop-before.recovery c.miss_section.new.self
-          (g.P.Write.contents c.loop-before.report) (g.P.Write.contents c.miss_section.new.report)
-          without_rest (no_section_text m)) next missed)) c.miss_section.ensures.ok;
-    }
+    on_ok c.miss_section.result (λ missed. continues_file g.W.Write.contents
+    g.L.Shelf.gives g.R.Read.remaining c.args.copies.now c.args.content _ n _ _ _ _ _ _ _ _ _
+    all c.loop-before.invariant c.in-Continues.is c.form_of_file-form.ensures
+    (subst (λ m. Recovers g.W.Write.contents c.loop-before.recovery c.miss_section.new.self
+    (g.P.Write.contents c.loop-before.report) (g.P.Write.contents c.miss_section.new.report)
+    without_rest (no_section_text m)) next missed)) c.miss_section.ensures.ok

@@ -43,8 +43,8 @@ held_in_form form format rec_len offset block parts f r o h =
     (subst (λ z. Holds format z form.offset block parts) r
     (subst (λ z. Holds format rec_len z block parts) o h))
 
-pub returns : goal.returns
-returns g c =
+pub returns-clause-ok : goal.returns-clause-ok
+returns-clause-ok g c =
     let s = c.shape_of.result in
     let e = c.shape_of.ensures in
     let r = c.requires.checked in
@@ -60,8 +60,6 @@ returns g c =
     sym (at ∙ append-nil (map view c.loop-part.yielded))
     ∙ sym (parts_in_it form c.args.block.now h.0 (held_in_form form s.format s.rec_len s.offset
     c.args.block.now h.0 e.format e.rec_len e.offset h.1)) in
-    record {
-      ok = λ start p was.
-          subst (λ z. HasPiece g.W.Write.contents start c.loop-part.self (with_parts p z)) same
-          (c.loop-part.invariant start p was);
-    }
+    λ start p was.
+    subst (λ z. HasPiece g.W.Write.contents start c.loop-part.self (with_parts p z)) same
+    (c.loop-part.invariant start p was)

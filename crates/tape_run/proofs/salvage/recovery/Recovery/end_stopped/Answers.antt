@@ -5,20 +5,18 @@ use Rattle.tape_run.specs.SalvageEnds.{without_gap}
 use Rattle.tape_run.proofs.SalvageOne.{three_texts}
 use Rattle.tape_run.proofs.salvage.recovery.Recovery.end_stopped.Goals as goal
 
-pub returns : goal.returns
-returns g c =
+pub returns-clause-ok : goal.returns-clause-ok
+returns-clause-ok g c =
     let sect = c.args.sect in
     let first = c.args.first in
-    record {
-      ok = λ start z h.
-          let one = c.in_ok-end_gap.ensures.ok start z h in
-          let a = c.in_ok-tear.ensures.ok start (without_gap z) one.0 in
-          let line : c.deref.result.now ≡ open_gap_line sect first z.piece.records =
-          c.deref.ensures.0 ∙ c.open_gap_line.ensures
-          ∙ ap (open_gap_line sect first) (c.records.ensures ∙ a.0.piece.counts) in (
-            a.0,
-            three_texts _ _ _ _ _ _ _ one.1 a.1
-                (subst (Appends (g.P.Write.contents c.tear.new.report)
-                (g.P.Write.contents c.write_text.new.writer)) line c.in_ok-write_text.ensures.ok),
-          );
-    }
+    λ start z h.
+    let one = c.in_ok-end_gap.ensures.ok start z h in
+    let a = c.in_ok-tear.ensures.ok start (without_gap z) one.0 in
+    let line : c.deref.result.now ≡ open_gap_line sect first z.piece.records =
+    c.deref.ensures.0 ∙ c.open_gap_line.ensures
+    ∙ ap (open_gap_line sect first) (c.records.ensures ∙ a.0.piece.counts) in (
+      a.0,
+      three_texts _ _ _ _ _ _ _ one.1 a.1
+          (subst (Appends (g.P.Write.contents c.tear.new.report)
+          (g.P.Write.contents c.write_text.new.writer)) line c.in_ok-write_text.ensures.ok),
+    )
