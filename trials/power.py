@@ -298,9 +298,9 @@ class Trial:
             self.judge(left, allowed, unmade)
             if again and self.again < AGAIN and self.rng.random() < 0.03:
                 self.again += 1
-                self.go_on(left, unmade)
+                self.resume_and_run(left, unmade)
 
-    def go_on(self, content, unmade):
+    def resume_and_run(self, content, unmade):
         """A run over a file that a power cut left, with power cuts of its own."""
         done, _, _, log = self.run(self.rng.choice(self.plan.days), content, noted=True)
         if done.returncode in (0, 3):

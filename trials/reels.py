@@ -258,7 +258,7 @@ def strangers(rng):
 
 
 @dataclass
-class Shelf:
+class ImageSource:
     """All reels, the files of each set, and the images that are none of ours."""
 
     reels: list
@@ -284,4 +284,4 @@ def make_shelf(seed, sets):
         for at, items in enumerate(volumes_of("BCK001", made, rng, "BCK0"), 1):
             reels.append(Reel(f"week {week} {at}.tap", "BCK001", items))
     rng.shuffle(reels)
-    return Shelf(reels, files, "BCK001", strangers(rng))
+    return ImageSource(reels, files, "BCK001", strangers(rng))

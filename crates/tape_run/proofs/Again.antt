@@ -10,7 +10,7 @@ use Rattle.tape_core.specs.declared.sink.PartSink.{Ghosts}
 use Rattle.tape_run.specs.Crash.{IsWalked}
 use Rattle.tape_core.specs.State.{State}
 use Rattle.tape_run.specs.Seen.{Seen, seen}
-use Rattle.tape_run.specs.Story.{Story}
+use Rattle.tape_run.specs.SessionState.{SessionState}
 use Rattle.tape_run.specs.ReelLine.{reel_lines, last_line}
 use Rattle.tape_run.specs.Reeling.{Turn, answer_of, Follows, goes_back, Mounting}
 use Rattle.tape_run.specs.Rounds.{Round, turns_of, core_behind, wanted, IsEnough}
@@ -35,7 +35,7 @@ in_a_row back core old rounds mid turns last new f g =
 
 pub extracted_again : {S L R : Type 0} (gs : Ghosts S)
     (size : L → ℕ) (gives : Mounting L R) (remaining : R → Option (List ℕ))
-    (old mid new : Story S) (shelf left : L) (form : Form)
+    (old mid new : SessionState S) (shelf left : L) (form : Form)
     (out written said between says : Option (List ℕ)) (want : Option Want)
     (back : Bool) → back ≡ goes_back old.notes
     → TakesRounds gs (size shelf) gives remaining back old mid shelf
@@ -85,7 +85,7 @@ extracted_again {S} {L} {R} gs size gives remaining old mid new
 
 pub stops_in_round : {S L R W : Type 0} (gs : Ghosts S) (size : L → ℕ)
     (gives : Mounting L R) (remaining : R → Option (List ℕ))
-    (old new : Story S) (shelf left : L) (form : Form) (contents : W → Option (List ℕ))
+    (old new : SessionState S) (shelf left : L) (form : Form) (contents : W → Option (List ℕ))
     (out : W) (said says : Option (List ℕ)) (back : Bool) → back ≡ goes_back old.notes
     → StopsInRound gs (size shelf) gives remaining back old new shelf
     left said says
@@ -128,7 +128,7 @@ stops_in_round {S} {L} {R} {W} gs size gives remaining old new
     }
 
 pub stops_at_end_again : {S L R W : Type 0} (gs : Ghosts S)
-    (size : L → ℕ) (gives : Mounting L R) (remaining : R → Option (List ℕ)) (old new end : Story S)
+    (size : L → ℕ) (gives : Mounting L R) (remaining : R → Option (List ℕ)) (old new end : SessionState S)
     (shelf left : L) (form : Form)
     (contents : W → Option (List ℕ)) (out written : W) (said between says : Option (List ℕ))
     (back : Bool) → back ≡ goes_back old.notes

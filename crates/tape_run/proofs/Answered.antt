@@ -4,7 +4,7 @@ use Rattle.std.proofs.Common.{take, drop, Option, Some, ap, subst, ◌∙◌, ar
 use Rattle.std.specs.List.{slice_get}
 use Rattle.std.proofs.lemmas.Option.{slice_get_within}
 use Rattle.tape_set.specs.Layout.{FileSet}
-use Rattle.tape_run.specs.Mount.{Happening}
+use Rattle.tape_run.specs.Mount.{MountEvent}
 use Rattle.tape_run.specs.declared.script.Step.{Step}
 use Rattle.tape_run.specs.declared.script.Step.TheVariants.{Reel, Save, Restart}
 use Rattle.tape_run.specs.declared.fault.RunFault.{RunFault}
@@ -42,7 +42,7 @@ restart_refusal OtherFile n old new lt h = h
 
 -- of the first step
 first_refusal : (step : Step) (steps : List Step) (bytes given : List (List ℕ)) (fault : RunFault)
-    (old new : Seen) (set : FileSet) (h : Happening) (hs : List Happening)
+    (old new : Seen) (set : FileSet) (h : MountEvent) (hs : List MountEvent)
     → length given ≡ length bytes → Fails step (map Some bytes) fault old new
     → IsHistory set (length old.notes) (step ∷ steps) given (h ∷ hs) → IsRefusal fault
 first_refusal Reel steps bytes [] fault old new set x hs m f h = absurd h
@@ -58,7 +58,7 @@ same_step step other e = cc
 
 at_step : (n : ℕ) (step : Step) (which : List Bool) (old mid new : Seen) (steps : List Step)
     (bytes given : List (List ℕ)) (left : List (Option (List ℕ))) (fault : RunFault)
-    (set : FileSet) (hs : List Happening)
+    (set : FileSet) (hs : List MountEvent)
     → length given ≡ length bytes → slice_get steps n ≡ Some step
     → Runs which old (take n steps) (map Some bytes) left mid
     → Fails step (drop (reels_in (take n steps)) (map Some bytes)) fault mid new
@@ -94,7 +94,7 @@ at_step (suc n) step which old mid new (Restart k ∷ steps) bytes given left fa
 
 pub answered : (which : List Bool) (old new : Seen) (steps : List Step)
     (bytes given : List (List ℕ)) (left : List (Option (List ℕ))) (n : ℕ) (fault : RunFault)
-    (set : FileSet) (hs : List Happening)
+    (set : FileSet) (hs : List MountEvent)
     → length given ≡ length bytes → RunsUpTo which old steps (map Some bytes) left n fault new
     → IsHistory set (length old.notes) steps given hs → IsRefusal fault
 answered which old new steps bytes given left n fault set hs m r h =

@@ -20,7 +20,7 @@ use Rattle.tape_core.specs.Place.{IsPlaced, rest_of, resting}
 use Rattle.tape_core.specs.Table.{step_of, mount_of, mounted}
 use Rattle.tape_set.specs.declared.position.Position.TheVariants.{Awaits, Finished}
 use Rattle.tape_core.proofs.OneFile.{step_file}
-use Rattle.tape_run.specs.Mount.{Happening, IsMount, after_mount, cut}
+use Rattle.tape_run.specs.Mount.{MountEvent, IsMount, after_mount, cut}
 use Rattle.tape_run.specs.Reels.{behind_items}
 use Rattle.tape_run.specs.ByTable.{parts_at, delivered_parts, IsLed}
 use Rattle.tape_run.specs.GoesBehind.{ReadsByHistory}
@@ -45,7 +45,7 @@ slice_at (y ∷ taken) rest x = slice_at taken rest x
 
 -- an item of a mount under way was taken: the place is right again with the parts that it delivers
 placed_behind : (core : State) (x : TapeItem) (set : FileSet) (held : List Portion) (p : Position)
-    (xs : List TapeItem) (i : ℕ) (h : Happening) → IsPlaced set (rest_of core) held
+    (xs : List TapeItem) (i : ℕ) (h : MountEvent) → IsPlaced set (rest_of core) held
     → Both set p xs i h (Some x) core (step_of core (Some x))
     → IsPlaced set (rest_of (step_of core (Some x)).1) (held ++ parts_at core x)
 placed_behind core x set held p xs i h at b =
@@ -72,7 +72,7 @@ placed_behind core x set held p xs i h at b =
     }
 
 -- what is left of a mount under way is read by the table
-read_on : (set : FileSet) (p : Position) (h : Happening) (taken rest whole : List TapeItem)
+read_on : (set : FileSet) (p : Position) (h : MountEvent) (taken rest whole : List TapeItem)
     (core : State) (held : List Portion) → IsLawful set → whole ≡ taken ++ rest
     → IsMount set whole h → IsPlaced set (rest_of core) held
     → is_under core set p whole (length taken) h
@@ -116,7 +116,7 @@ rest_twice Broken = refl
 rest_twice _ = refl
 
 -- a mount that the table leads over was read
-pub led_reads : (set : FileSet) (h : Happening) (xs : List TapeItem) (place new : State)
+pub led_reads : (set : FileSet) (h : MountEvent) (xs : List TapeItem) (place new : State)
     (held now : List Portion) → IsLawful set → IsMount set xs h → place ≡ rest_of place
     → IsPlaced set place held → IsLed xs (mount_of place) new held now
     → ReadBy set place.file place.position h new now

@@ -17,7 +17,7 @@ use Rattle.tape_blocks.specs.declared.parts.Form.{Form}
 use Rattle.tape_run.specs.Causes.{WritingFails, EndingFails, ExtractFails, IsExtractFault, IsCalm}
 use Rattle.tape_run.specs.Seen.{seen, IsKept, IfSeen, IsSeen}
 use Rattle.tape_run.specs.Steps.{Refuses, RefusesRestart, Saved, WentBack}
-use Rattle.tape_run.specs.Story.{Story}
+use Rattle.tape_run.specs.SessionState.{SessionState}
 
 -- no call was refused before, and the contents are unchanged
 pub fails_behind : {S : Type 0} (holds mid_holds : S → List Portion → Type 0) (refusals : S → ℕ)
@@ -36,14 +36,14 @@ fails_behind holds mid_holds refusals WriteFailed old mid new calm has h = h ∙
 
 -- ---- images
 
-pub calm_same : {S : Type 0} (g : Ghosts S) (s : Story S) → IsCalm g s s
+pub calm_same : {S : Type 0} (g : Ghosts S) (s : SessionState S) → IsCalm g s s
 calm_same g s = record {
   calm = refl;
   notes = λ none. none;
   kept = λ held was kept. (held, was, kept);
 }
 
-pub calm_then : {S : Type 0} (g : Ghosts S) (old mid new : Story S) → IsCalm g old mid
+pub calm_then : {S : Type 0} (g : Ghosts S) (old mid new : SessionState S) → IsCalm g old mid
     → IsCalm g mid new → IsCalm g old new
 calm_then g old mid new a b = record {
   calm = b.calm ∙ a.calm;
@@ -54,7 +54,7 @@ calm_then g old mid new a b = record {
 
 -- a call after others none of which was refused
 pub then_fails : {S : Type 0} (g : Ghosts S) (back : Bool) (fault : EngineFault)
-    (old mid new : Story S) → IsCalm g old mid → ExtractFails g back fault mid new
+    (old mid new : SessionState S) → IsCalm g old mid → ExtractFails g back fault mid new
     → ExtractFails g back fault old new
 then_fails g back (Run (Sink cause)) old mid new a (inl rose) =
     inl (subst (λ n. Rose n (g.refusals new.sink)) a.calm rose)
@@ -67,7 +67,7 @@ then_fails g back (Run OtherFile) old mid new a h = h
 then_fails g back WriteFailed old mid new a h = h ∙ a.calm
 
 -- a reel was not read to its end, or nothing was noted
-pub step_fails : {S : Type 0} (g : Ghosts S) (back : Bool) (fault : RunFault) (old new : Story S)
+pub step_fails : {S : Type 0} (g : Ghosts S) (back : Bool) (fault : RunFault) (old new : SessionState S)
     → Refuses g fault old new → ExtractFails g back (Run fault) old new
 step_fails g back (Sink cause) old new h = inl h.1
 step_fails g back NoSuchPoint old new h = absurd h
@@ -76,7 +76,7 @@ step_fails g back OutOfMemory old new h = ap (λ s. g.refusals s.sink) h
 step_fails g back OtherFile old new h = absurd h
 
 -- the session did not go back to its last note
-pub back_fails : {S : Type 0} (g : Ghosts S) (n : ℕ) (fault : RunFault) (old new : Story S)
+pub back_fails : {S : Type 0} (g : Ghosts S) (n : ℕ) (fault : RunFault) (old new : SessionState S)
     → length old.notes ≡ n + 1 → RefusesRestart g n fault old new
     → ExtractFails g true (Run fault) old new
 back_fails g n (Sink cause) old new one (same, inl rose) = inl rose
@@ -91,7 +91,7 @@ no_longer_none : (notes : List Point) (point : Point) → notes ++ point ∷ [] 
 no_longer_none [] point e = refl
 no_longer_none (c ∷ notes) point e = absurd (cc e)
 
-pub calm_saved : {S : Type 0} (g : Ghosts S) (old new : Story S) (point : Point)
+pub calm_saved : {S : Type 0} (g : Ghosts S) (old new : SessionState S) (point : Point)
     → g.refusals new.sink ≡ g.refusals old.sink → new.notes ≡ old.notes ++ point ∷ []
     → IfSeen g old (λ was. IsSeen g new (λ is. (IsKept was → IsKept is) × Saved was is))
     → IsCalm g old new
@@ -110,7 +110,7 @@ none_taken n (c ∷ notes) e = absurd (
     let some : take (suc n) (c ∷ notes) ≡ [] = subst (λ m. take m (c ∷ notes) ≡ []) more e in
     cc some)
 
-pub calm_back : {S : Type 0} (g : Ghosts S) (old new : Story S) (n : ℕ)
+pub calm_back : {S : Type 0} (g : Ghosts S) (old new : SessionState S) (n : ℕ)
     → g.refusals new.sink ≡ g.refusals old.sink → new.notes ≡ take (n + 1) old.notes
     → IfSeen g old (λ was. IsKept was
     → IsSeen g new (λ is. IsKept is × WentBack n was is))
@@ -123,7 +123,7 @@ calm_back g old new n calm notes ok = record {
 }
 
 -- a reel was read
-pub calm_reel : {S : Type 0} (g : Ghosts S) (old new : Story S)
+pub calm_reel : {S : Type 0} (g : Ghosts S) (old new : SessionState S)
     (so : List Portion → List Portion → Type 0)
     → g.refusals new.sink ≡ g.refusals old.sink → new.notes ≡ old.notes
     → ((held : List Portion) → g.holds old.sink held → (now : List Portion)
@@ -139,7 +139,7 @@ calm_reel g old new so calm notes ok = record {
 
 -- the records were not written
 pub writing_fails : {S : Type 0} (g : Ghosts S) (back : Bool) (fault : EngineFault)
-    (old new : Story S) → WritingFails g.holds g.refusals old.sink new.sink fault
+    (old new : SessionState S) → WritingFails g.holds g.refusals old.sink new.sink fault
     → ExtractFails g back fault old new
 writing_fails g back (Run (Sink cause)) old new (inl rose) = inl rose
 writing_fails g back (Run (Sink cause)) old new (inr (is, none)) =
@@ -156,7 +156,7 @@ if_err_then (Ok x) P Q f h = tt
 if_err_then (Err e) P Q f h = f e h
 
 -- the file was not written after images that were read
-pub file_fails : {S A : Type 0} (g : Ghosts S) (back : Bool) (old mid new : Story S)
+pub file_fails : {S A : Type 0} (g : Ghosts S) (back : Bool) (old mid new : SessionState S)
     (r : Result A EngineFault) → IsCalm g old mid
     → IfErr r (WritingFails g.holds g.refusals mid.sink new.sink)
     → IfErr r (λ fault. ExtractFails g back fault old new)
@@ -166,7 +166,7 @@ file_fails g back old mid new r calm h =
 
 -- the images were not read
 pub images_fail : {S : Type 0} (g : Ghosts S) (back goes : Bool) (fault : EngineFault)
-    (old new : Story S) → goes ≡ back → ExtractFails g goes fault old new
+    (old new : SessionState S) → goes ≡ back → ExtractFails g goes fault old new
     → ExtractFails g back fault old new
 images_fail g back goes fault old new same h =
     subst (λ b. ExtractFails g b fault old new) same h
@@ -182,7 +182,7 @@ of_causes holds refusals = record {
 
 -- of one that does not go back
 pub images_fault : {S : Type 0} (holds : S → List Portion → Type 0) (refusals : S → ℕ)
-    (fault : EngineFault) (old new : Story S)
+    (fault : EngineFault) (old new : SessionState S)
     → ExtractFails (of_causes holds refusals) false fault old new → IsExtractFault fault
 images_fault holds refusals (Run (Sink cause)) old new h = tt
 images_fault holds refusals (Run NoSuchPoint) old new h = absurd (cc h.0)

@@ -9,7 +9,7 @@ use Rattle.tape_set.specs.Layout.{FileSet}
 use Rattle.tape_set.specs.Lawful.{IsLawful}
 use Rattle.tape_set.specs.declared.position.Position.{Position}
 use Rattle.tape_core.specs.Point.{Point}
-use Rattle.tape_run.specs.Mount.{Happening, IsMount}
+use Rattle.tape_run.specs.Mount.{MountEvent, IsMount}
 use Rattle.tape_run.specs.declared.script.Step.{Step}
 use Rattle.tape_run.specs.declared.script.Step.TheVariants.{Reel, Save, Restart}
 use Rattle.tape_run.specs.declared.fault.RunFault.{RunFault}
@@ -45,7 +45,7 @@ told_err (Err x) e P h p = subst P (sym h) p
 -- ---- the step that was not made
 
 -- a session that is unchanged, except for the count of refused calls, is where it was
-stayed : (set : FileSet) (old mid new : Seen) (hs : List Happening) → Unmoved mid new
+stayed : (set : FileSet) (old mid new : Seen) (hs : List MountEvent) → Unmoved mid new
     → Ran set old hs mid → Ran set old hs new
 stayed set old mid new hs u r = record {
   session = record {
@@ -56,13 +56,13 @@ stayed set old mid new hs u r = record {
   reached = r.reached ∙ rw (u.place, u.notes) refl;
 }
 
-same_there : (set : FileSet) (old mid new : Seen) (hs : List Happening) → new ≡ mid
+same_there : (set : FileSet) (old mid new : Seen) (hs : List MountEvent) → new ≡ mid
     → Ran set old hs mid → Ran set old hs new
 same_there set old mid new hs e r = rw e r
 
-put_refused : (set : FileSet) (old mid new : Seen) (hs : List Happening) (bytes : List ℕ)
+put_refused : (set : FileSet) (old mid new : Seen) (hs : List MountEvent) (bytes : List ℕ)
     → CutShort bytes mid new → IsLawful set → Ran set old hs mid
-    → (xs : List TapeItem) (end : ℕ) (stop : Stop) (h : Happening) → Begins 0 bytes xs end stop
+    → (xs : List TapeItem) (end : ℕ) (stop : Stop) (h : MountEvent) → Begins 0 bytes xs end stop
     → IsMount set xs h → PutRefused set old hs xs h new
 put_refused set old mid new hs bytes c l r xs end stop h b m =
     let there = c.stops set xs end stop h l b m r.session.at in
@@ -79,7 +79,7 @@ put_refused set old mid new hs bytes c l r xs end stop h b m =
           r.same_file there);
     }
 
-reel_stops : (set : FileSet) (old mid new : Seen) (hs : List Happening) (b : List ℕ)
+reel_stops : (set : FileSet) (old mid new : Seen) (hs : List MountEvent) (b : List ℕ)
     (bs : List (List ℕ)) (fault : RunFault)
     → ReelFails b fault mid new → IsLawful set → Ran set old hs mid
     → StopsStep set old hs Reel (b ∷ bs) fault new
@@ -89,7 +89,7 @@ reel_stops set old mid new hs b bs TooFewReels h l r = absurd h
 reel_stops set old mid new hs b bs OutOfMemory h l r = same_there set old mid new hs h r
 reel_stops set old mid new hs b bs OtherFile h l r = absurd h
 
-save_stops : (set : FileSet) (old mid new : Seen) (hs : List Happening) (bs : List (List ℕ))
+save_stops : (set : FileSet) (old mid new : Seen) (hs : List MountEvent) (bs : List (List ℕ))
     (fault : RunFault)
     → SaveFails fault mid new → Ran set old hs mid → StopsStep set old hs Save bs fault new
 save_stops set old mid new hs bs (Sink cause) h r = stayed set old mid new hs h r
@@ -102,7 +102,7 @@ so_many : (notes : List Point) → length (map (λ (c : Point). c.position) note
 so_many [] = refl
 so_many (c ∷ cs) = ap suc (so_many cs)
 
-noted_positions : (set : FileSet) (old mid : Seen) (hs : List Happening) (n : ℕ)
+noted_positions : (set : FileSet) (old mid : Seen) (hs : List MountEvent) (n : ℕ)
     → length mid.notes ≤ n → Ran set old hs mid
     → length (course set old.place.file (course_of old) hs).notes ≤ n
 noted_positions set old mid hs n le r =
@@ -110,7 +110,7 @@ noted_positions set old mid hs n le r =
     let m = so_many mid.notes in
     omega (arith, le, e, m)
 
-restart_stops : (set : FileSet) (old mid new : Seen) (hs : List Happening)
+restart_stops : (set : FileSet) (old mid new : Seen) (hs : List MountEvent)
     (n : ℕ) (bs : List (List ℕ)) (fault : RunFault)
     → RestartFails n fault mid new → Ran set old hs mid
     → StopsStep set old hs (Restart n) bs fault new
@@ -207,7 +207,7 @@ fails_count Save bs fault mid new h = save_count fault mid new h
 fails_count (Restart n) bs fault mid new h = restart_count n fault mid new h
 
 fails_stops : (step : Step) (bs : List (List ℕ)) (fault : RunFault) (set : FileSet)
-    (old mid new : Seen) (hs : List Happening) → Fails step (map Some bs) fault mid new
+    (old mid new : Seen) (hs : List MountEvent) → Fails step (map Some bs) fault mid new
     → IsLawful set → Ran set old hs mid → StopsStep set old hs step bs fault new
 fails_stops Reel [] fault set old mid new hs (is, same) l r =
     subst (λ (z : RunFault). StopsStep set old hs Reel [] z new) (sym is)

@@ -28,8 +28,8 @@ use Rattle.tape_run.specs.Crash.{IsOf, LastAlone}
 use Rattle.tape_run.specs.Given.{IsGiven, AreGivenBy}
 use Rattle.tape_run.specs.History.{course_of, IsHistory}
 use Rattle.tape_run.specs.Headline.{HasStopped, StopsStep}
-use Rattle.tape_run.specs.Lives.{IsPlaceOf}
-use Rattle.tape_run.specs.Mount.{Happening, foreign_reel, reads, IsMount}
+use Rattle.tape_run.specs.CrashRuns.{IsPlaceOf}
+use Rattle.tape_run.specs.Mount.{MountEvent, foreign_reel, reads, IsMount}
 use Rattle.tape_run.specs.Runs.{Runs, RunsUpTo, Fails}
 use Rattle.tape_run.specs.Seen.{Seen, IsKept, IsSession, KeepsNotes}
 use Rattle.tape_run.specs.Steps.{Reeled, ReelFails, Saved, WentBack}
@@ -246,7 +246,7 @@ cases_of_made = record {
 }
 
 stopped_so : (old new : Seen) (a b c : List ℕ) (left : List (Option (List ℕ))) (fault : RunFault)
-    (set : FileSet) (hs : List Happening)
+    (set : FileSet) (hs : List MountEvent)
     (s : HasStopped old (Reel ∷ Reel ∷ Save ∷ Reel ∷ []) (a ∷ b ∷ c ∷ []) left 2 fault new)
     → IsLawful set → IsHistory set (length old.notes) (Reel ∷ Reel ∷ []) s.given hs
     → IsSession set old → StopsStep set old hs Save (c ∷ []) fault new

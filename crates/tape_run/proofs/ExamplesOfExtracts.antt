@@ -10,7 +10,7 @@ use Rattle.tape_run.specs.Given.{is_device, IsGiven}
 use Rattle.tape_run.specs.Mount.{IsMountOf, foreign_reel}
 use Rattle.tape_run.specs.OutSinks.{IsText}
 use Rattle.tape_run.specs.Reeling.{Opened, IsNoted, goes_back}
-use Rattle.tape_run.specs.Reeling.{IsKeptFor, is_doubtful, Turn, IsTurn, Took}
+use Rattle.tape_run.specs.Reeling.{IsKeptFor, counts_differ, Turn, IsTurn, Took}
 use Rattle.tape_run.specs.Reeling.{AreTurns, AreFirstTurns, answer_of}
 use Rattle.tape_run.specs.Seen.{Seen, seen}
 use Rattle.tape_run.specs.Steps.{WentBack}

@@ -13,7 +13,7 @@ use Rattle.tape_core.specs.Stands.{Stands}
 use Rattle.tape_run.specs.declared.script.Step.TheVariants.{Reel}
 use Rattle.tape_run.specs.Headline.{HasRun}
 use Rattle.tape_run.specs.History.{Course, IsHistory}
-use Rattle.tape_run.specs.Lives.{IsResumed, ResumedGoesOn}
+use Rattle.tape_run.specs.CrashRuns.{IsResumed, ResumedGoesOn}
 use Rattle.tape_run.specs.Mount.{reads}
 use Rattle.tape_run.specs.Seen.{Seen}
 use Rattle.tape_run.specs.declared.section.SectionKey.{SectionKey}

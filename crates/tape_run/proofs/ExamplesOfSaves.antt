@@ -9,7 +9,7 @@ use Rattle.tape_run.specs.Crash.{IsNoteOf, IsLast, BringsLast, KeepsLast, Leaves
 use Rattle.tape_core.specs.Table.{saved}
 use Rattle.tape_run.specs.Reeling.{StoodSaved}
 use Rattle.tape_run.specs.Seen.{Seen, seen}
-use Rattle.tape_run.specs.Story.{Story}
+use Rattle.tape_run.specs.SessionState.{SessionState}
 use Rattle.tape_core.specs.Point.{Point}
 use Rattle.tape_blocks.specs.Block.{Portion}
 use Rattle.tape_run.specs.CasesOfSaves.{CasesOfSaved, brings, comes_now, comes_since}
@@ -47,7 +47,7 @@ pub one_note : (s : Seen) (c p : Point) (ps : List Portion) → s.notes ≡ c �
 one_note s c p ps one last = of_one_note s c p ps one (last p ps (refl, refl))
 
 -- the one note came back alone before
-alone_before : (old : Story Point) (held ps : List Portion) (c : Point)
+alone_before : (old : SessionState Point) (held ps : List Portion) (c : Point)
     → old.notes ≡ c ∷ [] → old.sink ≡ c → IsFront ps held → weight_of ps ≡ c.staged
     → BringsLast (brings ps old.sink) (seen (weighing (comes_now ps)) old held)
 alone_before old held ps c had came front weighs back there (b, t) = (
@@ -60,7 +60,7 @@ alone_before old held ps c had came front weighs back there (b, t) = (
   ),
 )
 
-came_alone : (old new : Story Point) (held now ps : List Portion) (c : Point)
+came_alone : (old new : SessionState Point) (held now ps : List Portion) (c : Point)
     → old.notes ≡ c ∷ [] → new.notes ≡ c ∷ [] → old.sink ≡ c → IsFront ps held
     → weight_of ps ≡ c.staged → KeepsLast (weighing (comes_now ps)) old held new now
     → new.sink ≡ c
@@ -68,7 +68,7 @@ came_alone old new held now ps c had has came front weighs keeps =
     (one_note (seen (weighing (comes_now ps)) new now) c new.sink ps has
     (keeps.last (λ same. alone_before old held ps c had came front weighs))).0
 
-alone_since : (old new : Story Point) (held now ps : List Portion) (c : Point) (t : ℕ)
+alone_since : (old new : SessionState Point) (held now ps : List Portion) (c : Point) (t : ℕ)
     → old.notes ≡ c ∷ [] → new.notes ≡ c ∷ [] → old.sink ≡ c → IsFront ps held
     → weight_of ps ≡ c.staged → t ≤ old.sink.file
     → KeepsLast (weighing (comes_since ps)) old held new now → new.sink ≡ c
@@ -77,7 +77,7 @@ alone_since old new held now ps c t had has came front weighs le keeps =
     (keeps.since t le (ap length has ∙ sym (ap length had))
     (alone_before old held ps c had came front weighs))).0
 
-on_the_way : (old new : Story Point) (held now ps : List Portion) (c : Point)
+on_the_way : (old new : SessionState Point) (held now ps : List Portion) (c : Point)
     → old.notes ≡ [] → new.notes ≡ c ∷ []
     → KeepsLast (weighing (comes_now ps)) old held new now
     → (new.sink ≡ c) × IsFront ps now
@@ -85,7 +85,7 @@ on_the_way old new held now ps c none has keeps =
     one_note (seen (weighing (comes_now ps)) new now) c new.sink ps has (keeps.last (λ same.
     absurd (let e : 1 ≡ 0 = sym (ap length has) ∙ same ∙ ap length none in omega (arith, e))))
 
-stood_so : (old new : Story Point) (held ps : List Portion) (now : Seen) (c : Point)
+stood_so : (old new : SessionState Point) (held ps : List Portion) (now : Seen) (c : Point)
     → old.notes ≡ [] → now.notes ≡ c ∷ []
     → StoodSaved (weighing (comes_now ps)) old held new
     now
@@ -101,7 +101,7 @@ stood_so old new held ps now c none has (parts, holds, is, keeps) =
       ap (λ (z : Point). z.staged) (sym same) ∙ holds ∙ ap weight_of (sym all),
     )
 
-left_at_a_fault : (old new : Story Point) (held ps : List Portion) (now : Seen) (c : Point)
+left_at_a_fault : (old new : SessionState Point) (held ps : List Portion) (now : Seen) (c : Point)
     → old.notes ≡ [] → now.notes ≡ c ∷ []
     → LeavesSaved (weighing (comes_now ps)) old held now
     new
@@ -115,7 +115,7 @@ left_at_a_fault old new held ps now c none has leaves = elim (leaves.comes (λ s
       | inr here ↦ inr (here.0, here.1, here.2)
     ]
 
-alone_at_a_fault : (old new : Story Point) (held ps : List Portion) (now : Seen) (c : Point)
+alone_at_a_fault : (old new : SessionState Point) (held ps : List Portion) (now : Seen) (c : Point)
     → old.notes ≡ c ∷ [] → now.notes ≡ c ∷ [] → old.sink ≡ c → IsFront ps held
     → weight_of ps ≡ c.staged
     → LeavesSaved (holding_none (comes_now ps)) old held now new → new.sink ≡ c
@@ -126,7 +126,7 @@ alone_at_a_fault old new held ps now c had has came front weighs leaves =
       | inr here ↦ absurd here.0
     ]
 
-alone_up_to_a_fault : (old new : Story Point) (held ps : List Portion) (now : Seen) (c : Point)
+alone_up_to_a_fault : (old new : SessionState Point) (held ps : List Portion) (now : Seen) (c : Point)
     (t : ℕ) → old.notes ≡ c ∷ [] → now.notes ≡ c ∷ [] → old.sink ≡ c → IsFront ps held
     → weight_of ps ≡ c.staged → t ≤ old.sink.file
     → LeavesSaved (holding_none (comes_since ps)) old held now new → new.sink ≡ c

@@ -9,13 +9,13 @@ use Rattle.tape_run.specs.CasesOfSeen.{CasesOfSeen, counting}
 use Rattle.tape_run.specs.Crash.{BringsNoMore}
 use Rattle.tape_run.specs.Given.{IfTold}
 use Rattle.tape_run.specs.Seen.{seen, IfSeen, IsSeen}
-use Rattle.tape_run.specs.Story.{Story}
+use Rattle.tape_run.specs.SessionState.{SessionState}
 
-each_part : (s : Story ℕ) (p : Portion) → s.sink ≡ 1
+each_part : (s : SessionState ℕ) (p : Portion) → s.sink ≡ 1
     → IfSeen counting s (λ is. is.parts ≡ p ∷ []) → (q : Portion) → q ≡ p
 each_part s p one so q = let e = so (q ∷ []) (sym one) in cc
 
-no_part : (s : Story ℕ) → s.sink ≡ 1 → IsSeen counting s (λ is. is.parts ≡ []) → ⊥
+no_part : (s : SessionState ℕ) → s.sink ≡ 1 → IsSeen counting s (λ is. is.parts ≡ []) → ⊥
 no_part s one (now, count, none) =
     absurd (omega (arith, one, count, ap length none))
 

@@ -13,7 +13,7 @@ use Rattle.tape_core.specs.declared.sink.PartSink.{Ghosts}
 use Rattle.tape_run.specs.Crash.{IsWalked}
 use Rattle.tape_core.specs.State.{State}
 use Rattle.tape_run.specs.Seen.{Seen, seen, IfSeen}
-use Rattle.tape_run.specs.Story.{Story}
+use Rattle.tape_run.specs.SessionState.{SessionState}
 use Rattle.tape_blocks.specs.declared.parts.Form.{Form}
 use Rattle.tape_image.specs.Written.{AppendsFront}
 use Rattle.tape_run.specs.RecordText.{output_of}
@@ -27,7 +27,7 @@ use Rattle.tape_run.proofs.Left.{left_walked}
 use Rattle.tape_run.proofs.TurnSteps.{are_steps}
 
 -- A session that ended its file came to what its images lead to.
-abbrev pub ended : {S : Type 0} (spares : Bool) (g : Ghosts S) (mid : Story S) (core : State)
+abbrev pub ended : {S : Type 0} (spares : Bool) (g : Ghosts S) (mid : SessionState S) (core : State)
     (old : Seen) (turns : List Turn) (form : Form) (out written said says : Option (List ℕ))
     (want : Option Want) (now : List Portion)
     (e : EndsFile g mid form out written said says want)
@@ -46,7 +46,7 @@ ended spares g mid core old turns form out written said says want now e has f =
     }
 
 pub extracted : {S L R : Type 0} (gs : Ghosts S)
-    (size : L → ℕ) (gives : Mounting L R) (remaining : R → Option (List ℕ)) (old mid new : Story S)
+    (size : L → ℕ) (gives : Mounting L R) (remaining : R → Option (List ℕ)) (old mid new : SessionState S)
     (shelf left : L) (form : Form)
     (out written said between says : Option (List ℕ)) (want : Option Want)
     (back : Bool) → back ≡ goes_back old.notes
@@ -77,7 +77,7 @@ extracted {S} {L} {R} gs size gives remaining old mid new shelf
 
 pub stops_reading : {S L R W : Type 0} (gs : Ghosts S) (size : L → ℕ)
     (gives : Mounting L R) (remaining : R → Option (List ℕ))
-    (old new : Story S) (shelf left : L) (form : Form) (contents : W → Option (List ℕ))
+    (old new : SessionState S) (shelf left : L) (form : Form) (contents : W → Option (List ℕ))
     (out : W) (said says : Option (List ℕ)) (back : Bool) → back ≡ goes_back old.notes
     → StopsReading gs (size shelf) 0 gives remaining back false old new shelf
     left said says
@@ -112,7 +112,7 @@ tells_then said between says lines want records now before (inl none) =
 tells_then said between says lines want records now before (inr tells) = inr tells
 
 pub stops_at_end : {S L R W : Type 0} (gs : Ghosts S)
-    (size : L → ℕ) (gives : Mounting L R) (remaining : R → Option (List ℕ)) (old mid new : Story S)
+    (size : L → ℕ) (gives : Mounting L R) (remaining : R → Option (List ℕ)) (old mid new : SessionState S)
     (shelf left : L) (form : Form)
     (contents : W → Option (List ℕ)) (out written : W) (said between says : Option (List ℕ))
     (back : Bool) → back ≡ goes_back old.notes
@@ -150,7 +150,7 @@ stops_at_end {S} {L} {R} {W} gs size gives remaining old mid new
     }
 
 -- the last line, or the output, was written in part
-pub ends_in_part : {S W : Type 0} (g : Ghosts S) (session : Story S)
+pub ends_in_part : {S W : Type 0} (g : Ghosts S) (session : SessionState S)
     (form : Form) (contents : W → Option (List ℕ)) (out written : W)
     (said says : Option (List ℕ)) (want : Option Want) (records : ℕ)
     → AppendsFront said says (last_line want records)

@@ -14,7 +14,7 @@ use Rattle.tape_core.specs.Foreign.{starts_set, labels_of_set, is_of_set, is_vol
 use Rattle.tape_set.specs.Layout.{FileSet, items, entries}
 use Rattle.tape_set.specs.Reading.{Reading, as_read}
 use Rattle.tape_set.specs.Reach.{passes}
-use Rattle.tape_run.specs.Mount.{Happening, reads, foreign_reel, saves, restarts, IsCopy, IsMount}
+use Rattle.tape_run.specs.Mount.{MountEvent, reads, foreign_reel, saves, restarts, IsCopy, IsMount}
 use Rattle.tape_run.specs.Mount.{IsMountOf, cut}
 use Rattle.tape_run.specs.Fronts.{FrontsAreMounts, GivenIsHistory}
 use Rattle.tape_run.specs.Given.{IsGiven}
@@ -123,7 +123,7 @@ front_of_foreign set_id ys rest h = by (starts_set set_id ys) refl
 
 -- ---- mounts
 
-front_of_mount : (set : FileSet) (ys rest : List TapeItem) (h : Happening)
+front_of_mount : (set : FileSet) (ys rest : List TapeItem) (h : MountEvent)
     → IsMount set (ys ++ rest) h → IsMount set ys (cut (length ys) h)
 front_of_mount set ys rest (reads r) m = front_of_copy set ys rest r m
 front_of_mount set ys rest foreign_reel m = front_of_foreign set.set_id ys rest m
@@ -156,9 +156,9 @@ fronts_are_mounts set front rest h (xs, end, stop, b, m) =
 
 -- ---- histories
 
-mount_given : (set : FileSet) (b g : List ℕ) (h : Happening) → IsMountOf set b h
+mount_given : (set : FileSet) (b g : List ℕ) (h : MountEvent) → IsMountOf set b h
     → (failed : Bool) (left : Option (List ℕ)) → IsGiven failed b left g
-    → (h' : Happening) × IsMountOf set g h'
+    → (h' : MountEvent) × IsMountOf set g h'
 mount_given set b g h m false left same = (h, subst (λ z. IsMountOf set z h) (sym same) m)
 mount_given set b g h m true left (rest, is, whole) =
     let (n, front) = fronts_are_mounts set g rest h (subst (λ z. IsMountOf set z h) whole m) in

@@ -15,7 +15,7 @@ use Rattle.tape_core.specs.Table.{passed, step_of, mount_of, unless_complete, at
 use Rattle.tape_run.specs.Reels.{behind_items, answers_to, GoesOn, ReadsReel}
 use Rattle.tape_run.specs.GoesBehind.{EndsSection, LeavesBehind, LeavesBehindAgain}
 use Rattle.tape_image.specs.Begins.{Walks}
-use Rattle.tape_run.specs.declared.intake.ReelAnswer.{ReelAnswer}
+use Rattle.tape_run.specs.declared.reel_reader.ReelAnswer.{ReelAnswer}
 use Rattle.tape_run.proofs.ByTable.{behind_app}
 use Rattle.tape_run.proofs.GoesBehind.{still_waits}
 

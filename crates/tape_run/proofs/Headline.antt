@@ -12,7 +12,7 @@ use Rattle.tape_core.specs.Point.{Point}
 use Rattle.tape_core.specs.State.{State}
 use Rattle.tape_core.specs.Stands.{Stands, weight_of}
 use Rattle.tape_core.specs.Table.{saved}
-use Rattle.tape_run.specs.Mount.{Happening, reads, foreign_reel, saves, restarts, IsMountOf}
+use Rattle.tape_run.specs.Mount.{MountEvent, reads, foreign_reel, saves, restarts, IsMountOf}
 use Rattle.tape_run.specs.Mount.{after_mount}
 use Rattle.tape_run.specs.declared.script.Step.{Step}
 use Rattle.tape_run.specs.declared.script.Step.TheVariants.{Reel, Save, Restart}
@@ -29,7 +29,7 @@ use Rattle.tape_run.proofs.Notes.{same_front, notes_grow, notes_push, note_at}
 -- ---- one step
 
 -- the step of a history
-pub record Stepped (set : FileSet) (old : Seen) (h : Happening) (new : Seen) : Type 0 where
+pub record Stepped (set : FileSet) (old : Seen) (h : MountEvent) (new : Seen) : Type 0 where
   pub session : IsSession set new
   pub same_file : new.place.file ≡ old.place.file
   pub moved : after set old.place.file (course_of old) h ≡ course_of new
@@ -38,7 +38,7 @@ course_same : (old new : Seen) (p : Position) → p ≡ new.place.position → o
     → record { at = p; notes = map (λ (c : Point). c.position) old.notes } ≡ course_of new
 course_same old new p e f = rw (e, f) refl
 
-after_reel : (set : FileSet) (old new : Seen) (given : List ℕ) (h : Happening)
+after_reel : (set : FileSet) (old new : Seen) (given : List ℕ) (h : MountEvent)
     → IsMountOf set given h
     → new.place.position ≡ after_mount set old.place.file old.place.position h
     → new.notes ≡ old.notes
@@ -48,7 +48,7 @@ after_reel set old new given foreign_reel m e f = course_same old new _ (sym e) 
 after_reel set old new given saves (xs, end, stop, b, m) e f = absurd m
 after_reel set old new given (restarts n) (xs, end, stop, b, m) e f = absurd m
 
-pub reel_steps : (set : FileSet) (old new : Seen) (bytes : List ℕ) (failed : Bool) (h : Happening)
+pub reel_steps : (set : FileSet) (old new : Seen) (bytes : List ℕ) (failed : Bool) (h : MountEvent)
     {left : Option (List ℕ)} → (r : Reeled bytes left failed old new) → IsLawful set
     → IsMountOf set r.given h → IsSession set old → Stepped set old h new
 reel_steps set old new bytes failed h r l m s =
@@ -97,7 +97,7 @@ restart_steps set old new n w s =
 
 -- ---- a step and a run
 
-pub step_then_run : (set : FileSet) (old mid new : Seen) (h : Happening) (hs : List Happening)
+pub step_then_run : (set : FileSet) (old mid new : Seen) (h : MountEvent) (hs : List MountEvent)
     → Stepped set old h mid → Ran set mid hs new → Ran set old (h ∷ hs) new
 step_then_run set old mid new h hs a b = record {
   session = b.session;
@@ -106,7 +106,7 @@ step_then_run set old mid new h hs a b = record {
       a.same_file b.reached);
 }
 
-nothing_ran : (set : FileSet) (old new : Seen) (bytes : List (List ℕ)) (hs : List Happening)
+nothing_ran : (set : FileSet) (old new : Seen) (bytes : List (List ℕ)) (hs : List MountEvent)
     → new ≡ old → IsHistory set (length old.notes) [] bytes hs → IsSession set old
     → Ran set old hs new
 nothing_ran set old new bytes [] e h s =
@@ -116,9 +116,9 @@ nothing_ran set old new bytes (h' ∷ hs) e h s = absurd h
 reel_then : (old mid new : Seen) (steps : List Step) (b : List ℕ) (bs : List (List ℕ))
     (failed : Bool) {left : Option (List ℕ)} (r : Reeled b left failed old mid)
     (given : List (List ℕ))
-    → ((set : FileSet) (hs : List Happening) → IsLawful set
+    → ((set : FileSet) (hs : List MountEvent) → IsLawful set
     → IsHistory set (length mid.notes) steps given hs → IsSession set mid → Ran set mid hs new)
-    → (set : FileSet) (hs : List Happening) → IsLawful set
+    → (set : FileSet) (hs : List MountEvent) → IsLawful set
     → IsHistory set (length old.notes) (Reel ∷ steps) (r.given ∷ given) hs → IsSession set old
     → Ran set old hs new
 reel_then old mid new steps b bs failed r given rest set [] l h s = absurd h
@@ -156,9 +156,9 @@ reel_given which old mid new steps b bs l left failed r (rest, same) = (
 )
 
 save_then : (old mid new : Seen) (steps : List Step) (given : List (List ℕ)) → Saved old mid
-    → ((set : FileSet) (hs : List Happening) → IsLawful set
+    → ((set : FileSet) (hs : List MountEvent) → IsLawful set
     → IsHistory set (length mid.notes) steps given hs → IsSession set mid → Ran set mid hs new)
-    → (set : FileSet) (hs : List Happening) → IsLawful set
+    → (set : FileSet) (hs : List MountEvent) → IsLawful set
     → IsHistory set (length old.notes) (Save ∷ steps) given hs → IsSession set old
     → Ran set old hs new
 save_then old mid new steps given v rest set [] l h s = absurd h
@@ -180,9 +180,9 @@ took_so_many (suc n) (x ∷ xs) h =
 
 restart_then : (old mid new : Seen) (n : ℕ) (steps : List Step) (given : List (List ℕ))
     → WentBack n old mid
-    → ((set : FileSet) (hs : List Happening) → IsLawful set
+    → ((set : FileSet) (hs : List MountEvent) → IsLawful set
     → IsHistory set (length mid.notes) steps given hs → IsSession set mid → Ran set mid hs new)
-    → (set : FileSet) (hs : List Happening) → IsLawful set
+    → (set : FileSet) (hs : List MountEvent) → IsLawful set
     → IsHistory set (length old.notes) (Restart n ∷ steps) given hs → IsSession set old
     → Ran set old hs new
 restart_then old mid new n steps given w rest set [] l h s = absurd h

@@ -25,7 +25,7 @@ use Rattle.tape_set.specs.declared.position.Position.{Position}
 use Rattle.tape_core.specs.declared.event.Answer.{Answer}
 use Rattle.tape_core.specs.State.{State}
 use Rattle.tape_core.specs.Place.{IsPlaced, rest_of}
-use Rattle.tape_run.specs.Mount.{Happening, IsMount, cut, after_mount}
+use Rattle.tape_run.specs.Mount.{MountEvent, IsMount, cut, after_mount}
 use Rattle.tape_core.specs.Follows.{IsFinal}
 use Rattle.tape_run.specs.Under.{is_under}
 use Rattle.tape_run.specs.Taking.{Taken, TakesItem, RefusesItem, ReadsItems, ReadsImage}
@@ -45,7 +45,7 @@ pub record SoFar (old new : State) (held now : List Portion) (at : ℕ) (bytes l
   pub walks : Walks 0 bytes items at left
   pub core : new ≡ behind_items old items
   pub parts : now ≡ held ++ delivered_parts old items
-  pub so_far : (set : FileSet) (p : Position) (xs rest : List TapeItem) (h : Happening)
+  pub so_far : (set : FileSet) (p : Position) (xs rest : List TapeItem) (h : MountEvent)
       → IsLawful set → IsMount set xs h → xs ≡ items ++ rest → IsPlaced set (rest_of old) held
       → is_under old set p xs 0 h
       → IsPlaced set (rest_of new) now × is_under new set p xs (length items) h
@@ -96,7 +96,7 @@ pub record IsTaken (came : Option TapeItem) (answer : Answer) (old new : State)
 one_taken : (old mid new : State) (held now then : List Portion) (p : ℕ) (bytes ys : List ℕ)
     (s : SoFar old mid held now p bytes ys) (item : TapeItem) (answer : Answer)
     → IsTaken (Some item) answer mid new now then
-    → (set : FileSet) (q : Position) (xs rest : List TapeItem) (h : Happening) → IsLawful set
+    → (set : FileSet) (q : Position) (xs rest : List TapeItem) (h : MountEvent) → IsLawful set
     → IsMount set xs h → xs ≡ s.items ++ item ∷ rest → IsPlaced set (rest_of old) held
     → is_under old set q xs 0 h
     → Taken set q xs (length s.items) h answer new then

@@ -15,10 +15,10 @@ use Rattle.tape_run.specs.Crash.{IsNoteOf, BringsLast, LastAlone, KeepsLast, IsW
 use Rattle.tape_run.specs.Reeling.{StoodSaved}
 use Rattle.tape_run.specs.Seen.{Seen, seen}
 use Rattle.tape_run.specs.Steps.{Saved, WentBack}
-use Rattle.tape_run.specs.Story.{Story}
+use Rattle.tape_run.specs.SessionState.{SessionState}
 use Rattle.tape_run.proofs.Notes.{front_self, front_trans, same_front}
 
-pub last_same : {S : Type 0} (g : Ghosts S) (s : Story S) (held : List Portion)
+pub last_same : {S : Type 0} (g : Ghosts S) (s : SessionState S) (held : List Portion)
     → KeepsLast g s held s held
 last_same g s held = record {
   last = λ h. h refl;
@@ -29,7 +29,7 @@ last_same g s held = record {
   survived = λ t le h. h;
 }
 
-pub last_then : {S : Type 0} (g : Ghosts S) (a b c : Story S) (held mid now : List Portion)
+pub last_then : {S : Type 0} (g : Ghosts S) (a b c : SessionState S) (held mid now : List Portion)
     → KeepsLast g a held b mid → KeepsLast g b mid c now → KeepsLast g a held c now
 last_then g a b c held mid now one two = record {
   last = λ h. two.last (λ d. one.last (λ e. h (d ∙ e)));
@@ -68,7 +68,7 @@ alone_still was now old new notes front adds (last, (t, le, since)) = (
   ),
 )
 
-pub last_stays : {S : Type 0} (g : Ghosts S) (a b : Story S)
+pub last_stays : {S : Type 0} (g : Ghosts S) (a b : SessionState S)
     (held now : List Portion) → b.notes ≡ a.notes → IsFront held now
     → AddsNothing (g.crashes a.sink) (g.crashes b.sink) → KeepsLast g a held b now
 last_stays g a b held now notes front adds = record {
@@ -149,7 +149,7 @@ last_back old new n r t count went only last = λ back there x.
     )
 
 -- a checkpoint of the session's position was made, and that was saved
-pub last_kept : {S : Type 0} (g : Ghosts S) (a b : Story S)
+pub last_kept : {S : Type 0} (g : Ghosts S) (a b : SessionState S)
     (held now : List Portion) (point : Point) (these : Returns)
     → point ≡ saved (seen g a held).place (weight_of held)
     → ThisAlone point held (g.crashes b.sink) → Saved (seen g a held) (seen g b now)
@@ -168,7 +168,7 @@ last_kept g a b held now point these here alone s adds =
     }
 
 -- the session went back to the note made last
-pub last_went : {S : Type 0} (g : Ghosts S) (a b : Story S)
+pub last_went : {S : Type 0} (g : Ghosts S) (a b : SessionState S)
     (held now : List Portion) (n : ℕ) → length a.notes ≡ n + 1
     → WentBack n (seen g a held) (seen g b now)
     → AddsOnly (IsNoteOf n (seen g a held)) (g.crashes a.sink) (g.crashes b.sink)
@@ -190,14 +190,14 @@ last_went g a b held now n count went adds =
     }
 
 -- if only the sink was walked, the session is seen as it was
-walked_seen : {S : Type 0} (g : Ghosts S) (a b : Story S) (parts : List Portion)
+walked_seen : {S : Type 0} (g : Ghosts S) (a b : SessionState S) (parts : List Portion)
     → IsWalked g a b → g.refusals b.sink ≡ g.refusals a.sink
     → seen g a parts ≡ seen g b parts
 walked_seen g a b parts w calm =
     rw (w.core, w.notes, w.failures, calm) refl
 
 -- the result of the images, after the walk that writes the file
-pub stood_walked : {S : Type 0} (g : Ghosts S) (a b c : Story S) (held parts : List Portion)
+pub stood_walked : {S : Type 0} (g : Ghosts S) (a b c : SessionState S) (held parts : List Portion)
     → g.holds b.sink parts → KeepsLast g a held b parts
     → IsWalked g b c → g.refusals c.sink ≡ g.refusals b.sink
     → StoodSaved g a held c (seen g b parts)

@@ -15,7 +15,7 @@ use Rattle.tape_run.specs.Crash.{LeavesStep, LeavesSaved, IsWalked}
 use Rattle.tape_run.specs.Reeling.{IsKeptFor}
 use Rattle.tape_run.specs.Seen.{Seen, seen, IsKept}
 use Rattle.tape_run.specs.Steps.{SaveFails}
-use Rattle.tape_run.specs.Story.{Story}
+use Rattle.tape_run.specs.SessionState.{SessionState}
 use Rattle.tape_run.specs.declared.fault.RunFault.{RunFault}
 use Rattle.tape_run.specs.declared.fault.RunFault.TheVariants.{Sink, NoSuchPoint, TooFewReels}
 use Rattle.tape_run.specs.declared.fault.RunFault.TheVariants.{OutOfMemory, OtherFile}
@@ -26,14 +26,14 @@ use Rattle.tape_run.proofs.Sessions.{kept_at}
 -- ---- one step
 
 -- nothing more comes back
-pub nothing_left : {S : Type 0} (g : Ghosts S) (goes : Bool) (a b : Story S)
+pub nothing_left : {S : Type 0} (g : Ghosts S) (goes : Bool) (a b : SessionState S)
     (held : List Portion) → AddsNothing (g.crashes a.sink) (g.crashes b.sink)
     → LeavesStep g goes a held b
 nothing_left g goes a b held adds =
     only_nothing _ (g.crashes a.sink) (g.crashes b.sink) adds
 
 -- the session is as it was
-pub same_left : {S : Type 0} (g : Ghosts S) (goes : Bool) (a : Story S) (held : List Portion)
+pub same_left : {S : Type 0} (g : Ghosts S) (goes : Bool) (a : SessionState S) (held : List Portion)
     → LeavesStep g goes a held a
 same_left g goes a held = only_same _ (g.crashes a.sink)
 
@@ -47,7 +47,7 @@ save_stays OutOfMemory old new h =
 save_stays OtherFile old new h = absurd h
 
 -- no checkpoint was made of the session's position
-pub save_left : {S : Type 0} (g : Ghosts S) (goes : Bool) (a b : Story S)
+pub save_left : {S : Type 0} (g : Ghosts S) (goes : Bool) (a b : SessionState S)
     (held now : List Portion) (fault : RunFault) → g.holds b.sink now
     → SaveFails fault (seen g a held) (seen g b now)
     → AddsOnly (IsHere (seen g a held)) (g.crashes a.sink) (g.crashes b.sink)
@@ -68,7 +68,7 @@ save_left {S} g goes a b held now fault has fails =
         )
 
 -- the session did not go back
-pub restart_left : {S : Type 0} (g : Ghosts S) (a b : Story S) (held : List Portion) (n : ℕ)
+pub restart_left : {S : Type 0} (g : Ghosts S) (a b : SessionState S) (held : List Portion) (n : ℕ)
     → length a.notes ≡ n + 1
     → AddsOnly (IsNoteOf n (seen g a held)) (g.crashes a.sink) (g.crashes b.sink)
     → LeavesStep g true a held b
@@ -92,7 +92,7 @@ last_before old mid notes front kept back there (n, count, (is, f, w)) =
     )
 
 -- a reel was read, and the step after it failed
-pub left_then : {S : Type 0} (g : Ghosts S) (goes : Bool) (a b c : Story S)
+pub left_then : {S : Type 0} (g : Ghosts S) (goes : Bool) (a b c : SessionState S)
     (held now : List Portion) → b.notes ≡ a.notes → IsFront held now
     → IsKeptFor goes (seen g a held)
     → AddsNothing (g.crashes a.sink) (g.crashes b.sink) → LeavesStep g goes b now c
@@ -117,7 +117,7 @@ left_then {S} g goes a b c held now notes front kept adds =
 -- ---- over images
 
 -- The images before were taken, and then a step was not made.
-pub left_saved : {S : Type 0} (g : Ghosts S) (goes : Bool) (a b c : Story S)
+pub left_saved : {S : Type 0} (g : Ghosts S) (goes : Bool) (a b c : SessionState S)
     (held now : List Portion) → KeepsLast g a held b now
     → LeavesStep g goes b now c → LeavesSaved g a held (seen g b now) c
 left_saved {S} g goes a b c held now keeps step = record {
@@ -141,7 +141,7 @@ left_saved {S} g goes a b c held now keeps step = record {
     either r brings back there (inr (inr here)) = inr here
 
 -- The images were taken, and then the sink was walked.
-pub left_walked : {S : Type 0} (g : Ghosts S) (goes : Bool) (a b c : Story S)
+pub left_walked : {S : Type 0} (g : Ghosts S) (goes : Bool) (a b c : SessionState S)
     (held now : List Portion) → KeepsLast g a held b now
     → IsWalked g b c → g.holds b.sink now → LeavesSaved g a held (seen g b now) c
 left_walked g goes a b c held now last walked has =
@@ -149,7 +149,7 @@ left_walked g goes a b c held now last walked has =
     (nothing_left g goes b c now (walked.crash now has))
 
 -- rounds were made before
-pub left_behind : {S : Type 0} (g : Ghosts S) (a b c : Story S) (held between : List Portion)
+pub left_behind : {S : Type 0} (g : Ghosts S) (a b c : SessionState S) (held between : List Portion)
     (now : Seen) → KeepsLast g a held b between
     → LeavesSaved g b between now c → LeavesSaved g a held now c
 left_behind g a b c held between now keeps leaves = record {

@@ -18,7 +18,7 @@ pub mod Crashes
 pub mod Growing
 pub mod Made
 mod RunSoFar
-pub mod Lives
+pub mod CrashRuns
 pub mod SectionsMet
 pub mod Shown
 pub mod ShownSections

@@ -7,7 +7,7 @@ use Rattle.tape_run.specs.ExtractingLocated.{IsHeld, Stretch, IsPartOf, AreFrom,
 use Rattle.tape_run.specs.ExtractingLocated.{ReadsPart, ReadsLocated, ReadsSections}
 use Rattle.tape_run.specs.Reeling.{Mounting}
 use Rattle.tape_run.specs.Seen.{seen, IfSeen, IsSeen}
-use Rattle.tape_run.specs.Story.{Story}
+use Rattle.tape_run.specs.SessionState.{SessionState}
 use Rattle.tape_run.specs.declared.extract.located.Mounted.{Mounted}
 use Rattle.tape_run.proofs.BehindReads.{rest_twice}
 use Rattle.tape_run.proofs.LocatedParts.{FollowsOn, follows_more, gathers_of}
@@ -90,7 +90,7 @@ are_from gives remaining whole shelf (s ∷ ss) mid last
 
 -- Stretches were read so far, and this image is mounted then.
 pub record ReadSoFar {S L R : Type 0} (g : Ghosts S) (gives : Mounting L R)
-    (remaining : R → Option (List ℕ)) (session now : Story S) (shelf left : L)
+    (remaining : R → Option (List ℕ)) (session now : SessionState S) (shelf left : L)
     (whole : Option (List ℕ)) (after : Option (Mounted R)) : Type 0 where
   pub stretches : List Stretch
   pub are_read : AreRead gives remaining whole shelf stretches left
@@ -98,7 +98,7 @@ pub record ReadSoFar {S L R : Type 0} (g : Ghosts S) (gives : Mounting L R)
   pub follows : IfSeen g session (λ was. IsSeen g now (λ is. FollowsOn was stretches is))
 
 pub nothing_read : {S L R : Type 0} (g : Ghosts S) (gives : Mounting L R)
-    (remaining : R → Option (List ℕ)) (session : Story S) (shelf : L) (whole : Option (List ℕ))
+    (remaining : R → Option (List ℕ)) (session : SessionState S) (shelf : L) (whole : Option (List ℕ))
     (after : Option (Mounted R)) → IsHeld remaining after whole
     → ReadSoFar g gives remaining session session shelf shelf whole after
 nothing_read g gives remaining session shelf whole after held = record {
@@ -109,7 +109,7 @@ nothing_read g gives remaining session shelf whole after held = record {
 }
 
 more_read : {S L R : Type 0} (g : Ghosts S) (gives : Mounting L R)
-    (remaining : R → Option (List ℕ)) (session mid new : Story S) (shelf left next : L)
+    (remaining : R → Option (List ℕ)) (session mid new : SessionState S) (shelf left next : L)
     (whole image : Option (List ℕ)) (held after : Option (Mounted R))
     (s : ReadSoFar g gives remaining session mid shelf left whole held)
     (p : ReadsPart g remaining image mid new after)
@@ -145,7 +145,7 @@ more_read {S} {L} {R} g gives remaining session mid new shelf left next whole im
 
 -- a section was read, and its image stays mounted
 pub section_read : {S L R : Type 0} (g : Ghosts S) (gives : Mounting L R)
-    (remaining : R → Option (List ℕ)) (session mid new : Story S) (shelf left next : L)
+    (remaining : R → Option (List ℕ)) (session mid new : SessionState S) (shelf left next : L)
     (whole : Option (List ℕ)) (held after : Option (Mounted R))
     (s : ReadSoFar g gives remaining session mid shelf left whole held)
     → ReadsLocated g gives remaining mid new left next (held_behind whole s.stretches) after
@@ -162,7 +162,7 @@ section_read g gives remaining session mid new shelf left next whole held after 
 
 -- What was read so far is all.
 pub sections_read : {S L R : Type 0} (g : Ghosts S) (gives : Mounting L R)
-    (remaining : R → Option (List ℕ)) (session now : Story S) (shelf left last : L)
+    (remaining : R → Option (List ℕ)) (session now : SessionState S) (shelf left last : L)
     (whole : Option (List ℕ)) (held after : Option (Mounted R))
     (s : ReadSoFar g gives remaining session now shelf left whole held)
     → (last ≡ left) ⊎ ((number : ℕ) × (image : Option R) × gives left number image last)
@@ -184,7 +184,7 @@ sections_read {S} {L} {R} g gives remaining session now shelf left last whole he
 
 -- no section ended, and no image stays mounted
 pub section_failed : {S L R : Type 0} (g : Ghosts S) (gives : Mounting L R)
-    (remaining : R → Option (List ℕ)) (session mid new : Story S) (shelf left next : L)
+    (remaining : R → Option (List ℕ)) (session mid new : SessionState S) (shelf left next : L)
     (whole : Option (List ℕ)) (held after : Option (Mounted R))
     (s : ReadSoFar g gives remaining session mid shelf left whole held)
     → ReadsLocated g gives remaining mid new left next (held_behind whole s.stretches) after

@@ -19,11 +19,11 @@ use Rattle.tape_run.specs.ExtractingLocated.{AreTapesOf, AreMountsOf, GathersOf,
 use Rattle.tape_run.specs.ExtractingLocated.{reached, Arrives, over_tapes, IsThere}
 use Rattle.tape_run.specs.GoesBehind.{ReeledBehind}
 use Rattle.tape_run.specs.Lead.{Lead, over_reel}
-use Rattle.tape_run.specs.Mount.{Happening, IsMount}
+use Rattle.tape_run.specs.Mount.{MountEvent, IsMount}
 use Rattle.tape_run.specs.Reels.{behind_items}
 use Rattle.tape_run.specs.Seen.{Seen, seen, IfSeen, IsSeen}
 use Rattle.tape_run.specs.Steps.{Reeled}
-use Rattle.tape_run.specs.Story.{Story}
+use Rattle.tape_run.specs.SessionState.{SessionState}
 use Rattle.tape_run.specs.declared.extract.located.Mounted.{Mounted}
 use Rattle.tape_run.specs.declared.survey.files.FileKey.{FileKey}
 use Rattle.tape_run.proofs.BehindReads.{led_reads, rest_twice}
@@ -32,7 +32,7 @@ use Rattle.tape_run.proofs.LocatedReaders.{leads_on, front_of}
 -- ---- what was read
 
 pub part_front : {S R : Type 0} (g : Ghosts S) (remaining : R → Option (List ℕ))
-    (had left : Option (List ℕ)) (failed : Bool) (old new : Story S) (after : Option (Mounted R))
+    (had left : Option (List ℕ)) (failed : Bool) (old new : SessionState S) (after : Option (Mounted R))
     → IfSeen g old (λ was. IsSeen g new (λ is. IfSome had (λ b. Reeled b left failed was is)))
     → IsHeld remaining after had → ReadsPart g remaining had old new after
 part_front {S} {R} g remaining had left failed old new after reads held = record {
@@ -64,7 +64,7 @@ part_front {S} {R} g remaining had left failed old new after reads held = record
     }
 
 pub part_on : {S R : Type 0} (g : Ghosts S) (remaining : R → Option (List ℕ))
-    (whole had left : Option (List ℕ)) (failed : Bool) (before : FileKey) (old new : Story S)
+    (whole had left : Option (List ℕ)) (failed : Bool) (before : FileKey) (old new : SessionState S)
     (after : Option (Mounted R)) → is_finished old.core.position ≡ false
     → before.set_id ≡ old.core.set_id → before.file < old.core.file
     → (p : IfKnown whole had (PassesTo before))
@@ -154,7 +154,7 @@ there_more t old new xs led s = record {
       ∙ ap (λ (z : State). t.parts ++ delivered_parts (mount_of z) xs) s.place);
 }
 
-arrives_more : (set : FileSet) (old mid new : Seen) (h : Happening) (hs : List Happening)
+arrives_more : (set : FileSet) (old mid new : Seen) (h : MountEvent) (hs : List MountEvent)
     → Arrives set old (h ∷ []) mid → Arrives set mid hs new → Arrives set old (h ∷ hs) new
 arrives_more set old mid new h hs a b = record {
   at = b.at;
@@ -164,7 +164,7 @@ arrives_more set old mid new h hs a b = record {
 }
 
 arrives_of : (set : FileSet) (old : Seen) (ss : List Stretch) (new : Seen)
-    (f : FollowsOn old ss new) (tapes : List (List TapeItem)) (hs : List Happening)
+    (f : FollowsOn old ss new) (tapes : List (List TapeItem)) (hs : List MountEvent)
     → IsLawful set → old.place ≡ rest_of old.place → AreTapesOf ss (given_of old ss new f) tapes
     → AreMountsOf set tapes hs → IsPlaced set old.place old.parts → Arrives set old hs new
 arrives_of set old [] new f [] [] lawful rest are mounts placed =

@@ -24,7 +24,7 @@ use Rattle.tape_run.specs.ByTable.{parts_by, delivered_parts, IsLed}
 use Rattle.tape_run.specs.ExtractingLocated.{PassesTo}
 use Rattle.tape_run.specs.GoesBehind.{EndsSection, PassedOver, ReadsBehind}
 use Rattle.tape_run.specs.Reels.{behind_items, Reads, ReadsReel}
-use Rattle.tape_run.specs.declared.intake.ReelAnswer.{ReelAnswer}
+use Rattle.tape_run.specs.declared.reel_reader.ReelAnswer.{ReelAnswer}
 use Rattle.tape_run.specs.declared.survey.files.FileKey.{FileKey}
 use Rattle.tape_run.proofs.GoesBehindReels.{ended_well, leaves_behind, leaves_behind_again}
 use Rattle.tape_run.proofs.GoesBehind.{leads_over_all, passes_files}

@@ -18,7 +18,7 @@ use Rattle.tape_run.specs.Given as given
 use Rattle.tape_run.specs.Given.{counted}
 use Rattle.tape_run.specs.Seen.{seen, IsKept, IsNote, KeepsNotes}
 use Rattle.tape_run.proofs.Headline.{took_so_many}
-use Rattle.tape_run.proofs.intake.ReelAnswer.is_device.Reads as is_device
+use Rattle.tape_run.proofs.reel_reader.ReelAnswer.is_device.Reads as is_device
 use Rattle.tape_run.proofs.fault.RunFault.number.Reads as number
 use Rattle.tape_run.proofs.session.Session.new.Reads as new
 use Rattle.tape_run.proofs.session.Session.resume.Reads as resume

@@ -16,22 +16,22 @@ use Rattle.tape_run.specs.declared.script.Step.TheVariants.{Reel}
 use Rattle.tape_run.specs.Given.{IsGiven, AreGivenBy, counted_up, failed_of}
 use Rattle.tape_run.specs.Headline.{begins, IsRead}
 use Rattle.tape_run.specs.History.{Course, IsHistory, course, after}
-use Rattle.tape_run.specs.Mount.{Happening, reads, foreign_reel, saves, restarts, IsMountOf}
+use Rattle.tape_run.specs.Mount.{MountEvent, reads, foreign_reel, saves, restarts, IsMountOf}
 use Rattle.tape_run.specs.Seen.{seen}
 use Rattle.tape_run.specs.WorkedHistory.{first, middle, worked_set, reel_1, reading}
 use Rattle.tape_run.proofs.Back.{none_failed, none_of}
-use Rattle.tape_run.proofs.Lives.{goes_on}
+use Rattle.tape_run.proofs.CrashRuns.{goes_on}
 use Rattle.tape_run.proofs.WorkedHistory.{is_lawful}
 use Rattle.tape_run.proofs.WorkedReels.{whole_1}
 use Rattle.tape_run.proofs.script.run.Reads as run
-use Rattle.tape_run.proofs.whole.go_on.Reads as go_on
+use Rattle.tape_run.proofs.whole.resume_and_run.Reads as resume_and_run
 use Rattle.tape_run.proofs.whole.read_file.Reads as read_file
 use Rattle.tape_run.proofs.MistakesOfRuns.{HoldsOne}
 
 -- ---- whole readings
 
 -- a mount takes the start of a file to the front of a block
-to_a_front : (set : FileSet) (file : ℕ) (bytes : List ℕ) (m : Happening) → IsMountOf set bytes m
+to_a_front : (set : FileSet) (file : ℕ) (bytes : List ℕ) (m : MountEvent) → IsMountOf set bytes m
     → part_of (after set file begins m).at ≡ 0
 to_a_front set file bytes (reads r) m = at_front (far_keeps_part set file start r)
   where
@@ -48,13 +48,13 @@ to_a_front set file bytes (restarts n) (xs, end, stop, b, m) = absurd m
 abbrev GivesMounts : FileSet → List ℕ → Type 0
 GivesMounts set bytes =
     (failed : Bool) (left : Option (List ℕ)) (given : List ℕ) → IsGiven failed bytes left given
-    → (m : Happening) × IsMountOf set given m
+    → (m : MountEvent) × IsMountOf set given m
 
 -- what was given of one reader
 one_given : (set : FileSet) (bytes : List ℕ) (failed : List Bool)
     (left : List (Option (List ℕ))) (given : List (List ℕ))
     → GivesMounts set bytes → AreGivenBy failed (bytes ∷ []) left given
-    → (m : Happening) × IsHistory set 0 (Reel ∷ []) given (m ∷ [])
+    → (m : MountEvent) × IsHistory set 0 (Reel ∷ []) given (m ∷ [])
     × ((file : ℕ) → part_of (course set file begins (m ∷ [])).at ≡ 0)
 one_given set bytes [] left given all e =
     let (m, of) = all false None bytes refl in (
@@ -99,7 +99,7 @@ nothing_left (true ∷ []) bytes (g ∷ given) ((rest, told, whole), none) =
     ap (λ z. z ∷ given) (sym all) ∙ ap (λ z. bytes ∷ z) none
 
 -- volume 1, read to its end
-abbrev all_of_1 : Happening
+abbrev all_of_1 : MountEvent
 all_of_1 = reads (reading 1 (replicate 11 true))
 
 -- failing_reader_gives_nothing: the reader of volume 1 came to the end of its bytes, and failed
@@ -129,13 +129,13 @@ failing_reader_gives_nothing R LR h d κs a session s k id file one known over n
 stopped_run_told_as_done : (S : _) (R : _) (LS : _) (LR : _) (g : _) (d : _) (h : _) (e : _)
     (κs : _) (a : _) (session : _) (s : _) (set : FileSet) (held now : List Portion)
     (bytes : List (List ℕ))
-    → go_on.Learnt-named S R LS LR g d h e κs a (session, Ok tt) s
+    → resume_and_run.Learnt-named S R LS LR g d h e κs a (session, Ok tt) s
     → g.holds a.1.1.0 held → IsLawful set → Stands set a.1.0.now.file a.1.0.now held
     → map h.remaining a.1.1.1.1.0.now ≡ map Some bytes
     → HoldsOne (g.holds session.sink) → g.holds session.sink now
     → ((which : List Bool) (left : List (Option (List ℕ))) (given : List (List ℕ))
     → AreGivenBy which bytes left given
-    → (hs : List Happening) × IsHistory set 0 a.1.1.1.0.now given hs
+    → (hs : List MountEvent) × IsHistory set 0 a.1.1.1.0.now given hs
     × (now ≡ before set a.1.0.now.file (course set a.1.0.now.file
     (record { at = a.1.0.now.position; notes = [] }) hs).at → ⊥)) → ⊥
 stopped_run_told_as_done S R LS LR g d h e κs a session s set held now bytes l was lawful stands
@@ -154,8 +154,8 @@ stopped_run_told_as_done S R LS LR g d h e κs a session s set held now bytes l 
 -- it held lies before no position that the reels lead to.
 gone_on_without_reading : (S : _) (R : _) (LS : _) (LR : _) (g : _) (d : _) (h : _) (e : _)
     (κs : _) (a : _) (session : _) (s : _) (set : FileSet) (held : List Portion)
-    (bytes : List (List ℕ)) (hs : List Happening)
-    → go_on.Learnt-named S R LS LR g d h e κs a (session, Ok tt) s
+    (bytes : List (List ℕ)) (hs : List MountEvent)
+    → resume_and_run.Learnt-named S R LS LR g d h e κs a (session, Ok tt) s
     → g.holds a.1.1.0 held → IsLawful set → Stands set a.1.0.now.file a.1.0.now held
     → map h.remaining a.1.1.1.1.0.now ≡ map Some bytes → session.failures ≡ 0
     → HoldsOne (g.holds session.sink) → g.holds session.sink held

@@ -21,7 +21,7 @@ use Rattle.tape_core.specs.declared.event.Answer.TheVariants.{SectionDone, Compl
 use Rattle.tape_core.specs.declared.event.Reason.TheVariants.{NotLabelled}
 use Rattle.tape_core.specs.State.{State}
 use Rattle.tape_core.specs.Table.{mount_of, reader_of}
-use Rattle.tape_run.specs.declared.intake.ReelAnswer.{ReelAnswer}
+use Rattle.tape_run.specs.declared.reel_reader.ReelAnswer.{ReelAnswer}
 use Rattle.tape_run.specs.Reels.{Reads, ReadsReel, EndedByItem, EndedByMedium, EndedByFault, GoesOn}
 use Rattle.tape_run.specs.Reels.{answers_to, delivered_by}
 use Rattle.tape_run.proofs.session.Session.reel.Reads as reel

@@ -24,14 +24,14 @@ use Rattle.tape_core.proofs.Steps.{mounts, step_reads, position_reads}
 use Rattle.tape_core.proofs.IdleSteps.{idle_reads}
 use Rattle.tape_core.proofs.ForeignLaws.{foreign_mount, foreign_step}
 use Rattle.tape_core.proofs.Standing.{rests, rested}
-use Rattle.tape_run.specs.Mount.{Happening, reads, foreign_reel, saves, restarts, IsCopy, IsMount}
+use Rattle.tape_run.specs.Mount.{MountEvent, reads, foreign_reel, saves, restarts, IsCopy, IsMount}
 use Rattle.tape_run.specs.Mount.{cut, after_mount}
 use Rattle.tape_run.specs.Puts.{IsChecked}
 use Rattle.tape_run.specs.Under.{is_under}
 
 -- One item of a mount that began at p: the state is right again after what the step delivered, and
 -- after a final answer no further item of the mount moves it.
-pub record Took (set : FileSet) (p : Position) (h : Happening) (item : Option TapeItem)
+pub record Took (set : FileSet) (p : Position) (h : MountEvent) (item : Option TapeItem)
     (answer : Answer) (old new : State) : Type 0 where
   pub at : IsAt set new
   pub gives : (x : TapeItem) × (item ≡ Some x) × Gives set x answer old new
@@ -157,7 +157,7 @@ checked_of item old new k = record {
 -- ---- a mount begins
 
 pub begins : (core new : State) → new ≡ mount_of core → rest_of new ≡ rest_of core
-    → (set : FileSet) (parts : List Portion) (xs : List TapeItem) (h : Happening) → IsLawful set
+    → (set : FileSet) (parts : List Portion) (xs : List TapeItem) (h : MountEvent) → IsLawful set
     → IsMount set xs h
     → IsPlaced set (rest_of core) parts → is_under new set core.position xs 0 h
 begins core new is same set parts xs (reads r) l m a =
@@ -169,7 +169,7 @@ begins core new is same set parts xs (restarts n) l m a = absurd m
 
 -- ---- an item is taken
 
-pub record Both (set : FileSet) (p : Position) (xs : List TapeItem) (i : ℕ) (h : Happening)
+pub record Both (set : FileSet) (p : Position) (xs : List TapeItem) (i : ℕ) (h : MountEvent)
     (arrived : Option TapeItem) (core : State) (out : Outcome) : Type 0 where
   pub took : Took set p h arrived out.0 (rest_of core) (rest_of out.1)
   pub under : is_under out.1 set p xs (i + 1) h
@@ -268,7 +268,7 @@ foreign_item core out arrived is set p xs i a u lt e =
 
 pub both : (core : State) (out : Outcome) (arrived : Option TapeItem) → out ≡ step_of core arrived
     → (set : FileSet) (parts : List Portion) (p : Position) (xs : List TapeItem)
-    (i : ℕ) (h : Happening)
+    (i : ℕ) (h : MountEvent)
     → IsLawful set → IsMount set xs h
     → IsPlaced set (rest_of core) parts → is_under core set p xs i h → i < length xs
     → arrived ≡ slice_get xs i → Both set p xs i h arrived core out
@@ -284,7 +284,7 @@ both core out arrived is set parts p xs i (restarts n) l m a u lt e = absurd m
 
 -- the position is the one that the mount so far makes
 pub reached : (core : State) (set : FileSet) (p : Position) (xs : List TapeItem)
-    (i : ℕ) (h : Happening)
+    (i : ℕ) (h : MountEvent)
     → IsLawful set → IsMount set xs h → is_under core set p xs i h
     → core.position ≡ after_mount set core.file p (cut i h)
 reached core set p xs i (reads r) l m u =
@@ -302,7 +302,7 @@ as_read_length [] (g ∷ gs) h = absurd (omega (arith, h))
 as_read_length (x ∷ xs) [] h = refl
 as_read_length (x ∷ xs) (g ∷ gs) h = omega (arith, as_read_length xs gs (omega (arith, h)))
 
-pub cut_whole : (set : FileSet) (xs : List TapeItem) (h : Happening) → IsMount set xs h
+pub cut_whole : (set : FileSet) (xs : List TapeItem) (h : MountEvent) → IsMount set xs h
     → cut (length xs) h ≡ h
 cut_whole set xs (reads r) m =
     let n = as_read_length (items set r.volume) r.good m.is_reading.within in

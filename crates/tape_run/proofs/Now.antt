@@ -10,7 +10,7 @@ use Rattle.tape_set.specs.declared.position.Want.{Want}
 use Rattle.tape_set.specs.Position.{want_at}
 use Rattle.tape_run.specs.Seen.{seen, IfSeen}
 use Rattle.tape_run.specs.Extracting.{TellsEnd}
-use Rattle.tape_run.specs.Story.{Story}
+use Rattle.tape_run.specs.SessionState.{SessionState}
 use Rattle.tape_blocks.specs.declared.parts.Form.{Form}
 use Rattle.tape_image.specs.Written.{AppendsFront}
 use Rattle.tape_run.specs.RecordText.{output_of}
@@ -22,7 +22,7 @@ use Rattle.tape_image.proofs.Pieces.{front_more, front_behind}
 use Rattle.tape_run.proofs.TurnSteps.{are_steps}
 
 pub extracted_now : {S L R : Type 0} (gs : Ghosts S)
-    (size : L → ℕ) (gives : Mounting L R) (remaining : R → Option (List ℕ)) (old mid : Story S)
+    (size : L → ℕ) (gives : Mounting L R) (remaining : R → Option (List ℕ)) (old mid : SessionState S)
     (shelf left : L) (form : Form) (tells : Type 0)
     (stands said between says : Option (List ℕ)) (want : Option Want) (records : ℕ)
     → TakesAll gs (size shelf) 0 gives remaining false false old mid shelf
@@ -56,7 +56,7 @@ extracted_now {S} {L} {R} gs size gives remaining old mid shelf
 
 pub stops_reading_now : {S L R O : Type 0} (gs : Ghosts S) (size : L → ℕ)
     (gives : Mounting L R) (remaining : R → Option (List ℕ))
-    (old new : Story S) (shelf left : L) (form : Form) (tells : Type 0)
+    (old new : SessionState S) (shelf left : L) (form : Form) (tells : Type 0)
     (stands : O → Option (List ℕ)) (out : O) (said says : Option (List ℕ))
     → StopsReading gs (size shelf) 0 gives remaining false false old new
     shelf left said says
@@ -79,7 +79,7 @@ stops_reading_now {S} {L} {R} {O} gs size gives remaining old new
     }
 
 pub stops_at_end_now : {S L R O : Type 0} (gs : Ghosts S)
-    (size : L → ℕ) (gives : Mounting L R) (remaining : R → Option (List ℕ)) (old mid : Story S)
+    (size : L → ℕ) (gives : Mounting L R) (remaining : R → Option (List ℕ)) (old mid : SessionState S)
     (shelf left : L) (form : Form) (tells : Type 0)
     (stands : O → Option (List ℕ)) (out put : O) (said between says : Option (List ℕ))
     (want : Option Want) (records : ℕ)

@@ -18,7 +18,7 @@ use Rattle.tape_core.specs.State.{State}
 use Rattle.tape_core.specs.Place.{rest_of}
 use Rattle.tape_core.specs.Table.{step_of}
 use Rattle.tape_core.specs.Follows.{IsFinal}
-use Rattle.tape_run.specs.declared.intake.ReelAnswer.{ReelAnswer}
+use Rattle.tape_run.specs.declared.reel_reader.ReelAnswer.{ReelAnswer}
 use Rattle.tape_run.specs.Reels.{behind_items, answers_to, GoesOn, delivered_by, ReadsReel}
 use Rattle.tape_run.specs.Reels.{ReadsToBlock, IsDelivery}
 use Rattle.tape_run.specs.Taking.{came_of, fault_of}

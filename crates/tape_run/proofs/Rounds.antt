@@ -13,14 +13,14 @@ use Rattle.tape_set.specs.Position.{want_at}
 use Rattle.tape_core.specs.declared.sink.PartSink.{Ghosts}
 use Rattle.tape_core.specs.State.{State}
 use Rattle.tape_run.specs.Seen.{Seen, seen}
-use Rattle.tape_run.specs.Story.{Story}
+use Rattle.tape_run.specs.SessionState.{SessionState}
 use Rattle.tape_run.specs.ReelLine.{reel_lines}
 use Rattle.tape_image.specs.Written.{AppendsFront}
-use Rattle.tape_run.specs.declared.intake.ReelAnswer.{ReelAnswer}
+use Rattle.tape_run.specs.declared.reel_reader.ReelAnswer.{ReelAnswer}
 use Rattle.tape_run.specs.Reeling.{Turn, answer_of, AreTurns, Follows, Mounting, TakesAll}
 use Rattle.tape_run.specs.Reeling.{StopsReading}
 use Rattle.tape_run.specs.Rounds.{Round, turns_of, core_behind, wanted, AreRounds, IsEnough}
-use Rattle.tape_run.specs.Rounds.{BroughtSomething, FollowsRounds, HasGone, TakesRounds}
+use Rattle.tape_run.specs.Rounds.{MadeProgress, FollowsRounds, HasGone, TakesRounds}
 use Rattle.tape_run.specs.Rounds.{StopsInRound}
 use Rattle.tape_image.proofs.Pieces.{front_behind}
 use Rattle.tape_run.proofs.Lasting.{last_same, last_then}
@@ -49,9 +49,9 @@ rounds_push gives remaining shelf (q ∷ rounds) mid r last (z, first, rest) are
     (z, first, rounds_push gives remaining z rounds mid r last rest are)
 
 brought_push : (size : ℕ) (core : State) (rounds : List Round) (r : Round)
-    → BroughtSomething size core rounds → length r.turns ≡ size → wanted r.behind ≢ None
+    → MadeProgress size core rounds → length r.turns ≡ size → wanted r.behind ≢ None
     → wanted r.behind ≢ wanted (core_behind core rounds)
-    → BroughtSomething size core (rounds ++ r ∷ [])
+    → MadeProgress size core (rounds ++ r ∷ [])
 brought_push size core [] r brought whole some other = (whole, some, other, tt)
 brought_push size core (q ∷ rounds) r (a, b, c, brought) whole some other =
     (a, b, c, brought_push size q.behind rounds r brought whole some other)
@@ -123,7 +123,7 @@ whole_round turns size core most all some = elim (cases_lt (length turns) size) 
 -- nothing has come yet
 pub none_gone : {S L R : Type 0} (gs : Ghosts S)
     (size : ℕ) (gives : Mounting L R) (remaining : R → Option (List ℕ)) (back : Bool)
-    (old : Story S) (shelf : L) (said : Option (List ℕ))
+    (old : SessionState S) (shelf : L) (said : Option (List ℕ))
     → HasGone gs size gives remaining back old old shelf shelf said
     said []
 none_gone {S} {L} {R} gs size gives remaining back old shelf said =
@@ -142,7 +142,7 @@ none_gone {S} {L} {R} gs size gives remaining back old shelf said =
 -- one more round was made, and it was not enough
 pub gone_on : {S L R : Type 0} (gs : Ghosts S)
     (size before : ℕ) (gives : Mounting L R) (remaining : R → Option (List ℕ)) (back : Bool)
-    (old mid new : Story S) (shelf between left : L) (said told says : Option (List ℕ))
+    (old mid new : SessionState S) (shelf between left : L) (said told says : Option (List ℕ))
     (rounds : List Round)
     → HasGone gs size gives remaining back old mid shelf between said
     told rounds
@@ -198,7 +198,7 @@ gone_on {S} {L} {R} gs size before gives remaining back old mid new
 -- if a pass recovered something there are images
 pub some_images : {S L R : Type 0} (gs : Ghosts S)
     (size before : ℕ) (gives : Mounting L R) (remaining : R → Option (List ℕ)) (back : Bool)
-    (mid new : Story S) (between left : L) (told says : Option (List ℕ))
+    (mid new : SessionState S) (between left : L) (told says : Option (List ℕ))
     → TakesAll gs size before gives remaining back true mid new between left
     told says
     → wanted new.core ≢ wanted mid.core → 0 < size
@@ -206,7 +206,7 @@ some_images {S} {L} {R} gs size before gives remaining back mid new
     between left told says t
     other = elim (cases_lt 0 size) [
       | inl some ↦ some
-      | inr none ↦ absurd (other (ap (λ (s : Story S). wanted s.core) (t.none (omega (
+      | inr none ↦ absurd (other (ap (λ (s : SessionState S). wanted s.core) (t.none (omega (
         arith,
         none,
       )))))
@@ -215,7 +215,7 @@ some_images {S} {L} {R} gs size before gives remaining back mid new
 -- one more round was made, and it was enough
 pub takes_rounds : {S L R : Type 0} (gs : Ghosts S)
     (size count before : ℕ) (gives : Mounting L R) (remaining : R → Option (List ℕ)) (back : Bool)
-    (old mid new : Story S) (shelf between left : L) (said told says : Option (List ℕ))
+    (old mid new : SessionState S) (shelf between left : L) (said told says : Option (List ℕ))
     (rounds : List Round) → count ≡ size → before ≡ length (turns_of rounds)
     → HasGone gs count gives remaining back old mid shelf between said
     told rounds
@@ -244,7 +244,7 @@ takes_rounds {S} {L} {R} gs size count before gives remaining back
 -- a fault ended one more round
 pub stops_round : {S L R : Type 0} (gs : Ghosts S)
     (size count before : ℕ) (gives : Mounting L R) (remaining : R → Option (List ℕ)) (back : Bool)
-    (old mid new : Story S) (shelf between left : L) (said told says : Option (List ℕ))
+    (old mid new : SessionState S) (shelf between left : L) (said told says : Option (List ℕ))
     (rounds : List Round) → count ≡ size → before ≡ length (turns_of rounds)
     → HasGone gs count gives remaining back old mid shelf between said
     told rounds

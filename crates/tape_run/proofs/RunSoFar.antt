@@ -15,16 +15,16 @@ use Rattle.tape_run.specs.Crash.{IsOf, StoodAt, LastAlone, is_saved}
 use Rattle.tape_run.specs.Made.{HasMade, IsMade}
 use Rattle.tape_run.specs.Runs.{Runs}
 use Rattle.tape_run.specs.Seen.{seen, IsKept}
-use Rattle.tape_run.specs.Story.{Story}
+use Rattle.tape_run.specs.SessionState.{SessionState}
 use Rattle.tape_run.proofs.Crashes.{stood_here}
 use Rattle.tape_run.proofs.Made.{made_none, made_more, all_made}
 
 -- The first n steps succeeded, in a session whose sink contained these parts before: what its sink
 -- contains now, what the steps did, what a crash leaves, and whether that is only the last
 -- checkpoint.
-pub record HasCome {S : Type 0} (g : Ghosts S) (which : List Bool) (old : Story S)
+pub record HasCome {S : Type 0} (g : Ghosts S) (which : List Bool) (old : SessionState S)
     (held : List Portion) (steps : List Step) (readers : List (Option (List ℕ))) (n : ℕ)
-    (new : Story S) (unread others : List (Option (List ℕ))) : Type 0 where
+    (new : SessionState S) (unread others : List (Option (List ℕ))) : Type 0 where
   pub now : List Portion
   pub has : g.holds new.sink now
   pub kept : IsKept (seen g new now)
@@ -37,7 +37,7 @@ pub record HasCome {S : Type 0} (g : Ghosts S) (which : List Bool) (old : Story 
   pub same : is_saved false steps ≡ is_saved saved (drop n steps)
   pub brings : saved ≡ true → LastAlone (g.crashes new.sink) (seen g new now)
 
-pub none_made : {S : Type 0} {g : Ghosts S} {old : Story S} {held : List Portion}
+pub none_made : {S : Type 0} {g : Ghosts S} {old : SessionState S} {held : List Portion}
     {steps : List Step} {readers : List (Option (List ℕ))} → g.holds old.sink held
     → IsKept (seen g old held)
     → HasCome g [] old held steps readers 0 old [] readers
@@ -53,7 +53,7 @@ none_made {held = held} was kept = record {
 }
 
 -- what the next step adds to what a crash leaves
-pub adds_more : {S : Type 0} {g : Ghosts S} {which : List Bool} {old mid : Story S}
+pub adds_more : {S : Type 0} {g : Ghosts S} {which : List Bool} {old mid : SessionState S}
     {held : List Portion} {steps : List Step} {readers unread others : List (Option (List ℕ))}
     {n : ℕ} {new : Crashes}
     (come : HasCome g which old held steps readers n mid unread others)
@@ -67,7 +67,7 @@ adds_more {g = g} {old = old} {held = held} {steps = steps} {readers = readers} 
     (stood_here _ _ _ behind back there h)) (come.adds behind) adds)
 
 -- the next step was made
-pub one_more : {S : Type 0} {g : Ghosts S} {which one : List Bool} {old mid new : Story S}
+pub one_more : {S : Type 0} {g : Ghosts S} {which one : List Bool} {old mid new : SessionState S}
     {held : List Portion} {readers unread others then last : List (Option (List ℕ))} {step : Step}
     (steps : List Step) (n : ℕ)
     (come : HasCome g which old held steps readers n mid unread others)
@@ -99,7 +99,7 @@ all_unread remaining used reels = sym (map-append remaining (take used reels) (d
     ∙ ap (map remaining) (take-append-drop used reels)
 
 -- the same, in other terms
-pub now_unread : {S : Type 0} {g : Ghosts S} {which : List Bool} {old new : Story S}
+pub now_unread : {S : Type 0} {g : Ghosts S} {which : List Bool} {old new : SessionState S}
     {held : List Portion} {steps : List Step} {readers unread others : List (Option (List ℕ))}
     {n : ℕ} (is : List (Option (List ℕ))) → is ≡ unread
     → HasCome g which old held steps readers n new unread others
@@ -109,7 +109,7 @@ now_unread {g = g} {which = which} {old = old} {new = new} {held = held} {steps 
     subst (λ u. HasCome g which old held steps readers n new u others) (sym e) come
 
 -- what a crash leaves so far, for readers that have this unread
-pub adds_so_far : {S : Type 0} {g : Ghosts S} {which : List Bool} {old new : Story S}
+pub adds_so_far : {S : Type 0} {g : Ghosts S} {which : List Bool} {old new : SessionState S}
     {held : List Portion} {steps : List Step} {readers others : List (Option (List ℕ))} {n : ℕ}
     {R : Type 0} (remaining : R → Option (List ℕ)) (used : ℕ) (reels : List R)
     → HasCome g which old held steps readers n new (map remaining (take used reels)) others
@@ -122,7 +122,7 @@ adds_so_far {g = g} {old = old} {new = new} {held = held} {steps = steps} {reade
     (come.adds (map remaining (drop used reels)))
 
 -- no step is left
-pub came_to_end : {S : Type 0} {g : Ghosts S} {which : List Bool} {old new : Story S}
+pub came_to_end : {S : Type 0} {g : Ghosts S} {which : List Bool} {old new : SessionState S}
     {held : List Portion} {readers others : List (Option (List ℕ))} {R : Type 0}
     (steps : List Step) (n : ℕ) (remaining : R → Option (List ℕ)) (used : ℕ) (reels : List R)
     (come : HasCome g which old held steps readers n new (map remaining (take used reels)) others)

@@ -16,7 +16,7 @@ use Rattle.tape_set.specs.Position.{want_at}
 use Rattle.tape_core.specs.State.{State}
 use Rattle.tape_core.specs.Place.{IsPlaced, place_of, rest_of}
 use Rattle.tape_core.specs.Table.{saved, mount_of}
-use Rattle.tape_run.specs.Mount.{Happening, reads, foreign_reel, saves, restarts, IsMount}
+use Rattle.tape_run.specs.Mount.{MountEvent, reads, foreign_reel, saves, restarts, IsMount}
 use Rattle.tape_run.specs.Mount.{after_mount}
 use Rattle.tape_core.specs.Stands.{weight_of}
 use Rattle.tape_core.specs.Weight.{IsFront}
@@ -109,7 +109,7 @@ kept_save old new v k =
 pub reeled : (failed : Bool) (mounted new : State) (held now : List Portion) (bytes : List ℕ)
     (unread left : Option (List ℕ)) (p : State) (notes : List Point) (f1 f2 r1 r2 : ℕ)
     → left ≡ unread
-    → ((set : FileSet) (parts : List Portion) (xs : List TapeItem) (h : Happening) → IsLawful set
+    → ((set : FileSet) (parts : List Portion) (xs : List TapeItem) (h : MountEvent) → IsLawful set
     → IsMount set xs h → IsPlaced set p parts → is_under mounted set p.position xs 0 h)
     → rest_of mounted ≡ p → (rest_of new).set_id ≡ p.set_id → (rest_of new).file ≡ p.file → r2 ≡ r1
     → IsFront held now → f2 ≡ counted failed f1 → mounted ≡ mount_of p
@@ -141,7 +141,7 @@ reeled failed mounted new held now bytes unread left p notes f1 f2 r1 r2 same_le
 
 pub cut_short : (mounted new : State) (held now : List Portion) (bytes : List ℕ) (p : State)
     (notes : List Point) (f1 r1 r2 : ℕ)
-    → ((set : FileSet) (parts : List Portion) (xs : List TapeItem) (h : Happening) → IsLawful set
+    → ((set : FileSet) (parts : List Portion) (xs : List TapeItem) (h : MountEvent) → IsLawful set
     → IsMount set xs h → IsPlaced set p parts → is_under mounted set p.position xs 0 h)
     → rest_of mounted ≡ p → (rest_of new).set_id ≡ p.set_id → (rest_of new).file ≡ p.file
     → IsFront held now → mounted ≡ mount_of p → CutsTable mounted (rest_of new) held now bytes
@@ -167,7 +167,7 @@ cut_short mounted new held now bytes p notes f1 r1 r2 begins same set_id file gr
           (cuts xs end stop b);
     }
 
-stays_finished : (set : FileSet) (file : ℕ) (h : Happening)
+stays_finished : (set : FileSet) (file : ℕ) (h : MountEvent)
     → after_mount set file Finished h ≡ Finished
 stays_finished set file (reads r) = refl
 stays_finished set file foreign_reel = refl

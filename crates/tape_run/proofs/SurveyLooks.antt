@@ -10,8 +10,8 @@ use Rattle.tape_run.specs.declared.passing.Phase.{Phase}
 use Rattle.tape_run.specs.declared.passing.Phase.TheVariants.{Volume}
 use Rattle.tape_run.specs.declared.section.ImageStop.{ImageStop}
 use Rattle.tape_run.specs.declared.section.ImageStop.TheVariants.{Fault}
-use Rattle.tape_run.specs.declared.survey.glance.Glance.{Glance}
-use Rattle.tape_run.specs.declared.survey.view.Sight.{Sight}
+use Rattle.tape_run.specs.declared.survey.glance.ImageSummary.{ImageSummary}
+use Rattle.tape_run.specs.declared.survey.view.ImageSurvey.{ImageSurvey}
 use Rattle.tape_run.specs.Added.{StopsBehind, stop_at}
 use Rattle.tape_run.specs.Noted.{noted_all}
 use Rattle.tape_run.specs.Passing.{Told, step, in_list, phase_after, told_from, under_way}
@@ -23,7 +23,7 @@ use Rattle.tape_run.proofs.KeepingPlaces.{noted_all-append}
 use Rattle.tape_run.proofs.NotedSoFar.{SoFar, starts, one_more, by_ending, all_noted}
 
 -- one more item was looked at
-pub look_all-append : (g : Glance) (p : Phase) (xs : List TapeItem) (x : TapeItem)
+pub look_all-append : (g : ImageSummary) (p : Phase) (xs : List TapeItem) (x : TapeItem)
     → look_all g p (xs ++ x ∷ [])
     ≡ look_to (look_all g p xs) (phase_after p xs) x (step (phase_after p xs) x).0
 look_all-append g p [] x = refl
@@ -55,7 +55,7 @@ locate_all-append image sections located p (y ∷ ys) x =
 
 -- Of the bytes `all` the items up to a place were looked at, and what they tell was noted.
 pub record LookedSoFar (all left : Option (List ℕ)) (place image : ℕ) (sections : List Told)
-    (files : List Filed) (located : List Located) (phase : Phase) (g : Glance) (told : List Told)
+    (files : List Filed) (located : List Located) (phase : Phase) (g : ImageSummary) (told : List Told)
     (filed : List Filed) (locations : List Located) : Type 0 where
   pub count : ℕ
   pub so_far : SoFar all left place count sections phase told
@@ -65,13 +65,13 @@ pub record LookedSoFar (all left : Option (List ℕ)) (place image : ℕ) (secti
   pub places : locations ≡ located_in image sections located so_far.items
 
 pub looks_start : (all left : Option (List ℕ)) (place image : ℕ) (sections : List Told)
-    (files : List Filed) (located : List Located) (g : Glance) → place ≡ 0 → left ≡ all
+    (files : List Filed) (located : List Located) (g : ImageSummary) → place ≡ 0 → left ≡ all
     → g ≡ blank_glance
     → LookedSoFar all left place image sections files located Volume g sections files located
 looks_start all left place image sections files located g first same none = record {
   count = 0;
   so_far = starts all left place sections first same;
-  counted = ap (λ (h : Glance). h.items) none;
+  counted = ap (λ (h : ImageSummary). h.items) none;
   glance = none;
   named = refl;
   places = refl;
@@ -79,7 +79,7 @@ looks_start all left place image sections files located g first same none = reco
 
 pub looks_more : (all left next : Option (List ℕ)) (p q image : ℕ) (item : TapeItem)
     (sections : List Told) (files : List Filed) (located : List Located) (phase after : Phase)
-    (g h : Glance) (mid told : List Told) (named filed : List Filed)
+    (g h : ImageSummary) (mid told : List Told) (named filed : List Filed)
     (there locations : List Located)
     → LookedSoFar all left p image sections files located phase g mid named there
     → IfKnown left next (TakesItem p item q) → after ≡ (step phase item).0
@@ -97,10 +97,10 @@ looks_more all left next p q image item sections files located phase after g h m
       count = s.count + 1;
       so_far = one_more all left next p q s.count item sections phase after mid told s.so_far takes
           goes notes;
-      counted = ap (λ (f : Glance). f.items) looks ∙ ap (λ n. n + 1) s.counted;
+      counted = ap (λ (f : ImageSummary). f.items) looks ∙ ap (λ n. n + 1) s.counted;
       glance = looks ∙ ap (λ (r : Phase). look_to g phase item r) goes
           ∙ ap (λ (r : Phase). look_to g r item (step r item).0) stands
-          ∙ ap (λ (f : Glance). look_to f behind item (step behind item).0) s.glance
+          ∙ ap (λ (f : ImageSummary). look_to f behind item (step behind item).0) s.glance
           ∙ sym (look_all-append blank_glance Volume items item);
       named = names ∙ ap (λ (r : Phase). with_met named (head_in r item)) stands
           ∙ ap (λ (r : List Filed). with_met r (head_in behind item)) s.named
@@ -115,7 +115,7 @@ looks_more all left next p q image item sections files located phase after g h m
 
 pub viewed_end : (all left next : Option (List ℕ)) (p q image : ℕ) (ending : Ending)
     (sections : List Told) (files : List Filed) (located : List Located) (phase : Phase)
-    (sight : Sight) (mid told : List Told) (filed : List Filed) (locations : List Located)
+    (sight : ImageSurvey) (mid told : List Told) (filed : List Filed) (locations : List Located)
     → LookedSoFar all left p image sections files located phase sight.glance mid filed locations
     → IfKnown left next (TakesEnd p [] ending q)
     → told ≡ noted_all mid (in_list (under_way phase)) → sight.stop ≡ stop_at ending
@@ -137,7 +137,7 @@ viewed_end all left next p q image ending sections files located phase sight mid
 
 pub viewed_fault : (all left next : Option (List ℕ)) (p image : ℕ) (fault : ImageFault)
     (sections : List Told) (files : List Filed) (located : List Located) (phase : Phase)
-    (sight : Sight) (mid told : List Told) (filed : List Filed) (locations : List Located)
+    (sight : ImageSurvey) (mid told : List Told) (filed : List Filed) (locations : List Located)
     → LookedSoFar all left p image sections files located phase sight.glance mid filed locations
     → IfKnown left next (TakesFault p [] fault)
     → told ≡ noted_all mid (in_list (under_way phase)) → sight.stop ≡ Fault fault

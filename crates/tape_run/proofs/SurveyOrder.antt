@@ -5,10 +5,10 @@ use Rattle.tape_image.specs.Tape.{TapeItem, block, bad, mark}
 use Rattle.tape_run.specs.declared.passing.Phase.{Phase}
 use Rattle.tape_run.specs.declared.passing.Phase.TheVariants.{Volume, Labels, Second, Headers, Data}
 use Rattle.tape_run.specs.declared.passing.Phase.TheVariants.{Trailer, Trailers, Next, Over}
-use Rattle.tape_run.specs.declared.survey.course.Wanted.{Wanted}
-use Rattle.tape_run.specs.declared.survey.course.Course.{Course}
-use Rattle.tape_run.specs.declared.survey.course.Course.TheVariants.{Follows, Blank, Ended, Leaves}
-use Rattle.tape_run.specs.declared.survey.glance.Glance.{Glance}
+use Rattle.tape_run.specs.declared.survey.course.ExpectedItem.{ExpectedItem}
+use Rattle.tape_run.specs.declared.survey.course.LabelOrder.{LabelOrder}
+use Rattle.tape_run.specs.declared.survey.course.LabelOrder.TheVariants.{Follows, Blank, Ended, Leaves}
+use Rattle.tape_run.specs.declared.survey.glance.ImageSummary.{ImageSummary}
 use Rattle.tape_run.specs.Passing.{step, phase_after}
 use Rattle.tape_run.specs.SurveyGlance.{blank_glance, look_to, look_all, glance_of}
 use Rattle.tape_run.specs.SurveyGlance.{left_by, behind_mark, behind, course_with}
@@ -17,7 +17,7 @@ use Rattle.tape_run.proofs.NotedSoFar.{phase_after-append}
 use Rattle.tape_run.proofs.SurveyLooks.{look_all-append}
 
 -- the glance counts the items
-counts : (g : Glance) (p : Phase) (xs : List TapeItem)
+counts : (g : ImageSummary) (p : Phase) (xs : List TapeItem)
     → (look_all g p xs).items ≡ g.items + length xs
 counts g p [] = omega arith
 counts g p (x ∷ xs) =
@@ -26,16 +26,16 @@ counts g p (x ∷ xs) =
     omega (arith, rest)
 
 -- once they have left the order that stays so
-stays : (g : Glance) (p : Phase) (xs : List TapeItem) (n : ℕ) (w : Wanted) → g.course ≡ Leaves n w
+stays : (g : ImageSummary) (p : Phase) (xs : List TapeItem) (n : ℕ) (w : ExpectedItem) → g.course ≡ Leaves n w
     → (look_all g p xs).course ≡ Leaves n w
 stays g p [] n w e = e
 stays g p (x ∷ xs) n w e =
     let next = (step p x).0 in
     stays (look_to g p x next) next xs n w
-    (ap (λ (c : Course). course_with c (g.items + 1) p x next) e)
+    (ap (λ (c : LabelOrder). course_with c (g.items + 1) p x next) e)
 
 -- the number of an item that leaves the order is its own
-number_left : (number : ℕ) (p next : Phase) (n : ℕ) (w : Wanted)
+number_left : (number : ℕ) (p next : Phase) (n : ℕ) (w : ExpectedItem)
     → left_by number p next ≡ Leaves n w → n ≡ number
 number_left number p Over n w e = cc e
 number_left number p Volume n w e = absurd (cc e)
@@ -47,7 +47,7 @@ number_left number p (Trailer met) n w e = absurd (cc e)
 number_left number p (Trailers v) n w e = absurd (cc e)
 number_left number p (Next v) n w e = absurd (cc e)
 
-number_mark : (number : ℕ) (p next : Phase) (n : ℕ) (w : Wanted)
+number_mark : (number : ℕ) (p next : Phase) (n : ℕ) (w : ExpectedItem)
     → behind_mark number p next ≡ Leaves n w → n ≡ number
 number_mark number (Labels v) next n w e = absurd (cc e)
 number_mark number (Next v) next n w e = absurd (cc e)
@@ -59,14 +59,14 @@ number_mark number (Trailer met) next n w e = number_left number (Trailer met) n
 number_mark number (Trailers v) next n w e = number_left number (Trailers v) next n w e
 number_mark number Over next n w e = number_left number Over next n w e
 
-number_behind : (number : ℕ) (p : Phase) (x : TapeItem) (next : Phase) (n : ℕ) (w : Wanted)
+number_behind : (number : ℕ) (p : Phase) (x : TapeItem) (next : Phase) (n : ℕ) (w : ExpectedItem)
     → behind number p x next ≡ Leaves n w → n ≡ number
 number_behind number p mark next n w e = number_mark number p next n w e
 number_behind number p bad next n w e = number_left number p next n w e
 number_behind number p (block b) next n w e = number_left number p next n w e
 
-its_number : (c : Course) (number : ℕ) (p : Phase) (x : TapeItem) (next : Phase) (n : ℕ)
-    (w : Wanted) → has_left c ≡ false → course_with c number p x next ≡ Leaves n w → n ≡ number
+its_number : (c : LabelOrder) (number : ℕ) (p : Phase) (x : TapeItem) (next : Phase) (n : ℕ)
+    (w : ExpectedItem) → has_left c ≡ false → course_with c number p x next ≡ Leaves n w → n ≡ number
 its_number Follows number p x next n w still e = number_behind number p x next n w e
 its_number Blank number p mark next n w still e = absurd (cc e)
 its_number Blank number p bad next n w still e = cc e
@@ -75,13 +75,13 @@ its_number Ended number p x next n w still e = cc e
 its_number (Leaves m v) number p x next n w still e = absurd (cc still)
 
 -- what has left says where
-where_left : (c : Course) → has_left c ≡ true → (n : ℕ) × (w : Wanted) × (c ≡ Leaves n w)
+where_left : (c : LabelOrder) → has_left c ≡ true → (n : ℕ) × (w : ExpectedItem) × (c ≡ Leaves n w)
 where_left Follows e = absurd (cc e)
 where_left Blank e = absurd (cc e)
 where_left Ended e = absurd (cc e)
 where_left (Leaves n w) e = (n, w, refl)
 
-abbrev number_of : Course → ℕ → ℕ
+abbrev number_of : LabelOrder → ℕ → ℕ
 number_of (Leaves n w) other = n
 number_of _ other = other
 
@@ -90,13 +90,13 @@ from_there : (before xs : List TapeItem) (x : TapeItem)
     → look_all (glance_of before) (phase_after Volume before) (x ∷ xs)
     ≡ look_all (glance_of (before ++ x ∷ [])) (phase_after Volume (before ++ x ∷ [])) xs
 from_there before xs x =
-    ap (λ (g : Glance). look_all g (step (phase_after Volume before) x).0 xs)
+    ap (λ (g : ImageSummary). look_all g (step (phase_after Volume before) x).0 xs)
     (sym (look_all-append blank_glance Volume before x))
     ∙ ap (λ (p : Phase). look_all (glance_of (before ++ x ∷ [])) p xs)
     (sym (phase_after-append Volume before (x ∷ [])))
 
 -- the item x leaves the order, or does not
-leaves_at : (before xs : List TapeItem) (x : TapeItem) (n : ℕ) (w : Wanted) (b : Bool)
+leaves_at : (before xs : List TapeItem) (x : TapeItem) (n : ℕ) (w : ExpectedItem) (b : Bool)
     → has_left (course_of (before ++ x ∷ [])) ≡ b → has_left (course_of before) ≡ false
     → (look_all (glance_of before) (phase_after Volume before) (x ∷ xs)).course ≡ Leaves n w
     → (has_left (course_of (before ++ x ∷ [])) ≡ false
@@ -109,13 +109,13 @@ leaves_at before xs x n w true is still e more =
     let p = phase_after Volume before in
     let same : Leaves m v ≡ Leaves n w =
     sym (stays (glance_of mid) (phase_after Volume mid) xs m v there)
-    ∙ ap (λ (g : Glance). g.course) (sym (from_there before xs x)) ∙ e in
+    ∙ ap (λ (g : ImageSummary). g.course) (sym (from_there before xs x)) ∙ e in
     let here : course_with (course_of before) ((glance_of before).items + 1) p x (step p x).0
     ≡ Leaves m v =
-    ap (λ (g : Glance). g.course) (sym (look_all-append blank_glance Volume before x)) ∙ there in
+    ap (λ (g : ImageSummary). g.course) (sym (look_all-append blank_glance Volume before x)) ∙ there in
     let number = its_number (course_of before) ((glance_of before).items + 1) p x (step p x).0 m v
     still here in
-    let one : m ≡ n = ap (λ (c : Course). number_of c 0) same in
+    let one : m ≡ n = ap (λ (c : LabelOrder). number_of c 0) same in
     record {
       before = before;
       item = x;
@@ -127,9 +127,9 @@ leaves_at before xs x n w true is still e more =
     }
 leaves_at before xs x n w false is still e more =
     subst (λ (l : List TapeItem). IsFirstAstray l n) (append_assoc before (x ∷ []) xs)
-    (more is (ap (λ (g : Glance). g.course) (sym (from_there before xs x)) ∙ e))
+    (more is (ap (λ (g : ImageSummary). g.course) (sym (from_there before xs x)) ∙ e))
 
-leaves_behind : (before rest : List TapeItem) (n : ℕ) (w : Wanted)
+leaves_behind : (before rest : List TapeItem) (n : ℕ) (w : ExpectedItem)
     → has_left (course_of before) ≡ false
     → (look_all (glance_of before) (phase_after Volume before) rest).course ≡ Leaves n w
     → IsFirstAstray (before ++ rest) n

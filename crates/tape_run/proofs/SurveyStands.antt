@@ -20,8 +20,8 @@ use Rattle.tape_run.specs.declared.met.Met.{Met}
 use Rattle.tape_run.specs.declared.passing.Phase.{Phase}
 use Rattle.tape_run.specs.declared.passing.Phase.TheVariants.{Volume, Labels, Second, Headers, Data}
 use Rattle.tape_run.specs.declared.passing.Phase.TheVariants.{Trailer, Trailers, Next, Over}
-use Rattle.tape_run.specs.declared.survey.course.Course.{Course}
-use Rattle.tape_run.specs.declared.survey.course.Course.TheVariants.{Follows, Blank, Ended, Leaves}
+use Rattle.tape_run.specs.declared.survey.course.LabelOrder.{LabelOrder}
+use Rattle.tape_run.specs.declared.survey.course.LabelOrder.TheVariants.{Follows, Blank, Ended, Leaves}
 use Rattle.tape_run.specs.Passing.{volume_with, header_with, second_with}
 use Rattle.tape_run.specs.SurveyGlance.{left_by}
 use Rattle.tape_run.specs.SurveyLaws.{IsSectionInOrder, IsBegun, IsVolumeInOrder, end_marks}
@@ -86,7 +86,7 @@ pub record Marked (items : List TapeItem) : Type 0 where
   pub stands : items ≡ before ++ mark ∷ []
 
 -- what the items are in this phase, on this course
-abbrev pub At : Phase → Course → List TapeItem → Type 0
+abbrev pub At : Phase → LabelOrder → List TapeItem → Type 0
 At p (Leaves n w) items = ⊤
 At Volume Follows items = items ≡ []
 At (Labels v) Follows items = IsBegun items []

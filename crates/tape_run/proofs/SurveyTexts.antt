@@ -11,7 +11,7 @@ use Rattle.std.proofs.KnownBytes.{Appends-trans, Appends-nil}
 use Rattle.std.proofs.lemmas.Bool.Decides.{nat_tests}
 use Rattle.std.proofs.lemmas.Grind.{flat_map-append}
 use Rattle.tape_run.specs.declared.survey.Wording.{Wording}
-use Rattle.tape_run.specs.declared.survey.view.Sight.{Sight}
+use Rattle.tape_run.specs.declared.survey.view.ImageSurvey.{ImageSurvey}
 use Rattle.tape_run.specs.Lacks.{SetFiles}
 use Rattle.tape_image.specs.Written.{AppendsFront}
 use Rattle.tape_run.specs.Reeling.{Mounting}
@@ -100,8 +100,8 @@ pub name_at : {X : Type 0} (f : X → List ℕ) (xs : List X) (i : ℕ) (d : X) 
 name_at f xs i d within = sym (get_or-map f xs i d [] within)
 
 -- the line of one more image
-pub line_more : (y : Wording) (names : List (List ℕ)) (sights : List (Option Sight))
-    (sight : Option Sight) (name : List ℕ) → length sights < length names
+pub line_more : (y : Wording) (names : List (List ℕ)) (sights : List (Option ImageSurvey))
+    (sight : Option ImageSurvey) (name : List ℕ) → length sights < length names
     → name ≡ get_or names (length sights) []
     → image_texts y names (sights ++ sight ∷ [])
     ≡ image_texts y names sights ++ image_text y name sight
@@ -120,8 +120,8 @@ line_more y (n ∷ names) (s ∷ sights) sight name within is =
 
 -- one more image was mounted and read
 pub viewed_more : {L R : Type 0} (gives : Mounting L R) (remaining : R → Option (List ℕ))
-    (shelf : L) (number : ℕ) (sights : List (Option Sight)) (c : Found) (left : L) (mid : Found)
-    (sight : Option Sight) (image : Option R) (last : L) (d : Found)
+    (shelf : L) (number : ℕ) (sights : List (Option ImageSurvey)) (c : Found) (left : L) (mid : Found)
+    (sight : Option ImageSurvey) (image : Option R) (last : L) (d : Found)
     → AreViewed gives remaining shelf number sights c left mid
     → gives left (number + length sights) image last
     → IsViewed (Rattle.std.specs.Prelude.option_map remaining image) sight mid d
@@ -155,7 +155,7 @@ pub record ToldSoFar {L R : Type 0} (y : Wording) (gives : Mounting L R)
     (remaining : R → Option (List ℕ))
     (names : List (List ℕ)) (shelf left : L) (number : ℕ) (d : Found) (old new : Option (List ℕ)) :
     Type 0 where
-  pub sights : List (Option Sight)
+  pub sights : List (Option ImageSurvey)
   pub counted : length sights ≡ number
   pub viewed : AreViewed gives remaining shelf 0 sights nothing_found left d
   pub wrote : Appends old new (image_texts y names sights)
@@ -201,7 +201,7 @@ tells_more y gives remaining names shelf left next number mid d old w new image 
 -- a front of a survey, where a front of its next text was written
 in_part : {L R : Type 0} (y : Wording) (gives : Mounting L R)
     (remaining : R → Option (List ℕ))
-    (names : List (List ℕ)) (shelf left : L) (sights : List (Option Sight)) (d : Found)
+    (names : List (List ℕ)) (shelf left : L) (sights : List (Option ImageSurvey)) (d : Found)
     (old w new : Option (List ℕ)) (a b : List ℕ) → length sights ≤ length names
     → AreViewed gives remaining shelf 0 sights nothing_found left d
     → Appends old w a → AppendsFront w new b → image_texts y names sights ≡ a ++ b

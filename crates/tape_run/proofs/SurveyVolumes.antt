@@ -17,9 +17,9 @@ use Rattle.tape_run.specs.declared.met.Met.{Met}
 use Rattle.tape_run.specs.declared.passing.Phase.{Phase}
 use Rattle.tape_run.specs.declared.passing.Phase.TheVariants.{Volume, Labels, Second, Headers, Data}
 use Rattle.tape_run.specs.declared.passing.Phase.TheVariants.{Trailer, Trailers, Next, Over}
-use Rattle.tape_run.specs.declared.survey.course.Course.{Course}
-use Rattle.tape_run.specs.declared.survey.course.Course.TheVariants.{Follows, Blank, Ended}
-use Rattle.tape_run.specs.declared.survey.glance.Glance.{Glance}
+use Rattle.tape_run.specs.declared.survey.course.LabelOrder.{LabelOrder}
+use Rattle.tape_run.specs.declared.survey.course.LabelOrder.TheVariants.{Follows, Blank, Ended}
+use Rattle.tape_run.specs.declared.survey.glance.ImageSummary.{ImageSummary}
 use Rattle.tape_run.specs.Passing.{step, volume_with, header_with, told_with, closes}
 use Rattle.tape_run.specs.SurveyGlance.{blank_glance, look_to, look_all, left_by, course_with}
 use Rattle.tape_run.proofs.ShownSections.{told_if}
@@ -260,7 +260,7 @@ follows_on Over items x number h = absurd h
 follows_on _ items x number h = tt
 
 -- whatever the course is
-goes_on : (p : Phase) (c : Course) (items : List TapeItem) (x : TapeItem) (number : ℕ)
+goes_on : (p : Phase) (c : LabelOrder) (items : List TapeItem) (x : TapeItem) (number : ℕ)
     → At p c items → At (step p x).0 (course_with c number p x (step p x).0) (items ++ x ∷ [])
 goes_on p Follows items x number h = follows_on p items x number h
 goes_on Over Blank items mark number h = blank_ends items h
@@ -268,7 +268,7 @@ goes_on Over Blank items x number h = tt
 goes_on p Blank items x number h = absurd h
 goes_on p c items x number h = tt
 
-all_stand : (g : Glance) (p : Phase) (before rest : List TapeItem) → At p g.course before
+all_stand : (g : ImageSummary) (p : Phase) (before rest : List TapeItem) → At p g.course before
     → (q : Phase) × At q (look_all g p rest).course (before ++ rest)
 all_stand g p before [] h =
     (p, subst (λ (r : List TapeItem). At p g.course r) (sym (append-nil before)) h)
@@ -289,4 +289,4 @@ ended_at _ items h = absurd h
 pub ended_is_volume : EndedIsVolume
 ended_is_volume items e =
     let (q, at) = all_stand blank_glance Volume [] items refl in
-    ended_at q items (subst (λ (c : Course). At q c items) e at)
+    ended_at q items (subst (λ (c : LabelOrder). At q c items) e at)

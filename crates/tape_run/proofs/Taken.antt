@@ -1,4 +1,4 @@
--- What an intake does with an item of a mount under way, by what its core answered.
+-- What a reel reader does with an item of a mount under way, by what its core answered.
 use Rattle.std.proofs.Common.{◌≡◌, ◌≢◌, ◌+◌, ◌<◌, ◌≤◌, ◌++◌, ℕ, List, length, take, drop, Option}
 use Rattle.std.proofs.Common.{Some, sym, ap, subst, ◌∙◌}
 use Rattle.tape_blocks.specs.Block.{Portion, Holds}

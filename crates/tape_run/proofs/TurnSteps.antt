@@ -10,7 +10,7 @@ use Rattle.tape_run.specs.declared.script.Step.{Step}
 use Rattle.tape_run.specs.declared.script.Step.TheVariants.{Reel}
 use Rattle.tape_run.proofs.Headline.{headline, took_so_many}
 use Rattle.tape_run.specs.Steps.{Reeled}
-use Rattle.tape_run.specs.Reeling.{is_doubtful, IsNoted, step_behind, notes_behind, Turn, Follows}
+use Rattle.tape_run.specs.Reeling.{counts_differ, IsNoted, step_behind, notes_behind, Turn, Follows}
 use Rattle.tape_run.specs.Reeling.{steps_of, AreTold, AreSteps, failed_in, left_in}
 
 -- one reel, and what was done after it
@@ -55,7 +55,7 @@ made back spares core old (None ∷ turns) last new bytes (waits, f) told =
     made back spares core old turns last new bytes f told
 made back spares core old (Some o ∷ turns) last new [] f told = absurd told
 made back spares core old (Some o ∷ turns) last new (b ∷ bs) (next, behind, r, f) (had, told) =
-    let doubtful = is_doubtful o.answer.answer in
+    let doubtful = counts_differ o.answer.answer in
     let (mid, reeled, noted) = subst (λ h. IfSome h (λ bytes. (mid : Seen)
     × Reeled bytes o.left (is_device o.answer.fault) old mid
     × IsNoted back spares doubtful o.noted mid behind)) had r.reeled in

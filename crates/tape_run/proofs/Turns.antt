@@ -11,13 +11,13 @@ use Rattle.tape_image.specs.Tape.{TapeItem}
 use Rattle.tape_image.specs.Written.{AppendsFront}
 use Rattle.tape_image.specs.declared.item.ImageCause.TheVariants.{Device}
 use Rattle.tape_core.specs.State.{State}
-use Rattle.tape_run.specs.declared.intake.ReelAnswer.{ReelAnswer}
+use Rattle.tape_run.specs.declared.reel_reader.ReelAnswer.{ReelAnswer}
 use Rattle.tape_run.specs.Given.{is_device, IsGiven}
 use Rattle.tape_run.specs.Seen.{Seen, IsKept}
 use Rattle.tape_run.proofs.Sessions.{kept_save, kept_restart}
 use Rattle.tape_run.specs.Steps.{Reeled}
 use Rattle.tape_run.specs.ReelLine.{reel_line, reel_lines}
-use Rattle.tape_run.specs.Reeling.{is_doubtful, IsNoted, IsKeptFor, IsReported}
+use Rattle.tape_run.specs.Reeling.{counts_differ, IsNoted, IsKeptFor, IsReported}
 use Rattle.tape_run.specs.Reeling.{Turn, Opened, answer_of, Follows, Mounting, AreMounted}
 use Rattle.tape_run.specs.Reels.{ReadsReel, EndedByItem, EndedByMedium, EndedByFault}
 
@@ -100,9 +100,9 @@ follows_then back spares a s (Some o ∷ ts) b t us c u (next, mid, r, f) g =
 
 pub noted : (back spares : Bool) (bytes : Option (List ℕ)) (o : Opened) (old mid new : Seen)
     → IfSome bytes (λ b. Reeled b o.left (is_device o.answer.fault) old mid)
-    → IsNoted back spares (is_doubtful o.answer.answer) o.noted mid new
+    → IsNoted back spares (counts_differ o.answer.answer) o.noted mid new
     → IfSome bytes (λ b. (m : Seen) × Reeled b o.left (is_device o.answer.fault) old m
-    × IsNoted back spares (is_doubtful o.answer.answer) o.noted m new)
+    × IsNoted back spares (counts_differ o.answer.answer) o.noted m new)
 noted back spares None o old mid new r s = tt
 noted back spares (Some b) o old mid new r s = (mid, r, s)
 

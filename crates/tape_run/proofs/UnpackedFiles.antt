@@ -5,7 +5,7 @@ use Rattle.std.proofs.Common.{append_assoc, append-nil, length-append, map}
 use Rattle.std.proofs.lemmas.List.{map-append}
 use Rattle.std.specs.Prelude.{option_map}
 use Rattle.std.proofs.lemmas.Grind.{flat_map-append}
-use Rattle.tape_run.specs.declared.survey.view.Sight.{Sight}
+use Rattle.tape_run.specs.declared.survey.view.ImageSurvey.{ImageSurvey}
 use Rattle.tape_run.specs.declared.unpack.SetFile.{SetFile}
 use Rattle.tape_run.specs.Lacks.{SetFiles}
 use Rattle.tape_run.specs.Reeling.{Mounting}
@@ -17,7 +17,7 @@ use Rattle.tape_run.proofs.SurveyTexts.{viewed_more}
 -- the first images were read
 pub record ViewedSoFar {L R : Type 0} (gives : Mounting L R) (remaining : R → Option (List ℕ))
     (shelf left : L) (number : ℕ) (d : Found) (sets : List (Option (List ℕ))) : Type 0 where
-  pub sights : List (Option Sight)
+  pub sights : List (Option ImageSurvey)
   pub counted : length sights ≡ number
   pub viewed : AreViewed gives remaining shelf 0 sights nothing_found left d
   pub sets_are : sets ≡ map set_of sights
@@ -29,7 +29,7 @@ views_none gives remaining shelf d sets none empty =
     record { sights = []; counted = refl; viewed = (refl, none); sets_are = empty }
 
 pub views_more : {L R : Type 0} (gives : Mounting L R) (remaining : R → Option (List ℕ))
-    (shelf left next : L) (number : ℕ) (mid d : Found) (image : Option R) (sight : Option Sight)
+    (shelf left next : L) (number : ℕ) (mid d : Found) (image : Option R) (sight : Option ImageSurvey)
     (old new : List (Option (List ℕ))) (set : Option (List ℕ)) → set ≡ set_of sight
     → new ≡ old ++ set ∷ [] → ViewedSoFar gives remaining shelf left number mid old
     → gives left number image next → IsViewed (option_map remaining image) sight mid d

@@ -20,18 +20,18 @@ use Rattle.tape_core.specs.declared.sink.SinkFault.{SinkFault}
 use Rattle.tape_run.specs.declared.fault.RunFault.TheVariants.{Sink}
 use Rattle.tape_run.specs.declared.script.Step.{Step}
 use Rattle.tape_run.specs.declared.script.Step.TheVariants.{Reel}
-use Rattle.tape_run.specs.Mount.{Happening, IsMountOf, reads, cut}
+use Rattle.tape_run.specs.Mount.{MountEvent, IsMountOf, reads, cut}
 use Rattle.tape_run.specs.History.{Course, course, course_of, IsHistory}
 use Rattle.tape_run.specs.Given.{AreGivenBy, failed_of, counted_up}
 use Rattle.tape_run.specs.Headline.{begins, IsStart, IsRead, HasRun, HasStopped, StopsStep}
-use Rattle.tape_run.specs.Lives.{IsResumed}
+use Rattle.tape_run.specs.CrashRuns.{IsResumed}
 use Rattle.tape_run.specs.Seen.{Seen, IsSession}
 use Rattle.tape_run.specs.WorkedHistory.{worked_set, section_1, section_2, first, reel_1, reading}
 use Rattle.tape_run.specs.WorkedDays.{DaysAreWorked, IsWhole, once, twice, two_reels, four_reels}
 use Rattle.tape_run.specs.WorkedDays.{behind_one}
 use Rattle.tape_run.specs.Back.{reels_of}
 use Rattle.tape_run.proofs.Back.{none_of}
-use Rattle.tape_run.proofs.Lives.{goes_on}
+use Rattle.tape_run.proofs.CrashRuns.{goes_on}
 use Rattle.tape_run.proofs.Fronts.{fronts_are_mounts}
 use Rattle.tape_set.proofs.WorkedFile.{fit_of}
 use Rattle.tape_run.proofs.WorkedHistory.{is_lawful}
@@ -39,10 +39,10 @@ use Rattle.tape_run.proofs.WorkedReels.{whole_1, whole_2}
 
 -- ---- wherever volume 1, or volume 2, broke off
 
-abbrev vol_1 : Happening
+abbrev vol_1 : MountEvent
 vol_1 = reads (reading 1 (replicate 11 true))
 
-abbrev vol_2 : Happening
+abbrev vol_2 : MountEvent
 vol_2 = reads (reading 2 (replicate 10 true))
 
 -- P holds of the numbers below k
@@ -83,14 +83,14 @@ completes =
 -- ---- a reader that failed
 
 -- the events, the k-th of them, from 0 on, cut after n items
-abbrev cut_one : ℕ → ℕ → List Happening → List Happening
+abbrev cut_one : ℕ → ℕ → List MountEvent → List MountEvent
 cut_one k n [] = []
 cut_one zero n (h ∷ hs) = cut n h ∷ hs
 cut_one (suc k) n (h ∷ hs) = h ∷ cut_one k n hs
 
 -- if one reader failed, one of the events is cut
 one_cut : (which : List Bool) (bytes given : List (List ℕ)) (left : List (Option (List ℕ)))
-    (hs : List Happening)
+    (hs : List MountEvent)
     → IsHistory worked_set 0 (reels_of bytes) bytes hs → failed_of which ≡ 1
     → AreGivenBy which bytes left given
     → (k : ℕ) × (n : ℕ) × IsHistory worked_set 0 (reels_of bytes) given (cut_one k n hs)
@@ -111,10 +111,10 @@ one_cut (true ∷ which) (b ∷ bytes) (g ∷ given) (l ∷ left) (h ∷ hs) (mo
     subst (λ z. IsHistory worked_set 0 (reels_of bytes) z hs) (sym all) rest in
     (0, front.0, (front.1, same))
 
-abbrev four_volumes : List Happening
+abbrev four_volumes : List MountEvent
 four_volumes = vol_1 ∷ vol_2 ∷ vol_1 ∷ vol_2 ∷ []
 
-abbrev ends_with : List Happening → Position
+abbrev ends_with : List MountEvent → Position
 ends_with hs = (course worked_set 1 begins hs).at
 
 abbrev EndsSoon : ℕ → ℕ → Type 0

@@ -33,8 +33,8 @@ use Rattle.tape_run.specs.Given.{is_device, IsGiven, AreGivenBy, counted, counte
 use Rattle.tape_run.specs.Given.{failed_of, written}
 use Rattle.tape_run.specs.Headline.{Ran, HasRun, IsStart, IsRead, begins}
 use Rattle.tape_run.specs.History.{Course, IsHistory, course, course_of}
-use Rattle.tape_run.specs.Lives.{IsPlaceOf, ComesBack, IsResumed, AreHistories}
-use Rattle.tape_run.specs.Mount.{Happening, reads, foreign_reel, saves, restarts, IsMount}
+use Rattle.tape_run.specs.CrashRuns.{IsPlaceOf, ComesBack, IsResumed, AreHistories}
+use Rattle.tape_run.specs.Mount.{MountEvent, reads, foreign_reel, saves, restarts, IsMount}
 use Rattle.tape_run.specs.Mount.{IsMountOf, after_mount, cut}
 use Rattle.tape_run.specs.Runs.{Runs, RunsUpTo, Fails}
 use Rattle.tape_run.specs.Seen.{Seen, AreNotes, IsSession, IsKept}
@@ -61,7 +61,7 @@ pub record CasesOfMounts : Type 0 where
       → IsMount worked_set (block vol1 ∷ block hdr1 ∷ rest) foreign_reel → ⊥
   -- an image may stop in any way after the items of a mount
   pub any_stop : (set : FileSet) (bytes : List ℕ) (xs : List TapeItem) (end : ℕ) (stop : Stop)
-      (h : Happening) → Begins 0 bytes xs end stop → IsMount set xs h → IsMountOf set bytes h
+      (h : MountEvent) → Begins 0 bytes xs end stop → IsMount set xs h → IsMountOf set bytes h
   pub no_save : (set : FileSet) (xs : List TapeItem) → IsMount set xs saves → ⊥
   pub no_restart : (set : FileSet) (xs : List TapeItem) → IsMount set xs (restarts 0) → ⊥
   -- a prefix of a reading, and a reel that moves nothing
@@ -88,10 +88,10 @@ pub record CasesOfHistories : Type 0 where
       → IsHistory set 2 (Restart 0 ∷ Restart 1 ∷ []) [] (restarts 0 ∷ restarts 1 ∷ []) → ⊥
   pub other_note : (set : FileSet) → IsHistory set 2 (Restart 0 ∷ []) [] (restarts 1 ∷ []) → ⊥
   -- a reel is mounted if the script says so, and nothing happens that it does not say
-  pub reel_mounted : (set : FileSet) (bytes : List ℕ) (h : Happening) → IsMountOf set bytes h
+  pub reel_mounted : (set : FileSet) (bytes : List ℕ) (h : MountEvent) → IsMountOf set bytes h
       → IsHistory set 0 (Reel ∷ []) (bytes ∷ []) (h ∷ [])
-  pub no_reel : (set : FileSet) (h : Happening) → IsHistory set 0 (Reel ∷ []) [] (h ∷ []) → ⊥
-  pub unasked : (set : FileSet) (h : Happening) → IsHistory set 0 [] [] (h ∷ []) → ⊥
+  pub no_reel : (set : FileSet) (h : MountEvent) → IsHistory set 0 (Reel ∷ []) [] (h ∷ []) → ⊥
+  pub unasked : (set : FileSet) (h : MountEvent) → IsHistory set 0 [] [] (h ∷ []) → ⊥
   pub left_out : (set : FileSet) (s : Step) → IsHistory set 0 (s ∷ []) [] [] → ⊥
   -- where they lead: a save records the position, a rollback drops the later checkpoints, and a
   -- foreign reel and a missing checkpoint change nothing
@@ -171,12 +171,12 @@ pub record CasesOfSessions : Type 0 where
       → (ps : List Portion) × IsFront ps s.parts × (c.set_id ≡ s.place.set_id)
       × (c.file ≡ s.place.file) × (c.staged ≡ weight_of ps)
   -- if all steps succeeded the session is where the history leads
-  pub ran : (set : FileSet) (old new : Seen) (hs : List Happening) → Ran set old hs new
+  pub ran : (set : FileSet) (old new : Seen) (hs : List MountEvent) → Ran set old hs new
       → IsSession set new × (new.place.file ≡ old.place.file)
       × (course set old.place.file (course_of old) hs ≡ course_of new)
   pub has_run : (old new : Seen) (steps : List Step) (bytes : List (List ℕ))
       (left : List (Option (List ℕ))) (set : FileSet)
-      (hs : List Happening) (r : HasRun old steps bytes left new) → IsLawful set
+      (hs : List MountEvent) (r : HasRun old steps bytes left new) → IsLawful set
       → IsHistory set (length old.notes) steps r.given hs → IsSession set old
       → Ran set old hs new × AreGivenBy r.which bytes left r.given
       × (new.failures ≡ counted_up (failed_of r.which) old.failures)
@@ -187,7 +187,7 @@ pub record CasesOfSessions : Type 0 where
       → IsSession set s × (s.place.file ≡ file) × (course_of s ≡ begins)
   pub was_read : (set : FileSet) (file : ℕ) (steps : List Step) (bytes : List (List ℕ))
       (left : List (Option (List ℕ))) (s : Seen)
-      (hs : List Happening) (r : IsRead set.set_id file steps bytes left s) → IsLawful set
+      (hs : List MountEvent) (r : IsRead set.set_id file steps bytes left s) → IsLawful set
       → IsSome (file_of set file) → IsHistory set 0 steps r.given hs
       → (course_of s ≡ course set file begins hs)
       × (s.parts ≡ before set file (course set file begins hs).at)
@@ -206,7 +206,7 @@ pub record CasesOfMade : Type 0 where
       → Reeled bytes left failed old new
       → (new.place.set_id ≡ old.place.set_id) × (new.place.file ≡ old.place.file)
   pub mount_was_read : (bytes : List ℕ) (left : Option (List ℕ)) (failed : Bool) (old new : Seen)
-      (set : FileSet) (h : Happening) (r : Reeled bytes left failed old new) → IsLawful set
+      (set : FileSet) (h : MountEvent) (r : Reeled bytes left failed old new) → IsLawful set
       → IsMountOf set r.given h
       → IsPlaced set old.place old.parts → IsPlaced set new.place new.parts
       × (new.place.position ≡ after_mount set old.place.file old.place.position h)
@@ -268,7 +268,7 @@ pub record CasesOfMade : Type 0 where
       → ReelFails bytes (Sink cause) old new
       → IsFront old.parts new.parts × (new.notes ≡ old.notes)
       × (new.failures ≡ old.failures) × (new.place.file ≡ old.place.file)
-  pub stopped_by : (set : FileSet) (old new : Seen) (xs : List TapeItem) (h : Happening)
+  pub stopped_by : (set : FileSet) (old new : Seen) (xs : List TapeItem) (h : MountEvent)
       (s : StoppedBy set old.place.file old.place.position xs h new.place new.parts)
       → IsPlaced set new.place new.parts
       × (slice_get xs s.n ≡ Some (block s.content))
@@ -315,7 +315,7 @@ pub record CasesOfCrashes : Type 0 where
       → StoodAt s (Reel ∷ []) (Some bytes ∷ []) [] back there → IsOf s back there
   pub came_back : (old : Seen) (steps done : List Step) (bytes : List (List ℕ))
       (left : List (Option (List ℕ))) (given : List (List ℕ))
-      (back : Point) (there : List Portion) (set : FileSet) (hs : List Happening)
+      (back : Point) (there : List Portion) (set : FileSet) (hs : List MountEvent)
       (c : ComesBack old steps done bytes left given back there) → IsLawful set
       → IsHistory set (length old.notes) done given hs → IsSession set old
       → Stands set old.place.file back there

@@ -34,13 +34,13 @@ use Rattle.tape_run.specs.ExtractingNow.{IsPut, EndsNow, ExtractsNow, StopsNow}
 use Rattle.tape_run.specs.Given.{is_device}
 use Rattle.tape_run.specs.Headline.{HasRun}
 use Rattle.tape_run.specs.Lead.{Lead, over_reel}
-use Rattle.tape_run.specs.Mount.{Happening, IsMountOf, foreign_reel, after_mount}
+use Rattle.tape_run.specs.Mount.{MountEvent, IsMountOf, foreign_reel, after_mount}
 use Rattle.tape_image.specs.Written.{AppendsFront}
 use Rattle.tape_run.specs.OutSinks.{HasTaken, IsText, TellsAlways, text_so_far, with_end}
 use Rattle.tape_run.specs.RecordText.{output_of}
 use Rattle.tape_run.specs.ReelLine.{reel_lines, last_line}
 use Rattle.tape_run.specs.Reeling.{Opened, Turn, answer_of, AreTurns, IsTurn, Follows}
-use Rattle.tape_run.specs.Reeling.{is_doubtful, IsNoted, ReadsAndNotes}
+use Rattle.tape_run.specs.Reeling.{counts_differ, IsNoted, ReadsAndNotes}
 use Rattle.tape_run.specs.Reeling.{goes_back, IsKeptFor, AreFirstTurns, Took}
 use Rattle.tape_run.specs.Reeling.{step_behind, notes_behind, steps_of, AreTold, AreSteps}
 use Rattle.tape_run.specs.Reels.{Reads}
@@ -48,7 +48,7 @@ use Rattle.tape_run.specs.Seen.{Seen, IsKept, seen}
 use Rattle.tape_run.specs.Steps.{Saved, WentBack}
 use Rattle.tape_run.specs.declared.script.Step.TheVariants.{Reel, Save, Restart}
 use Rattle.tape_core.specs.Point.{Point}
-use Rattle.tape_run.specs.Story.{Story}
+use Rattle.tape_run.specs.SessionState.{SessionState}
 use Rattle.tape_core.specs.Stands.{weight_of}
 use Rattle.tape_core.specs.Table.{saved}
 
@@ -81,9 +81,9 @@ pub record CasesOfTurns : Type 0 where
       → AreFirstTurns Took (λ r. r) (a ∷ b ∷ []) (t ∷ []) left → IsTurn (λ r. r) a t
       × ((left ≡ None ∷ b ∷ []) ⊎ (left ≡ None ∷ None ∷ []))
   -- a wrong count, and a reader that it broke, are suspect, and then nothing is saved
-  pub doubtful : is_doubtful (Useless (BlockCount 3 4)) ≡ true
-  pub broken : is_doubtful (Useless Broken) ≡ true
-  pub sure : (is_doubtful SectionDone ≡ false) × (is_doubtful (Useless BadItem) ≡ false)
+  pub doubtful : counts_differ (Useless (BlockCount 3 4)) ≡ true
+  pub broken : counts_differ (Useless Broken) ≡ true
+  pub sure : (counts_differ SectionDone ≡ false) × (counts_differ (Useless BadItem) ≡ false)
   pub not_noted : (spares noted : Bool) (old new : Seen) → IsNoted false spares true noted old new
       → new ≡ old
   pub is_noted : (back spares : Bool) (old new : Seen) → IsNoted back spares false true old new
@@ -109,9 +109,9 @@ pub record CasesOfTurns : Type 0 where
   pub counted : (notes_behind false true 2 ≡ 3) × (notes_behind false false 2 ≡ 2)
       × (notes_behind true false 2 ≡ 2)
   pub steps : (o p : Opened) → steps_of true 2 (None ∷ Some o ∷ Some p ∷ [])
-      ≡ Reel ∷ step_behind true (is_doubtful o.answer.answer) o.noted 2
-      ++ (Reel ∷ step_behind true (is_doubtful p.answer.answer) p.noted
-      (notes_behind (is_doubtful o.answer.answer) o.noted 2) ++ [])
+      ≡ Reel ∷ step_behind true (counts_differ o.answer.answer) o.noted 2
+      ++ (Reel ∷ step_behind true (counts_differ p.answer.answer) p.noted
+      (notes_behind (counts_differ o.answer.answer) o.noted 2) ++ [])
   pub by_its_line : (back : Bool) (o : Opened) (b : List ℕ) (old new : Seen) → o.had ≡ Some b
       → AreSteps back (None ∷ Some o ∷ []) old new
       → (run : HasRun old (steps_of back (length old.notes) (Some o ∷ [])) (b ∷ []) (o.left ∷ [])
@@ -132,7 +132,7 @@ pub record CasesOfTurns : Type 0 where
 
 -- a session whose sink is the list of its parts, and images and writers that are their known bytes
 abbrev pub Listed : Type 0
-Listed = Story (List Portion)
+Listed = SessionState (List Portion)
 
 -- a list that takes the place of the sink's parts: it weighs nothing, and nothing survives a crash
 abbrev pub as_sink : Ghosts (List Portion)

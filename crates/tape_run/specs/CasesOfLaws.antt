@@ -30,11 +30,11 @@ use Rattle.tape_run.specs.Given.{AreGivenBy}
 use Rattle.tape_run.specs.History.{IsHistory}
 use Rattle.tape_run.specs.Lacks.{LackIsFirst, IsFoundWhole, IsFirstLack, lack_of, found_all}
 use Rattle.tape_run.specs.Lead.{AreItems, ItemsAreThere}
-use Rattle.tape_run.specs.Lives.{StoodComesBack, StandsAcrossCrashes, ComesBack, Life, Outlives}
-use Rattle.tape_run.specs.Lives.{AreHistories, IsResumed, ResumedGoesOn}
+use Rattle.tape_run.specs.CrashRuns.{StoodComesBack, StandsAcrossCrashes, ComesBack, CrashRun, Outlives}
+use Rattle.tape_run.specs.CrashRuns.{AreHistories, IsResumed, ResumedGoesOn}
 use Rattle.tape_run.specs.Listing.{OneListing, IsListing}
 use Rattle.tape_run.specs.Headline.{HasRun}
-use Rattle.tape_run.specs.Mount.{Happening, IsMountOf, cut, reads}
+use Rattle.tape_run.specs.Mount.{MountEvent, IsMountOf, cut, reads}
 use Rattle.tape_run.specs.Noted.{noted_all, StandsIn}
 use Rattle.tape_run.specs.OneEntry.{HasOneEach, OneEntryASection}
 use Rattle.tape_run.specs.Passing.{Told, met_in}
@@ -49,16 +49,16 @@ use Rattle.tape_run.specs.WholeSet.{WholeCopiesAreAdded, IsWholeCopy, IsNoDevice
 
 -- of laws of runs
 pub record CasesOfRunLaws : Type 0 where
-  pub a_front : FrontsAreMounts → (set : FileSet) (front rest : List ℕ) (h : Happening)
+  pub a_front : FrontsAreMounts → (set : FileSet) (front rest : List ℕ) (h : MountEvent)
       → IsMountOf set (front ++ rest) h → (n : ℕ) × IsMountOf set front (cut n h)
   pub what_was_given : GivenIsHistory → (set : FileSet) (steps : List Step)
-      (bytes given : List (List ℕ)) (left : List (Option (List ℕ))) (hs : List Happening)
+      (bytes given : List (List ℕ)) (left : List (Option (List ℕ))) (hs : List MountEvent)
       → IsHistory set 0 steps bytes hs
       → AreGivenBy (true ∷ false ∷ true ∷ []) bytes left given
-      → (others : List Happening) × IsHistory set 0 steps given others
+      → (others : List MountEvent) × IsHistory set 0 steps given others
   pub a_refusal : OnlyRefusalsStop → (which : List Bool) (old new : Seen) (steps : List Step)
       (bytes : List (List ℕ)) (left : List (Option (List ℕ))) (n : ℕ) (fault : RunFault)
-      (set : FileSet) (hs : List Happening)
+      (set : FileSet) (hs : List MountEvent)
       → RunsUpTo which old steps (map Some bytes) left n fault new
       → IsHistory set (length old.notes) steps bytes hs → IsRefusal fault
   pub refusals : (cause : SinkFault) → IsRefusal (Sink cause) × IsRefusal OutOfMemory
@@ -70,7 +70,7 @@ pub record CasesOfRunLaws : Type 0 where
       → (done : List Step) × (given : List (List ℕ))
       × ComesBack old steps done bytes left given back there
   pub one_crash : StandsAcrossCrashes → (set : FileSet) (c back : Point) (ps there : List Portion)
-      (life : Life) (hs : List Happening) → IsLawful set → Stands set c.file c ps
+      (life : CrashRun) (hs : List MountEvent) → IsLawful set → Stands set c.file c ps
       → Outlives c ps (life ∷ []) back there → AreHistories set (life ∷ []) (hs ∷ [])
       → Stands set c.file back there
   pub went_on : ResumedGoesOn → (set : FileSet) (c : Point) (ps : List Portion) (began new : Seen)
@@ -85,11 +85,11 @@ pub record CasesOfRunLaws : Type 0 where
   -- a run begins with what was there, ends with what a crash leaves of it, and has the history of
   -- what was returned in it
   pub no_life : (c : Point) (ps : List Portion) → Outlives c ps [] c ps
-  pub one_life : (c back : Point) (ps there : List Portion) (life : Life)
+  pub one_life : (c back : Point) (ps there : List Portion) (life : CrashRun)
       → IsResumed c ps life.began
       → ComesBack life.began life.steps life.done life.bytes life.left life.given back there
       → Outlives c ps (life ∷ []) back there
-  pub read_life : (set : FileSet) (s : Seen) (bytes given : List ℕ) (h : Happening)
+  pub read_life : (set : FileSet) (s : Seen) (bytes given : List ℕ) (h : MountEvent)
       → IsMountOf set given h → AreHistories set (record {
         began = s;
         steps = Reel ∷ [];

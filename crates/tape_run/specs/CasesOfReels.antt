@@ -24,7 +24,7 @@ use Rattle.tape_core.specs.State.{State}
 use Rattle.tape_core.specs.Stands.{weight_of}
 use Rattle.tape_core.specs.Table.{step_of, mount_of, reader_of, saved}
 use Rattle.tape_core.specs.Weight.{IsFront}
-use Rattle.tape_run.specs.declared.intake.ReelAnswer.{ReelAnswer}
+use Rattle.tape_run.specs.declared.reel_reader.ReelAnswer.{ReelAnswer}
 use Rattle.tape_run.specs.declared.fault.RunFault.{RunFault}
 use Rattle.tape_run.specs.declared.fault.RunFault.TheVariants.{Sink, OutOfMemory}
 use Rattle.tape_run.specs.declared.script.Step.{Step}

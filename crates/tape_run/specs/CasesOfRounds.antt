@@ -15,7 +15,7 @@ use Rattle.tape_run.specs.ReelLine.{reel_lines, last_line}
 use Rattle.tape_run.specs.Reeling.{Turn, answer_of, AreTurns, AreFirstTurns, Follows, Took}
 use Rattle.tape_run.specs.Reeling.{IsKeptFor, goes_back}
 use Rattle.tape_run.specs.Rounds.{Round, turns_of, core_behind, wanted, AreRounds}
-use Rattle.tape_run.specs.Rounds.{BroughtSomething, IsEnough, FollowsRounds, GoesRound}
+use Rattle.tape_run.specs.Rounds.{MadeProgress, IsEnough, FollowsRounds, GoesRound}
 use Rattle.tape_run.specs.Seen.{Seen, seen}
 
 -- what `extract` says of passes over readers in a list
@@ -53,10 +53,10 @@ pub record CasesOfRounds : Type 0 where
   -- a pass followed by another had all images, and recovered something, but not the rest of the
   -- file
   pub brought : (turns : List Turn) (core behind : State)
-      → BroughtSomething 3 core (record { turns = turns; behind = behind } ∷ [])
+      → MadeProgress 3 core (record { turns = turns; behind = behind } ∷ [])
       → (length turns ≡ 3) × (wanted behind ≢ None) × (wanted behind ≢ wanted core)
   pub brought_twice : (a b : List Turn) (core p q : State)
-      → BroughtSomething 3 core (record { turns = a; behind = p }
+      → MadeProgress 3 core (record { turns = a; behind = p }
       ∷ record { turns = b; behind = q } ∷ []) → (length b ≡ 3) × (wanted q ≢ wanted p)
   -- passes end if nothing is missing or nothing was recovered
   pub enough : (before want : Option Want) → IsEnough 3 6 before want
@@ -88,7 +88,7 @@ pub record CasesOfRounds : Type 0 where
       (reel_lines 1 (map answer_of (turns_of e.rounds ++ e.turns)) ++ last_line want e.records)
       × AreRounds Took (λ r. r) shelf e.rounds e.between
       × AreTurns Took (λ r. r) e.between 0 e.turns left
-      × BroughtSomething (length shelf) session.core e.rounds
+      × MadeProgress (length shelf) session.core e.rounds
   pub again_left : (session behind : Listed) (shelf left : Readers) (form : Form)
       (out now said says : Known) (want : Option Want)
       (e : AgainListed session behind shelf left form out now said says want)
@@ -112,7 +112,7 @@ pub record CasesOfRounds : Type 0 where
       × (length s.turns + length s.more ≤ length shelf)
       × AreRounds Took (λ r. r) shelf s.rounds s.between
       × AreFirstTurns Took (λ r. r) s.between s.turns left
-      × BroughtSomething (length shelf) session.core s.rounds
+      × MadeProgress (length shelf) session.core s.rounds
       × AppendsFront said says
       (reel_lines 1 (map answer_of (turns_of s.rounds ++ s.turns) ++ s.more)
       ++ last_line s.want s.records)

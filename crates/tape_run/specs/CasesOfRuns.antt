@@ -15,39 +15,39 @@ use Rattle.tape_run.specs.declared.script.Step.TheVariants.{Reel, Save, Restart}
 use Rattle.tape_run.specs.Given.{AreGivenBy, counted_up, failed_of}
 use Rattle.tape_run.specs.Headline.{Ran, PutRefused, StopsStep, HasStopped, LosesParts, reels_in}
 use Rattle.tape_run.specs.History.{IsHistory, course, course_of}
-use Rattle.tape_run.specs.Mount.{Happening, after_mount, cut}
+use Rattle.tape_run.specs.Mount.{MountEvent, after_mount, cut}
 use Rattle.tape_run.specs.Seen.{Seen, IsSession}
 
 -- of runs that a fault ended
 pub record CasesOfStops : Type 0 where
   -- a step fails only for a reason that it can have
-  pub saves_stop : (set : FileSet) (old new : Seen) (hs : List Happening)
+  pub saves_stop : (set : FileSet) (old new : Seen) (hs : List MountEvent)
       (readers : List (List ℕ)) → (StopsStep set old hs Save readers NoSuchPoint new → ⊥)
       × (StopsStep set old hs Save readers TooFewReels new → ⊥)
       × (StopsStep set old hs Save readers OtherFile new → ⊥)
       × (StopsStep set old hs Save readers OutOfMemory new → Ran set old hs new)
-  pub reels_stop : (set : FileSet) (old new : Seen) (hs : List Happening) (b : List ℕ)
+  pub reels_stop : (set : FileSet) (old new : Seen) (hs : List MountEvent) (b : List ℕ)
       (readers : List (List ℕ)) → (StopsStep set old hs Reel (b ∷ readers) TooFewReels new → ⊥)
       × (StopsStep set old hs Reel (b ∷ readers) NoSuchPoint new → ⊥)
       × (StopsStep set old hs Reel (b ∷ readers) OtherFile new → ⊥)
       × (StopsStep set old hs Reel (b ∷ readers) OutOfMemory new → Ran set old hs new)
-  pub no_reels_stop : (set : FileSet) (old new : Seen) (hs : List Happening) (cause : SinkFault)
+  pub no_reels_stop : (set : FileSet) (old new : Seen) (hs : List MountEvent) (cause : SinkFault)
       → (StopsStep set old hs Reel [] OutOfMemory new → ⊥)
       × (StopsStep set old hs Reel [] (Sink cause) new → ⊥)
       × (StopsStep set old hs Reel [] TooFewReels new → Ran set old hs new)
-  pub restarts_stop : (set : FileSet) (old new : Seen) (hs : List Happening)
+  pub restarts_stop : (set : FileSet) (old new : Seen) (hs : List MountEvent)
       (readers : List (List ℕ)) (n : ℕ) → (StopsStep set old hs (Restart n) readers NoSuchPoint new
       → (length (course set old.place.file (course_of old) hs).notes ≤ n) × Ran set old hs new)
       × (StopsStep set old hs (Restart n) readers OutOfMemory new → ⊥)
       × (StopsStep set old hs (Restart n) readers TooFewReels new → ⊥)
-  pub sinks_stop : (set : FileSet) (old new : Seen) (hs : List Happening)
+  pub sinks_stop : (set : FileSet) (old new : Seen) (hs : List MountEvent)
       (readers : List (List ℕ)) (cause : SinkFault)
       → (StopsStep set old hs Save readers (Sink cause) new → Ran set old hs new)
       × (StopsStep set old hs (Restart 0) readers (Sink cause) new → Ran set old hs new)
   -- a refused part: the sink contains exactly what precedes it, in a block where the items before
   -- it lead
-  pub part_refused : (set : FileSet) (old new : Seen) (hs : List Happening) (xs : List TapeItem)
-      (h : Happening) (r : PutRefused set old hs xs h new)
+  pub part_refused : (set : FileSet) (old new : Seen) (hs : List MountEvent) (xs : List TapeItem)
+      (h : MountEvent) (r : PutRefused set old hs xs h new)
       → (new.parts ≡ before set new.place.file new.place.position)
       × (new.place.file ≡ old.place.file) × (slice_get xs r.by.n ≡ Some (block r.by.content))
       × (after_mount set old.place.file (course set old.place.file (course_of old) hs).at
@@ -63,7 +63,7 @@ pub record CasesOfStops : Type 0 where
       × (new.failures ≡ counted_up (failed_of s.which) old.failures)
   -- two reels were read before it, and the third reader is left
   pub stopped_so : (old new : Seen) (a b c : List ℕ) (left : List (Option (List ℕ)))
-      (fault : RunFault) (set : FileSet) (hs : List Happening)
+      (fault : RunFault) (set : FileSet) (hs : List MountEvent)
       (s : HasStopped old (Reel ∷ Reel ∷ Save ∷ Reel ∷ []) (a ∷ b ∷ c ∷ []) left 2 fault new)
       → IsLawful set → IsHistory set (length old.notes) (Reel ∷ Reel ∷ []) s.given hs
       → IsSession set old → StopsStep set old hs Save (c ∷ []) fault new

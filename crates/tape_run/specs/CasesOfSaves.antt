@@ -11,7 +11,7 @@ use Rattle.tape_run.specs.Reeling.{StoodSaved}
 use Rattle.tape_run.specs.Seen.{Seen}
 use Rattle.tape_run.specs.declared.script.Step.TheVariants.{Reel, Save, Restart}
 use Rattle.tape_core.specs.Point.{Point}
-use Rattle.tape_run.specs.Story.{Story}
+use Rattle.tape_run.specs.SessionState.{SessionState}
 use Rattle.tape_core.specs.Stands.{weight_of}
 use Rattle.tape_core.specs.Table.{saved}
 use Rattle.tape_core.specs.Weight.{IsFront}
@@ -69,61 +69,61 @@ pub record CasesOfSaved : Type 0 where
       → BringsLast (brings ps p) s → ⊥
   pub brings_nothing : (s : Seen) → BringsLast (λ back there. ⊥) s
   -- the checkpoint that was made meanwhile is left
-  pub noted_on_the_way : (old new : Story Point) (held now ps : List Portion) (c : Point)
+  pub noted_on_the_way : (old new : SessionState Point) (held now ps : List Portion) (c : Point)
       → old.notes ≡ [] → new.notes ≡ c ∷ []
       → KeepsLast (weighing (comes_now ps)) old held new now
       → (new.sink ≡ c) × IsFront ps now
   -- if none was made, the one that was left alone still is
-  pub none_on_the_way : (old new : Story Point) (held now ps : List Portion) (c : Point)
+  pub none_on_the_way : (old new : SessionState Point) (held now ps : List Portion) (c : Point)
       → old.notes ≡ c ∷ [] → new.notes ≡ c ∷ [] → old.sink ≡ c → IsFront ps held
       → weight_of ps ≡ c.staged → KeepsLast (weighing (comes_now ps)) old held new now
       → new.sink ≡ c
   -- if something survived every crash, something still does
-  pub survives : (old new : Story Point) (held now : List Portion)
+  pub survives : (old new : SessionState Point) (held now : List Portion)
       → KeepsLast (weighing (comes_now [])) old held new now
       → old.sink.position ≡ Finished → new.sink.position ≡ Finished
   -- the same since a moment up to the first, if no checkpoint was made
-  pub none_since : (old new : Story Point) (held now ps : List Portion) (c : Point) (t : ℕ)
+  pub none_since : (old new : SessionState Point) (held now ps : List Portion) (c : Point) (t : ℕ)
       → old.notes ≡ c ∷ [] → new.notes ≡ c ∷ [] → old.sink ≡ c → IsFront ps held
       → weight_of ps ≡ c.staged → t ≤ old.sink.file
       → KeepsLast (weighing (comes_since ps)) old held new now → new.sink ≡ c
-  pub survived : (old new : Story Point) (held now : List Portion) (t : ℕ) → t ≤ old.sink.file
+  pub survived : (old new : SessionState Point) (held now : List Portion) (t : ℕ) → t ≤ old.sink.file
       → KeepsLast (weighing (comes_since [])) old held new now
       → old.sink.position ≡ Finished → new.sink.position ≡ Finished
-  pub goes_on : (old new : Story Point) (held now : List Portion)
+  pub goes_on : (old new : SessionState Point) (held now : List Portion)
       → KeepsLast (weighing (comes_since [])) old held new now
       → (length old.notes ≤ length new.notes) × (old.sink.file ≤ new.sink.file)
   -- a session at this position is there, and its sink contains these parts
-  pub stood : (old new : Story Point) (held ps : List Portion) (now : Seen) (c : Point)
+  pub stood : (old new : SessionState Point) (held ps : List Portion) (now : Seen) (c : Point)
       → old.notes ≡ [] → now.notes ≡ c ∷ []
       → StoodSaved (weighing (comes_now ps)) old held
       new now
       → (new.sink ≡ c) × (now.place ≡ rest_of new.core)
       × IsFront ps now.parts × (c.staged ≡ weight_of now.parts)
   -- after a fault only the checkpoint made meanwhile, or the session's position, is left
-  pub left_at_a_fault : (old new : Story Point) (held ps : List Portion) (now : Seen) (c : Point)
+  pub left_at_a_fault : (old new : SessionState Point) (held ps : List Portion) (now : Seen) (c : Point)
       → old.notes ≡ [] → now.notes ≡ c ∷ []
       → LeavesSaved (weighing (comes_now ps)) old held
       now new
       → ((new.sink ≡ c) × IsFront ps now.parts)
       ⊎ ((new.sink.staged ≡ weight_of ps) × IsFront now.parts ps
       × (new.sink ≡ saved (rest_of new.core) (weight_of ps)))
-  pub alone_at_a_fault : (old new : Story Point) (held ps : List Portion) (now : Seen) (c : Point)
+  pub alone_at_a_fault : (old new : SessionState Point) (held ps : List Portion) (now : Seen) (c : Point)
       → old.notes ≡ c ∷ [] → now.notes ≡ c ∷ [] → old.sink ≡ c → IsFront ps held
       → weight_of ps ≡ c.staged
       → LeavesSaved (holding_none (comes_now ps)) old held now new → new.sink ≡ c
-  pub survives_a_fault : (old new : Story Point) (held : List Portion) (now : Seen)
+  pub survives_a_fault : (old new : SessionState Point) (held : List Portion) (now : Seen)
       → LeavesSaved (holding_none (comes_now [])) old held now new
       → old.sink.position ≡ Finished → new.sink.position ≡ Finished
-  pub alone_up_to_a_fault : (old new : Story Point) (held ps : List Portion) (now : Seen)
+  pub alone_up_to_a_fault : (old new : SessionState Point) (held ps : List Portion) (now : Seen)
       (c : Point) (t : ℕ) → old.notes ≡ c ∷ [] → now.notes ≡ c ∷ [] → old.sink ≡ c
       → IsFront ps held → weight_of ps ≡ c.staged → t ≤ old.sink.file
       → LeavesSaved (holding_none (comes_since ps)) old held now new → new.sink ≡ c
-  pub survived_a_fault : (old new : Story Point) (held : List Portion) (now : Seen) (t : ℕ)
+  pub survived_a_fault : (old new : SessionState Point) (held : List Portion) (now : Seen) (t : ℕ)
       → t ≤ old.sink.file
       → LeavesSaved (holding_none (comes_since [])) old held now new
       → old.sink.position ≡ Finished → new.sink.position ≡ Finished
-  pub no_fewer_at_a_fault : (old new : Story Point) (held : List Portion) (now : Seen)
+  pub no_fewer_at_a_fault : (old new : SessionState Point) (held : List Portion) (now : Seen)
       → LeavesSaved (holding_none (comes_since [])) old held now new
       → length old.notes ≤ length now.notes
   -- whether only reels were read since the last save

@@ -23,7 +23,7 @@ use Rattle.tape_run.specs.Runs.{RefusesStep, StopsFor}
 use Rattle.tape_run.specs.Steps.{Refuses, RefusesRestart}
 use Rattle.tape_run.specs.declared.fault.RunFault.{RunFault}
 use Rattle.tape_run.specs.declared.script.Step.TheVariants.{Reel, Save, Restart}
-use Rattle.tape_run.specs.Story.{Story}
+use Rattle.tape_run.specs.SessionState.{SessionState}
 
 -- a sink that is a count: it contains any parts of that number, and refused as many calls
 abbrev pub counting : Ghosts ℕ
@@ -36,22 +36,22 @@ counting = record {
 
 -- of what is seen of a session
 pub record CasesOfSeen : Type 0 where
-  pub is_seen : (s : Story ℕ) (parts : List Portion)
+  pub is_seen : (s : SessionState ℕ) (parts : List Portion)
       → (seen counting s parts).place ≡ rest_of s.core
-  pub seen_counts : (s : Story ℕ) (parts : List Portion)
+  pub seen_counts : (s : SessionState ℕ) (parts : List Portion)
       → ((seen counting s parts).failures ≡ s.failures)
       × ((seen counting s parts).refusals ≡ s.sink)
   -- of a sink that contains one part: this can be any part, and no part is not one
-  pub each_part : (s : Story ℕ) (p : Portion) → s.sink ≡ 1
+  pub each_part : (s : SessionState ℕ) (p : Portion) → s.sink ≡ 1
       → IfSeen counting s (λ is. is.parts ≡ p ∷ []) → (q : Portion) → q ≡ p
-  pub no_others : (s : Story ℕ) → s.sink ≡ 1 → IfSeen counting s (λ is. is.parts ≡ [] → ⊥)
-  pub some_part : (s : Story ℕ) (p : Portion) → s.sink ≡ 1
+  pub no_others : (s : SessionState ℕ) → s.sink ≡ 1 → IfSeen counting s (λ is. is.parts ≡ [] → ⊥)
+  pub some_part : (s : SessionState ℕ) (p : Portion) → s.sink ≡ 1
       → IsSeen counting s (λ is. is.parts ≡ p ∷ [])
-  pub no_part : (s : Story ℕ) → s.sink ≡ 1 → IsSeen counting s (λ is. is.parts ≡ []) → ⊥
+  pub no_part : (s : SessionState ℕ) → s.sink ≡ 1 → IsSeen counting s (λ is. is.parts ≡ []) → ⊥
   -- a sink that lost its parts may be seen with any
-  pub lost_parts : (s : Story ℕ) (parts : List Portion)
+  pub lost_parts : (s : SessionState ℕ) (parts : List Portion)
       → IsSeenUnless ⊤ counting s (λ is. is.parts ≡ parts)
-  pub not_lost : (s : Story ℕ) → s.sink ≡ 1 → IsSeenUnless ⊥ counting s (λ is. is.parts ≡ []) → ⊥
+  pub not_lost : (s : SessionState ℕ) → s.sink ≡ 1 → IsSeenUnless ⊥ counting s (λ is. is.parts ≡ []) → ⊥
   -- what is true of known bytes is required if each reader tells its own
   pub told : (a b : List ℕ) (all : List (List ℕ))
       → IfTold (λ r. r) (Some a ∷ Some b ∷ []) (λ bytes. bytes ≡ all) → all ≡ a ∷ b ∷ []
@@ -64,62 +64,62 @@ pub record CasesOfSeen : Type 0 where
   pub of_no_parts : (old new : Point) → BringsNoMore (holding_none (comes_now [])) old new
   -- a session goes from its earlier state to its current one, with its checkpoints and the last of
   -- them
-  pub carried : (back : Bool) (old new : Story Point) → old.sink.staged ≡ 0 → new.sink.staged ≡ 0
+  pub carried : (back : Bool) (old new : SessionState Point) → old.sink.staged ≡ 0 → new.sink.staged ≡ 0
       → IsKeptFor back (seen (weighing (comes_now [])) old [])
       → Carries (weighing (comes_now [])) back old new
       (λ was is. is.place.file ≡ was.place.file + 1) → (new.core.file ≡ old.core.file + 1)
       × ((is : Seen) × IsKeptFor back is × (is.place ≡ rest_of new.core)
       × KeepsLast (weighing (comes_now [])) old [] new is.parts)
-  pub not_kept : (back : Bool) (old new : Story Point)
+  pub not_kept : (back : Bool) (old new : SessionState Point)
       → ((was : Seen) → was.notes ≡ old.notes → IsKeptFor back was → ⊥)
       → Carries (weighing (comes_now [])) back old new (λ was is. ⊥)
   -- a reel is not read because the sink refused, or memory was refused and nothing changed, and for
   -- no other reason
-  pub reel_refused : (cause : SinkFault) (old new : Story ℕ)
+  pub reel_refused : (cause : SinkFault) (old new : SessionState ℕ)
       → Refuses counting (Sink cause) old new
       → (new.failures ≡ old.failures) × Rose old.sink new.sink
-  pub no_memory : (old new : Story ℕ) → Refuses counting OutOfMemory old new → new ≡ old
-  pub no_other_fault : (old new : Story ℕ) → (Refuses counting NoSuchPoint old new → ⊥)
+  pub no_memory : (old new : SessionState ℕ) → Refuses counting OutOfMemory old new → new ≡ old
+  pub no_other_fault : (old new : SessionState ℕ) → (Refuses counting NoSuchPoint old new → ⊥)
       × (Refuses counting TooFewReels old new → ⊥)
       × (Refuses counting OtherFile old new → ⊥)
   -- a session does not roll back because the sink refused, or weighs too little, as is possible
   -- only if nothing is known about its contents
-  pub back_refused : (cause : SinkFault) (n : ℕ) (old new : Story ℕ)
+  pub back_refused : (cause : SinkFault) (n : ℕ) (old new : SessionState ℕ)
       → RefusesRestart counting n (Sink cause) old new → (new.failures ≡ old.failures)
       × (Rose old.sink new.sink ⊎ ((cause ≡ Failed) × (new.sink ≡ old.sink)
       × ((held : List Portion) → length held ≡ old.sink → IsKept (seen counting old held) → ⊥)))
-  pub no_note : (n : ℕ) (old new : Story ℕ) → RefusesRestart counting n NoSuchPoint old new
+  pub no_note : (n : ℕ) (old new : SessionState ℕ) → RefusesRestart counting n NoSuchPoint old new
       → (length old.notes ≤ n) × (new ≡ old)
-  pub no_other_way : (n : ℕ) (old new : Story ℕ)
+  pub no_other_way : (n : ℕ) (old new : SessionState ℕ)
       → (RefusesRestart counting n TooFewReels old new → ⊥)
       × (RefusesRestart counting n OutOfMemory old new → ⊥)
       × (RefusesRestart counting n OtherFile old new → ⊥)
   -- a step fails for the reason of its call, or because no reader is left
-  pub reel_not_made : (fault : RunFault) (old new : Story ℕ)
+  pub reel_not_made : (fault : RunFault) (old new : SessionState ℕ)
       → RefusesStep counting Reel fault old new
       → Refuses counting fault old new ⊎ ((fault ≡ TooFewReels) × (new ≡ old))
-  pub save_not_made : (fault : RunFault) (old new : Story ℕ)
+  pub save_not_made : (fault : RunFault) (old new : SessionState ℕ)
       → RefusesStep counting Save fault old new → Refuses counting fault old new
-  pub back_not_made : (n : ℕ) (fault : RunFault) (old new : Story ℕ)
+  pub back_not_made : (n : ℕ) (fault : RunFault) (old new : SessionState ℕ)
       → RefusesStep counting (Restart n) fault old new → RefusesRestart counting n fault old new
-  pub second_not_made : (fault : RunFault) (old new : Story ℕ)
+  pub second_not_made : (fault : RunFault) (old new : SessionState ℕ)
       (s : StopsFor counting (Save ∷ Reel ∷ []) 1 fault old new) → (s.step ≡ Reel)
       × (s.mid.sink ≡ old.sink) × RefusesStep counting s.step fault s.mid new
   -- images are not read because the sink refused, or failed with nothing known about its contents;
   -- or memory ran out, or a write failed, and it refused no call
-  pub not_extracted : (back : Bool) (cause : SinkFault) (old new : Story ℕ)
+  pub not_extracted : (back : Bool) (cause : SinkFault) (old new : SessionState ℕ)
       → ExtractFails counting back (engine.Run (Sink cause)) old new
       → Rose old.sink new.sink ⊎ ((cause ≡ Failed)
       × ((held : List Portion) → length held ≡ old.sink → IsKept (seen counting old held) → ⊥))
-  pub no_memory_to_extract : (back : Bool) (old new : Story ℕ)
+  pub no_memory_to_extract : (back : Bool) (old new : SessionState ℕ)
       → (ExtractFails counting back (engine.Run OutOfMemory) old new → new.sink ≡ old.sink)
       × (ExtractFails counting back engine.WriteFailed old new → new.sink ≡ old.sink)
   -- a session with a checkpoint has no other fault, nor has one that does not roll back
-  pub noted : (back : Bool) (c : Point) (old new : Story ℕ) → old.notes ≡ c ∷ []
+  pub noted : (back : Bool) (c : Point) (old new : SessionState ℕ) → old.notes ≡ c ∷ []
       → ExtractFails counting back (engine.Run NoSuchPoint) old new → ⊥
-  pub goes_on : (old new : Story ℕ) → ExtractFails counting false (engine.Run NoSuchPoint) old new
+  pub goes_on : (old new : SessionState ℕ) → ExtractFails counting false (engine.Run NoSuchPoint) old new
       → ⊥
-  pub no_other_end : (back : Bool) (old new : Story ℕ)
+  pub no_other_end : (back : Bool) (old new : SessionState ℕ)
       → (ExtractFails counting back (engine.Run TooFewReels) old new → ⊥)
       × (ExtractFails counting back (engine.Run OtherFile) old new → ⊥)
   pub extract_faults : (cause : SinkFault) → IsExtractFault (engine.Run (Sink cause))
@@ -127,11 +127,11 @@ pub record CasesOfSeen : Type 0 where
   pub no_extract_faults : (IsExtractFault (engine.Run NoSuchPoint) → ⊥)
       × (IsExtractFault (engine.Run TooFewReels) → ⊥) × (IsExtractFault (engine.Run OtherFile) → ⊥)
   -- no call was refused
-  pub none_refused : (old new : Story ℕ) → IsCalm counting old new → (new.sink ≡ old.sink)
+  pub none_refused : (old new : SessionState ℕ) → IsCalm counting old new → (new.sink ≡ old.sink)
       × (new.notes ≡ [] → old.notes ≡ []) × ((held : List Portion) → length held ≡ old.sink
       → IsKept (seen counting old held)
       → IsSeen counting new (λ is. IsKept is))
   -- only the sink of a session may differ, with the same contents
-  pub walked : (old new : Story Point) (ps : List Portion) → old.sink.staged ≡ 0
+  pub walked : (old new : SessionState Point) (ps : List Portion) → old.sink.staged ≡ 0
       → IsWalked (weighing (comes_now ps)) old new → (new.core ≡ old.core)
       × (new.notes ≡ old.notes) × (new.failures ≡ old.failures) × (new.sink ≡ old.sink)

@@ -21,15 +21,15 @@ use Rattle.tape_run.specs.declared.section.ImageStop.{ImageStop}
 use Rattle.tape_run.specs.declared.section.ImageStop.TheVariants.{Marked, Physical, Fault}
 use Rattle.tape_run.specs.declared.section.SectionState.TheVariants.{Good, Bad}
 use Rattle.tape_run.specs.declared.survey.glance.First.TheVariants as firsts
-use Rattle.tape_run.specs.declared.survey.course.Wanted.{Wanted}
-use Rattle.tape_run.specs.declared.survey.course.Wanted.TheVariants as wanted
-use Rattle.tape_run.specs.declared.survey.course.Course.{Course}
-use Rattle.tape_run.specs.declared.survey.course.Course.TheVariants.{Follows, Blank, Ended, Leaves}
+use Rattle.tape_run.specs.declared.survey.course.ExpectedItem.{ExpectedItem}
+use Rattle.tape_run.specs.declared.survey.course.ExpectedItem.TheVariants as wanted
+use Rattle.tape_run.specs.declared.survey.course.LabelOrder.{LabelOrder}
+use Rattle.tape_run.specs.declared.survey.course.LabelOrder.TheVariants.{Follows, Blank, Ended, Leaves}
 use Rattle.tape_run.specs.declared.survey.sets.Standing.TheVariants.{Complete, Damaged, Behind}
 use Rattle.tape_run.specs.declared.survey.sets.Standing.TheVariants.{Missing}
 use Rattle.tape_run.specs.declared.survey.Wording.{Wording}
 use Rattle.tape_run.specs.declared.survey.Wording.TheVariants.{Words, Rows}
-use Rattle.tape_run.specs.declared.survey.view.Sight.{Sight}
+use Rattle.tape_run.specs.declared.survey.view.ImageSurvey.{ImageSurvey}
 use Rattle.tape_run.specs.CasesOfCatalogues.{met}
 use Rattle.tape_run.specs.CasesOfExtracts.{Known, Readers}
 use Rattle.tape_run.specs.Checked.{Reel}
@@ -57,7 +57,7 @@ use Rattle.tape_run.specs.SurveySets.{standing_of, is_all}
 use Rattle.tape_run.specs.Survey.{image_texts, TellsSight, Surveys, SurveysInPart, summary_at}
 
 -- an image that was read this far and ended like this, with a file that is not read or without one
-abbrev pub sight : Course → Option ℕ → ImageStop → Sight
+abbrev pub sight : LabelOrder → Option ℕ → ImageStop → ImageSurvey
 sight course unread stop =
     record { glance = record blank_glance { course = course; unread = unread }; stop = stop }
 
@@ -145,7 +145,7 @@ pub record CasesOfWholes : Type 0 where
   pub unread_file : is_whole_sight (sight Ended (Some 1) Marked) ≡ false
   pub early : is_whole_sight (sight Follows None Marked) ≡ false
   pub half_blank : is_whole_sight (sight Blank None Marked) ≡ false
-  pub left : (w : Wanted) → is_whole_sight (sight (Leaves 9 w) None Marked) ≡ false
+  pub left : (w : ExpectedItem) → is_whole_sight (sight (Leaves 9 w) None Marked) ≡ false
   -- other files under one number: by identifier, date or generation
   pub other_name : is_other first_week
       (label (codes "DAILY.BCK        ") (codes " 85100") (codes "0001")) ≡ true
@@ -197,13 +197,13 @@ pub record CasesOfSurveys : Type 0 where
       × (has_left (course_of a.before) ≡ false)
       × (has_left (course_of (a.before ++ a.item ∷ [])) ≡ true)
   -- an image has a line with its name, and one that was not opened was not read completely
-  pub line : (y : Wording) (name : List ℕ) (s : Option Sight)
+  pub line : (y : Wording) (name : List ℕ) (s : Option ImageSurvey)
       → image_texts y (name ∷ name ∷ []) (s ∷ []) ≡ image_text y name s ++ []
   pub left_unopened : (c d : Found) → IsViewed None None c d
       → d ≡ record c { whole = false; images = next_image c.images }
-  pub unopened : (s : Sight) (c d : Found) → IsViewed None (Some s) c d → ⊥
+  pub unopened : (s : ImageSurvey) (c d : Found) → IsViewed None (Some s) c d → ⊥
   pub opened : (before : Option (List ℕ)) (c d : Found) → IsViewed (Some before) None c d → ⊥
-  pub viewed : (before : Option (List ℕ)) (s : Sight) (c d : Found)
+  pub viewed : (before : Option (List ℕ)) (s : ImageSurvey) (c d : Found)
       (v : IsViewed (Some before) (Some s) c d)
       → IfKnown before v.0 (StopsBehind v.1.items s.stop) × (s.glance ≡ glance_of v.1.items)
       × (d.sections ≡ noted_all c.sections (met_in v.1.items))
@@ -269,7 +269,7 @@ pub record CasesOfSurveys : Type 0 where
       × AppendsFront old new
       (image_texts y names s.sights ++ summary_at y (length s.sights == length names) s.found)
   -- what a caller can conclude from the laws of a glance
-  pub left_there : LeavesThere → (items : List TapeItem) (n : ℕ) (w : Wanted)
+  pub left_there : LeavesThere → (items : List TapeItem) (n : ℕ) (w : ExpectedItem)
       → course_of items ≡ Leaves n w → IsFirstAstray items n
   pub ended_there : EndedIsVolume → (items : List TapeItem) → course_of items ≡ Ended
       → IsVolumeInOrder items

@@ -3,11 +3,11 @@ use Rattle.std.specs.Prelude.{◌≡◌, ◌≢◌, ℕ, ◌<◌, ◌^◌, List,
 use Rattle.std.specs.Prelude.{Some, None}
 use Rattle.std.specs.Prelude.{codes, map}
 use Rattle.tape_label.specs.declared.values.Head1.{Head1}
-use Rattle.tape_run.specs.declared.survey.view.Sight.{Sight}
+use Rattle.tape_run.specs.declared.survey.view.ImageSurvey.{ImageSurvey}
 use Rattle.tape_run.specs.declared.survey.files.FileNote.{FileNote}
 use Rattle.tape_run.specs.declared.unpack.Heading.TheVariants.{Differs, Named}
 use Rattle.tape_run.specs.declared.unpack.SetFile.{SetFile}
-use Rattle.tape_run.specs.declared.unpack.ShelfFiles.{ShelfFiles}
+use Rattle.tape_run.specs.declared.unpack.FoundFiles.{FoundFiles}
 use Rattle.tape_run.specs.declared.unpack.line.UnpackOutcome.TheVariants as outcomes
 use Rattle.tape_run.specs.CasesOfExtracts.{Readers}
 use Rattle.tape_run.specs.Reeling.{Took}
@@ -53,7 +53,7 @@ pub record CasesOfUnpacking : Type 0 where
   pub left_over : left_over_line false ≡ codes "INCOMPLETE IMAGES\n"
   pub nothing_left : left_over_line true ≡ []
   -- the files are those of the images, all of which were read, each in its place
-  pub on_images : (shelf left : Readers) (met : ShelfFiles)
+  pub on_images : (shelf left : Readers) (met : FoundFiles)
       (f : FilesOn length Took (λ r. r) shelf left met)
       → (length f.viewed.sights ≡ length shelf)
       × AreViewed Took (λ r. r) shelf 0 f.viewed.sights nothing_found left f.found
@@ -61,8 +61,8 @@ pub record CasesOfUnpacking : Type 0 where
       × (met.sets ≡ map set_of f.viewed.sights)
   -- an image on which no section begins is of no set, and another is of the set of its first
   -- section
-  pub of_no_set : (s : Sight) → s.glance.head ≡ None → set_of (Some s) ≡ None
-  pub of_a_set : (s : Sight) (h : Head1) → s.glance.head ≡ Some h
+  pub of_no_set : (s : ImageSurvey) → s.glance.head ≡ None → set_of (Some s) ≡ None
+  pub of_a_set : (s : ImageSurvey) (h : Head1) → s.glance.head ≡ Some h
       → set_of (Some s) ≡ Some h.set_id
   pub not_opened : set_of None ≡ None
   -- what a caller can conclude from the laws of names

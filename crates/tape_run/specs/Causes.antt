@@ -10,7 +10,7 @@ use Rattle.tape_run.specs.declared.fault.EngineFault.TheVariants.{Run, WriteFail
 use Rattle.tape_run.specs.declared.fault.RunFault.TheVariants.{Sink, NoSuchPoint, TooFewReels}
 use Rattle.tape_run.specs.declared.fault.RunFault.TheVariants.{OutOfMemory, OtherFile}
 use Rattle.tape_run.specs.Seen.{IsKept, IfSeen, IsSeen}
-use Rattle.tape_run.specs.Story.{Story}
+use Rattle.tape_run.specs.SessionState.{SessionState}
 
 -- why the records of a sink were not written: it refused a call; or it returned fewer than were
 -- counted, as is possible only if nothing is known about its contents; or a write failed, and it
@@ -29,7 +29,7 @@ WritingFails holds refusals old new WriteFailed = refusals new ≡ refusals old
 -- or not: the sink refused a call; or it has failed, as is possible only if nothing is known about
 -- its contents; or memory ran out, or a write failed, and the sink refused no call. A session
 -- without a checkpoint does not roll back.
-abbrev pub ExtractFails : {S : Type 0} → Ghosts S → Bool → EngineFault → Story S → Story S → Type 0
+abbrev pub ExtractFails : {S : Type 0} → Ghosts S → Bool → EngineFault → SessionState S → SessionState S → Type 0
 ExtractFails g back (Run (Sink cause)) old new = Rose (g.refusals old.sink) (g.refusals new.sink)
     ⊎ ((cause ≡ Failed) × IfSeen g old (λ was. IsKept was → ⊥))
 ExtractFails g back (Run NoSuchPoint) old new = (back ≡ true) × (old.notes ≡ [])
@@ -49,7 +49,7 @@ IsExtractFault WriteFailed = ⊤
 
 -- No call of the sink was refused, a session with checkpoints still has one, and the invariant of
 -- sessions is preserved.
-pub record IsCalm {S : Type 0} (g : Ghosts S) (old new : Story S) : Type 0 where
+pub record IsCalm {S : Type 0} (g : Ghosts S) (old new : SessionState S) : Type 0 where
   pub calm : g.refusals new.sink ≡ g.refusals old.sink
   pub notes : new.notes ≡ [] → old.notes ≡ []
   pub kept : IfSeen g old (λ was. IsKept was → IsSeen g new (λ is. IsKept is))

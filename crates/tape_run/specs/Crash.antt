@@ -13,7 +13,7 @@ use Rattle.tape_run.specs.declared.script.Step.{Step}
 use Rattle.tape_run.specs.declared.script.Step.TheVariants.{Reel, Save, Restart}
 use Rattle.tape_run.specs.Seen.{Seen, seen}
 use Rattle.tape_run.specs.Steps.{Reeled, Saved, WentBack}
-use Rattle.tape_run.specs.Story.{Story}
+use Rattle.tape_run.specs.SessionState.{SessionState}
 
 -- the session's position, with its parts
 abbrev pub IsHere : Seen → Point → List Portion → Type 0
@@ -43,8 +43,8 @@ LastAlone now s = BringsLast now.returns s
 -- if none was made meanwhile, nothing else was left since a moment, provided that nothing else had
 -- been left until the start; and if something survived every crash, it still does, and did at each
 -- moment meanwhile.
-pub record KeepsLast {S : Type 0} (g : Ghosts S) (old : Story S) (held : List Portion)
-    (new : Story S) (now : List Portion) : Type 0 where
+pub record KeepsLast {S : Type 0} (g : Ghosts S) (old : SessionState S) (held : List Portion)
+    (new : SessionState S) (now : List Portion) : Type 0 where
   pub last : (length new.notes ≡ length old.notes
       → BringsLast (g.crashes old.sink).returns (seen g old held))
       → BringsLast (g.crashes new.sink).returns (seen g new now)
@@ -58,13 +58,13 @@ pub record KeepsLast {S : Type 0} (g : Ghosts S) (old : Story S) (held : List Po
       → (g.crashes old.sink).survived t → (g.crashes new.sink).survived t
 
 -- the session's position, with all that its sink contains: these parts, and perhaps more
-abbrev pub IsHeld : {S : Type 0} → Ghosts S → List Portion → Story S → Returns
+abbrev pub IsHeld : {S : Type 0} → Ghosts S → List Portion → SessionState S → Returns
 IsHeld g parts s back there = g.holds s.sink there × IsFront parts there
     × (back ≡ saved (rest_of s.core) (weight_of there))
 
 -- A step failed: a crash leaves only what it could before, or the session's position then, and for
 -- a rollback the last checkpoint.
-abbrev pub LeavesStep : {S : Type 0} → Ghosts S → Bool → Story S → List Portion → Story S → Type 0
+abbrev pub LeavesStep : {S : Type 0} → Ghosts S → Bool → SessionState S → List Portion → SessionState S → Type 0
 LeavesStep g goes old held new =
     AddsOnly (λ back there. ((goes ≡ true) × IsLast (seen g old held) back there)
     ⊎ IsHeld g held new back there) (g.crashes old.sink) (g.crashes new.sink)
@@ -74,8 +74,8 @@ LeavesStep g goes old held new =
 -- meanwhile, nothing else was left since a moment, provided that nothing else had been left until
 -- the start; and if something survived every crash, it still does, and did at each moment
 -- meanwhile.
-pub record LeavesSaved {S : Type 0} (g : Ghosts S) (old : Story S) (held : List Portion)
-    (now : Seen) (new : Story S) : Type 0 where
+pub record LeavesSaved {S : Type 0} (g : Ghosts S) (old : SessionState S) (held : List Portion)
+    (now : Seen) (new : SessionState S) : Type 0 where
   pub comes : (length now.notes ≡ length old.notes
       → BringsLast (g.crashes old.sink).returns (seen g old held))
       → (back : Point) (there : List Portion) → (g.crashes new.sink).returns back there
@@ -96,7 +96,7 @@ BringsNoMore g old new = (parts : List Portion) → g.holds old parts
 
 -- The session is unchanged, except perhaps its sink, which has the same contents, and of which a
 -- crash leaves no more.
-pub record IsWalked {S : Type 0} (g : Ghosts S) (old new : Story S) : Type 0 where
+pub record IsWalked {S : Type 0} (g : Ghosts S) (old new : SessionState S) : Type 0 where
   pub core : new.core ≡ old.core
   pub notes : new.notes ≡ old.notes
   pub failures : new.failures ≡ old.failures

@@ -10,9 +10,9 @@ use Rattle.tape_set.specs.Position.{want_at}
 use Rattle.tape_core.specs.State.{State}
 use Rattle.tape_core.specs.declared.sink.PartSink.{Ghosts}
 use Rattle.tape_run.specs.Crash.{LeavesSaved}
-use Rattle.tape_run.specs.declared.intake.ReelAnswer.{ReelAnswer}
+use Rattle.tape_run.specs.declared.reel_reader.ReelAnswer.{ReelAnswer}
 use Rattle.tape_run.specs.Seen.{Seen, IfSeen}
-use Rattle.tape_run.specs.Story.{Story}
+use Rattle.tape_run.specs.SessionState.{SessionState}
 use Rattle.tape_blocks.specs.declared.parts.Form.{Form}
 use Rattle.tape_image.specs.Written.{AppendsFront}
 use Rattle.tape_run.specs.RecordText.{output_of}
@@ -43,7 +43,7 @@ pub record Ends (spares : Bool) (first : State) (old : Seen) (turns : List Turn)
 
 -- The last line was reported, with what is missing or how many records the file has; and if nothing
 -- is missing the records of the parts that the sink contains were written.
-pub record EndsFile {S : Type 0} (g : Ghosts S) (session : Story S) (form : Form)
+pub record EndsFile {S : Type 0} (g : Ghosts S) (session : SessionState S) (form : Form)
     (out written said says : Option (List ℕ)) (want : Option Want) : Type 0 where
   pub wanted : want ≡ want_at session.core.file session.core.position
   pub records : ℕ
@@ -58,7 +58,7 @@ TellsEnd less want records now = less ⊎ ((want ≡ want_at now.place.file now.
 
 -- A fault ended that: a prefix of the line was reported, and the output was not touched, or the
 -- file is complete and a prefix of its records was written.
-pub record StopsAtEnd {S W : Type 0} (g : Ghosts S) (session : Story S) (form : Form)
+pub record StopsAtEnd {S W : Type 0} (g : Ghosts S) (session : SessionState S) (form : Form)
     (contents : W → Option (List ℕ)) (out written : W) (said says : Option (List ℕ))
     : Type 0 where
   pub want : Option Want
@@ -73,7 +73,7 @@ pub record StopsAtEnd {S W : Type 0} (g : Ghosts S) (session : Story S) (form : 
 -- reported for each, and a last one with what is missing or how many records the file has; and the
 -- session that the sink's parts belong to ended like this.
 pub record Extracts {S L R : Type 0} (g : Ghosts S) (size : L → ℕ) (gives : Mounting L R)
-    (remaining : R → Option (List ℕ)) (old new : Story S) (shelf left : L) (form : Form)
+    (remaining : R → Option (List ℕ)) (old new : SessionState S) (shelf left : L) (form : Form)
     (out written said says : Option (List ℕ)) (want : Option Want) : Type 0 where
   pub turns : List Turn
   pub are_turns : AreTurns gives remaining shelf 0 turns left
@@ -89,7 +89,7 @@ pub record Extracts {S L R : Type 0} (g : Ghosts S) (size : L → ℕ) (gives : 
 -- more image than those that were read, which are the first of the images; and the output was not
 -- touched, or the file is complete and a prefix of its records was written.
 pub record Stops {S L R W : Type 0} (g : Ghosts S) (size : L → ℕ) (gives : Mounting L R)
-    (remaining : R → Option (List ℕ)) (old new : Story S) (shelf left : L) (form : Form)
+    (remaining : R → Option (List ℕ)) (old new : SessionState S) (shelf left : L) (form : Form)
     (contents : W → Option (List ℕ)) (out written : W) (said says : Option (List ℕ))
     : Type 0 where
   pub turns : List Turn

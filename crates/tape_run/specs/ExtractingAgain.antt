@@ -8,7 +8,7 @@ use Rattle.tape_set.specs.declared.position.Want.{Want}
 use Rattle.tape_core.specs.State.{State}
 use Rattle.tape_core.specs.declared.sink.PartSink.{Ghosts}
 use Rattle.tape_run.specs.Crash.{LeavesSaved}
-use Rattle.tape_run.specs.declared.intake.ReelAnswer.{ReelAnswer}
+use Rattle.tape_run.specs.declared.reel_reader.ReelAnswer.{ReelAnswer}
 use Rattle.tape_run.specs.Extracting.{Ends, TellsEnd}
 use Rattle.tape_image.specs.Written.{AppendsFront}
 use Rattle.tape_run.specs.RecordText.{output_of}
@@ -16,21 +16,21 @@ use Rattle.tape_run.specs.ReelLine.{reel_lines, last_line}
 use Rattle.tape_run.specs.Reeling.{Turn, answer_of, AreTurns, AreFirstTurns, Mounting, goes_back}
 use Rattle.tape_run.specs.Reeling.{IsKeptFor, StoodSaved}
 use Rattle.tape_run.specs.Rounds.{Round, turns_of, core_behind, wanted, AreRounds}
-use Rattle.tape_run.specs.Rounds.{BroughtSomething, IsEnough, GoesRound}
+use Rattle.tape_run.specs.Rounds.{MadeProgress, IsEnough, GoesRound}
 use Rattle.tape_run.specs.Seen.{Seen, IfSeen}
-use Rattle.tape_run.specs.Story.{Story}
+use Rattle.tape_run.specs.SessionState.{SessionState}
 
 -- Images were read pass by pass: passes that recovered something, and a last one, of all images or
 -- up to the one that completed the file. A line was reported for each image of each pass, numbered
 -- continuously, and a last one with what is missing or how many records the file has; and over all
 -- passes the session ended as over images that are named that often.
 pub record ExtractsAgain {S L R : Type 0} (g : Ghosts S) (size : L → ℕ) (gives : Mounting L R)
-    (remaining : R → Option (List ℕ)) (old new : Story S) (shelf left : L) (form : Form)
+    (remaining : R → Option (List ℕ)) (old new : SessionState S) (shelf left : L) (form : Form)
     (out written said says : Option (List ℕ)) (want : Option Want) : Type 0 where
   pub rounds : List Round
   pub between : L
   pub are_rounds : AreRounds gives remaining shelf rounds between
-  pub brought : BroughtSomething (size shelf) old.core rounds
+  pub brought : MadeProgress (size shelf) old.core rounds
   pub turns : List Turn
   pub are_turns : AreTurns gives remaining between 0 turns left
   pub most : length turns ≤ size shelf
@@ -50,13 +50,13 @@ pub record ExtractsAgain {S L R : Type 0} (g : Ghosts S) (size : L → ℕ) (giv
 -- first images of another pass; and the output was not touched, or the file is complete and a
 -- prefix of its records was written.
 pub record StopsAgain {S L R W : Type 0} (g : Ghosts S) (size : L → ℕ) (gives : Mounting L R)
-    (remaining : R → Option (List ℕ)) (old new : Story S) (shelf left : L) (form : Form)
+    (remaining : R → Option (List ℕ)) (old new : SessionState S) (shelf left : L) (form : Form)
     (contents : W → Option (List ℕ)) (out written : W) (said says : Option (List ℕ))
     : Type 0 where
   pub rounds : List Round
   pub between : L
   pub are_rounds : AreRounds gives remaining shelf rounds between
-  pub brought : BroughtSomething (size shelf) old.core rounds
+  pub brought : MadeProgress (size shelf) old.core rounds
   pub turns : List Turn
   pub are_turns : AreFirstTurns gives remaining between turns left
   pub more : List (Option ReelAnswer)

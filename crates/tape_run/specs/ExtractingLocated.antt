@@ -21,10 +21,10 @@ use Rattle.tape_run.specs.ExtractingNow.{IsPut}
 use Rattle.tape_run.specs.Given.{IsGiven}
 use Rattle.tape_run.specs.GoesBehind.{PassedOver}
 use Rattle.tape_run.specs.Lead.{Lead, over_reel}
-use Rattle.tape_run.specs.Mount.{Happening, IsMount, after_mount}
+use Rattle.tape_run.specs.Mount.{MountEvent, IsMount, after_mount}
 use Rattle.tape_run.specs.Reeling.{Mounting}
 use Rattle.tape_run.specs.Seen.{Seen, IfSeen, IsSeen}
-use Rattle.tape_run.specs.Story.{Story}
+use Rattle.tape_run.specs.SessionState.{SessionState}
 use Rattle.tape_run.specs.declared.extract.located.Mounted.{Mounted}
 use Rattle.tape_run.specs.declared.survey.files.FileKey.{FileKey}
 
@@ -92,18 +92,18 @@ AreTapesOf (s ∷ ss) (g ∷ given) (xs ∷ tapes) = IsSome s.whole
 AreTapesOf ss given tapes = ⊥
 
 -- The tapes are these mounts: copies of the set's volumes, or reels of other sets.
-abbrev pub AreMountsOf : FileSet → List (List TapeItem) → List Happening → Type 0
+abbrev pub AreMountsOf : FileSet → List (List TapeItem) → List MountEvent → Type 0
 AreMountsOf set [] [] = ⊤
 AreMountsOf set (xs ∷ tapes) (h ∷ hs) = IsMount set xs h × AreMountsOf set tapes hs
 AreMountsOf set tapes hs = ⊥
 
 -- the position after these mounts, one after another, from p
-abbrev pub reached : FileSet → ℕ → Position → List Happening → Position
+abbrev pub reached : FileSet → ℕ → Position → List MountEvent → Position
 reached set file p [] = p
 reached set file p (h ∷ hs) = reached set file (after_mount set file p h) hs
 
 -- The session is at the position that the mounts lead to, with exactly the parts before it.
-pub record Arrives (set : FileSet) (old : Seen) (hs : List Happening) (new : Seen) : Type 0 where
+pub record Arrives (set : FileSet) (old : Seen) (hs : List MountEvent) (new : Seen) : Type 0 where
   pub at : IsPlaced set new.place new.parts
   pub same_file : new.place.file ≡ old.place.file
   pub position : new.place.position ≡ reached set old.place.file old.place.position hs
@@ -123,7 +123,7 @@ pub record IsThere (t : Lead) (s : Seen) : Type 0 where
 pub record GathersOf (stretches : List Stretch) (old new : Seen) : Type 0 where
   pub given : List (List ℕ)
   pub are_given : AreGivenOf stretches given
-  pub arrives : (set : FileSet) (tapes : List (List TapeItem)) (hs : List Happening)
+  pub arrives : (set : FileSet) (tapes : List (List TapeItem)) (hs : List MountEvent)
       → IsLawful set → AreTapesOf stretches given tapes → AreMountsOf set tapes hs
       → IsPlaced set old.place old.parts → Arrives set old hs new
   pub led : (t : Lead) (tapes : List (List TapeItem)) → AreTapesOf stretches given tapes
@@ -152,7 +152,7 @@ held_behind whole (s ∷ ss) = held_behind s.whole ss
 -- A stretch of the image with these bytes was read; if a section was completed the image stays
 -- open.
 pub record ReadsPart {S R : Type 0} (g : Ghosts S) (remaining : R → Option (List ℕ))
-    (whole : Option (List ℕ)) (old new : Story S) (after : Option (Mounted R)) : Type 0 where
+    (whole : Option (List ℕ)) (old new : SessionState S) (after : Option (Mounted R)) : Type 0 where
   pub stretch : Stretch
   pub of_image : stretch.whole ≡ whole
   pub is_part : IsPartOf stretch
@@ -162,7 +162,7 @@ pub record ReadsPart {S R : Type 0} (g : Ghosts S) (remaining : R → Option (Li
 -- A stretch was read of the open image or of one that the source yielded; or there is no such
 -- image, and nothing changed.
 abbrev pub ReadsLocated : {S L R : Type 0} → Ghosts S → Mounting L R → (R → Option (List ℕ))
-    → Story S → Story S → L → L → Option (List ℕ) → Option (Mounted R) → Type 0
+    → SessionState S → SessionState S → L → L → Option (List ℕ) → Option (Mounted R) → Type 0
 ReadsLocated g gives remaining old new shelf left whole after =
     ((left ≡ shelf) × ReadsPart g remaining whole old new after)
     ⊎ (((number : ℕ) × (device : _) × gives shelf number (Some device) left
@@ -171,7 +171,7 @@ ReadsLocated g gives remaining old new shelf left whole after =
 
 -- Stretches of images were read, one after another, and this image is open then.
 pub record ReadsSections {S L R : Type 0} (g : Ghosts S) (gives : Mounting L R)
-    (remaining : R → Option (List ℕ)) (old new : Story S) (shelf left : L)
+    (remaining : R → Option (List ℕ)) (old new : SessionState S) (shelf left : L)
     (whole : Option (List ℕ)) (after : Option (Mounted R)) : Type 0 where
   pub stretches : List Stretch
   pub are_from : AreFrom gives remaining whole shelf stretches left
@@ -180,10 +180,10 @@ pub record ReadsSections {S L R : Type 0} (g : Ghosts S) (gives : Mounting L R)
 
 -- A file was read in this way. If it is complete, exactly its records have the output's name.
 pub record ExtractsLocated {S L R : Type 0} (g : Ghosts S) (gives : Mounting L R)
-    (remaining : R → Option (List ℕ)) (session : Story S) (shelf left : L)
+    (remaining : R → Option (List ℕ)) (session : SessionState S) (shelf left : L)
     (whole : Option (List ℕ)) (after : Option (Mounted R)) (form : Form) (tells : Type 0)
     (stands : Option (List ℕ)) (records : Option ℕ) : Type 0 where
-  pub last : Story S
+  pub last : SessionState S
   pub reads : ReadsSections g gives remaining session last shelf left whole after
   pub complete : (n : ℕ) → records ≡ Some n → (last.core.position ≡ Finished)
       × ((parts : List Portion) → g.holds last.sink parts

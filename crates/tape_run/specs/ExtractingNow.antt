@@ -9,9 +9,9 @@ use Rattle.tape_set.specs.declared.position.Want.{Want}
 use Rattle.tape_set.specs.Position.{want_at}
 use Rattle.tape_core.specs.State.{State}
 use Rattle.tape_core.specs.declared.sink.PartSink.{Ghosts}
-use Rattle.tape_run.specs.declared.intake.ReelAnswer.{ReelAnswer}
+use Rattle.tape_run.specs.declared.reel_reader.ReelAnswer.{ReelAnswer}
 use Rattle.tape_run.specs.Seen.{Seen, IfSeen}
-use Rattle.tape_run.specs.Story.{Story}
+use Rattle.tape_run.specs.SessionState.{SessionState}
 use Rattle.tape_blocks.specs.declared.parts.Form.{Form}
 use Rattle.tape_run.specs.Extracting.{TellsEnd}
 use Rattle.tape_image.specs.Written.{AppendsFront}
@@ -42,7 +42,7 @@ pub record EndsNow (first : State) (old : Seen) (turns : List Turn) (want : Opti
 -- reported for each, and a last one; and if nothing is missing, exactly the records have the
 -- output's name.
 pub record ExtractsNow {S L R : Type 0} (g : Ghosts S) (size : L → ℕ) (gives : Mounting L R)
-    (remaining : R → Option (List ℕ)) (session : Story S) (shelf left : L) (form : Form)
+    (remaining : R → Option (List ℕ)) (session : SessionState S) (shelf left : L) (form : Form)
     (tells : Type 0) (stands said says : Option (List ℕ)) (want : Option Want) : Type 0 where
   pub turns : List Turn
   pub are_turns : AreTurns gives remaining shelf 0 turns left
@@ -57,7 +57,7 @@ pub record ExtractsNow {S L R : Type 0} (g : Ghosts S) (size : L → ℕ) (gives
 -- and what has the output's name was not touched, or the file is complete and the same has the
 -- name, or exactly its records.
 pub record StopsNow {S L R O : Type 0} (g : Ghosts S) (size : L → ℕ) (gives : Mounting L R)
-    (remaining : R → Option (List ℕ)) (session : Story S) (shelf left : L) (form : Form)
+    (remaining : R → Option (List ℕ)) (session : SessionState S) (shelf left : L) (form : Form)
     (tells : Type 0) (stands : O → Option (List ℕ)) (out put : O) (said says : Option (List ℕ))
     : Type 0 where
   pub turns : List Turn

@@ -2,19 +2,19 @@
 use Rattle.std.specs.Prelude.{Bool, ℕ, List, Option, ◌++◌}
 use Rattle.tape_set.specs.Layout.{FileSet}
 use Rattle.tape_run.specs.declared.script.Step.{Step}
-use Rattle.tape_run.specs.Mount.{Happening, IsMountOf, cut}
+use Rattle.tape_run.specs.Mount.{MountEvent, IsMountOf, cut}
 use Rattle.tape_run.specs.History.{IsHistory}
 use Rattle.tape_run.specs.Given.{AreGivenBy}
 
 -- The prefix of a reel that a reader returned before it failed is a mount: of the same volume, up
 -- to some item, or foreign.
 abbrev pub FrontsAreMounts : Type 0
-FrontsAreMounts = (set : FileSet) (front rest : List ℕ) (h : Happening)
+FrontsAreMounts = (set : FileSet) (front rest : List ℕ) (h : MountEvent)
     → IsMountOf set (front ++ rest) h → (n : ℕ) × IsMountOf set front (cut n h)
 
 -- So whichever readers failed, what was returned is a history too.
 abbrev pub GivenIsHistory : Type 0
 GivenIsHistory = (set : FileSet) (notes : ℕ) (which : List Bool) (steps : List Step)
-    (bytes given : List (List ℕ)) (left : List (Option (List ℕ))) (hs : List Happening)
+    (bytes given : List (List ℕ)) (left : List (Option (List ℕ))) (hs : List MountEvent)
     → IsHistory set notes steps bytes hs → AreGivenBy which bytes left given
-    → (hs' : List Happening) × IsHistory set notes steps given hs'
+    → (hs' : List MountEvent) × IsHistory set notes steps given hs'

@@ -18,9 +18,9 @@ use Rattle.tape_core.specs.Place.{IsPlaced, rest_of}
 use Rattle.tape_core.specs.Weight.{IsFront}
 use Rattle.tape_set.specs.Layout.{FileSet}
 use Rattle.tape_set.specs.Lawful.{IsLawful}
-use Rattle.tape_run.specs.Mount.{Happening, IsMount}
+use Rattle.tape_run.specs.Mount.{MountEvent, IsMount}
 use Rattle.tape_run.specs.Steps.{ReadBy}
-use Rattle.tape_run.specs.declared.intake.ReelAnswer.{ReelAnswer}
+use Rattle.tape_run.specs.declared.reel_reader.ReelAnswer.{ReelAnswer}
 use Rattle.tape_run.specs.Reels.{behind_items, answers_to, GoesOn, ReadsReel}
 use Rattle.tape_run.specs.ByTable.{delivered_parts, IsLed, IsCutAt}
 use Rattle.tape_run.specs.declared.fault.RunFault.{RunFault}
@@ -108,7 +108,7 @@ ReadsBehind (Awaits sect number part) core bytes left answer =
 -- begins with these items, which were skipped, the session is where that history leads, with the
 -- parts before that position.
 abbrev pub ReadsByHistory : Type 0
-ReadsByHistory = (set : FileSet) (h : Happening) (old new : Seen) (core : State) (bytes : List ℕ)
+ReadsByHistory = (set : FileSet) (h : MountEvent) (old new : Seen) (core : State) (bytes : List ℕ)
     (left : Option (List ℕ)) (failed : Bool) (front more : List TapeItem) (end : ℕ) (stop : Stop)
     → IsLawful set
     → old.place ≡ rest_of core → IsMount set (front ++ more) h → IsPlaced set old.place old.parts

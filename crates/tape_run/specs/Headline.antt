@@ -19,7 +19,7 @@ use Rattle.tape_run.specs.declared.script.Step.TheVariants.{Reel, Save, Restart}
 use Rattle.tape_run.specs.declared.fault.RunFault.{RunFault}
 use Rattle.tape_run.specs.declared.fault.RunFault.TheVariants.{Sink, NoSuchPoint, TooFewReels}
 use Rattle.tape_run.specs.declared.fault.RunFault.TheVariants.{OutOfMemory}
-use Rattle.tape_run.specs.Mount.{Happening, IsMount}
+use Rattle.tape_run.specs.Mount.{MountEvent, IsMount}
 use Rattle.tape_run.specs.History.{Course, course, course_of, IsHistory}
 use Rattle.tape_run.specs.Given.{AreGivenBy, failed_of, counted_up}
 use Rattle.tape_run.specs.Seen.{Seen, IsSession}
@@ -30,7 +30,7 @@ use Rattle.tape_core.specs.Table.{reader_of}
 -- ---- all steps succeeded
 
 -- The session is where the history leads, with exactly the parts before that position.
-pub record Ran (set : FileSet) (old : Seen) (hs : List Happening) (new : Seen) : Type 0 where
+pub record Ran (set : FileSet) (old : Seen) (hs : List MountEvent) (new : Seen) : Type 0 where
   pub session : IsSession set new
   pub same_file : new.place.file ≡ old.place.file
   pub reached : course set old.place.file (course_of old) hs ≡ course_of new
@@ -44,7 +44,7 @@ pub record HasRun (old : Seen) (steps : List Step) (bytes : List (List ℕ))
   pub which : List Bool
   pub are_given : AreGivenBy which bytes left given
   pub count : new.failures ≡ counted_up (failed_of which) old.failures
-  pub ran : (set : FileSet) (hs : List Happening) → IsLawful set
+  pub ran : (set : FileSet) (hs : List MountEvent) → IsLawful set
       → IsHistory set (length old.notes) steps given hs
       → IsSession set old → Ran set old hs new
   pub led : LeadsBy old steps given new
@@ -81,7 +81,7 @@ pub record IsRead (set_id : List ℕ) (file : ℕ) (steps : List Step) (bytes : 
   pub which : List Bool
   pub are_given : AreGivenBy which bytes left given
   pub count : s.failures ≡ counted_up (failed_of which) 0
-  pub reads : (set : FileSet) (hs : List Happening) → IsLawful set → set_id ≡ set.set_id
+  pub reads : (set : FileSet) (hs : List MountEvent) → IsLawful set → set_id ≡ set.set_id
       → IsSome (file_of set file)
       → IsHistory set 0 steps given hs
       → (course_of s ≡ course set file begins hs)
@@ -107,8 +107,8 @@ LosesParts steps n fault =
 -- After this history a part was refused, in the block of the reel that was expected there: the
 -- session is where the items before it lead, in the block at the refused part, with exactly the
 -- parts before that position.
-pub record PutRefused (set : FileSet) (old : Seen) (hs : List Happening) (xs : List TapeItem)
-    (h : Happening) (new : Seen) : Type 0 where
+pub record PutRefused (set : FileSet) (old : Seen) (hs : List MountEvent) (xs : List TapeItem)
+    (h : MountEvent) (new : Seen) : Type 0 where
   pub session : IsSession set new
   pub same_file : new.place.file ≡ old.place.file
   pub notes : (course_of new).notes ≡ (course set old.place.file (course_of old) hs).notes
@@ -117,12 +117,12 @@ pub record PutRefused (set : FileSet) (old : Seen) (hs : List Happening) (xs : L
 
 -- The step failed, for this reason, in a session with this history, with these readers left: the
 -- session's position is unchanged, or is a part that the sink refused.
-abbrev pub StopsStep : FileSet → Seen → List Happening → Step → List (List ℕ) → RunFault → Seen
+abbrev pub StopsStep : FileSet → Seen → List MountEvent → Step → List (List ℕ) → RunFault → Seen
     → Type 0
 StopsStep set old hs Reel [] TooFewReels new = Ran set old hs new
 StopsStep set old hs Reel (bytes ∷ readers) OutOfMemory new = Ran set old hs new
 StopsStep set old hs Reel (bytes ∷ readers) (Sink cause) new = (xs : List TapeItem) (end : ℕ)
-    (stop : Stop) (h : Happening)
+    (stop : Stop) (h : MountEvent)
     → Begins 0 bytes xs end stop → IsMount set xs h → PutRefused set old hs xs h new
 StopsStep set old hs Save readers OutOfMemory new = Ran set old hs new
 StopsStep set old hs Save readers (Sink cause) new = Ran set old hs new
@@ -142,7 +142,7 @@ pub record HasStopped (old : Seen) (steps : List Step) (bytes : List (List ℕ))
   pub which : List Bool
   pub are_given : AreGivenBy which bytes left given
   pub count : new.failures ≡ counted_up (failed_of which) old.failures
-  pub stops : (set : FileSet) (hs : List Happening) → IsLawful set
+  pub stops : (set : FileSet) (hs : List MountEvent) → IsLawful set
       → IsHistory set (length old.notes) (take n steps) given hs
       → IsSession set old
       → StopsStep set old hs step (drop (reels_in (take n steps)) bytes) fault new

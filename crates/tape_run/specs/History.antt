@@ -4,7 +4,7 @@ use Rattle.std.specs.Prelude.{slice_get, ⊤}
 use Rattle.tape_set.specs.Layout.{FileSet}
 use Rattle.tape_set.specs.declared.position.Position.{Position}
 use Rattle.tape_set.specs.Reach.{far}
-use Rattle.tape_run.specs.Mount.{Happening, reads, foreign_reel, saves, restarts, IsMountOf}
+use Rattle.tape_run.specs.Mount.{MountEvent, reads, foreign_reel, saves, restarts, IsMountOf}
 use Rattle.tape_run.specs.declared.script.Step.{Step}
 use Rattle.tape_run.specs.declared.script.Step.TheVariants.{Reel, Save, Restart}
 use Rattle.tape_run.specs.Seen.{Seen}
@@ -20,20 +20,20 @@ at_note c n None = c
 at_note c n (Some p) = record { at = p; notes = take (n + 1) c.notes }
 
 -- what one event makes of it
-abbrev pub after : FileSet → ℕ → Course → Happening → Course
+abbrev pub after : FileSet → ℕ → Course → MountEvent → Course
 after set file c (reads r) = record { at = far set file c.at r; notes = c.notes }
 after set file c foreign_reel = c
 after set file c saves = record { at = c.at; notes = c.notes ++ c.at ∷ [] }
 after set file c (restarts n) = at_note c n (slice_get c.notes n)
 
 -- what a whole history makes of it
-abbrev pub course : FileSet → ℕ → Course → List Happening → Course
+abbrev pub course : FileSet → ℕ → Course → List MountEvent → Course
 course set file c [] = c
 course set file c (h ∷ hs) = course set file (after set file c h) hs
 
 -- The steps, with this many checkpoints before them, and the bytes of the reels are what happens.
 -- There may be more reels than the steps use.
-abbrev pub IsHistory : FileSet → ℕ → List Step → List (List ℕ) → List Happening → Type 0
+abbrev pub IsHistory : FileSet → ℕ → List Step → List (List ℕ) → List MountEvent → Type 0
 IsHistory set notes [] reels [] = ⊤
 IsHistory set notes [] reels (h ∷ hs) = ⊥
 IsHistory set notes (s ∷ steps) reels [] = ⊥

@@ -1,6 +1,6 @@
 -- Definitions to believe, with those that they import from the crates below: what is read, in this
 -- order.
-pub mod Story
+pub mod SessionState
 pub mod Seen
 pub mod Mount
 pub mod History
@@ -16,7 +16,7 @@ pub mod GoesBehind
 pub mod Steps
 pub mod Runs
 pub mod Crash
-pub mod Lives
+pub mod CrashRuns
 -- Of private functions only.
 pub mod Under
 pub mod Made

@@ -9,11 +9,11 @@ use Rattle.tape_set.specs.Reach.{passes, far}
 use Rattle.tape_core.specs.Foreign.{starts_set}
 
 -- what happens to a session
-pub data Happening : Type 0 where
-  reads : Reading → Happening
-  foreign_reel : Happening
-  saves : Happening
-  restarts : ℕ → Happening
+pub data MountEvent : Type 0 where
+  reads : Reading → MountEvent
+  foreign_reel : MountEvent
+  saves : MountEvent
+  restarts : ℕ → MountEvent
 
 -- The items are those of a reading of a volume; after a complete volume of which only data blocks
 -- are bad any items may follow.
@@ -25,25 +25,25 @@ pub record IsCopy (set : FileSet) (xs : List TapeItem) (r : Reading) : Type 0 wh
       × (passes r.good (entries set r.volume) ≡ true)
 
 -- the items of a reel are those of a reading of a volume, or of a foreign reel
-abbrev pub IsMount : FileSet → List TapeItem → Happening → Type 0
+abbrev pub IsMount : FileSet → List TapeItem → MountEvent → Type 0
 IsMount set xs (reads r) = IsCopy set xs r
 IsMount set xs foreign_reel = starts_set set.set_id xs ≡ false
 IsMount set xs saves = ⊥
 IsMount set xs (restarts n) = ⊥
 
 -- the items that the bytes of an image begin with are those of such a reel
-abbrev pub IsMountOf : FileSet → List ℕ → Happening → Type 0
+abbrev pub IsMountOf : FileSet → List ℕ → MountEvent → Type 0
 IsMountOf set bytes h = (xs : List TapeItem) × (end : ℕ) × (stop : Stop)
     × Begins 0 bytes xs end stop × IsMount set xs h
 
 -- the mount up to its first n items
-abbrev pub cut : ℕ → Happening → Happening
+abbrev pub cut : ℕ → MountEvent → MountEvent
 cut n (reads r) = reads record { volume = r.volume; good = take n r.good }
 cut n foreign_reel = foreign_reel
 cut n saves = saves
 cut n (restarts m) = restarts m
 
 -- the position after a mount, from p
-abbrev pub after_mount : FileSet → ℕ → Position → Happening → Position
+abbrev pub after_mount : FileSet → ℕ → Position → MountEvent → Position
 after_mount set file p (reads r) = far set file p r
 after_mount set file p _ = p

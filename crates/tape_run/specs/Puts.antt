@@ -12,7 +12,7 @@ use Rattle.tape_core.specs.State.{State}
 use Rattle.tape_core.specs.Table.{saved}
 use Rattle.tape_core.specs.Stands.{inside_block}
 use Rattle.tape_core.specs.Place.{place_of}
-use Rattle.tape_run.specs.declared.intake.Refused.{Refused}
+use Rattle.tape_run.specs.declared.reel_reader.Refused.{Refused}
 
 -- an item that came has a size that items can have
 abbrev pub IsSized : Option TapeItem → Type 0

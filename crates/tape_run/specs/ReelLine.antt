@@ -15,7 +15,7 @@ use Rattle.tape_core.specs.declared.event.Reason.TheVariants.{LaterSection, Earl
 use Rattle.tape_core.specs.declared.event.Reason.TheVariants.{BadItem, ReelEnded, BadBlock}
 use Rattle.tape_core.specs.declared.event.Reason.TheVariants.{BlockCount, SpanLeft, SectionDiffers}
 use Rattle.tape_core.specs.declared.event.Reason.TheVariants.{BadLabel, Broken}
-use Rattle.tape_run.specs.declared.intake.ReelAnswer.{ReelAnswer}
+use Rattle.tape_run.specs.declared.reel_reader.ReelAnswer.{ReelAnswer}
 
 -- a word, followed by two numbers
 abbrev pub two_numbers : List ℕ → ℕ → ℕ → List ℕ

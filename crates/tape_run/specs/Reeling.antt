@@ -18,12 +18,12 @@ use Rattle.tape_core.specs.declared.event.Reason.TheVariants.{BlockCount, Broken
 use Rattle.tape_core.specs.Place.{IsPlaced, rest_of}
 use Rattle.tape_core.specs.Point.{Point}
 use Rattle.tape_core.specs.declared.sink.PartSink.{Ghosts}
-use Rattle.tape_run.specs.declared.intake.ReelAnswer.{ReelAnswer}
+use Rattle.tape_run.specs.declared.reel_reader.ReelAnswer.{ReelAnswer}
 use Rattle.tape_core.specs.Stands.{weight_of}
 use Rattle.tape_core.specs.Table.{saved}
 use Rattle.tape_run.specs.Crash.{KeepsLast, LeavesSaved, IsLast}
 use Rattle.tape_run.specs.Given.{is_device, IsGiven}
-use Rattle.tape_run.specs.Mount.{Happening, IsMountOf, after_mount}
+use Rattle.tape_run.specs.Mount.{MountEvent, IsMountOf, after_mount}
 use Rattle.tape_run.specs.Lead.{Lead, over_reel}
 use Rattle.tape_run.specs.Reels.{Reads}
 use Rattle.tape_run.specs.Seen.{Seen, seen, IsKept, IfSeen, IsSeen}
@@ -31,7 +31,7 @@ use Rattle.tape_run.specs.Steps.{Reeled, Saved, WentBack}
 use Rattle.tape_run.specs.Headline.{HasRun}
 use Rattle.tape_run.specs.declared.script.Step.{Step}
 use Rattle.tape_run.specs.declared.script.Step.TheVariants.{Reel, Save, Restart}
-use Rattle.tape_run.specs.Story.{Story}
+use Rattle.tape_run.specs.SessionState.{SessionState}
 use Rattle.tape_image.specs.Written.{AppendsFront}
 use Rattle.tape_run.specs.ReelLine.{reel_line, reel_lines}
 
@@ -90,10 +90,10 @@ AreFirstTurns gives remaining shelf turns last = (mid : _)
     × ((last ≡ mid) ⊎ ((image : Option _) × gives mid (length turns) image last))
 
 -- whether the trailer label of the reel, or of a reel before it, counted other blocks
-abbrev pub is_doubtful : Answer → Bool
-is_doubtful (Useless (BlockCount label seen)) = true
-is_doubtful (Useless Broken) = true
-is_doubtful answer = false
+abbrev pub counts_differ : Answer → Bool
+counts_differ (Useless (BlockCount label seen)) = true
+counts_differ (Useless Broken) = true
+counts_differ answer = false
 
 -- The session rolled back to its last checkpoint.
 abbrev pub WentToLast : Seen → Seen → Type 0
@@ -133,7 +133,7 @@ pub record ReadsAndNotes (back spares : Bool) (core : State) (old : Seen) (o : O
       (λ bytes left. Reads core.position core bytes left o.answer)
   pub reeled : IfSome o.had (λ bytes. (mid : Seen)
       × Reeled bytes o.left (is_device o.answer.fault) old mid
-      × IsNoted back spares (is_doubtful o.answer.answer) o.noted mid new)
+      × IsNoted back spares (counts_differ o.answer.answer) o.noted mid new)
   pub place : new.place ≡ rest_of next
 
 -- The images, one after another, took a session from one state to another. An image that was not
@@ -167,8 +167,8 @@ abbrev pub steps_of : Bool → ℕ → List Turn → List Step
 steps_of back notes [] = []
 steps_of back notes (None ∷ turns) = steps_of back notes turns
 steps_of back notes (Some o ∷ turns) =
-    Reel ∷ step_behind back (is_doubtful o.answer.answer) o.noted notes
-    ++ steps_of back (notes_behind (is_doubtful o.answer.answer) o.noted notes) turns
+    Reel ∷ step_behind back (counts_differ o.answer.answer) o.noted notes
+    ++ steps_of back (notes_behind (counts_differ o.answer.answer) o.noted notes) turns
 
 -- Each reader of an image that was opened told its bytes, and they are these.
 abbrev pub AreTold : List Turn → List (List ℕ) → Type 0
@@ -201,7 +201,7 @@ AreSteps back turns old new = (bytes : List (List ℕ)) → AreTold turns bytes
 
 -- For any parts of its sink, the session went like this from its earlier state to its current one,
 -- a session that rolls back still has its own checkpoints, and a crash leaves the last one.
-abbrev pub Carries : {S : Type 0} → Ghosts S → Bool → Story S → Story S → (Seen → Seen → Type 0)
+abbrev pub Carries : {S : Type 0} → Ghosts S → Bool → SessionState S → SessionState S → (Seen → Seen → Type 0)
     → Type 0
 Carries g back old new so = IfSeen g old (λ was. IsKeptFor back was
     → IsSeen g new (λ is. IsKeptFor back is × so was is
@@ -209,7 +209,7 @@ Carries g back old new so = IfSeen g old (λ was. IsKeptFor back was
 
 -- The image with this number was read, or skipped, and its line was reported.
 pub record Takes {S R : Type 0} (g : Ghosts S) (remaining : R → Option (List ℕ))
-    (back spares : Bool) (old new : Story S) (image : Option R) (number : ℕ)
+    (back spares : Bool) (old new : SessionState S) (image : Option R) (number : ℕ)
     (said says : Option (List ℕ)) : Type 0 where
   pub turn : Turn
   pub is_turn : IsTurn remaining image turn
@@ -220,7 +220,7 @@ pub record Takes {S R : Type 0} (g : Ghosts S) (remaining : R → Option (List �
 -- Images, of which there are so many, were read in their order, all of them or up to the one that
 -- completed the file, and a line was reported for each, after the given number of earlier lines.
 pub record TakesAll {S L R : Type 0} (g : Ghosts S) (size before : ℕ) (gives : Mounting L R)
-    (remaining : R → Option (List ℕ)) (back spares : Bool) (old new : Story S) (shelf left : L)
+    (remaining : R → Option (List ℕ)) (back spares : Bool) (old new : SessionState S) (shelf left : L)
     (said says : Option (List ℕ)) : Type 0 where
   pub turns : List Turn
   pub are_turns : AreTurns gives remaining shelf 0 turns left
@@ -238,14 +238,14 @@ IsReported number said says = (more : List (Option ReelAnswer)) × (length more 
 
 -- The session is here, and its sink contains these parts; and a crash leaves only its last
 -- checkpoint, if it made one since its old state or only that was left before.
-abbrev pub StoodSaved : {S : Type 0} → Ghosts S → Story S → List Portion → Story S → Seen → Type 0
+abbrev pub StoodSaved : {S : Type 0} → Ghosts S → SessionState S → List Portion → SessionState S → Seen → Type 0
 StoodSaved g old held new now = (parts : List Portion) × g.holds new.sink parts
     × (now ≡ seen g new parts) × KeepsLast g old held new parts
 
 -- Images were read in their order, and a fault ended that: a line was reported for each of them,
 -- and a prefix of one for one more. Those after that one were not opened.
 pub record StopsReading {S L R : Type 0} (g : Ghosts S) (size before : ℕ) (gives : Mounting L R)
-    (remaining : R → Option (List ℕ)) (back spares : Bool) (old new : Story S) (shelf left : L)
+    (remaining : R → Option (List ℕ)) (back spares : Bool) (old new : SessionState S) (shelf left : L)
     (said says : Option (List ℕ)) : Type 0 where
   pub turns : List Turn
   pub are_turns : AreFirstTurns gives remaining shelf turns left

@@ -10,7 +10,7 @@ use Rattle.tape_run.specs.ReelLine.{reel_lines}
 use Rattle.tape_run.specs.Reeling.{Turn, answer_of, AreTurns, Follows, Mounting, Carries, TakesAll}
 use Rattle.tape_run.specs.Reeling.{StopsReading}
 use Rattle.tape_run.specs.Seen.{Seen}
-use Rattle.tape_run.specs.Story.{Story}
+use Rattle.tape_run.specs.SessionState.{SessionState}
 
 -- A pass over the images: the outcome of each, and the reader's state after the last one.
 pub record Round : Type 0 where
@@ -40,10 +40,10 @@ AreRounds gives remaining shelf (r ∷ rounds) last = (mid : _)
 
 -- Each pass had all images, of which there are so many, and recovered something: something is
 -- missing after it, but not the same as before.
-abbrev pub BroughtSomething : ℕ → State → List Round → Type 0
-BroughtSomething size core [] = ⊤
-BroughtSomething size core (r ∷ rounds) = (length r.turns ≡ size) × (wanted r.behind ≢ None)
-    × (wanted r.behind ≢ wanted core) × BroughtSomething size r.behind rounds
+abbrev pub MadeProgress : ℕ → State → List Round → Type 0
+MadeProgress size core [] = ⊤
+MadeProgress size core (r ∷ rounds) = (length r.turns ≡ size) × (wanted r.behind ≢ None)
+    × (wanted r.behind ≢ wanted core) × MadeProgress size r.behind rounds
 
 -- After a pass there is no other one: nothing is missing, or the same as before it, or the lines of
 -- another one have no numbers in 64 bits. This many lines precede the pass.
@@ -69,20 +69,20 @@ GoesRound back core old rounds turns last new = (mid : Seen)
 -- Complete passes were made, each recovered something, and a line was reported for each image of
 -- each.
 pub record HasGone {S L R : Type 0} (g : Ghosts S) (size : ℕ) (gives : Mounting L R)
-    (remaining : R → Option (List ℕ)) (back : Bool) (old new : Story S) (shelf left : L)
+    (remaining : R → Option (List ℕ)) (back : Bool) (old new : SessionState S) (shelf left : L)
     (said says : Option (List ℕ)) (rounds : List Round) : Type 0 where
   pub are_rounds : AreRounds gives remaining shelf rounds left
-  pub brought : BroughtSomething size old.core rounds
+  pub brought : MadeProgress size old.core rounds
   pub at : new.core ≡ core_behind old.core rounds
   pub lines : Appends said says (reel_lines 1 (map answer_of (turns_of rounds)))
   pub follows : Carries g back old new (λ was is. FollowsRounds back old.core was rounds is)
 
 -- Passes were made until there was a last one.
 pub record TakesRounds {S L R : Type 0} (g : Ghosts S) (size : ℕ) (gives : Mounting L R)
-    (remaining : R → Option (List ℕ)) (back : Bool) (old new : Story S) (shelf left : L)
+    (remaining : R → Option (List ℕ)) (back : Bool) (old new : SessionState S) (shelf left : L)
     (said says : Option (List ℕ)) : Type 0 where
   pub rounds : List Round
-  pub mid : Story S
+  pub mid : SessionState S
   pub between : L
   pub told : Option (List ℕ)
   pub gone : HasGone g size gives remaining back old mid shelf between said told rounds
@@ -92,10 +92,10 @@ pub record TakesRounds {S L R : Type 0} (g : Ghosts S) (size : ℕ) (gives : Mou
 
 -- Passes were made, and a fault ended the one after them.
 pub record StopsInRound {S L R : Type 0} (g : Ghosts S) (size : ℕ) (gives : Mounting L R)
-    (remaining : R → Option (List ℕ)) (back : Bool) (old new : Story S) (shelf left : L)
+    (remaining : R → Option (List ℕ)) (back : Bool) (old new : SessionState S) (shelf left : L)
     (said says : Option (List ℕ)) : Type 0 where
   pub rounds : List Round
-  pub mid : Story S
+  pub mid : SessionState S
   pub between : L
   pub told : Option (List ℕ)
   pub gone : HasGone g size gives remaining back old mid shelf between said told rounds

@@ -8,13 +8,13 @@ use Rattle.tape_run.specs.declared.fault.RunFault.TheVariants.{OutOfMemory, Othe
 use Rattle.tape_run.specs.declared.script.Step.{Step}
 use Rattle.tape_run.specs.declared.script.Step.TheVariants.{Reel, Save, Restart}
 use Rattle.tape_run.specs.Headline.{reels_in}
-use Rattle.tape_run.specs.Mount.{Happening}
+use Rattle.tape_run.specs.Mount.{MountEvent}
 use Rattle.tape_run.specs.History.{IsHistory}
 use Rattle.tape_run.specs.Seen.{Seen}
 use Rattle.tape_run.specs.Steps.{Reeled, Saved, WentBack, ReelFails, SaveFails, RestartFails}
 use Rattle.tape_run.specs.Steps.{Refuses, RefusesRestart}
 use Rattle.tape_run.specs.Causes.{IsCalm}
-use Rattle.tape_run.specs.Story.{Story}
+use Rattle.tape_run.specs.SessionState.{SessionState}
 use Rattle.tape_core.specs.declared.sink.PartSink.{Ghosts}
 
 -- All steps succeeded, one after another, each reel with the next reader; the lists say whether it
@@ -51,17 +51,17 @@ pub record RunsUpTo (which : List Bool) (old : Seen) (steps : List Step)
   pub fails : Fails step (drop (reels_in (take n steps)) reels) fault mid new
 
 -- Why the step failed, for any sink, whether or not readers tell their bytes.
-abbrev pub RefusesStep : {S : Type 0} → Ghosts S → Step → RunFault → Story S → Story S → Type 0
+abbrev pub RefusesStep : {S : Type 0} → Ghosts S → Step → RunFault → SessionState S → SessionState S → Type 0
 RefusesStep g Reel fault old new = Refuses g fault old new ⊎ ((fault ≡ TooFewReels) × (new ≡ old))
 RefusesStep g Save fault old new = Refuses g fault old new
 RefusesStep g (Restart n) fault old new = RefusesRestart g n fault old new
 
 -- The step with this number failed, for this reason, and no call of the sink was refused before.
 pub record StopsFor {S : Type 0} (g : Ghosts S) (steps : List Step) (n : ℕ) (fault : RunFault)
-    (old new : Story S) : Type 0 where
+    (old new : SessionState S) : Type 0 where
   pub step : Step
   pub at : slice_get steps n ≡ Some step
-  pub mid : Story S
+  pub mid : SessionState S
   pub calm : IsCalm g old mid
   pub refuses : RefusesStep g step fault mid new
 
@@ -77,6 +77,6 @@ IsRefusal OtherFile = ⊥
 abbrev pub OnlyRefusalsStop : Type 0
 OnlyRefusalsStop = (which : List Bool) (old new : Seen) (steps : List Step)
     (bytes given : List (List ℕ)) (left : List (Option (List ℕ))) (n : ℕ) (fault : RunFault)
-    (set : FileSet) (hs : List Happening) → length given ≡ length bytes
+    (set : FileSet) (hs : List MountEvent) → length given ≡ length bytes
     → RunsUpTo which old steps (map Some bytes) left n fault new
     → IsHistory set (length old.notes) steps given hs → IsRefusal fault

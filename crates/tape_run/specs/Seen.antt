@@ -8,7 +8,7 @@ use Rattle.tape_core.specs.Place.{IsPlaced, rest_of}
 use Rattle.tape_core.specs.Stands.{Stands, weight_of}
 use Rattle.tape_core.specs.Weight.{IsFront}
 use Rattle.tape_core.specs.declared.sink.PartSink.{Ghosts}
-use Rattle.tape_run.specs.Story.{Story}
+use Rattle.tape_run.specs.SessionState.{SessionState}
 
 -- a session at rest: its core, the parts that its sink contains, its checkpoints, how many readers
 -- failed, and how many calls the sink refused
@@ -50,7 +50,7 @@ abbrev pub IsKept : Seen → Type 0
 IsKept s = KeepsNotes s.place [] s.notes s.parts
 
 -- a session whose sink contains these parts
-abbrev pub seen : {S : Type 0} → Ghosts S → Story S → List Portion → Seen
+abbrev pub seen : {S : Type 0} → Ghosts S → SessionState S → List Portion → Seen
 seen g s parts = record {
   place = rest_of s.core;
   parts = parts;
@@ -60,14 +60,14 @@ seen g s parts = record {
 }
 
 -- For any parts that its sink contains, the session seen with them satisfies this.
-abbrev pub IfSeen : {S : Type 0} → Ghosts S → Story S → (Seen → Type 0) → Type 0
+abbrev pub IfSeen : {S : Type 0} → Ghosts S → SessionState S → (Seen → Type 0) → Type 0
 IfSeen g s so = (held : List Portion) → g.holds s.sink held → so (seen g s held)
 
 -- The sink contains parts, and the session seen with them satisfies this.
-abbrev pub IsSeen : {S : Type 0} → Ghosts S → Story S → (Seen → Type 0) → Type 0
+abbrev pub IsSeen : {S : Type 0} → Ghosts S → SessionState S → (Seen → Type 0) → Type 0
 IsSeen g s so = (now : List Portion) × g.holds s.sink now × so (seen g s now)
 
 -- The same for parts that the sink contains, unless this step lost them.
-abbrev pub IsSeenUnless : {S : Type 0} → Type 0 → Ghosts S → Story S → (Seen → Type 0) → Type 0
+abbrev pub IsSeenUnless : {S : Type 0} → Type 0 → Ghosts S → SessionState S → (Seen → Type 0) → Type 0
 IsSeenUnless lost g s so = (now : List Portion) × ((lost → ⊥) → g.holds s.sink now)
     × so (seen g s now)

@@ -19,17 +19,17 @@ use Rattle.tape_core.specs.declared.sink.SinkFault.TheVariants.{Failed}
 use Rattle.tape_run.specs.declared.fault.RunFault.{RunFault}
 use Rattle.tape_run.specs.declared.fault.RunFault.TheVariants.{Sink, NoSuchPoint, TooFewReels}
 use Rattle.tape_run.specs.declared.fault.RunFault.TheVariants.{OutOfMemory, OtherFile}
-use Rattle.tape_run.specs.Mount.{Happening, IsMount, IsMountOf, cut, after_mount}
+use Rattle.tape_run.specs.Mount.{MountEvent, IsMount, IsMountOf, cut, after_mount}
 use Rattle.tape_run.specs.Given.{IsGiven, counted}
 use Rattle.tape_run.specs.ByTable.{IsLed, IsCutAt}
 use Rattle.tape_run.specs.Seen.{Seen, IsKept, IfSeen}
-use Rattle.tape_run.specs.Story.{Story}
+use Rattle.tape_run.specs.SessionState.{SessionState}
 
 -- ---- steps that succeeded
 
 -- A mount that began at p was read to its end: the reader's position is the one after it, with the
 -- parts before that.
-pub record ReadBy (set : FileSet) (file : ℕ) (p : Position) (h : Happening) (place : State)
+pub record ReadBy (set : FileSet) (file : ℕ) (p : Position) (h : MountEvent) (place : State)
     (parts : List Portion) : Type 0 where
   pub at : IsPlaced set place parts
   pub position : place.position ≡ after_mount set file p h
@@ -45,7 +45,7 @@ pub record Reeled (bytes : List ℕ) (left : Option (List ℕ)) (failed : Bool) 
   pub same_file : new.place.file ≡ old.place.file
   pub calm : new.refusals ≡ old.refusals
   pub grows : IsFront old.parts new.parts
-  pub reads : (set : FileSet) (h : Happening) → IsLawful set → IsMountOf set given h
+  pub reads : (set : FileSet) (h : MountEvent) → IsLawful set → IsMountOf set given h
       → IsPlaced set old.place old.parts
       → ReadBy set old.place.file old.place.position h new.place new.parts
   pub table : (xs : List TapeItem) (end : ℕ) (stop : Stop) → Begins 0 given xs end stop
@@ -76,7 +76,7 @@ pub record WentBack (n : ℕ) (old new : Seen) : Type 0 where
 -- A mount that began at p was read up to the block expected there, the n-th item counted from 0, of
 -- which this part was refused: the reader's position is that part of the block, with the parts
 -- before it.
-pub record StoppedBy (set : FileSet) (file : ℕ) (p : Position) (xs : List TapeItem) (h : Happening)
+pub record StoppedBy (set : FileSet) (file : ℕ) (p : Position) (xs : List TapeItem) (h : MountEvent)
     (place : State) (parts : List Portion) : Type 0 where
   pub at : IsPlaced set place parts
   pub n : ℕ
@@ -94,7 +94,7 @@ pub record CutShort (bytes : List ℕ) (old new : Seen) : Type 0 where
   pub same_set : new.place.set_id ≡ old.place.set_id
   pub same_file : new.place.file ≡ old.place.file
   pub grows : IsFront old.parts new.parts
-  pub stops : (set : FileSet) (xs : List TapeItem) (end : ℕ) (stop : Stop) (h : Happening)
+  pub stops : (set : FileSet) (xs : List TapeItem) (end : ℕ) (stop : Stop) (h : MountEvent)
       → IsLawful set
       → Begins 0 bytes xs end stop → IsMount set xs h → IsPlaced set old.place old.parts
       → StoppedBy set old.place.file old.place.position xs h new.place new.parts
@@ -119,7 +119,7 @@ ReelFails bytes OtherFile old new = ⊥
 
 -- Why a reel was not read to its end, or no checkpoint was made, for any sink, whether or not a
 -- reader tells its bytes: the sink refused a call, or memory was refused, and nothing changed.
-abbrev pub Refuses : {S : Type 0} → Ghosts S → RunFault → Story S → Story S → Type 0
+abbrev pub Refuses : {S : Type 0} → Ghosts S → RunFault → SessionState S → SessionState S → Type 0
 Refuses g (Sink cause) old new = (new.failures ≡ old.failures)
     × Rose (g.refusals old.sink) (g.refusals new.sink)
 Refuses g NoSuchPoint old new = ⊥
@@ -130,7 +130,7 @@ Refuses g OtherFile old new = ⊥
 -- Why a session did not roll back, for any sink: the sink refused a call, or weighs less than the
 -- checkpoint says, as is possible only if nothing is known about its contents; or there is no such
 -- checkpoint.
-abbrev pub RefusesRestart : {S : Type 0} → Ghosts S → ℕ → RunFault → Story S → Story S → Type 0
+abbrev pub RefusesRestart : {S : Type 0} → Ghosts S → ℕ → RunFault → SessionState S → SessionState S → Type 0
 RefusesRestart g n (Sink cause) old new = (new.failures ≡ old.failures)
     × (Rose (g.refusals old.sink) (g.refusals new.sink)
     ⊎ ((cause ≡ Failed) × (g.refusals new.sink ≡ g.refusals old.sink)

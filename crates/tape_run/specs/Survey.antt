@@ -3,7 +3,7 @@ use Rattle.std.specs.Prelude.{◌≡◌, ◌⊎◌, ◌≤◌, ◌==◌, ℕ, Bo
 use Rattle.std.specs.Prelude.{length, Option}
 use Rattle.std.specs.Io.KnownBytes.{Appends}
 use Rattle.tape_run.specs.declared.survey.Wording.{Wording}
-use Rattle.tape_run.specs.declared.survey.view.Sight.{Sight}
+use Rattle.tape_run.specs.declared.survey.view.ImageSurvey.{ImageSurvey}
 use Rattle.tape_run.specs.Checked.{Reel}
 use Rattle.tape_image.specs.Written.{AppendsFront}
 use Rattle.tape_run.specs.Reeling.{Mounting}
@@ -12,7 +12,7 @@ use Rattle.tape_run.specs.SurveyRead.{Found, nothing_found, IsViewed, AreViewed}
 use Rattle.tape_run.specs.SurveySets.{is_all}
 
 -- what is said of images, as far as these names and what was seen go
-abbrev pub image_texts : Wording → List (List ℕ) → List (Option Sight) → List ℕ
+abbrev pub image_texts : Wording → List (List ℕ) → List (Option ImageSurvey) → List ℕ
 image_texts y [] sights = []
 image_texts y (name ∷ names) [] = []
 image_texts y (name ∷ names) (sight ∷ sights) =
@@ -22,20 +22,20 @@ image_texts y (name ∷ names) (sight ∷ sights) =
 abbrev pub TellsSight : Wording → Reel → List ℕ → Found → Found → Option (List ℕ)
     → Option (List ℕ) → Type 0
 TellsSight y reel name c d old new =
-    (sight : Option Sight) × IsViewed reel sight c d × Appends old new (image_text y name sight)
+    (sight : Option ImageSurvey) × IsViewed reel sight c d × Appends old new (image_text y name sight)
 
 -- A fault came at an image: nothing more was written, or the image was read and a prefix of its
 -- line was written.
 abbrev pub StopsAtSight : Wording → Reel → List ℕ → Found → Option (List ℕ) → Option (List ℕ)
     → Type 0
-StopsAtSight y reel name c old new = Appends old new [] ⊎ ((sight : Option Sight) × (d : Found)
+StopsAtSight y reel name c old new = Appends old new [] ⊎ ((sight : Option ImageSurvey) × (d : Found)
     × IsViewed reel sight c d × AppendsFront old new (image_text y name sight))
 
 -- the images with these names were read, and their lines were written
 pub record TellsSights {L R : Type 0} (y : Wording) (gives : Mounting L R)
     (remaining : R → Option (List ℕ))
     (names : List (List ℕ)) (shelf left : L) (d : Found) (old new : Option (List ℕ)) : Type 0 where
-  pub sights : List (Option Sight)
+  pub sights : List (Option ImageSurvey)
   pub each : length sights ≡ length names
   pub viewed : AreViewed gives remaining shelf 0 sights nothing_found left d
   pub wrote : Appends old new (image_texts y names sights)
@@ -46,7 +46,7 @@ pub record Surveys {L R : Type 0} (y : Wording) (gives : Mounting L R)
     (remaining : R → Option (List ℕ))
     (names : List (List ℕ)) (shelf left : L) (old new : Option (List ℕ)) (all : Bool)
     : Type 0 where
-  pub sights : List (Option Sight)
+  pub sights : List (Option ImageSurvey)
   pub found : Found
   pub each : length sights ≡ length names
   pub viewed : AreViewed gives remaining shelf 0 sights nothing_found left found
@@ -63,7 +63,7 @@ summary_at y false d = []
 pub record SurveysInPart {L R : Type 0} (y : Wording) (gives : Mounting L R)
     (remaining : R → Option (List ℕ))
     (names : List (List ℕ)) (shelf : L) (old new : Option (List ℕ)) : Type 0 where
-  pub sights : List (Option Sight)
+  pub sights : List (Option ImageSurvey)
   pub few : length sights ≤ length names
   pub found : Found
   pub left : L

@@ -16,11 +16,11 @@ use Rattle.tape_run.specs.declared.passing.Phase.{Phase}
 use Rattle.tape_run.specs.declared.passing.Phase.TheVariants as phases
 use Rattle.tape_run.specs.declared.survey.glance.First.{First}
 use Rattle.tape_run.specs.declared.survey.glance.First.TheVariants as firsts
-use Rattle.tape_run.specs.declared.survey.course.Wanted.{Wanted}
-use Rattle.tape_run.specs.declared.survey.course.Wanted.TheVariants as wanted
-use Rattle.tape_run.specs.declared.survey.course.Course.{Course}
-use Rattle.tape_run.specs.declared.survey.course.Course.TheVariants.{Follows, Blank, Ended, Leaves}
-use Rattle.tape_run.specs.declared.survey.glance.Glance.{Glance}
+use Rattle.tape_run.specs.declared.survey.course.ExpectedItem.{ExpectedItem}
+use Rattle.tape_run.specs.declared.survey.course.ExpectedItem.TheVariants as wanted
+use Rattle.tape_run.specs.declared.survey.course.LabelOrder.{LabelOrder}
+use Rattle.tape_run.specs.declared.survey.course.LabelOrder.TheVariants.{Follows, Blank, Ended, Leaves}
+use Rattle.tape_run.specs.declared.survey.glance.ImageSummary.{ImageSummary}
 use Rattle.tape_run.specs.Passing.{step}
 
 -- 80 bytes that begin VOL1 in EBCDIC
@@ -114,7 +114,7 @@ unread_in p bad = None
 unread_in p mark = None
 
 -- what is expected in each phase
-abbrev pub wanted_in : Phase → Wanted
+abbrev pub wanted_in : Phase → ExpectedItem
 wanted_in phases.Volume = wanted.Volume
 wanted_in (phases.Labels v) = wanted.Section
 wanted_in (phases.Second met) = wanted.Second
@@ -126,32 +126,32 @@ wanted_in (phases.Next v) = wanted.Next
 wanted_in phases.Over = wanted.End
 
 -- an item left the order if nothing is expected after it
-abbrev pub left_by : ℕ → Phase → Phase → Course
+abbrev pub left_by : ℕ → Phase → Phase → LabelOrder
 left_by number p phases.Over = Leaves number (wanted_in p)
 left_by number p _ = Follows
 
 -- The course after a tape mark, if all items before it follow the order and the volume continues:
 -- after the volume labels it may be that of a blank volume, and one more after a section ends the
 -- volume.
-abbrev pub behind_mark : ℕ → Phase → Phase → Course
+abbrev pub behind_mark : ℕ → Phase → Phase → LabelOrder
 behind_mark number (phases.Labels v) next = Blank
 behind_mark number (phases.Next v) next = Ended
 behind_mark number p next = left_by number p next
 
 -- the same of an item
-abbrev pub behind : ℕ → Phase → TapeItem → Phase → Course
+abbrev pub behind : ℕ → Phase → TapeItem → Phase → LabelOrder
 behind number p mark next = behind_mark number p next
 behind number p bad next = left_by number p next
 behind number p (block b) next = left_by number p next
 
 -- the course after an item where a second tape mark is expected
-abbrev pub behind_blank : ℕ → TapeItem → Course
+abbrev pub behind_blank : ℕ → TapeItem → LabelOrder
 behind_blank number mark = Ended
 behind_blank number bad = Leaves number wanted.SecondMark
 behind_blank number (block b) = Leaves number wanted.SecondMark
 
 -- the course after an item
-abbrev pub course_with : Course → ℕ → Phase → TapeItem → Phase → Course
+abbrev pub course_with : LabelOrder → ℕ → Phase → TapeItem → Phase → LabelOrder
 course_with Follows number p x next = behind number p x next
 course_with Blank number p x next = behind_blank number x
 course_with Ended number p x next = Leaves number wanted.End
@@ -173,7 +173,7 @@ one_head None = 0
 one_head (Some head) = 1
 
 -- nothing was looked at
-abbrev pub blank_glance : Glance
+abbrev pub blank_glance : ImageSummary
 blank_glance = record {
   items = 0;
   first = firsts.Nothing;
@@ -186,7 +186,7 @@ blank_glance = record {
 }
 
 -- the glance after one more item, with the phases before and after it
-abbrev pub look_to : Glance → Phase → TapeItem → Phase → Glance
+abbrev pub look_to : ImageSummary → Phase → TapeItem → Phase → ImageSummary
 look_to g p x next = record {
   items = g.items + 1;
   first = first_with g.first (g.items + 1) x;
@@ -199,10 +199,10 @@ look_to g p x next = record {
 }
 
 -- the glance after these items, in this phase
-abbrev pub look_all : Glance → Phase → List TapeItem → Glance
+abbrev pub look_all : ImageSummary → Phase → List TapeItem → ImageSummary
 look_all g p [] = g
 look_all g p (x ∷ xs) = let next = (step p x).0 in look_all (look_to g p x next) next xs
 
 -- an image at a glance
-abbrev pub glance_of : List TapeItem → Glance
+abbrev pub glance_of : List TapeItem → ImageSummary
 glance_of items = look_all blank_glance phases.Volume items

@@ -11,9 +11,9 @@ use Rattle.tape_label.specs.Vol1.{IsVol1}
 use Rattle.tape_label.specs.Head1.{IsHead1}
 use Rattle.tape_label.specs.Trail1.{IsTrail1}
 use Rattle.tape_label.specs.VolumeLabels.{is_volume_label}
-use Rattle.tape_run.specs.declared.survey.course.Wanted.{Wanted}
-use Rattle.tape_run.specs.declared.survey.course.Course.{Course}
-use Rattle.tape_run.specs.declared.survey.course.Course.TheVariants.{Ended, Leaves}
+use Rattle.tape_run.specs.declared.survey.course.ExpectedItem.{ExpectedItem}
+use Rattle.tape_run.specs.declared.survey.course.LabelOrder.{LabelOrder}
+use Rattle.tape_run.specs.declared.survey.course.LabelOrder.TheVariants.{Ended, Leaves}
 use Rattle.tape_run.specs.SurveyGlance.{glance_of}
 
 -- ---- the order of a volume
@@ -63,11 +63,11 @@ pub record IsVolumeInOrder (items : List TapeItem) : Type 0 where
 -- ---- what a glance says
 
 -- how far items follow the order of a volume
-abbrev pub course_of : List TapeItem → Course
+abbrev pub course_of : List TapeItem → LabelOrder
 course_of items = (glance_of items).course
 
 -- they left it
-abbrev pub has_left : Course → Bool
+abbrev pub has_left : LabelOrder → Bool
 has_left (Leaves n w) = true
 has_left _ = false
 
@@ -84,7 +84,7 @@ pub record IsFirstAstray (items : List TapeItem) (n : ℕ) : Type 0 where
 
 -- If a glance says that an item leaves the order, it is the first that does.
 abbrev pub LeavesThere : Type 0
-LeavesThere = (items : List TapeItem) (n : ℕ) (w : Wanted) → course_of items ≡ Leaves n w
+LeavesThere = (items : List TapeItem) (n : ℕ) (w : ExpectedItem) → course_of items ≡ Leaves n w
     → IsFirstAstray items n
 
 -- If a glance says that the volume ended, the items are a volume, and nothing follows it.

@@ -10,12 +10,12 @@ use Rattle.tape_run.specs.declared.section.ImageStop.{ImageStop}
 use Rattle.tape_run.specs.declared.section.ImageStop.TheVariants.{Marked, Physical, Fault}
 use Rattle.tape_run.specs.declared.survey.glance.First.{First}
 use Rattle.tape_run.specs.declared.survey.glance.First.TheVariants as firsts
-use Rattle.tape_run.specs.declared.survey.course.Wanted.{Wanted}
-use Rattle.tape_run.specs.declared.survey.course.Wanted.TheVariants as wanted
-use Rattle.tape_run.specs.declared.survey.course.Course.{Course}
-use Rattle.tape_run.specs.declared.survey.course.Course.TheVariants.{Follows, Blank, Ended, Leaves}
-use Rattle.tape_run.specs.declared.survey.glance.Glance.{Glance}
-use Rattle.tape_run.specs.declared.survey.view.Sight.{Sight}
+use Rattle.tape_run.specs.declared.survey.course.ExpectedItem.{ExpectedItem}
+use Rattle.tape_run.specs.declared.survey.course.ExpectedItem.TheVariants as wanted
+use Rattle.tape_run.specs.declared.survey.course.LabelOrder.{LabelOrder}
+use Rattle.tape_run.specs.declared.survey.course.LabelOrder.TheVariants.{Follows, Blank, Ended, Leaves}
+use Rattle.tape_run.specs.declared.survey.glance.ImageSummary.{ImageSummary}
+use Rattle.tape_run.specs.declared.survey.view.ImageSurvey.{ImageSurvey}
 use Rattle.tape_run.specs.Identifier.{printed}
 
 -- a space
@@ -73,13 +73,13 @@ unread_text (Some file) =
     codes "; file " ++ decimal file ++ codes " has a record format that is not read"
 
 -- what an image contains
-abbrev pub glance_text : Glance → List ℕ
+abbrev pub glance_text : ImageSummary → List ℕ
 glance_text g =
     first_text g.first ++ system_text g.head ++ files_text g.files ++ bad_text g.bad
     ++ late_text g.late ++ unread_text g.unread
 
 -- what the item that leaves the order is not
-abbrev pub wanted_text : Wanted → List ℕ
+abbrev pub wanted_text : ExpectedItem → List ℕ
 wanted_text wanted.Volume = []
 wanted_text wanted.Section = codes " is no HDR1: not read further"
 wanted_text wanted.Second = codes " is no HDR2: not read further"
@@ -90,12 +90,12 @@ wanted_text wanted.SecondMark = codes " is no second tape mark: not read further
 wanted_text wanted.End = codes " stands behind the end of the volume: not read further"
 
 -- That the items begin with no volume label is said before.
-abbrev pub is_told : Wanted → Bool
+abbrev pub is_told : ExpectedItem → Bool
 is_told wanted.Volume = false
 is_told _ = true
 
 -- the item that leaves the order
-abbrev pub left_text : ℕ → Wanted → List ℕ
+abbrev pub left_text : ℕ → ExpectedItem → List ℕ
 left_text n w = if is_told w then codes "; item " ++ decimal n ++ wanted_text w else []
 
 -- the items end before the volume does
@@ -105,7 +105,7 @@ early_text Marked = codes "; ends before its volume does"
 early_text Physical = codes "; ends before its volume does"
 
 -- how far the items follow the order of a volume
-abbrev pub course_text : Course → ImageStop → List ℕ
+abbrev pub course_text : LabelOrder → ImageStop → List ℕ
 course_text Ended stop = []
 course_text (Leaves n w) stop = left_text n w
 course_text Follows stop = early_text stop
@@ -133,18 +133,18 @@ stop_text Marked = []
 stop_text Physical = []
 
 -- what an image is
-abbrev pub seen_text : Sight → List ℕ
+abbrev pub seen_text : ImageSurvey → List ℕ
 seen_text s =
     glance_text s.glance ++ course_text s.glance.course s.stop ++ stop_text s.stop
 
 -- what it is, or that it was not opened
-abbrev pub met_text : Option Sight → List ℕ
+abbrev pub met_text : Option ImageSurvey → List ℕ
 met_text (Some s) = seen_text s
 met_text None = codes "not opened"
 
 -- the end of an image's line, after its name
-abbrev pub sight_text : Option Sight → List ℕ
-sight_text s = codes ": " ++ met_text s ++ codes "\n"
+abbrev pub survey_text_of : Option ImageSurvey → List ℕ
+survey_text_of s = codes ": " ++ met_text s ++ codes "\n"
 
 -- a byte of a name: a question mark replaces one that would break the line
 abbrev pub named : ℕ → ℕ
@@ -155,5 +155,5 @@ abbrev pub name_text : List ℕ → List ℕ
 name_text name = map named name
 
 -- the line of an image
-abbrev pub image_line : List ℕ → Option Sight → List ℕ
-image_line name sight = name_text name ++ sight_text sight
+abbrev pub image_line : List ℕ → Option ImageSurvey → List ℕ
+image_line name sight = name_text name ++ survey_text_of sight

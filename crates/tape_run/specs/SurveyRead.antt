@@ -5,9 +5,9 @@ use Rattle.tape_image.specs.Tape.{TapeItem}
 use Rattle.tape_image.specs.Reader.{IfKnown}
 use Rattle.tape_run.specs.declared.section.ImageStop.{ImageStop}
 use Rattle.tape_run.specs.declared.section.ImageStop.TheVariants.{Marked, Physical, Fault}
-use Rattle.tape_run.specs.declared.survey.course.Course.{Course}
-use Rattle.tape_run.specs.declared.survey.course.Course.TheVariants.{Ended}
-use Rattle.tape_run.specs.declared.survey.view.Sight.{Sight}
+use Rattle.tape_run.specs.declared.survey.course.LabelOrder.{LabelOrder}
+use Rattle.tape_run.specs.declared.survey.course.LabelOrder.TheVariants.{Ended}
+use Rattle.tape_run.specs.declared.survey.view.ImageSurvey.{ImageSurvey}
 use Rattle.tape_run.specs.Added.{StopsBehind}
 use Rattle.tape_run.specs.Checked.{Reel}
 use Rattle.tape_run.specs.Noted.{noted_all}
@@ -38,7 +38,7 @@ is_end Physical = true
 is_end (Fault fault) = false
 
 -- the volume ended
-abbrev pub is_ended : Course → Bool
+abbrev pub is_ended : LabelOrder → Bool
 is_ended Ended = true
 is_ended _ = false
 
@@ -48,14 +48,14 @@ is_none None = true
 is_none (Some n) = false
 
 -- The items are a complete volume in its order, and each second header label can be read.
-abbrev pub is_whole_sight : Sight → Bool
+abbrev pub is_whole_sight : ImageSurvey → Bool
 is_whole_sight s = is_ended s.glance.course && (is_none s.glance.unread && is_end s.stop)
 
 -- All items that a reader of the image with this number returned were looked at, and the sections
 -- and header labels in them were added, and where the sections are. Before the call the reader had
 -- the bytes `before`, and then the bytes `after`.
 pub record ViewsItems (before after : Option (List ℕ)) (image : ℕ) (sections : List Told)
-    (files : List Filed) (located : List Located) (sight : Sight) (told : List Told)
+    (files : List Filed) (located : List Located) (sight : ImageSurvey) (told : List Told)
     (filed : List Filed) (locations : List Located) : Type 0 where
   pub items : List TapeItem
   pub stop : IfKnown before after (StopsBehind items sight.stop)
@@ -65,7 +65,7 @@ pub record ViewsItems (before after : Option (List ℕ)) (image : ℕ) (sections
   pub places : locations ≡ located_in image sections located items
 
 -- An image was read, completely if it is a whole volume; or it was not opened.
-abbrev pub IsViewed : Reel → Option Sight → Found → Found → Type 0
+abbrev pub IsViewed : Reel → Option ImageSurvey → Found → Found → Type 0
 IsViewed None None c d = d ≡ record c { whole = false; images = next_image c.images }
 IsViewed (Some before) (Some sight) c d = (after : Option (List ℕ))
     × ViewsItems before after c.images c.sections c.files c.locations sight d.sections d.files
@@ -75,7 +75,7 @@ IsViewed _ _ c d = ⊥
 
 -- Images of a source from this number on, opened one after another, were read.
 abbrev pub AreViewed : {L R : Type 0} → Mounting L R → (R → Option (List ℕ)) → L → ℕ
-    → List (Option Sight) → Found → L → Found → Type 0
+    → List (Option ImageSurvey) → Found → L → Found → Type 0
 AreViewed gives remaining shelf number [] c last d = (last ≡ shelf) × (d ≡ c)
 AreViewed gives remaining shelf number (sight ∷ sights) c last d = (image : Option _)
     × (next : _) × (mid : Found) × gives shelf number image next

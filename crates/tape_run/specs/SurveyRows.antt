@@ -6,11 +6,11 @@ use Rattle.tape_label.specs.declared.values.Head1.{Head1}
 use Rattle.tape_run.specs.declared.survey.files.FileNote.{FileNote}
 use Rattle.tape_run.specs.declared.survey.glance.First.{First}
 use Rattle.tape_run.specs.declared.survey.glance.First.TheVariants as firsts
-use Rattle.tape_run.specs.declared.survey.glance.Glance.{Glance}
+use Rattle.tape_run.specs.declared.survey.glance.ImageSummary.{ImageSummary}
 use Rattle.tape_run.specs.declared.survey.sets.Standing.{Standing}
 use Rattle.tape_run.specs.declared.survey.sets.Standing.TheVariants.{Complete, Damaged, Behind}
 use Rattle.tape_run.specs.declared.survey.sets.Standing.TheVariants.{Missing}
-use Rattle.tape_run.specs.declared.survey.view.Sight.{Sight}
+use Rattle.tape_run.specs.declared.survey.view.ImageSurvey.{ImageSurvey}
 use Rattle.tape_run.specs.CheckLine.{state_text, stop_text}
 use Rattle.tape_run.specs.Passing.{Told}
 use Rattle.tape_run.specs.SurveyFiles.{note_at, file_key}
@@ -34,32 +34,32 @@ head_cells (Some head) =
 head_cells None = codes "\t"
 
 -- how many items there are, sections and bad blocks
-abbrev pub count_cells : Glance → List ℕ
+abbrev pub count_cells : ImageSummary → List ℕ
 count_cells g =
     decimal g.items ++ codes "\t" ++ decimal g.files ++ codes "\t" ++ decimal g.bad
 
 -- what an image is
-abbrev pub seen_cells : Sight → List ℕ
+abbrev pub seen_cells : ImageSurvey → List ℕ
 seen_cells s =
     whole_cell (is_whole_sight s) ++ codes "\t" ++ volume_cell s.glance.first ++ codes "\t"
     ++ head_cells s.glance.head ++ codes "\t" ++ count_cells s.glance ++ codes "\t"
     ++ stop_text s.stop
 
 -- what it is, or that it was not opened
-abbrev pub sight_cells : Option Sight → List ℕ
+abbrev pub sight_cells : Option ImageSurvey → List ℕ
 sight_cells (Some s) = seen_cells s
 sight_cells None = codes "NOT OPENED\t\t\t\t\t\t\t"
 
 -- what follows a name, except the words at the end
-abbrev pub middle_cells : Option Sight → List ℕ
+abbrev pub middle_cells : Option ImageSurvey → List ℕ
 middle_cells sight = codes "\t" ++ sight_cells sight ++ codes "\t"
 
 -- what an image is, in words, at the end of its row
-abbrev pub words_cell : Option Sight → List ℕ
+abbrev pub words_cell : Option ImageSurvey → List ℕ
 words_cell sight = met_text sight ++ codes "\n"
 
 -- the row of an image
-abbrev pub image_row : List ℕ → Option Sight → List ℕ
+abbrev pub image_row : List ℕ → Option ImageSurvey → List ℕ
 image_row name sight =
     codes "IMAGE\t" ++ name_text name ++ middle_cells sight ++ words_cell sight
 

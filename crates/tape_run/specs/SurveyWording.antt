@@ -3,7 +3,7 @@ use Rattle.std.specs.Prelude.{ℕ, zero, suc, ◌+◌, ◌-◌, Bool, if◌then�
 use Rattle.std.specs.List.{flat_map}
 use Rattle.tape_run.specs.declared.survey.Wording.{Wording}
 use Rattle.tape_run.specs.declared.survey.Wording.TheVariants.{Words, Rows}
-use Rattle.tape_run.specs.declared.survey.view.Sight.{Sight}
+use Rattle.tape_run.specs.declared.survey.view.ImageSurvey.{ImageSurvey}
 use Rattle.tape_run.specs.Lacks.{SetFiles, sets_from}
 use Rattle.tape_run.specs.Passing.{Told}
 use Rattle.tape_run.specs.SurveyGaps.{is_found, gap_first, gap_text}
@@ -13,7 +13,7 @@ use Rattle.tape_run.specs.SurveyRows.{image_row, section_row, file_row}
 use Rattle.tape_run.specs.SurveySets.{file_line, set_line, is_all, last_text}
 
 -- what is said of an image
-abbrev pub image_text : Wording → List ℕ → Option Sight → List ℕ
+abbrev pub image_text : Wording → List ℕ → Option ImageSurvey → List ℕ
 image_text Words name sight = image_line name sight
 image_text Rows name sight = image_row name sight
 

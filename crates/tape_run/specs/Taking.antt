@@ -1,4 +1,4 @@
--- The effect of an intake on one item, and on the items of a reel.
+-- The effect of a reel reader on one item, and on the items of a reel.
 use Rattle.std.specs.Prelude.{◌≡◌, ℕ, ◌+◌, ◌<◌, Bool, List, length, Option, slice_get}
 use Rattle.std.specs.Prelude.{Some, None, Result, Ok, Err}
 use Rattle.tape_blocks.specs.Block.{Portion}
@@ -12,7 +12,7 @@ use Rattle.tape_core.specs.declared.event.Answer.{Answer}
 use Rattle.tape_core.specs.State.{State}
 use Rattle.tape_core.specs.Place.{IsPlaced, rest_of}
 use Rattle.tape_core.specs.Follows.{IsFinal}
-use Rattle.tape_run.specs.Mount.{Happening, IsMount, after_mount}
+use Rattle.tape_run.specs.Mount.{MountEvent, IsMount, after_mount}
 use Rattle.tape_run.specs.Given.{IsGiven}
 use Rattle.tape_run.specs.ByTable.{IsLed, IsCutAt}
 use Rattle.tape_run.specs.Steps.{ReadBy, StoppedBy}
@@ -32,7 +32,7 @@ fault_of (Err fault) = Some fault
 -- The item was taken: with the parts that the sink now contains the core is right again, and the
 -- mount under way is one item further; after a final answer no item of the rest of the mount moves
 -- the position.
-pub record Taken (set : FileSet) (p : Position) (xs : List TapeItem) (i : ℕ) (h : Happening)
+pub record Taken (set : FileSet) (p : Position) (xs : List TapeItem) (i : ℕ) (h : MountEvent)
     (answer : Answer) (core : State) (now : List Portion) : Type 0 where
   pub at : IsPlaced set (rest_of core) now
   pub goes_on : is_under core set p xs (i + 1) h
@@ -42,21 +42,21 @@ pub record Taken (set : FileSet) (p : Position) (xs : List TapeItem) (i : ℕ) (
 abbrev pub TakesItem : Option TapeItem → Answer → State → State → List Portion → List Portion
     → Type 0
 TakesItem item answer old new held now = (set : FileSet) (p : Position) (xs : List TapeItem) (i : ℕ)
-    (h : Happening) → IsLawful set → IsMount set xs h → IsPlaced set (rest_of old) held
+    (h : MountEvent) → IsLawful set → IsMount set xs h → IsPlaced set (rest_of old) held
     → is_under old set p xs i h → i < length xs → item ≡ slice_get xs i
     → Taken set p xs i h answer new now
 
 -- for every valid set and every mount under way a part of the block at i was refused
 abbrev pub RefusesItem : Option TapeItem → State → State → List Portion → List Portion → Type 0
 RefusesItem item old new held now = (set : FileSet) (p : Position) (xs : List TapeItem) (i : ℕ)
-    (h : Happening) → IsLawful set → IsMount set xs h → IsPlaced set (rest_of old) held
+    (h : MountEvent) → IsLawful set → IsMount set xs h → IsPlaced set (rest_of old) held
     → is_under old set p xs i h → i < length xs → item ≡ slice_get xs i
     → StoppedBy set (rest_of new).file p xs h (rest_of new) now
 
 -- every mount that the returned bytes begin with was read to its end
 abbrev pub ReadsItems : List ℕ → State → State → List Portion → List Portion → Type 0
 ReadsItems given old new held now = (set : FileSet) (p : Position) (xs : List TapeItem) (end : ℕ)
-    (stop : Stop) (h : Happening) → IsLawful set → Begins 0 given xs end stop → IsMount set xs h
+    (stop : Stop) (h : MountEvent) → IsLawful set → Begins 0 given xs end stop → IsMount set xs h
     → IsPlaced set (rest_of old) held → is_under old set p xs 0 h
     → ReadBy set (rest_of new).file p h (rest_of new) now
 
@@ -73,7 +73,7 @@ pub record ReadsImage (failed : Bool) (old new : State) (held now : List Portion
 -- A part of a block of the image was refused.
 abbrev pub RefusesImage : State → State → List Portion → List Portion → List ℕ → Type 0
 RefusesImage old new held now bytes = (set : FileSet) (p : Position) (xs : List TapeItem) (end : ℕ)
-    (stop : Stop) (h : Happening) → IsLawful set → Begins 0 bytes xs end stop → IsMount set xs h
+    (stop : Stop) (h : MountEvent) → IsLawful set → Begins 0 bytes xs end stop → IsMount set xs h
     → IsPlaced set (rest_of old) held → is_under old set p xs 0 h
     → StoppedBy set (rest_of new).file p xs h (rest_of new) now
 

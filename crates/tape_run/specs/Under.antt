@@ -6,11 +6,11 @@ use Rattle.tape_set.specs.Layout.{FileSet}
 use Rattle.tape_core.specs.State.{State}
 use Rattle.tape_core.specs.Follows.{IsReading}
 use Rattle.tape_core.specs.Foreign.{IsForeignAt}
-use Rattle.tape_run.specs.Mount.{Happening, reads, foreign_reel, saves, restarts}
+use Rattle.tape_run.specs.Mount.{MountEvent, reads, foreign_reel, saves, restarts}
 
 -- The mount of these items, which began at p, is under way, and i of them were taken: the reader
 -- follows the reading, or what is left of a foreign reel is still to come.
-abbrev pub is_under : State → FileSet → Position → List TapeItem → ℕ → Happening → Type 0
+abbrev pub is_under : State → FileSet → Position → List TapeItem → ℕ → MountEvent → Type 0
 is_under core set p xs i (reads r) = IsReading set p r.volume (take i r.good) core
 is_under core set p xs i foreign_reel = (core.position ≡ p)
     × IsForeignAt set.set_id (drop i xs) core.position core.phase

@@ -3,12 +3,12 @@ use Rattle.std.specs.Prelude.{◌≡◌, ◌==◌, ◌&&◌, ◌||◌, not, ℕ,
 use Rattle.std.specs.Prelude.{nat_lt, Bool, if◌then◌else◌, List, [], ◌∷◌, ◌++◌, length, map, take}
 use Rattle.std.specs.Prelude.{Option, Some, None, option_map, is_some, codes, decimal}
 use Rattle.std.specs.List.{flat_map}
-use Rattle.tape_run.specs.declared.survey.view.Sight.{Sight}
+use Rattle.tape_run.specs.declared.survey.view.ImageSurvey.{ImageSurvey}
 use Rattle.tape_run.specs.declared.survey.files.FileNote.{FileNote}
 use Rattle.tape_run.specs.declared.unpack.Heading.{Heading}
 use Rattle.tape_run.specs.declared.unpack.Heading.TheVariants.{Differs, Named}
 use Rattle.tape_run.specs.declared.unpack.SetFile.{SetFile}
-use Rattle.tape_run.specs.declared.unpack.ShelfFiles.{ShelfFiles}
+use Rattle.tape_run.specs.declared.unpack.FoundFiles.{FoundFiles}
 use Rattle.tape_run.specs.Lacks.{SetFiles, sets_from, lack_of}
 use Rattle.tape_run.specs.Reeling.{Mounting}
 use Rattle.tape_run.specs.SurveyFiles.{note_at, file_key}
@@ -47,7 +47,7 @@ abbrev pub files_of : Found → List SetFile
 files_of d = set_files d (sets_from [] d.sections)
 
 -- the set of the section that begins first on an image, if any
-abbrev pub set_of : Option Sight → Option (List ℕ)
+abbrev pub set_of : Option ImageSurvey → Option (List ℕ)
 set_of None = None
 set_of (Some sight) = option_map (λ head. head.set_id) sight.glance.head
 
@@ -55,7 +55,7 @@ set_of (Some sight) = option_map (λ head. head.set_id) sight.glance.head
 pub record ViewsAll {L R : Type 0} (size : L → ℕ) (gives : Mounting L R)
     (remaining : R → Option (List ℕ)) (shelf left : L) (found : Found)
     (sets : List (Option (List ℕ))) : Type 0 where
-  pub sights : List (Option Sight)
+  pub sights : List (Option ImageSurvey)
   pub all : length sights ≡ size shelf
   pub viewed : AreViewed gives remaining shelf 0 sights nothing_found left found
   pub sets_are : sets ≡ map set_of sights
@@ -63,7 +63,7 @@ pub record ViewsAll {L R : Type 0} (size : L → ℕ) (gives : Mounting L R)
 -- These are the files of all sets that were found on them; also recorded are the set of each image,
 -- whether every image was read completely, and the image on which each section begins.
 pub record FilesOn {L R : Type 0} (size : L → ℕ) (gives : Mounting L R)
-    (remaining : R → Option (List ℕ)) (shelf left : L) (met : ShelfFiles) : Type 0 where
+    (remaining : R → Option (List ℕ)) (shelf left : L) (met : FoundFiles) : Type 0 where
   pub found : Found
   pub viewed : ViewsAll size gives remaining shelf left found met.sets
   pub files : met.files ≡ files_of found

@@ -10,7 +10,7 @@ use Rattle.tape_run.specs.declared.script.Step.{Step}
 use Rattle.tape_run.specs.declared.script.Step.TheVariants.{Reel}
 use Rattle.tape_run.specs.declared.fault.RunFault.TheVariants.{Sink}
 use Rattle.tape_run.specs.Headline.{IsStart, IsRead, HasRun, HasStopped}
-use Rattle.tape_run.specs.Lives.{IsResumed}
+use Rattle.tape_run.specs.CrashRuns.{IsResumed}
 use Rattle.tape_run.specs.Seen.{Seen}
 use Rattle.tape_run.specs.WorkedHistory.{worked_set, first, middle, last, reel_1, reel_2}
 

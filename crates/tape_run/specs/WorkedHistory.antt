@@ -14,7 +14,7 @@ use Rattle.tape_set.specs.Before.{before}
 use Rattle.tape_set.specs.Reading.{Reading}
 use Rattle.tape_run.specs.declared.script.Step.{Step}
 use Rattle.tape_run.specs.declared.script.Step.TheVariants.{Reel, Save, Restart}
-use Rattle.tape_run.specs.Mount.{Happening, reads, foreign_reel, saves, restarts}
+use Rattle.tape_run.specs.Mount.{MountEvent, reads, foreign_reel, saves, restarts}
 use Rattle.tape_run.specs.History.{Course, course, IsHistory}
 use Rattle.tape_run.specs.Given.{AreGivenBy}
 use Rattle.tape_run.specs.Headline.{begins, IsRead}
@@ -171,7 +171,7 @@ worked_reels = reel_2 ∷ other_reel ∷ blank_reel ∷ cut_reel ∷ bad_0_reel 
 abbrev pub reading : ℕ → List Bool → Reading
 reading k good = record { volume = k; good = good }
 
-abbrev pub worked_history : List Happening
+abbrev pub worked_history : List MountEvent
 worked_history =
     reads (reading 2 (replicate 10 true))
     ∷ foreign_reel
@@ -187,7 +187,7 @@ worked_history =
     ∷ reads (reading 1 (replicate 11 true)) ∷ []
 
 -- the position after each of the twelve, and the checkpoint
-abbrev pub positions_after : Course → List Happening → List Position
+abbrev pub positions_after : Course → List MountEvent → List Position
 positions_after c [] = []
 positions_after c (h ∷ hs) =
     (course worked_set 1 c (h ∷ [])).at ∷ positions_after (course worked_set 1 c (h ∷ [])) hs

@@ -14,7 +14,7 @@ ghost use Rattle.tape_image.specs.Written.{AppendsFront};
 
 use crate::catalogue::Catalogue;
 use crate::check_line::{image_line, lack_line, section_line};
-use crate::extract::images::Shelf;
+use crate::extract::images::ImageSource;
 use crate::fault::{EngineFault, NO_MEMORY, WriteFailed};
 use crate::report::check_set;
 use crate::section::{ImageLine, Lack, SectionLine};
@@ -34,7 +34,7 @@ use std::io::{Read, Write};
 /// # Errors
 ///
 /// Returns `WriteFailed` if the report could not be written, and `Run(OutOfMemory)`.
-pub fn check_to<R: Read + Drop, L: Shelf<R>, P: Write>(
+pub fn check_to<R: Read + Drop, L: ImageSource<R>, P: Write>(
     alloc: Global,
     images: &mut L,
     report: &mut P,
@@ -53,7 +53,7 @@ pub fn check_to<R: Read + Drop, L: Shelf<R>, P: Write>(
 }
 
 /// Opens the images in their order, adds what is on each, and writes a line for it.
-fn check_images<R: Read + Drop, L: Shelf<R>, P: Write>(
+fn check_images<R: Read + Drop, L: ImageSource<R>, P: Write>(
     catalogue: &mut Catalogue,
     images: &mut L,
     report: &mut P,

@@ -23,16 +23,16 @@ ghost use Rattle.tape_run.specs.RecordText.{output_of, record_end, part_text};
 ghost use Rattle.tape_run.specs.Reeling.{goes_back};
 ghost use Rattle.tape_run.specs.ReelLine.{last_line};
 
-use crate::extract::images::Shelf;
+use crate::extract::images::ImageSource;
 use crate::fault::{EngineFault, RunFault, WriteFailed};
 use crate::session::Session;
 use crate::text::{flush, write_text};
-pub use again::extract_again;
+pub use again::extract_in_passes;
 use front::write_parts;
 use images::read_images;
 pub use line::{ReelLine, ReportLine, last_line};
 pub use located::{Mounted, extract_located};
-pub use now::{Place, extract_now};
+pub use now::{Place, extract_streaming};
 pub use out_sink::OutSink;
 use std::io::{Read, Write};
 use tape_blocks::{Form, Part};
@@ -61,7 +61,7 @@ use tape_set::Want;
 /// `Sink(Failed)` if this returns fewer records than before; `WriteFailed` if `out` or the report
 /// failed. What was reported is a prefix of such a report. `out` was not touched, or the file is
 /// complete, and a prefix of its records was written.
-pub fn extract_to<S: PartWalk, R: Read + Drop, L: Shelf<R>, W: Write, P: Write>(
+pub fn extract_to<S: PartWalk, R: Read + Drop, L: ImageSource<R>, W: Write, P: Write>(
     session: &mut Session<S>,
     images: &mut L,
     form: Form,

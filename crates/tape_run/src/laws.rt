@@ -19,7 +19,7 @@ ghost use Rattle.tape_run.specs.CasesOfSurveys.{CasesOfGlances, CasesOfWholes, C
 ghost use Rattle.tape_run.specs.CasesOfUnpacking.{CasesOfUnpacking};
 ghost use Rattle.tape_run.specs.Fronts.{FrontsAreMounts, GivenIsHistory};
 ghost use Rattle.tape_run.specs.Lead.{ItemsAreThere};
-ghost use Rattle.tape_run.specs.Lives.{StoodComesBack, StandsAcrossCrashes, ResumedGoesOn};
+ghost use Rattle.tape_run.specs.CrashRuns.{StoodComesBack, StandsAcrossCrashes, ResumedGoesOn};
 ghost use Rattle.tape_run.specs.Runs.{OnlyRefusalsStop};
 ghost use Rattle.tape_run.specs.WorkedDays.{DaysAreWorked};
 ghost use Rattle.tape_run.specs.WorkedHistory.{HistoryIsWorked};

@@ -12,7 +12,6 @@ mod check_line;
 mod extract;
 pub mod extract_laws;
 mod fault;
-mod intake;
 mod lacks;
 pub mod laws;
 mod list;
@@ -23,6 +22,7 @@ mod merge;
 pub mod merge_laws;
 mod met;
 mod passing;
+mod reel_reader;
 mod report;
 mod salvage;
 pub mod salvage_laws;
@@ -37,15 +37,14 @@ mod unpack;
 pub mod unpack_laws;
 mod whole;
 
-pub use crate::extract::images::Shelf;
+pub use crate::extract::images::ImageSource;
 pub use catalogue::Catalogue;
 pub use check::check_to;
 pub use extract::{
-    Mounted, OutSink, Place, ReelLine, ReportLine, extract_again, extract_located, extract_now,
-    extract_to, last_line, write_file,
+    Mounted, OutSink, Place, ReelLine, ReportLine, extract_in_passes, extract_located,
+    extract_streaming, extract_to, last_line, write_file,
 };
 pub use fault::{EngineFault, ListFault, RunFault, Stopped, WriteFailed};
-pub use intake::ReelAnswer;
 pub use laws::{only_refusals_stop, stands_across_crashes, stood_comes_back};
 pub use list::list_to;
 pub use list_places::list_places_to;
@@ -54,6 +53,7 @@ pub use merge::now::{MergeEnd, MergeStop, merge_now};
 pub use merge::open::{merge_to, open_all};
 pub use merge::reading::{Reading, Verdict};
 pub use merge::{MergeFault, Merged, merge_items};
+pub use reel_reader::ReelAnswer;
 pub use report::{Report, check_set};
 pub use salvage::{Content, SalvageTask, salvage_to};
 pub use script::{Step, run};
@@ -65,5 +65,5 @@ pub use survey::{Wording, survey_to};
 pub use text::{flush, write_text};
 pub use unpack::line::{UnpackOutcome, file_line, left_over_line, unpack_outcome_text};
 pub use unpack::name::file_name;
-pub use unpack::{Heading, SetFile, ShelfFiles, files_on};
-pub use whole::{go_on, read_file};
+pub use unpack::{FoundFiles, Heading, SetFile, find_files};
+pub use whole::{read_file, resume_and_run};

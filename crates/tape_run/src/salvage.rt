@@ -16,7 +16,7 @@ mod sections;
 mod walk;
 
 use crate::extract::Place;
-use crate::extract::images::Shelf;
+use crate::extract::images::ImageSource;
 use crate::fault::{EngineFault, NO_MEMORY};
 use crate::salvage::copies::{SectionCopy, copies_on};
 use crate::salvage::line::{last_line, not_opened_line};
@@ -62,7 +62,7 @@ pub struct SalvageTask {
 ///
 /// `Run(OutOfMemory)`; `WriteFailed` if `out`, its name or the report failed. What has the name is
 /// unchanged, or all is written and has it, and the last line could not be reported.
-pub fn salvage_to<W: Write + Drop, R: Read + Drop, L: Shelf<R>, O: Place<W>, P: Write>(
+pub fn salvage_to<W: Write + Drop, R: Read + Drop, L: ImageSource<R>, O: Place<W>, P: Write>(
     alloc: Global,
     task: &SalvageTask,
     images: &mut L,
@@ -101,7 +101,7 @@ pub fn salvage_to<W: Write + Drop, R: Read + Drop, L: Shelf<R>, O: Place<W>, P: 
 }
 
 /// Finds the copies of the file's sections on the images of a shelf.
-fn find_copies<R: Read + Drop, L: Shelf<R>, P: Write>(
+fn find_copies<R: Read + Drop, L: ImageSource<R>, P: Write>(
     alloc: Global,
     task: &SalvageTask,
     images: &mut L,

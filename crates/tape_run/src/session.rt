@@ -19,14 +19,14 @@ ghost use Rattle.tape_core.specs.Weight.{IsFront};
 ghost use Rattle.tape_run.specs.Crash.{IsHere, IsNoteOf, BringsNoMore};
 ghost use Rattle.tape_run.specs.Given.{is_device, counted};
 ghost use Rattle.tape_run.specs.Headline.{IsStart};
-ghost use Rattle.tape_run.specs.Lives.{IsResumed};
+ghost use Rattle.tape_run.specs.CrashRuns.{IsResumed};
 ghost use Rattle.tape_run.specs.Reels.{Reads, Leaves};
 ghost use Rattle.tape_run.specs.Seen.{seen, IsKept, IsSession, IfSeen, IsSeen};
 ghost use Rattle.tape_run.specs.Steps.{Reeled, ReelFails, Refuses, Saved, SaveFails, WentBack};
 ghost use Rattle.tape_run.specs.Steps.{RestartFails, RefusesRestart};
 
 use crate::fault::RunFault;
-use crate::intake::{Intake, ReelAnswer};
+use crate::reel_reader::{ReelAnswer, ReelReader};
 use std::alloc::Global;
 use std::io::Read;
 use std::marker::Model;
@@ -40,19 +40,19 @@ use tape_set::{Position, Want};
 #[derive(Drop)]
 pub struct Session<S> {
     alloc: Global,
-    intake: Intake<S>,
+    reel_reader: ReelReader<S>,
     notes: Vec<Checkpoint>,
     failures: u64,
 }
 
 impl<S> Model for Session<S> {
-    ghost use Rattle.tape_run.specs.Story.{Story};
+    ghost use Rattle.tape_run.specs.SessionState.{SessionState};
 
-    ghost Value = { Story S };
+    ghost Value = { SessionState S };
 
     ghost view = { λ s. record {
-      core = s.intake.core;
-      sink = s.intake.sink;
+      core = s.reel_reader.core;
+      sink = s.reel_reader.sink;
       notes = s.notes.items;
       failures = s.failures;
     } };
@@ -91,7 +91,7 @@ impl<S: PartSink> Session<S> {
     {
         Session {
             alloc,
-            intake: Intake { core, sink },
+            reel_reader: ReelReader { core, sink },
             notes: Vec::new(alloc),
             failures: 0,
         }
@@ -121,14 +121,14 @@ impl<S: PartSink> Session<S> {
     pub fn sink(&self) -> &S
         ensures { result.now ≡ self.now.sink }
     {
-        &self.intake.sink
+        &self.reel_reader.sink
     }
 
     /// Ends the session, and returns its sink.
     pub fn into_sink(self) -> S
         ensures { result ≡ self.sink }
     {
-        self.intake.sink
+        self.reel_reader.sink
     }
 
     /// Reads a reel up to the first item after which no other one of the reel can say anything of
@@ -180,15 +180,15 @@ impl<S: PartSink> Session<S> {
         // In any case: a crash during or after it leaves nothing new.
         ensures crash { BringsNoMore S.PartSink self.old.sink self.new.sink }
     {
-        if self.intake.core.want().is_none() {
+        if self.reel_reader.core.want().is_none() {
             return Ok(ReelAnswer::new(Answer::Complete, None, 0));
         }
         let Ok(buffer) = ImageBuffer::new(self.alloc) else {
             return Err(RunFault::OutOfMemory);
         };
         let mut image = ImageReader::over(buffer, device);
-        self.intake.core.mount();
-        let read = self.intake.read(&mut image);
+        self.reel_reader.core.mount();
+        let read = self.reel_reader.read(&mut image);
         // The rest of the reader is its caller's again.
         image.into_device();
         match read {
@@ -238,11 +238,11 @@ impl<S: PartSink> Session<S> {
         ensures crash { IfSeen S.PartSink self.old (λ old. AddsOnly (IsHere old)
             (S.crashes self.old.sink) (S.crashes self.new.sink)) }
     {
-        let point = self.intake.core.save(self.intake.sink.weight());
+        let point = self.reel_reader.core.save(self.reel_reader.sink.weight());
         if self.notes.push(point).is_err() {
             return Err(RunFault::OutOfMemory);
         }
-        match self.intake.sink.keep(&point) {
+        match self.reel_reader.sink.keep(&point) {
             Ok(()) => Ok(point),
             Err(cause) => {
                 self.notes.pop();
@@ -267,7 +267,7 @@ impl<S: PartSink> Session<S> {
         ensures err { IfErr result (λ fault. (fault ≡ RunFault.OutOfMemory)
             × (self.new ≡ self.old)) }
     {
-        let here = self.intake.core.save(self.intake.sink.weight());
+        let here = self.reel_reader.core.save(self.reel_reader.sink.weight());
         if self.notes.push(here).is_err() {
             return Err(RunFault::OutOfMemory);
         }
@@ -310,14 +310,14 @@ impl<S: PartSink> Session<S> {
         let Some(&point) = self.notes.get(n) else {
             return Err(RunFault::NoSuchPoint);
         };
-        if point.staged > self.intake.sink.weight() {
+        if point.staged > self.reel_reader.sink.weight() {
             return Err(RunFault::Sink(SinkFault::Failed));
         }
-        match self.intake.sink.cut_to(&point) {
+        match self.reel_reader.sink.cut_to(&point) {
             Err(cause) => return Err(RunFault::Sink(cause)),
             Ok(()) => {}
         }
-        let _ = self.intake.core.restart(&point);
+        let _ = self.reel_reader.core.restart(&point);
         self.notes.truncate(n + 1);
         Ok(())
     }
@@ -326,7 +326,7 @@ impl<S: PartSink> Session<S> {
     pub fn want(&self) -> Option<Want>
         ensures { result ≡ want_at (rest_of self.now.core).file (rest_of self.now.core).position }
     {
-        self.intake.core.want()
+        self.reel_reader.core.want()
     }
 
     /// Returns how many reels were not read to their end because their reader failed.

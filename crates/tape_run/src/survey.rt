@@ -23,15 +23,15 @@ mod texts;
 pub(crate) mod view;
 
 use crate::check::pass_on;
-use crate::extract::images::Shelf;
+use crate::extract::images::ImageSource;
 use crate::fault::{EngineFault, NO_MEMORY};
-use line::sight_text;
+use line::survey_text_of;
 use rows::{middle_cells, words_cell};
 use sets::is_all;
 use std::alloc::{AllocError, Global};
 use std::io::{Read, Write};
 use texts::{sections_text, sets_text};
-use view::{Findings, Sight};
+use view::{Findings, ImageSurvey};
 
 /// How a survey is printed.
 #[derive(Clone, Copy)]
@@ -54,7 +54,7 @@ pub enum Wording {
 /// # Errors
 ///
 /// Returns `WriteFailed` if the report could not be written, and `Run(OutOfMemory)`.
-pub fn survey_to<R: Read + Drop, L: Shelf<R>, P: Write>(
+pub fn survey_to<R: Read + Drop, L: ImageSource<R>, P: Write>(
     alloc: Global,
     images: &mut L,
     names: &[&str],
@@ -76,7 +76,7 @@ pub fn survey_to<R: Read + Drop, L: Shelf<R>, P: Write>(
 }
 
 /// Reads the images with these names, and writes a line for each.
-fn survey_images<R: Read + Drop, L: Shelf<R>, P: Write>(
+fn survey_images<R: Read + Drop, L: ImageSource<R>, P: Write>(
     alloc: Global,
     findings: &mut Findings,
     images: &mut L,
@@ -130,7 +130,7 @@ fn image_text(
     alloc: Global,
     wording: Wording,
     name: &str,
-    sight: &Option<Sight>,
+    sight: &Option<ImageSurvey>,
 ) -> Result<Vec<u8>, AllocError>
     ensures { IfOk result (λ text. text.items ≡ image_text wording name.now sight.now) }
 {
@@ -141,7 +141,7 @@ fn image_text(
 }
 
 /// The row of the image with this name.
-fn image_row(alloc: Global, name: &str, sight: &Option<Sight>) -> Result<Vec<u8>, AllocError>
+fn image_row(alloc: Global, name: &str, sight: &Option<ImageSurvey>) -> Result<Vec<u8>, AllocError>
     ensures { IfOk result (λ row. row.items ≡ image_row name.now sight.now) }
 {
     let mut row = Vec::from_slice(alloc, b"IMAGE\t")?;
@@ -155,11 +155,11 @@ fn image_row(alloc: Global, name: &str, sight: &Option<Sight>) -> Result<Vec<u8>
 }
 
 /// The line of the image with this name.
-fn image_line(alloc: Global, name: &str, sight: &Option<Sight>) -> Result<Vec<u8>, AllocError>
+fn image_line(alloc: Global, name: &str, sight: &Option<ImageSurvey>) -> Result<Vec<u8>, AllocError>
     ensures { IfOk result (λ line. line.items ≡ image_line name.now sight.now) }
 {
     let mut line = name_text(alloc, name)?;
-    let behind = sight_text(sight);
+    let behind = survey_text_of(sight);
     line.extend_from_slice(&behind)?;
     Ok(line)
 }

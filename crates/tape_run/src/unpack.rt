@@ -10,13 +10,13 @@ ghost use Rattle.tape_run.specs.Unpacking.{heading_of, file_at, files_from, set_
 ghost use Rattle.tape_run.specs.Unpacking.{set_of, FilesOn, ViewsAll};
 ghost use Rattle.tape_run.specs.declared.fault.RunFault.TheVariants as faults;
 
-use crate::extract::images::Shelf;
+use crate::extract::images::ImageSource;
 use crate::fault::RunFault;
 use crate::lacks::lack_of;
 use crate::report::{Sets, sets_of};
 use crate::survey::files::{FileKey, FileNote};
 use crate::survey::locations::Locations;
-use crate::survey::view::{Findings, Sight};
+use crate::survey::view::{Findings, ImageSurvey};
 use std::alloc::{AllocError, Global};
 use std::io::Read;
 use tape_label::Field;
@@ -44,7 +44,7 @@ pub struct SetFile {
 
 /// What was found on the images.
 #[derive(Drop)]
-pub struct ShelfFiles {
+pub struct FoundFiles {
     /// The files of which a label was found: set by set in the order in which the sets were found
     /// first, and by their numbers.
     pub files: Sequence<SetFile>,
@@ -67,10 +67,10 @@ pub struct ShelfFiles {
 /// # Errors
 ///
 /// Returns `OutOfMemory`, and no other error.
-pub fn files_on<R: Read + Drop, L: Shelf<R>>(
+pub fn find_files<R: Read + Drop, L: ImageSource<R>>(
     alloc: Global,
     images: &mut L,
-) -> Result<ShelfFiles, RunFault>
+) -> Result<FoundFiles, RunFault>
     ensures ok { IfOk result
         (FilesOn L.size L.gives R.remaining images.old images.new) }
     ensures fault { IsOkUnless result faults.OutOfMemory }
@@ -79,7 +79,7 @@ pub fn files_on<R: Read + Drop, L: Shelf<R>>(
     let sets = view_images(&mut findings, images)?;
     let whole = findings.whole;
     match files_of(alloc, &findings) {
-        Ok(files) => Ok(ShelfFiles {
+        Ok(files) => Ok(FoundFiles {
             files: Sequence::of_vec(files),
             sets: Sequence::of_vec(sets),
             whole,
@@ -90,7 +90,7 @@ pub fn files_on<R: Read + Drop, L: Shelf<R>>(
 }
 
 /// Reads the images, and returns the set of each.
-fn view_images<R: Read + Drop, L: Shelf<R>>(
+fn view_images<R: Read + Drop, L: ImageSource<R>>(
     findings: &mut Findings,
     images: &mut L,
 ) -> Result<Vec<Option<Field<6>>>, RunFault>
@@ -113,7 +113,7 @@ fn view_images<R: Read + Drop, L: Shelf<R>>(
 }
 
 /// The set of the section that begins first on an image, if any.
-fn set_of(sight: Option<Sight>) -> Option<Field<6>>
+fn set_of(sight: Option<ImageSurvey>) -> Option<Field<6>>
     ensures { result ≡ set_of sight }
 {
     match sight {

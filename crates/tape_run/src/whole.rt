@@ -7,11 +7,11 @@ ghost use Rattle.tape_core.specs.Place.{rest_of};
 ghost use Rattle.tape_core.specs.Memory.{portions};
 ghost use Rattle.tape_core.specs.Table.{reader_of};
 ghost use Rattle.tape_run.specs.Headline.{IsRead, IsStart, HasRun, HasStopped, LosesParts};
-ghost use Rattle.tape_run.specs.Lives.{IsResumed, LivesOn};
+ghost use Rattle.tape_run.specs.CrashRuns.{IsResumed, LivesOn};
 ghost use Rattle.tape_run.specs.Given.{IfTold};
 ghost use Rattle.tape_run.specs.Runs.{StopsFor};
 ghost use Rattle.tape_run.specs.Seen.{Seen, IsSeen, IsSeenUnless};
-ghost use Rattle.tape_run.specs.Story.{Story};
+ghost use Rattle.tape_run.specs.SessionState.{SessionState};
 
 use crate::fault::Stopped;
 use crate::script::{Step, run};
@@ -50,7 +50,7 @@ pub fn read_file<R: Read>(
         now))) }
     // Why it stopped: the step with that number failed for a reason that its call promises, and no
     // call of the sink was refused before.
-    ensures cause { IfOk result (λ read. IfErr read.1 (λ end. (began : Story MemorySink)
+    ensures cause { IfOk result (λ read. IfErr read.1 (λ end. (began : SessionState MemorySink)
         × (portions began.sink ≡ []) × (began.sink.refused ≡ 0) × (began.notes ≡ [])
         × (began.core ≡ reader_of set_id file)
         × StopsFor ⟦<MemorySink as PartSink>⟧ steps.now end.step end.fault began read.0)) }
@@ -65,7 +65,7 @@ pub fn read_file<R: Read>(
 }
 
 /// Resumes a file at a checkpoint, over a sink that has its parts, and runs the steps.
-pub fn go_on<S: PartSink, R: Read>(
+pub fn resume_and_run<S: PartSink, R: Read>(
     alloc: Global,
     point: &Checkpoint,
     sink: S,
@@ -86,7 +86,7 @@ pub fn go_on<S: PartSink, R: Read>(
         HasStopped began steps.now bytes (map R.remaining reels.new) end.step end.fault
         new))) }
     // Why it stopped, of any sink: as above.
-    ensures cause { IfErr result.1 (λ end. (began : Story S) × (began.sink ≡ sink)
+    ensures cause { IfErr result.1 (λ end. (began : SessionState S) × (began.sink ≡ sink)
         × (began.notes ≡ [])
         × StopsFor S.PartSink steps.now end.step end.fault began result.0) }
     ensures calm { OnOk result.1 (S.refusals result.0.sink ≡ S.refusals sink) }

@@ -11,7 +11,7 @@ use std::process::Abort;
 use std::test::Fail;
 use tape_blocks::Form;
 use tape_core::MemorySink;
-use tape_run::{Session, Shelf, Wording, check_to, extract_to, files_on, survey_to};
+use tape_run::{ImageSource, Session, Wording, check_to, extract_to, find_files, survey_to};
 
 /// A reel that is in use until it is dropped.
 struct Lent<'a> {
@@ -43,7 +43,7 @@ struct Lender<'a> {
     held: u8,
 }
 
-impl<'a> Shelf<Lent<'a>> for Lender<'a> {
+impl<'a> ImageSource<Lent<'a>> for Lender<'a> {
     ghost size = { λ lender. length lender.reels.now };
 
     ghost gives = { λ _ _ _ _. ⊤ };
@@ -88,7 +88,7 @@ fn read(alloc: Global, engine: Engine, shelf: &mut Lender<'_>) -> Result<(), Fai
             survey_to(alloc, shelf, &["1", "2"], Wording::Words, &mut report)?;
         }
         Engine::Files => {
-            files_on(alloc, shelf)?;
+            find_files(alloc, shelf)?;
         }
         Engine::Extract => {
             let mut session = Session::new(alloc, set_id(), 1, MemorySink::new(alloc))?;

@@ -7,7 +7,7 @@ use std::alloc::{AllocError, Global};
 use std::process::Abort;
 use std::test::Fail;
 use tape_blocks::Form;
-use tape_run::{EngineFault, Locations, Mounted, OutSink, Session, extract_located, files_on};
+use tape_run::{EngineFault, Locations, Mounted, OutSink, Session, extract_located, find_files};
 
 const SECOND: &str = "HDR1LEDGER           ABC00100010002000100 00000 00000 000000";
 
@@ -56,7 +56,7 @@ fn come_to<H: Abort + AllocGlobal>(
 ) -> Result<(), Fail> {
     let alloc = rt.alloc();
     let image = two_files(alloc)?;
-    let met = files_on(
+    let met = find_files(
         alloc,
         &mut Vec::from_slice(alloc, &[Some(image.bytes.as_slice())])?,
     )?;

@@ -10,7 +10,7 @@ use std::alloc::Global;
 use std::test::Fail;
 use tape_blocks::Form;
 use tape_core::SinkFault;
-use tape_run::{EngineFault, OutSink, Place, RunFault, Session, WriteFailed, extract_now};
+use tape_run::{EngineFault, OutSink, Place, RunFault, Session, WriteFailed, extract_streaming};
 use tape_set::Want;
 
 /// A name that an output is given if it is free.
@@ -97,7 +97,7 @@ fn comes_to(alloc: Global, row: &Row<'_>) -> Result<bool, Fail> {
         is_free: *is_free,
         there: None,
     };
-    let answer = extract_now(session, &mut shelf, Form::Lines, &mut name, &mut report);
+    let answer = extract_streaming(session, &mut shelf, Form::Lines, &mut name, &mut report);
     let stands = name.there.map(|out| out.taken.len());
     Ok(answer == *wanted && report.as_slice() == lines.as_bytes() && stands == *there)
 }

@@ -5,7 +5,7 @@ use crate::sessions::begun;
 use std::alloc::Global;
 use std::test::Fail;
 use tape_core::{Checkpoint, CoreFault, MemorySink, PartSink};
-use tape_run::{RunFault, Step, Stopped, go_on, read_file, run};
+use tape_run::{RunFault, Step, Stopped, read_file, resume_and_run, run};
 use tape_set::Position;
 
 const TWO: &[Step] = &[Step::Reel, Step::Reel];
@@ -92,7 +92,7 @@ const STOPPED: Position = Position::Awaits {
 fn goes_on(alloc: Global, first: &[u8], second: &[u8]) -> Result<bool, Fail> {
     let (point, sink) = stopped(alloc, front(first, 500))?;
     let stood = (point.position, point.begun, point.staged) == (STOPPED, true, 8 * 18);
-    let (resumed, result) = go_on(alloc, &point, sink, TWO, &mut [first, second]);
+    let (resumed, result) = resume_and_run(alloc, &point, sink, TWO, &mut [first, second]);
     let weight = resumed.sink().weight();
     let done = result == Ok(()) && resumed.want().is_none();
     Ok(stood && done && weight == 23 * 5 + 290 && holds_long(resumed.sink(), 23))

@@ -9,7 +9,7 @@ use std::process::Abort;
 use std::test::Fail;
 use tape_blocks::Form;
 use tape_core::MemorySink;
-use tape_run::{Session, Shelf, extract_again};
+use tape_run::{ImageSource, Session, extract_in_passes};
 
 /// Reels, each of which is returned as often as it is mounted.
 #[derive(Drop)]
@@ -17,7 +17,7 @@ struct Kept<'a> {
     reels: &'a [&'a [u8]],
 }
 
-impl<'a> Shelf<&'a [u8]> for Kept<'a> {
+impl<'a> ImageSource<&'a [u8]> for Kept<'a> {
     ghost size = { λ kept. length kept.reels.now };
 
     ghost gives = { λ _ _ _ _. ⊤ };
@@ -53,7 +53,7 @@ fn gives<H: Abort + AllocGlobal>(
     let mut session = Session::new(rt.alloc(), set_id(), 1, MemorySink::new(rt.alloc()))?;
     session.note()?;
     let mut shelf = Kept { reels };
-    extract_again(&mut session, &mut shelf, Form::Raw, &mut out, &mut report)?;
+    extract_in_passes(&mut session, &mut shelf, Form::Raw, &mut out, &mut report)?;
     assert_eq!(rt; report.as_slice(), lines.as_bytes(), "{lines}");
     assert!(rt; out.len() == length, "{lines}");
     Ok(())
@@ -90,7 +90,7 @@ fn reels_that_are_given_once(rt: HostRuntime) -> Result<(), Fail> {
     let (mut report, mut out) = (Vec::new(rt.alloc()), Vec::new(rt.alloc()));
     let mut session = Session::new(rt.alloc(), set_id(), 1, MemorySink::new(rt.alloc()))?;
     let mut shelf = shelf_of(rt.alloc(), &mut [Some(two.bytes.as_slice())])?;
-    extract_again(&mut session, &mut shelf, Form::Raw, &mut out, &mut report)?;
+    extract_in_passes(&mut session, &mut shelf, Form::Raw, &mut out, &mut report)?;
     let lines = "REEL 1 BAD ITEM\nREEL 2 NOT OPENED\nAWAITS 1 1 1\n";
     assert_eq!(rt; report.as_slice(), lines.as_bytes(), "{lines}");
     Ok(())

@@ -9,7 +9,7 @@ use crate::volumes::cut;
 use std::alloc::{AllocError, Global};
 use std::test::Fail;
 use tape_blocks::Form;
-use tape_run::{Content, SalvageTask, Shelf, salvage_to};
+use tape_run::{Content, ImageSource, SalvageTask, salvage_to};
 
 /// One image, whose reader gives these bytes the first time, and those from then on, before it
 /// fails.
@@ -20,7 +20,7 @@ struct Twice<'a> {
     is_read: bool,
 }
 
-impl<'a> Shelf<Failing<'a>> for Twice<'a> {
+impl<'a> ImageSource<Failing<'a>> for Twice<'a> {
     ghost size = { λ _. 1 };
 
     ghost gives = { λ _ _ _ _. ⊤ };

@@ -6,7 +6,7 @@ use std::alloc::{AllocError, Global};
 use std::process::Abort;
 use std::test::Fail;
 use tape_run::{
-    Heading, SetFile, UnpackOutcome, file_line, file_name, files_on, unpack_outcome_text,
+    Heading, SetFile, UnpackOutcome, file_line, file_name, find_files, unpack_outcome_text,
 };
 
 /// The line of a file: its name, or the text in its place.
@@ -32,7 +32,7 @@ fn found<H: Abort + AllocGlobal>(
     lines: &str,
 ) -> Result<(), Fail> {
     let mut shelf = Vec::from_slice(rt.alloc(), images)?;
-    let met = files_on(rt.alloc(), &mut shelf)?;
+    let met = find_files(rt.alloc(), &mut shelf)?;
     let mut told = Vec::new(rt.alloc());
     for file in met.files.as_slice() {
         let line = line_of(rt.alloc(), file)?;

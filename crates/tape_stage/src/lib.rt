@@ -7,7 +7,7 @@ pub mod laws;
 mod point;
 mod stage;
 
-pub use disk::file::{FileDisk, HeldFile, held_file};
+pub use disk::file::{BufferedFile, FileDisk, buffered_file};
 pub use disk::memory::MemoryDisk;
 pub use disk::read_ahead::ReadAhead;
 pub use disk::write_behind::WriteBehind;

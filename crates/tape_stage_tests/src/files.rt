@@ -6,7 +6,7 @@ use std::io::{ErrorKind, Read, Seek, SeekFrom, Write};
 use std::test::*;
 use std::{fs, io};
 use tape_core::Checkpoint;
-use tape_stage::{Disk, DiskFault, FileDisk, HeldFile, Stage, held_file};
+use tape_stage::{BufferedFile, Disk, DiskFault, FileDisk, Stage, buffered_file};
 
 /// An existing file, or a new one, for reading and writing.
 fn open(rt: &HostRuntime, path: &str) -> io::Result<File> {
@@ -16,8 +16,8 @@ fn open(rt: &HostRuntime, path: &str) -> io::Result<File> {
 }
 
 /// A new stage in a file.
-fn made_in(rt: &HostRuntime, path: &str) -> Option<Stage<HeldFile<File>>> {
-    let Ok(mut disk) = held_file(rt.alloc(), open(rt, path).ok()?) else {
+fn made_in(rt: &HostRuntime, path: &str) -> Option<Stage<BufferedFile<File>>> {
+    let Ok(mut disk) = buffered_file(rt.alloc(), open(rt, path).ok()?) else {
         return None;
     };
     match disk.len() {
@@ -27,8 +27,8 @@ fn made_in(rt: &HostRuntime, path: &str) -> Option<Stage<HeldFile<File>>> {
 }
 
 /// The stage of a file that was created earlier.
-fn opened_in(rt: &HostRuntime, path: &str) -> Option<(Stage<HeldFile<File>>, Checkpoint)> {
-    let Ok(disk) = held_file(rt.alloc(), open(rt, path).ok()?) else {
+fn opened_in(rt: &HostRuntime, path: &str) -> Option<(Stage<BufferedFile<File>>, Checkpoint)> {
+    let Ok(disk) = buffered_file(rt.alloc(), open(rt, path).ok()?) else {
         return None;
     };
     Stage::open_disk(rt.alloc(), disk).ok()

@@ -7,7 +7,7 @@ use std::io::{ErrorKind, Read, Seek, SeekFrom, Write};
 use std::test::*;
 use std::{fs, io};
 use tape_stage::{
-    Disk, DiskFault, FileDisk, HeldFile, MemoryDisk, ReadAhead, WriteBehind, held_file,
+    BufferedFile, Disk, DiskFault, FileDisk, MemoryDisk, ReadAhead, WriteBehind, buffered_file,
 };
 
 /// The most bytes that such a file returns or accepts in one call.
@@ -106,12 +106,12 @@ impl OpenFile for Counting {
 }
 
 /// A disk over such a file.
-fn disk_counting(alloc: Global, size: usize, failing: u32) -> Option<HeldFile<Counting>> {
-    held_file(alloc, Counting::new(alloc, size, failing).ok()?).ok()
+fn disk_counting(alloc: Global, size: usize, failing: u32) -> Option<BufferedFile<Counting>> {
+    buffered_file(alloc, Counting::new(alloc, size, failing).ok()?).ok()
 }
 
 /// The file of a disk with buffers.
-fn file_of(disk: HeldFile<Counting>) -> Counting {
+fn file_of(disk: BufferedFile<Counting>) -> Counting {
     disk.into_disk().into_disk().into_file()
 }
 
@@ -119,7 +119,7 @@ fn file_of(disk: HeldFile<Counting>) -> Counting {
 const SMALL: usize = 1_000;
 
 /// A disk over a new file, with small buffers.
-fn made_in(rt: &HostRuntime, path: &str) -> Option<HeldFile<File>> {
+fn made_in(rt: &HostRuntime, path: &str) -> Option<BufferedFile<File>> {
     let _ = fs::remove_file(rt, path);
     let mut options = OpenOptions::new();
     options.read(true).write(true).create(true);
@@ -217,7 +217,7 @@ fn what_could_not_be_written_is_held_on(rt: HostRuntime) {
 fn behind_a_failed_sync_nothing_is_kept(rt: HostRuntime) -> Result<(), Fail> {
     let mut file = Counting::new(rt.alloc(), 12, 0)?;
     file.unsynced = true;
-    let Ok(mut disk) = held_file(rt.alloc(), file) else {
+    let Ok(mut disk) = buffered_file(rt.alloc(), file) else {
         return Err(Fail::from("a disk"));
     };
     assert!(rt; disk.sync() == Err(DiskFault::Device));

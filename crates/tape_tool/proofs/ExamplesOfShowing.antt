@@ -14,8 +14,8 @@ use Rattle.tape_writer.specs.declared.system.fault.FileFault.{FileFault}
 use Rattle.tape_writer.specs.declared.system.fault.FileFault.TheVariants.{WriteFailed}
 use Rattle.tape_tool.specs.declared.fault.ToolFault.{ToolFault}
 use Rattle.tape_tool.specs.declared.fault.ToolFault.TheVariants.{File, Run, Stage}
-use Rattle.tape_tool.specs.Showing.{unopened, in_part, nothing, salvaged_in_part, EndsInPart}
-use Rattle.tape_tool.specs.Showing.{StopsShowing, StopsSalvaging}
+use Rattle.tape_tool.specs.StageReport.{unopened, in_part, nothing, salvaged_in_part, EndsInPart}
+use Rattle.tape_tool.specs.StageReport.{StopsShowing, StopsSalvaging}
 use Rattle.tape_tool.specs.CasesOfShowing.{CasesOfShowing, StopSays, SalvageSays, StoppedOnlyBy}
 
 stopped : (read : List ℕ) (form : Form) (out written said says : Option (List ℕ))

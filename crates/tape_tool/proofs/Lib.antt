@@ -1,5 +1,5 @@
 mod Sessions
-mod Showing
+mod StageReport
 mod LinesOfVolumes
 mod ListedNames
 mod FoundWords

@@ -2,9 +2,9 @@
 use Rattle.std.proofs.Common.{◌≡◌, ◌⊎◌, inl, inr, ℕ, List, false, sym, subst, ◌∙◌}
 use Rattle.tape_blocks.specs.Block.{Portion}
 use Rattle.tape_core.specs.Point.{Point}
-use Rattle.tape_run.specs.Lives.{IsResumed}
+use Rattle.tape_run.specs.CrashRuns.{IsResumed}
 use Rattle.tape_run.specs.Seen.{seen}
-use Rattle.tape_run.specs.Story.{Story}
+use Rattle.tape_run.specs.SessionState.{SessionState}
 use Rattle.tape_stage.specs.Stages.{Holds, OpensOver, Returns, Survives, Returned, Survived}
 use Rattle.tape_stage.specs.declared.disk.Disk.{Ghosts}
 use Rattle.tape_stage.specs.declared.stage.Stage.{Stage}
@@ -16,7 +16,7 @@ use Rattle.tape_tool.specs.Staging.{StandsAt, as_sink}
 
 module _ {D : Type 0} {disk : Ghosts D} where
   -- a session over a stage has the stage's position
-  pub stands_at : (point told : Point) (parts : List Portion) (session : Story (Stage D disk))
+  pub stands_at : (point told : Point) (parts : List Portion) (session : SessionState (Stage D disk))
       (stage : Stage D disk) → session.sink ≡ stage
       → IsResumed point parts (seen as_sink session parts) → told ≡ point
       → Holds stage parts

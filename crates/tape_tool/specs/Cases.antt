@@ -26,7 +26,7 @@ use Rattle.tape_run.specs.declared.fault.RunFault.{RunFault}
 use Rattle.tape_run.specs.declared.fault.RunFault.TheVariants as runs
 use Rattle.tape_run.specs.declared.fault.EngineFault.TheVariants as engine
 use Rattle.tape_run.specs.declared.fault.ListFault.TheVariants as list
-use Rattle.tape_run.specs.Story.{Story}
+use Rattle.tape_run.specs.SessionState.{SessionState}
 use Rattle.tape_stage.specs.Staged.{Staged, HoldsNone, Holding}
 use Rattle.tape_stage.specs.Stages.{Returns, Returned}
 use Rattle.tape_stage.specs.declared.disk.Disk.{Ghosts}
@@ -38,16 +38,16 @@ use Rattle.tape_tool.specs.declared.fault.ToolFault.{ToolFault}
 use Rattle.tape_tool.specs.declared.fault.ToolFault.TheVariants.{Image, Label, Write, File, Run}
 use Rattle.tape_tool.specs.declared.fault.ToolFault.TheVariants.{Stage as OfStage, StageInUse}
 use Rattle.tape_tool.specs.declared.staging.StagingFault.TheVariants as staging
-use Rattle.tape_tool.specs.declared.unfit.Unfit.TheVariants as unfits
+use Rattle.tape_tool.specs.declared.refusal.Refusal.TheVariants as unfits
 use Rattle.tape_tool.specs.Ends.{exit_status, end_of, check_end, extract_end, help_end, words_end}
-use Rattle.tape_tool.specs.Ends.{no_words_end, IsUnfitEnd}
+use Rattle.tape_tool.specs.Ends.{no_words_end, IsRefusalEnd}
 use Rattle.tape_tool.specs.Fault.{file_number, write_number, no_memory, of_system, of_engine}
 use Rattle.tape_tool.specs.Fault.{of_list}
 use Rattle.tape_tool.specs.Names.{end_byte, pieces_of, names_in}
 use Rattle.tape_tool.specs.Report.{report}
 use Rattle.tape_tool.specs.Staging.{IsOfFile, first_point, StandsAt, GoesOn, Says, IsUnopened}
 use Rattle.tape_tool.specs.Staging.{SaysNoStage}
-use Rattle.tape_tool.specs.Telling.{fault_line}
+use Rattle.tape_tool.specs.Diagnostics.{fault_line}
 
 -- how runs end
 pub record CasesOfEnds : Type 0 where
@@ -90,13 +90,13 @@ pub record CasesOfEnds : Type 0 where
       ∷ []) ≡ replicate 3 WrongWords
   -- a command that is not started ends by its fault, or as a usage error: never as done, or as
   -- incomplete
-  pub not_begun : (fault : ToolFault) (end : End) → IsUnfitEnd (unfits.Faulted fault) end
+  pub not_begun : (fault : ToolFault) (end : End) → IsRefusalEnd (unfits.Faulted fault) end
       → end ≡ Faulted fault
-  pub lost : (text : Bor (List ℕ)) → IsUnfitEnd (unfits.Words text) WrongWords
-      × IsUnfitEnd (unfits.Words text) (Faulted (Run runs.OutOfMemory))
-      × (IsUnfitEnd (unfits.Words text) Done → ⊥) × (IsUnfitEnd (unfits.Words text) Incomplete → ⊥)
-  pub no_text : (null : Bool) (number : ℕ) → IsUnfitEnd (unfits.NoText null number) WrongWords
-      × (IsUnfitEnd (unfits.NoText null number) Done → ⊥)
+  pub lost : (text : Bor (List ℕ)) → IsRefusalEnd (unfits.Words text) WrongWords
+      × IsRefusalEnd (unfits.Words text) (Faulted (Run runs.OutOfMemory))
+      × (IsRefusalEnd (unfits.Words text) Done → ⊥) × (IsRefusalEnd (unfits.Words text) Incomplete → ⊥)
+  pub no_text : (null : Bool) (number : ℕ) → IsRefusalEnd (unfits.NoText null number) WrongWords
+      × (IsRefusalEnd (unfits.NoText null number) Done → ⊥)
 
 -- the names in a list
 pub record CasesOfNames : Type 0 where
@@ -166,33 +166,33 @@ pub record CasesOfStaging {D : Type 0} (disk : Ghosts D) : Type 0 where
   pub other_set : IsOfFile (codes "ABC001") 3 (first_point (codes "XYZ001") 3) → ⊥
   pub other_file : IsOfFile (codes "ABC001") 3 (first_point (codes "ABC001") 4) → ⊥
   -- a session at a checkpoint has the checkpoint's position, and no checkpoint of its own yet,
-  pub stands : (point : Point) (parts : List Portion) (session : Story (Stage D disk))
+  pub stands : (point : Point) (parts : List Portion) (session : SessionState (Stage D disk))
       → StandsAt point parts session
       → (rest_of session.core ≡ place_of point) × (session.notes ≡ [])
   -- its stage contains exactly these parts,
-  pub holds : (point : Point) (parts : List Portion) (session : Story (Stage D disk))
+  pub holds : (point : Point) (parts : List Portion) (session : SessionState (Stage D disk))
       → StandsAt point parts session
       → Holding session.sink.weight parts (disk.seen session.sink.disk)
   -- whatever a crash leaves of it now represents something,
-  pub survives : (point : Point) (parts : List Portion) (session : Story (Stage D disk))
+  pub survives : (point : Point) (parts : List Portion) (session : SessionState (Stage D disk))
       (bytes : List ℕ) → StandsAt point parts session → disk.may_leave session.sink.disk bytes
       → (back : Point) × (there : List Portion) × Returns session.sink back there
   -- and nothing but this checkpoint and these parts
-  pub only : (point back : Point) (parts there : List Portion) (session : Story (Stage D disk))
+  pub only : (point back : Point) (parts there : List Portion) (session : SessionState (Stage D disk))
       → StandsAt point parts session → Returns session.sink back there
       → (back ≡ point) × (there ≡ parts)
   -- the same for what a crash leaves from this moment on
-  pub survived : (point : Point) (parts : List Portion) (session : Story (Stage D disk))
+  pub survived : (point : Point) (parts : List Portion) (session : SessionState (Stage D disk))
       (bytes : List ℕ) → StandsAt point parts session
       → disk.left_since session.sink.disk (disk.moment session.sink.disk) bytes
       → (back : Point) × (there : List Portion)
       × Returned session.sink (disk.moment session.sink.disk) back there
-  pub since : (point back : Point) (parts there : List Portion) (session : Story (Stage D disk))
+  pub since : (point back : Point) (parts there : List Portion) (session : SessionState (Stage D disk))
       → StandsAt point parts session
       → Returned session.sink (disk.moment session.sink.disk) back there
       → (back ≡ point) × (there ≡ parts)
   -- a session that continues is at the checkpoint that the bytes represent, which is of its file
-  pub goes_on : (set_id read : List ℕ) (file : ℕ) (session : Story (Stage D disk))
+  pub goes_on : (set_id read : List ℕ) (file : ℕ) (session : SessionState (Stage D disk))
       (g : GoesOn set_id file read session) → Staged read g.generation g.point g.parts
       × (g.point.set_id ≡ set_id) × (g.point.file ≡ file) × StandsAt g.point g.parts session
   -- nothing is staged in bytes that are not a stage

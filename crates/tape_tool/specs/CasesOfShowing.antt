@@ -27,8 +27,8 @@ use Rattle.tape_tool.specs.declared.fault.ToolFault.TheVariants.{File, Run, Stag
 use Rattle.tape_tool.specs.declared.stage.ending.StageEnding.{StageEnding}
 use Rattle.tape_tool.specs.declared.stage.ending.StageEnding.TheVariants.{Whole, Broken}
 use Rattle.tape_tool.specs.Ends.{stage_end, damaged_end}
-use Rattle.tape_tool.specs.Showing.{ending_of, told_with, Shows, StopsShowing}
-use Rattle.tape_tool.specs.Showing.{ShowsDamaged, StopsSalvaging}
+use Rattle.tape_tool.specs.StageReport.{ending_of, told_with, Shows, StopsShowing}
+use Rattle.tape_tool.specs.StageReport.{ShowsDamaged, StopsSalvaging}
 
 -- both lines, for a stage that is damaged there or intact
 abbrev pub told_of : Point → Option ℕ → ℕ → List ℕ

@@ -13,8 +13,8 @@ use Rattle.tape_tool.specs.declared.fault.ToolFault.{ToolFault}
 use Rattle.tape_tool.specs.declared.fault.ToolFault.TheVariants.{File}
 use Rattle.tape_tool.specs.declared.stage.ending.StageEnding.{StageEnding}
 use Rattle.tape_tool.specs.declared.stage.ending.StageEnding.TheVariants.{Whole, Broken}
-use Rattle.tape_tool.specs.declared.unfit.Unfit.{Unfit}
-use Rattle.tape_tool.specs.declared.unfit.Unfit.TheVariants as unfits
+use Rattle.tape_tool.specs.declared.refusal.Refusal.{Refusal}
+use Rattle.tape_tool.specs.declared.refusal.Refusal.TheVariants as unfits
 use Rattle.tape_tool.specs.Fault.{no_memory, of_engine}
 
 -- the exit status of each end
@@ -76,7 +76,7 @@ abbrev pub IsWrongWords : End → Type 0
 IsWrongWords end = (end ≡ WrongWords) ⊎ (end ≡ Faulted no_memory)
 
 -- how a command ends that is not started, for this reason
-abbrev pub IsUnfitEnd : Unfit → End → Type 0
-IsUnfitEnd (unfits.Words _) end = IsWrongWords end
-IsUnfitEnd (unfits.NoText _ _) end = IsWrongWords end
-IsUnfitEnd (unfits.Faulted fault) end = end ≡ Faulted fault
+abbrev pub IsRefusalEnd : Refusal → End → Type 0
+IsRefusalEnd (unfits.Words _) end = IsWrongWords end
+IsRefusalEnd (unfits.NoText _ _) end = IsWrongWords end
+IsRefusalEnd (unfits.Faulted fault) end = end ≡ Faulted fault

@@ -1,10 +1,10 @@
 pub mod Fault
 pub mod Guards
-pub mod Telling
+pub mod Diagnostics
 pub mod Ends
 pub mod Cases
 pub mod Staging
-pub mod Showing
+pub mod StageReport
 pub mod CasesOfShowing
 pub mod Report
 pub mod Names

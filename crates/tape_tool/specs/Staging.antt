@@ -5,9 +5,9 @@ use Rattle.tape_core.specs.Crash.{OnlyThis}
 use Rattle.tape_core.specs.Point.{Point}
 use Rattle.tape_core.specs.Table.{saved, reader_of}
 use Rattle.tape_core.specs.declared.sink.PartSink as sinks
-use Rattle.tape_run.specs.Lives.{IsResumed}
+use Rattle.tape_run.specs.CrashRuns.{IsResumed}
 use Rattle.tape_run.specs.Seen.{seen}
-use Rattle.tape_run.specs.Story.{Story}
+use Rattle.tape_run.specs.SessionState.{SessionState}
 use Rattle.tape_stage.specs.Faults.{SaysNone, IsNotDevice}
 use Rattle.tape_stage.specs.Staged.{Staged, HoldsNone}
 use Rattle.tape_stage.specs.Stages.{Holds, Returns, Survives, Returned, Survived, crashes_of}
@@ -36,7 +36,7 @@ as_sink = record {
 -- The session is at the checkpoint. Its stage contains exactly these parts, and whatever a crash
 -- leaves of it, now or from this moment on, represents this checkpoint and these parts.
 pub record StandsAt {D : Type 0} {disk : Ghosts D} (point : Point) (parts : List Portion)
-    (session : Story (Stage D disk)) : Type 0 where
+    (session : SessionState (Stage D disk)) : Type 0 where
   pub resumed : IsResumed point parts (seen as_sink session parts)
   pub holds : Holds session.sink parts
   pub only : OnlyThis point parts (λ back there. Returns session.sink back there)
@@ -47,7 +47,7 @@ pub record StandsAt {D : Type 0} {disk : Ghosts D} (point : Point) (parts : List
 
 -- The session is at the checkpoint that was read, with its parts, and this is one of the file.
 pub record GoesOn {D : Type 0} {disk : Ghosts D} (set_id : List ℕ) (file : ℕ) (read : List ℕ)
-    (session : Story (Stage D disk)) : Type 0 where
+    (session : SessionState (Stage D disk)) : Type 0 where
   pub generation : ℕ
   pub point : Point
   pub parts : List Portion

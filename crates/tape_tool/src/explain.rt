@@ -15,7 +15,7 @@ use tape_writer::Prefix;
 
 /// What the program was working on when a fault occurred, as far as it knows.
 #[derive(Clone, Copy, PartialEq, Eq)]
-pub enum Site<'a> {
+pub enum FaultSite<'a> {
     /// Unknown.
     Unknown,
     /// Its lines on standard output.
@@ -44,15 +44,15 @@ pub enum Site<'a> {
     Folder(&'a str),
 }
 
-impl fmt::Display for Site<'_> {
+impl fmt::Display for FaultSite<'_> {
     fn fmt<W: fmt::Write>(&self, f: &mut fmt::Formatter<W>) -> fmt::Result {
         match self {
-            Site::Unknown => Ok(()),
-            Site::Volume(folder, prefix, number) => {
+            FaultSite::Unknown => Ok(()),
+            FaultSite::Volume(folder, prefix, number) => {
                 let [a, b, c] = prefix.characters.map(char::from);
                 write!(f, "  Image: {folder}/{a}{b}{c}{number:03}.tap")
             }
-            Site::Listed(number) => write!(f, "  Image: name {number} in the list"),
+            FaultSite::Listed(number) => write!(f, "  Image: name {number} in the list"),
             _ => {
                 let (kind, name) = self.named();
                 write!(f, "  {kind}: {name}")
@@ -61,19 +61,19 @@ impl fmt::Display for Site<'_> {
     }
 }
 
-impl<'a> Site<'a> {
+impl<'a> FaultSite<'a> {
     /// The kind of the site, and its name.
     fn named(&self) -> (&'static str, &'a str) {
         match *self {
-            Site::Unknown | Site::Volume(_, _, _) | Site::Listed(_) => ("", ""),
-            Site::Lines => ("Output", "standard output"),
-            Site::Stdin => ("Image", "standard input"),
-            Site::Image(path) => ("Image", path),
-            Site::Input(word) => ("Input", word),
-            Site::List(path) => ("List", path.unwrap_or("standard input")),
-            Site::Out(path) | Site::New(path) => ("OUT", path),
-            Site::Stage(path) => ("Stage", path),
-            Site::Folder(path) | Site::Images(path) => ("DIR", path),
+            FaultSite::Unknown | FaultSite::Volume(_, _, _) | FaultSite::Listed(_) => ("", ""),
+            FaultSite::Lines => ("Output", "standard output"),
+            FaultSite::Stdin => ("Image", "standard input"),
+            FaultSite::Image(path) => ("Image", path),
+            FaultSite::Input(word) => ("Input", word),
+            FaultSite::List(path) => ("List", path.unwrap_or("standard input")),
+            FaultSite::Out(path) | FaultSite::New(path) => ("OUT", path),
+            FaultSite::Stage(path) => ("Stage", path),
+            FaultSite::Folder(path) | FaultSite::Images(path) => ("DIR", path),
         }
     }
 }
@@ -82,7 +82,7 @@ impl<'a> Site<'a> {
 #[derive(Clone, Copy)]
 pub struct Explanation<'a> {
     pub fault: ToolFault,
-    pub site: Site<'a>,
+    pub site: FaultSite<'a>,
     /// The system's message about the file, if there is one.
     pub reason: Option<io::Error>,
 }
@@ -91,7 +91,7 @@ impl fmt::Display for Explanation<'_> {
     fn fmt<W: fmt::Write>(&self, f: &mut fmt::Formatter<W>) -> fmt::Result {
         let text = text_of(self.fault, self.site);
         let site = site_of(self.fault, self.site);
-        if text != NO_MEMORY && is_at(self.fault, site) && site != Site::Unknown {
+        if text != NO_MEMORY && is_at(self.fault, site) && site != FaultSite::Unknown {
             write!(f, "{site}")?;
             if let Some(reason) = self.reason {
                 write!(f, ": {reason}")?;
@@ -103,30 +103,31 @@ impl fmt::Display for Explanation<'_> {
 }
 
 /// The site of a fault: the directory of `unpack` has a stage for each file.
-fn site_of<'a>(fault: ToolFault, site: Site<'a>) -> Site<'a> {
+fn site_of<'a>(fault: ToolFault, site: FaultSite<'a>) -> FaultSite<'a> {
     let is_stage = matches!(
         fault,
         ToolFault::Stage(_) | ToolFault::StageInUse | ToolFault::Run(RunFault::OtherFile)
     );
     match site {
-        Site::Folder(_) if is_stage => Site::Stage(STAGE_OF_FAILED),
+        FaultSite::Folder(_) if is_stage => FaultSite::Stage(STAGE_OF_FAILED),
         _ => site,
     }
 }
 
 /// Whether the fault is one of the file being worked on.
-fn is_at(fault: ToolFault, site: Site<'_>) -> bool {
+fn is_at(fault: ToolFault, site: FaultSite<'_>) -> bool {
     match (fault, site) {
-        (ToolFault::Run(_), Site::Stage(_)) => true,
+        (ToolFault::Run(_), FaultSite::Stage(_)) => true,
         (ToolFault::Run(_), _) => false,
         _ => true,
     }
 }
 
 /// Returns the explanation: what happened, what was kept, and what to do next.
-pub fn text_of(fault: ToolFault, site: Site<'_>) -> &'static str {
+pub fn text_of(fault: ToolFault, site: FaultSite<'_>) -> &'static str {
     match fault {
-        ToolFault::Image(_) if matches!(site, Site::New(_) | Site::Lines) => MERGED_TOO_LONG,
+        ToolFault::Image(_) if matches!(site, FaultSite::New(_) | FaultSite::Lines) =>
+            MERGED_TOO_LONG,
         ToolFault::Image(fault) => image_text(fault),
         ToolFault::Label(fault) => nth(LABEL, fault.number()),
         ToolFault::Write(fault) => nth(WRITE, number_of_write(fault)),
@@ -149,18 +150,18 @@ fn image_text(fault: ImageFault) -> &'static str {
 }
 
 /// The texts for faults of a file, by its site.
-fn files_at(site: Site<'_>) -> &'static [&'static str] {
+fn files_at(site: FaultSite<'_>) -> &'static [&'static str] {
     match site {
-        Site::Stdin | Site::Image(_) | Site::Listed(_) => FILE_OF_IMAGE,
-        Site::Volume(_, _, _) => FILE_OF_VOLUME,
-        Site::List(_) => FILE_OF_LIST,
-        Site::Out(_) => FILE_OF_OUT,
-        Site::New(_) => FILE_OF_NEW,
-        Site::Stage(_) => FILE_OF_STAGE,
-        Site::Folder(_) => FILE_OF_FOLDER,
-        Site::Lines => FILE_OF_LINES,
-        Site::Input(_) => FILE_OF_INPUT,
-        Site::Images(_) | Site::Unknown => FILE_OF_IMAGES,
+        FaultSite::Stdin | FaultSite::Image(_) | FaultSite::Listed(_) => FILE_OF_IMAGE,
+        FaultSite::Volume(_, _, _) => FILE_OF_VOLUME,
+        FaultSite::List(_) => FILE_OF_LIST,
+        FaultSite::Out(_) => FILE_OF_OUT,
+        FaultSite::New(_) => FILE_OF_NEW,
+        FaultSite::Stage(_) => FILE_OF_STAGE,
+        FaultSite::Folder(_) => FILE_OF_FOLDER,
+        FaultSite::Lines => FILE_OF_LINES,
+        FaultSite::Input(_) => FILE_OF_INPUT,
+        FaultSite::Images(_) | FaultSite::Unknown => FILE_OF_IMAGES,
     }
 }
 

@@ -4,16 +4,16 @@ ghost use Rattle.std.specs.Prelude.{⊤, length, ◌≡◌, ◌++◌, ◌∷◌,
 ghost use Rattle.std.specs.Prelude.{IfSome};
 ghost use Rattle.tape_tool.specs.Names.{end_byte, is_name, names_in, pieces_of as cut};
 
-use crate::explain::Site;
+use crate::explain::FaultSite;
 use crate::fault::{FileFault, OUT_OF_MEMORY};
 use crate::help;
-use crate::unfit::{Unfit, refused};
+use crate::refusal::{Refusal, refused};
 use std::alloc::{AllocError, Global};
 use std::fs::{File, Files};
 use std::io::{BufReader, ErrorKind, Read};
 use std::rt::Runtime;
 use tape_label::Field;
-use tape_run::{SectionKey, Shelf, ShelfFiles};
+use tape_run::{FoundFiles, ImageSource, SectionKey};
 
 /// The source of the names of a run's images.
 #[derive(Drop)]
@@ -44,34 +44,34 @@ pub fn names_of<'t, 'a: 't, R: Runtime + AllocGlobal>(
     rt: &R,
     named: &Named<'a>,
     text: &'t mut String,
-    site: &mut Site<'a>,
-) -> Result<Vec<&'t str>, Unfit> {
+    site: &mut FaultSite<'a>,
+) -> Result<Vec<&'t str>, Refusal> {
     let mut null = false;
     if let Some(list) = named.list {
-        *site = Site::List(list.file);
+        *site = FaultSite::List(list.file);
         *text = read_list(rt, list)?;
         null = list.null;
     }
     match all_names(rt.alloc(), named.words.as_slice(), text.as_str(), null) {
-        Ok(names) if names.is_empty() => Err(Unfit::Words(help::NO_IMAGE)),
+        Ok(names) if names.is_empty() => Err(Refusal::Words(help::NO_IMAGE)),
         Ok(names) => Ok(names),
         Err(_) => Err(no_memory()),
     }
 }
 
 /// The text of a list.
-fn read_list<R: Runtime + AllocGlobal>(rt: &R, list: List<'_>) -> Result<String, Unfit> {
+fn read_list<R: Runtime + AllocGlobal>(rt: &R, list: List<'_>) -> Result<String, Refusal> {
     match String::from_utf8(bytes_of(rt, list)?) {
         Err(error) => {
             let place = error.utf8_error().valid_up_to();
-            Err(Unfit::NoText(list.null, number_at(error.as_bytes(), list.null, place)))
+            Err(Refusal::NoText(list.null, number_at(error.as_bytes(), list.null, place)))
         }
         // No file name contains one.
         Ok(text) if !list.null && text.as_str().contains('\0') => {
-            Err(Unfit::Words(help::NUL_IN_LINES))
+            Err(Refusal::Words(help::NUL_IN_LINES))
         }
         Ok(text) if !list.null && is_of_windows(text.as_str()) => {
-            Err(Unfit::Words(help::ODD_LINES))
+            Err(Refusal::Words(help::ODD_LINES))
         }
         Ok(text) => Ok(text),
     }
@@ -84,7 +84,7 @@ fn is_of_windows(text: &str) -> bool {
 }
 
 /// The bytes of a list.
-fn bytes_of<R: Runtime + AllocGlobal>(rt: &R, list: List<'_>) -> Result<Vec<u8>, Unfit> {
+fn bytes_of<R: Runtime + AllocGlobal>(rt: &R, list: List<'_>) -> Result<Vec<u8>, Refusal> {
     let Some(path) = list.file else {
         return read_all(rt.alloc(), &mut rt.reader());
     };
@@ -95,7 +95,7 @@ fn bytes_of<R: Runtime + AllocGlobal>(rt: &R, list: List<'_>) -> Result<Vec<u8>,
 }
 
 /// Reads all that is left of a reader.
-fn read_all<D: Read>(alloc: Global, device: &mut D) -> Result<Vec<u8>, Unfit>
+fn read_all<D: Read>(alloc: Global, device: &mut D) -> Result<Vec<u8>, Refusal>
     ensures { IfOk result (λ bytes.
         IfSome (D.remaining device.old) (λ left. bytes.items ≡ left)) }
 {
@@ -166,8 +166,8 @@ fn end_of(null: bool) -> char
 }
 
 /// An allocation was refused.
-fn no_memory() -> Unfit {
-    Unfit::Faulted(OUT_OF_MEMORY)
+fn no_memory() -> Refusal {
+    Refusal::Faulted(OUT_OF_MEMORY)
 }
 
 /// Returns the names in the order in which the images of a file are read: first those on which its
@@ -176,7 +176,7 @@ fn no_memory() -> Unfit {
 pub fn in_reading_order<'n>(
     alloc: Global,
     names: &[&'n str],
-    met: &ShelfFiles,
+    met: &FoundFiles,
     key: (Field<6>, u16),
     all: bool,
 ) -> Result<Vec<&'n str>, AllocError> {
@@ -239,7 +239,7 @@ impl<'a, R: Runtime + AllocGlobal> Images<'a, R> {
     }
 }
 
-impl<'a, R: Runtime + AllocGlobal> Shelf<BufReader<<R as Files>::File>> for Images<'a, R> {
+impl<'a, R: Runtime + AllocGlobal> ImageSource<BufReader<<R as Files>::File>> for Images<'a, R> {
     ghost size = { λ images. length images.names.now };
 
     ghost gives = { λ _ _ _ _. ⊤ };

@@ -6,13 +6,13 @@ mod program;
 mod words;
 
 // How it ends.
+mod diagnostics;
 mod fault;
-mod telling;
 
 // Its texts.
+mod command_spec;
 mod explain;
 mod help;
-mod outline;
 
 // One directory per command: its arguments, and its runner.
 mod check;
@@ -32,11 +32,11 @@ mod images;
 mod laws;
 mod left;
 mod odd_word;
+mod refusal;
 mod staging;
 mod streams;
 #[cfg(test)]
 mod tests;
-mod unfit;
 
 use std::process::ExitCode;
 

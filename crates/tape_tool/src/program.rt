@@ -2,13 +2,15 @@
 
 ghost use Rattle.std.specs.Prelude.{◌≡◌, ◌≢◌, Bool, true, false, None, IsSome, IfErr};
 ghost use Rattle.clap.specs.Words.{kind_of};
-ghost use Rattle.tape_tool.specs.Ends.{exit_status, no_words_end, words_end, IsUnfitEnd};
+ghost use Rattle.tape_tool.specs.Ends.{exit_status, no_words_end, words_end, IsRefusalEnd};
 ghost use Rattle.tape_tool.specs.Ends.{IsWrongWords, end_of, help_end, check_end, extract_end};
 ghost use Rattle.tape_tool.specs.Ends.{stage_end, damaged_end};
 ghost use Rattle.tape_tool.specs.Fault.{no_memory};
 
 use crate::check::check;
-use crate::explain::{Explanation, Site, reason_of};
+use crate::command_spec::{CommandSpec, mistake};
+use crate::diagnostics::FaultLine;
+use crate::explain::{Explanation, FaultSite, reason_of};
 use crate::extract::extract;
 use crate::fault::{FileFault, OUT_OF_MEMORY, ToolFault};
 use crate::help;
@@ -17,13 +19,11 @@ use crate::init::init;
 use crate::list::list;
 use crate::merge::{compare, merge};
 use crate::odd_word::odd_word;
-use crate::outline::{Outline, mistake};
+use crate::refusal::Refusal;
 use crate::salvage::salvage;
 use crate::stage::{StageEnding, stage};
 use crate::streams::keep_numbers;
 use crate::survey::survey;
-use crate::telling::FaultLine;
-use crate::unfit::Unfit;
 use crate::unpack::unpack;
 use crate::words::{Call, Order, call_of};
 use crate::write::run::write;
@@ -206,7 +206,7 @@ fn kept(words: Result<Vec<String>, AllocError>) -> Result<Vec<String>, End>
 pub struct Outcome<'a> {
     pub end: End,
     /// What the program was doing, for `--explain`.
-    pub explained: Option<Site<'a>>,
+    pub explained: Option<FaultSite<'a>>,
 }
 
 /// Reports how a call ended, and returns the exit status.
@@ -263,7 +263,7 @@ fn follow<'a, R: Host>(rt: &R, call: &Call<'a>) -> Outcome<'a>
     ensures plain { call.now.explained ≡ false → result.explained ≡ None }
     ensures explained { call.now.explained ≡ true → IsSome result.explained }
 {
-    let mut site = Site::Unknown;
+    let mut site = FaultSite::Unknown;
     let end = obey(rt, &call.order, &mut site);
     Outcome {
         end,
@@ -272,7 +272,7 @@ fn follow<'a, R: Host>(rt: &R, call: &Call<'a>) -> Outcome<'a>
 }
 
 /// Executes a command. On error, the site says where it occurred.
-fn obey<'a, R: Host>(rt: &R, order: &Order<'a>, site: &mut Site<'a>) -> End {
+fn obey<'a, R: Host>(rt: &R, order: &Order<'a>, site: &mut FaultSite<'a>) -> End {
     match order {
         Order::List(order) => list(rt, *order, site),
         Order::Init(order) => init(rt, order, site),
@@ -300,18 +300,18 @@ pub fn refuse<R: Print + Eprint>(rt: &R, error: &clap::Error) -> End
 }
 
 /// Ends a command that is not started, for this reason.
-pub fn refuse_unfit<R>(rt: &R, outline: &Outline, unfit: Unfit) -> End
+pub fn end_refused<R>(rt: &R, command_spec: &CommandSpec, refusal: Refusal) -> End
 where
     R: Print + Eprint + AllocGlobal,
-    ensures { IsUnfitEnd unfit result }
+    ensures { IsRefusalEnd refusal result }
 {
-    match unfit {
-        Unfit::Faulted(fault) => End::Faulted(fault),
-        Unfit::Words(text) => refuse_words(rt, outline, text),
-        Unfit::NoText(null, number) => {
+    match refusal {
+        Refusal::Faulted(fault) => End::Faulted(fault),
+        Refusal::Words(text) => refuse_words(rt, command_spec, text),
+        Refusal::NoText(null, number) => {
             let what = if null { "name" } else { "line" };
             match format!(in rt.alloc(); "{what} {number} {}", help::NO_TEXT_IN_LIST) {
-                Ok(text) => refuse_words(rt, outline, text.as_str()),
+                Ok(text) => refuse_words(rt, command_spec, text.as_str()),
                 Err(_) => End::Faulted(OUT_OF_MEMORY),
             }
         }
@@ -319,8 +319,12 @@ where
 }
 
 /// Reports a usage error that was found after parsing.
-fn refuse_words<R: Print + Eprint + AllocGlobal>(rt: &R, outline: &Outline, text: &str) -> End
+fn refuse_words<R: Print + Eprint + AllocGlobal>(
+    rt: &R,
+    command_spec: &CommandSpec,
+    text: &str,
+) -> End
     ensures { IsWrongWords result }
 {
-    refuse(rt, &mistake(rt.alloc(), outline, text))
+    refuse(rt, &mistake(rt.alloc(), command_spec, text))
 }

@@ -20,7 +20,7 @@ use tape_core::{Checkpoint, ReaderCore};
 use tape_label::Field;
 use tape_label::laws::same_field;
 use tape_run::{RunFault, Session};
-use tape_stage::{Disk, HeldFile, MemoryDisk, Refused, Stage, StageFault, held_file};
+use tape_stage::{BufferedFile, Disk, MemoryDisk, Refused, Stage, StageFault, buffered_file};
 use tape_writer::system::{LockFault, locked, sync_folder_of};
 
 /// Why there is no session over a stage.
@@ -192,10 +192,10 @@ fn resume<D: Disk>(
 /// new stage of this file, for example after the disk was full, gets a new stage.
 fn open_or_make(
     alloc: Global,
-    disk: HeldFile<File>,
+    disk: BufferedFile<File>,
     set_id: Field<6>,
     file: u16,
-) -> Result<FileSession, Refused<HeldFile<File>, StagingFault>> {
+) -> Result<FileSession, Refused<BufferedFile<File>, StagingFault>> {
     let Refused { mut disk, fault } = match open_session(alloc, disk, set_id, file) {
         Ok(session) => return Ok(session),
         Err(refused) => refused,
@@ -237,7 +237,7 @@ pub fn same_file(point: &Checkpoint, set_id: Field<6>, file: u16) -> bool
 }
 
 /// A session over the stage in a file.
-type FileSession = Session<Stage<HeldFile<File>>>;
+type FileSession = Session<Stage<BufferedFile<File>>>;
 
 /// Opens a session over the stage in the file at this path. If the file does not exist or is empty,
 /// a stage is created.
@@ -255,7 +255,7 @@ pub fn session_in<R: Host>(
     file: u16,
 ) -> Result<FileSession, ToolFault> {
     let kept = locked_file(rt, path)?;
-    let disk = match held_file(rt.alloc(), kept) {
+    let disk = match buffered_file(rt.alloc(), kept) {
         Ok(disk) => disk,
         Err(fault) => return Err(ToolFault::Stage(fault)),
     };

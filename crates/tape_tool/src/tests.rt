@@ -2,9 +2,9 @@
 mod again_program;
 mod calls;
 mod check_program;
-mod desk;
 mod explain;
 mod extract_program;
+mod fake_system;
 mod faults;
 mod guards;
 mod image;

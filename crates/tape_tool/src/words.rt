@@ -10,6 +10,7 @@ ghost use Rattle.tape_tool.specs.Words.{list_file, texts_of_one, IsNumber, IsFor
 ghost use Rattle.tape_tool.specs.Words.{NamesImages, IsDashOrMore};
 
 use crate::check::words::{CHECK, check_order};
+use crate::command_spec::{CommandSpec, command_of, mistake};
 use crate::extract::words::extract_order;
 pub use crate::extract::words::{EXTRACT, Extract, Task, set_id_of};
 use crate::help;
@@ -17,7 +18,6 @@ use crate::images::{List, Named};
 use crate::init::words::{INIT, Init, init_order};
 use crate::list::words::{LIST, Listing, list_order};
 use crate::merge::words::{COMPARE, MERGE, Merge, compare_order, merge_order};
-use crate::outline::{Outline, command_of, mistake};
 use crate::salvage::words::{SALVAGE, SalvageOrder, salvage_order};
 use crate::stage::words::{STAGE, StageOrder, stage_order};
 use crate::survey::words::{SURVEY, Survey, survey_order};
@@ -105,7 +105,7 @@ pub fn at_most_one<'a>(
 pub fn named<'a>(
     alloc: Global,
     matches: &ArgMatches<'a>,
-    outline: &Outline,
+    command_spec: &CommandSpec,
     too_many: &str,
 ) -> Result<Named<'a>, Error>
     ensures ok { IfOk result (NamesImages (rows_of (found_of matches.now))) }
@@ -114,7 +114,7 @@ pub fn named<'a>(
 {
     let words = matches.get_strs("IMAGE").unwrap_or(&[]);
     if words.len() > MOST_IMAGES {
-        return Err(mistake(alloc, outline, too_many));
+        return Err(mistake(alloc, command_spec, too_many));
     }
     Ok(Named {
         words: Vec::from_slice(alloc, words)?,
@@ -194,7 +194,7 @@ enum Verb {
 }
 
 /// The program. Its usage has the name that users know, whatever the file is called.
-const TAPE: Outline = Outline {
+const TAPE: CommandSpec = CommandSpec {
     name: "tape",
     called: "tape",
     about: help::ABOUT,
@@ -303,8 +303,8 @@ fn command<'a>(alloc: Global) -> Result<Command<'a>, AllocError> {
         &LIST, &CHECK, &SURVEY, &COMPARE, &MERGE, &EXTRACT, &UNPACK, &SALVAGE, &STAGE, &INIT,
         &WRITE,
     ];
-    for outline in &outlines {
-        tape = tape.subcommand(command_of(alloc, *outline)?)?;
+    for command_spec in &outlines {
+        tape = tape.subcommand(command_of(alloc, *command_spec)?)?;
     }
     Ok(tape)
 }

@@ -4,7 +4,7 @@ use Rattle.std.proofs.Common.{arith, codes}
 use Rattle.std.specs.Prelude.{Ok, Option, Some, None, slice_index, option_map}
 use Rattle.std.specs.Fmt.{digits}
 use Rattle.tape_run.specs.declared.survey.files.FileNote.{FileNote}
-use Rattle.tape_run.specs.declared.survey.view.Sight.{Sight}
+use Rattle.tape_run.specs.declared.survey.view.ImageSurvey.{ImageSurvey}
 use Rattle.tape_run.specs.declared.unpack.line.UnpackOutcome.TheVariants as outcomes
 use Rattle.tape_run.specs.Reeling.{Mounting}
 use Rattle.tape_run.specs.SurveyFiles.{note_at, file_key}
@@ -12,7 +12,7 @@ use Rattle.tape_run.specs.SurveyRead.{Found, nothing_found, AreViewed}
 use Rattle.tape_run.specs.Unpacking as unpacking
 use Rattle.tape_run.specs.UnpackLine as lines
 use Rattle.tape_run.proofs.unpack.add_files.Reads as add_files
-use Rattle.tape_run.proofs.unpack.files_on.Reads as files_on
+use Rattle.tape_run.proofs.unpack.find_files.Reads as find_files
 use Rattle.tape_run.proofs.unpack.set_of.Reads as set_of
 use Rattle.tape_run.proofs.unpack.name.file_name.Reads as file_name
 use Rattle.tape_run.proofs.unpack.line.file_line.Reads as file_line
@@ -69,14 +69,14 @@ left_over_not_told κs z s h w =
 
 -- of no image nothing was found
 none_found : {L R : Type 0} (gives : Mounting L R) (remaining : R → Option (List ℕ))
-    (shelf left : L) (sights : List (Option Sight)) (d : Found) → length sights ≡ 0
+    (shelf left : L) (sights : List (Option ImageSurvey)) (d : Found) → length sights ≡ 0
     → AreViewed gives remaining shelf 0 sights nothing_found left d → d ≡ nothing_found
 none_found gives remaining shelf left [] d none (same, found) = found
 none_found gives remaining shelf left (s ∷ sights) d none are = absurd (omega (arith, none))
 
 -- left_over_turned: there is no image, and something on the images is told to be left over
 left_over_turned : (R : _) (L : _) (LR : _) (LL : _) (g : _) (d : _) (h : _) (i : _) (j : _)
-    (κs : _) (a : _) (met : _) (s : _) → files_on.Learnt-named R L LR LL g d h i j κs a (Ok met) s
+    (κs : _) (a : _) (met : _) (s : _) → find_files.Learnt-named R L LR LL g d h i j κs a (Ok met) s
     → h.size a.1.0.now ≡ 0 → met.whole ≡ false → ⊥
 left_over_turned R L LR LL g d h i j κs a met s l empty told =
     let f = l.ok in

@@ -7,7 +7,7 @@ ghost use Rattle.tape_run.specs.Causes.{ExtractFails, IsCalm};
 ghost use Rattle.tape_run.specs.Reeling.{goes_back};
 ghost use Rattle.tape_run.specs.Rounds.{TakesRounds, StopsInRound};
 
-use crate::extract::images::{Shelf, read_round};
+use crate::extract::images::{ImageSource, read_round};
 use crate::extract::{end_file, has_note};
 use crate::fault::EngineFault;
 use crate::session::Session;
@@ -28,7 +28,7 @@ use tape_set::Want;
 /// # Errors
 ///
 /// The errors are those of `extract_to`.
-pub fn extract_again<S: PartWalk, R: Read + Drop, L: Shelf<R>, W: Write, P: Write>(
+pub fn extract_in_passes<S: PartWalk, R: Read + Drop, L: ImageSource<R>, W: Write, P: Write>(
     session: &mut Session<S>,
     images: &mut L,
     form: Form,
@@ -55,7 +55,7 @@ pub fn extract_again<S: PartWalk, R: Read + Drop, L: Shelf<R>, W: Write, P: Writ
 
 /// Opens the images in their order, pass by pass, until a pass was the last. `back` says whether
 /// the session rolls back after a suspect reel.
-fn read_rounds<S: PartSink, R: Read + Drop, L: Shelf<R>, P: Write>(
+fn read_rounds<S: PartSink, R: Read + Drop, L: ImageSource<R>, P: Write>(
     session: &mut Session<S>,
     images: &mut L,
     back: bool,

@@ -6,12 +6,12 @@ ghost use Rattle.tape_set.specs.declared.position.Position.TheVariants.{Finished
 ghost use Rattle.tape_run.specs.Causes.{ExtractFails, IsCalm};
 ghost use Rattle.tape_run.specs.Crash.{KeepsLast, LeavesStep};
 ghost use Rattle.tape_run.specs.Seen.{IsKept, IfSeen, IsSeen};
-ghost use Rattle.tape_run.specs.Reeling.{Takes, TakesAll, StopsReading, IsReported, is_doubtful};
+ghost use Rattle.tape_run.specs.Reeling.{Takes, TakesAll, StopsReading, IsReported, counts_differ};
 ghost use Rattle.tape_run.specs.Reeling.{IsNoted, WentToLast, IsKeptFor, Mounting, Took};
 
 use crate::extract::line::ReelLine;
 use crate::fault::{EngineFault, NO_MEMORY, RunFault};
-use crate::intake::ReelAnswer;
+use crate::reel_reader::ReelAnswer;
 use crate::session::Session;
 use crate::text::write_line;
 use std::alloc::AllocError;
@@ -19,7 +19,7 @@ use std::io::{Read, Write};
 use tape_core::{Answer, PartSink, Reason};
 
 /// A source of images, each of which is opened by its number.
-pub trait Shelf<R: Read> {
+pub trait ImageSource<R: Read> {
     /// The number of images.
     ghost size: { Self → ℕ };
 
@@ -41,7 +41,7 @@ pub trait Shelf<R: Read> {
 }
 
 /// Readers are a source that yields each of them once.
-impl<R: Read> Shelf<R> for Vec<Option<R>> {
+impl<R: Read> ImageSource<R> for Vec<Option<R>> {
     ghost size = { λ readers. length readers.items };
 
     ghost gives = { λ old number image new. Took old.items number image new.items };
@@ -61,7 +61,7 @@ impl<R: Read> Shelf<R> for Vec<Option<R>> {
 /// Opens the images in order until the file is complete. `back` says whether the session rolls back
 /// after a suspect reel, `spares` whether it saves no checkpoint if its last one has the same
 /// position.
-pub fn read_images<S: PartSink, R: Read + Drop, L: Shelf<R>, P: Write>(
+pub fn read_images<S: PartSink, R: Read + Drop, L: ImageSource<R>, P: Write>(
     session: &mut Session<S>,
     images: &mut L,
     back: bool,
@@ -83,7 +83,7 @@ pub fn read_images<S: PartSink, R: Read + Drop, L: Shelf<R>, P: Write>(
 }
 
 /// Opens `count` images in order until the file is complete. `lines` lines precede theirs.
-pub fn read_round<S: PartSink, R: Read + Drop, L: Shelf<R>, P: Write>(
+pub fn read_round<S: PartSink, R: Read + Drop, L: ImageSource<R>, P: Write>(
     session: &mut Session<S>,
     images: &mut L,
     count: usize,
@@ -180,7 +180,7 @@ fn settle<S: PartSink>(
 ) -> Result<bool, RunFault>
     ensures ok { IfOk result (λ noted. IfSeen S.PartSink session.old (λ old. IsKeptFor back old
         → IsSeen S.PartSink session.new (λ new.
-        IsNoted back spares (is_doubtful answer.now.answer) noted old new
+        IsNoted back spares (counts_differ answer.now.answer) noted old new
         × KeepsLast S.PartSink session.old old.parts session.new new.parts))) }
     ensures left { OnErr result (IfSeen S.PartSink session.old (λ old. IsKeptFor back old
         → LeavesStep S.PartSink back session.old old.parts session.new)) }
@@ -188,7 +188,7 @@ fn settle<S: PartSink>(
         ExtractFails S.PartSink back (EngineFault.Run fault) session.old session.new) }
     ensures calm { OnOk result (IsCalm S.PartSink session.old session.new) }
 {
-    if back && is_doubtful(answer) {
+    if back && counts_differ(answer) {
         go_back(session)?;
         return Ok(false);
     }
@@ -221,10 +221,10 @@ fn note<S: PartSink>(
     answer: &ReelAnswer,
     spares: bool,
 ) -> Result<bool, RunFault>
-    ensures doubtful { is_doubtful answer.now.answer ≡ true → session.new ≡ session.old }
+    ensures doubtful { counts_differ answer.now.answer ≡ true → session.new ≡ session.old }
     ensures ok { IfOk result (λ noted. IfSeen S.PartSink session.old (λ old.
         IsSeen S.PartSink session.new (λ new.
-        IsNoted false spares (is_doubtful answer.now.answer) noted old new
+        IsNoted false spares (counts_differ answer.now.answer) noted old new
         × KeepsLast S.PartSink session.old old.parts session.new new.parts))) }
     ensures left { OnErr result ((back : Bool) → IfSeen S.PartSink session.old (λ old.
         LeavesStep S.PartSink back session.old old.parts session.new)) }
@@ -232,7 +232,7 @@ fn note<S: PartSink>(
         ExtractFails S.PartSink back (EngineFault.Run fault) session.old session.new) }
     ensures calm { OnOk result (IsCalm S.PartSink session.old session.new) }
 {
-    if is_doubtful(answer) {
+    if counts_differ(answer) {
         return Ok(false);
     }
     let noted = session.is_noted();
@@ -244,8 +244,8 @@ fn note<S: PartSink>(
 }
 
 /// Whether the trailer label of the reel, or of a reel before it, counted other blocks.
-fn is_doubtful(answer: &ReelAnswer) -> bool
-    ensures { result ≡ is_doubtful answer.now.answer }
+fn counts_differ(answer: &ReelAnswer) -> bool
+    ensures { result ≡ counts_differ answer.now.answer }
 {
     matches!(
         answer.answer,

@@ -5,7 +5,7 @@ ghost use Rattle.arrayvec.specs.ArrayString.{array_string_len};
 ghost use Rattle.tape_run.specs.ReelLine.{answer_text, end_text, reason_text, reel_line};
 ghost use Rattle.tape_run.specs.ReelLine.{part_text, awaits_line, complete_line, last_line};
 
-use crate::intake::ReelAnswer;
+use crate::reel_reader::ReelAnswer;
 use crate::text::push_decimal;
 use arrayvec::ArrayString;
 use std::fmt;

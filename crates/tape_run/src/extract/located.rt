@@ -11,11 +11,11 @@ ghost use Rattle.tape_run.specs.GoesBehind.{EndsSection};
 ghost use Rattle.tape_run.specs.OutSinks.{TellsAlways};
 ghost use Rattle.tape_run.specs.declared.fault.EngineFault.TheVariants as engine;
 
-use crate::extract::images::Shelf;
+use crate::extract::images::ImageSource;
 use crate::extract::now::Place;
 use crate::extract::out_sink::OutSink;
 use crate::fault::{EngineFault, NO_MEMORY, RunFault};
-use crate::intake::ReelAnswer;
+use crate::reel_reader::ReelAnswer;
 use crate::section::SectionKey;
 use crate::session::Session;
 use crate::survey::files::FileKey;
@@ -50,7 +50,7 @@ pub struct Mounted<R> {
 /// Returns `Run` with the fault of a reel, with `OutOfMemory` if there was no memory to open an
 /// image, or with `Sink(Failed)` if a record is left unfinished; `WriteFailed` if the output could
 /// not be placed. What has the output's name did not change.
-pub fn extract_located<W: Write + Drop, R: Read + Drop, L: Shelf<R>, O: Place<W>>(
+pub fn extract_located<W: Write + Drop, R: Read + Drop, L: ImageSource<R>, O: Place<W>>(
     session: Session<OutSink<W>>,
     images: &mut L,
     mounted: &mut Option<Mounted<R>>,
@@ -79,7 +79,7 @@ pub fn extract_located<W: Write + Drop, R: Read + Drop, L: Shelf<R>, O: Place<W>
 
 /// Reads the sections of the session's file, each from the image on which it begins. Returns
 /// whether the file is complete.
-fn read_sections<S: PartSink, R: Read + Drop, L: Shelf<R>>(
+fn read_sections<S: PartSink, R: Read + Drop, L: ImageSource<R>>(
     session: &mut Session<S>,
     images: &mut L,
     mounted: &mut Option<Mounted<R>>,
@@ -114,7 +114,7 @@ fn read_sections<S: PartSink, R: Read + Drop, L: Shelf<R>>(
 
 /// Reads a section from an image: from the current position if this image is open and an earlier
 /// file of the set left it there, otherwise from its start. Returns the image, if a section ended.
-fn read_section<S: PartSink, R: Read + Drop, L: Shelf<R>>(
+fn read_section<S: PartSink, R: Read + Drop, L: ImageSource<R>>(
     session: &mut Session<S>,
     images: &mut L,
     held: Option<Mounted<R>>,

@@ -6,7 +6,7 @@ ghost use Rattle.tape_run.specs.OutSinks.{TellsAlways};
 ghost use Rattle.tape_run.specs.ExtractingNow.{ExtractsNow, StopsNow};
 
 use crate::extract::end_report;
-use crate::extract::images::{Shelf, read_images};
+use crate::extract::images::{ImageSource, read_images};
 use crate::extract::out_sink::OutSink;
 use crate::fault::{EngineFault, WriteFailed};
 use crate::session::Session;
@@ -45,7 +45,7 @@ pub trait Place<W: Write> {
 /// `WriteFailed` if the output or the report failed. What was reported is a prefix of such a
 /// report. What has the output's name is unchanged, or the file is complete, and its records have
 /// the name.
-pub fn extract_now<W: Write + Drop, R: Read + Drop, L: Shelf<R>, O: Place<W>, P: Write>(
+pub fn extract_streaming<W: Write + Drop, R: Read + Drop, L: ImageSource<R>, O: Place<W>, P: Write>(
     session: Session<OutSink<W>>,
     images: &mut L,
     form: Form,

@@ -20,7 +20,7 @@ use super::{MergeFault, Merged, merge_items};
 use crate::catalogue::stop_at;
 use crate::check::pass_on;
 use crate::extract::Place;
-use crate::extract::images::Shelf;
+use crate::extract::images::ImageSource;
 use crate::fault::WriteFailed;
 use crate::section::ImageStop;
 use crate::text::flush;
@@ -89,7 +89,7 @@ fn write_stop(fault: ImageWriteFault, size: u64) -> MergeStop
 /// `NotOpened` before anything is read; `OutOfMemory`; `WriteFailed` if `out`, its place or the
 /// report failed; `TooLong`. The place was not touched, unless placing `out` failed, which changes
 /// nothing there, or the last line could not be written.
-pub fn merge_now<R: Read + Drop, L: Shelf<R>, W: Write + Drop, O: Place<W>, P: Write>(
+pub fn merge_now<R: Read + Drop, L: ImageSource<R>, W: Write + Drop, O: Place<W>, P: Write>(
     alloc: Global,
     images: &mut L,
     names: &[&str],
@@ -111,7 +111,7 @@ pub fn merge_now<R: Read + Drop, L: Shelf<R>, W: Write + Drop, O: Place<W>, P: W
 }
 
 /// Mounts all images.
-fn mount_all<R: Read + Drop, L: Shelf<R>>(
+fn mount_all<R: Read + Drop, L: ImageSource<R>>(
     alloc: Global,
     images: &mut L,
 ) -> Result<Vec<R>, MergeStop>

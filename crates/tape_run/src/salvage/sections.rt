@@ -7,7 +7,7 @@ ghost use Rattle.tape_run.specs.SalvageTaking.{form_for, has_form, TakesSection,
 ghost use Rattle.tape_run.specs.SalvageTaking.{TakesFile};
 ghost use Rattle.tape_run.specs.declared.salvage.ending.SectionEnd.TheVariants.{FileEnds};
 
-use crate::extract::images::Shelf;
+use crate::extract::images::ImageSource;
 use crate::fault::{EngineFault, NO_MEMORY};
 use crate::salvage::Content;
 use crate::salvage::copies::{SectionCopy, best_copy, form_of_file, last_section};
@@ -26,7 +26,7 @@ use tape_image::ImageReader;
 /// # Errors
 ///
 /// `Run(OutOfMemory)`; `WriteFailed` if a record or the report can't be written.
-pub fn recover_sections<W: Write, R: Read + Drop, L: Shelf<R>, P: Write>(
+pub fn recover_sections<W: Write, R: Read + Drop, L: ImageSource<R>, P: Write>(
     alloc: Global,
     copies: &[SectionCopy],
     content: Content,
@@ -78,7 +78,7 @@ fn has_form(content: Content, form: &Option<Known>) -> bool
 }
 
 /// Recovers a section, and returns how it ended.
-fn recover<W: Write, R: Read + Drop, L: Shelf<R>, P: Write>(
+fn recover<W: Write, R: Read + Drop, L: ImageSource<R>, P: Write>(
     alloc: Global,
     copies: &[SectionCopy],
     content: Content,

@@ -13,7 +13,7 @@ ghost use Rattle.tape_run.specs.Steps.{Refuses};
 
 use super::{Session, counted};
 use crate::fault::RunFault;
-use crate::intake::ReelAnswer;
+use crate::reel_reader::ReelAnswer;
 use crate::survey::files::FileKey;
 use std::io::Read;
 use tape_core::{Answer, PartSink};
@@ -57,15 +57,15 @@ impl<S: PartSink> Session<S> {
             self.new.core.position ≡ Position.Finished → answer.answer ≡ Answer.Complete) }
         ensures crash { BringsNoMore S.PartSink self.old.sink self.new.sink }
     {
-        if self.intake.core.want().is_none() {
+        if self.reel_reader.core.want().is_none() {
             return Ok(ReelAnswer::new(Answer::Complete, None, 0));
         }
         let Ok(buffer) = ImageBuffer::new(self.alloc) else {
             return Err(RunFault::OutOfMemory);
         };
         let mut image = ImageReader::over(buffer, device);
-        self.intake.core.mount_behind();
-        let read = self.intake.read(&mut image);
+        self.reel_reader.core.mount_behind();
+        let read = self.reel_reader.read(&mut image);
         image.into_device();
         match read {
             Ok(answer) => {
@@ -81,7 +81,7 @@ impl<S: PartSink> Session<S> {
         ensures set_id { result.set_id ≡ self.now.core.set_id }
         ensures file { result.file ≡ self.now.core.file }
     {
-        let point = self.intake.core.save(0);
+        let point = self.reel_reader.core.save(0);
         FileKey {
             set_id: point.set_id,
             file: point.file,

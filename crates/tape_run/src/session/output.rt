@@ -32,6 +32,6 @@ impl<S: PartWalk> Session<S> {
         ensures cause { IfErr result (WritingFails S.holds S.refusals self.old.sink self.new.sink) }
         ensures calm { OnOk result (S.refusals self.new.sink ≡ S.refusals self.old.sink) }
     {
-        write_file(&mut self.intake.sink, form, out)
+        write_file(&mut self.reel_reader.sink, form, out)
     }
 }

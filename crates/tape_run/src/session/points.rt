@@ -16,7 +16,7 @@ impl<S: PartSink> Session<S> {
         ensures no { OnFalse result (IfSeen S.PartSink self.now
             (λ now. HasNotedHere now → ⊥)) }
     {
-        let here = self.intake.core.save(self.intake.sink.weight());
+        let here = self.reel_reader.core.save(self.reel_reader.sink.weight());
         match self.notes.last() {
             Some(last) => same_point(last, &here),
             None => false,

@@ -9,7 +9,7 @@ use tape_image::Item;
 
 /// What is expected next in the order of a volume.
 #[derive(Clone, Copy)]
-pub enum Wanted {
+pub enum ExpectedItem {
     /// `VOL1`.
     Volume,
     /// `HDR1`.
@@ -30,7 +30,7 @@ pub enum Wanted {
 
 /// How far the items follow the order of a volume.
 #[derive(Clone, Copy)]
-pub enum Course {
+pub enum LabelOrder {
     /// They do, and the volume continues.
     Follows,
     /// One tape mark follows the volume labels: the volume is blank if a second one follows.
@@ -38,48 +38,48 @@ pub enum Course {
     /// They do, up to the volume's end.
     Ended,
     /// The item with this number, counted from 1, is the first that was not expected.
-    Leaves(u32, Wanted),
+    Leaves(u32, ExpectedItem),
 }
 
 /// What is expected in a phase.
-fn wanted_in(phase: Phase) -> Wanted
+fn wanted_in(phase: Phase) -> ExpectedItem
     ensures { result ≡ wanted_in phase }
 {
     match phase {
-        Phase::Volume => Wanted::Volume,
-        Phase::Labels(_) => Wanted::Section,
-        Phase::Second(_) => Wanted::Second,
-        Phase::Headers(_) | Phase::Data(_) | Phase::Trailers(_) => Wanted::Mark,
-        Phase::Trailer(_) => Wanted::Trailer,
-        Phase::Next(_) => Wanted::Next,
-        Phase::Over => Wanted::End,
+        Phase::Volume => ExpectedItem::Volume,
+        Phase::Labels(_) => ExpectedItem::Section,
+        Phase::Second(_) => ExpectedItem::Second,
+        Phase::Headers(_) | Phase::Data(_) | Phase::Trailers(_) => ExpectedItem::Mark,
+        Phase::Trailer(_) => ExpectedItem::Trailer,
+        Phase::Next(_) => ExpectedItem::Next,
+        Phase::Over => ExpectedItem::End,
     }
 }
 
 /// The course after an item that follows the order or leaves it, with this number and the phases
 /// before and after it.
-fn left_by(number: u32, phase: Phase, next: Phase) -> Course
+fn left_by(number: u32, phase: Phase, next: Phase) -> LabelOrder
     ensures { result ≡ left_by number phase next }
 {
     match next {
-        Phase::Over => Course::Leaves(number, wanted_in(phase)),
-        _ => Course::Follows,
+        Phase::Over => LabelOrder::Leaves(number, wanted_in(phase)),
+        _ => LabelOrder::Follows,
     }
 }
 
 /// The course after a tape mark, if all items before it follow the order and the volume continues.
-fn behind_mark(number: u32, phase: Phase, next: Phase) -> Course
+fn behind_mark(number: u32, phase: Phase, next: Phase) -> LabelOrder
     ensures { result ≡ behind_mark number phase next }
 {
     match phase {
-        Phase::Labels(_) => Course::Blank,
-        Phase::Next(_) => Course::Ended,
+        Phase::Labels(_) => LabelOrder::Blank,
+        Phase::Next(_) => LabelOrder::Ended,
         _ => left_by(number, phase, next),
     }
 }
 
 /// The course after an item, if all items before it follow the order and the volume continues.
-fn behind(number: u32, phase: Phase, item: Item<'_>, next: Phase) -> Course
+fn behind(number: u32, phase: Phase, item: Item<'_>, next: Phase) -> LabelOrder
     ensures { result ≡ behind number phase (tape_item item.entry) next }
 {
     match item {
@@ -89,29 +89,29 @@ fn behind(number: u32, phase: Phase, item: Item<'_>, next: Phase) -> Course
 }
 
 /// The course after an item where a second tape mark is expected.
-fn behind_blank(number: u32, item: Item<'_>) -> Course
+fn behind_blank(number: u32, item: Item<'_>) -> LabelOrder
     ensures { result ≡ behind_blank number (tape_item item.entry) }
 {
     match item {
-        Item::Mark => Course::Ended,
-        Item::Block(_) | Item::Bad => Course::Leaves(number, Wanted::SecondMark),
+        Item::Mark => LabelOrder::Ended,
+        Item::Block(_) | Item::Bad => LabelOrder::Leaves(number, ExpectedItem::SecondMark),
     }
 }
 
 /// The course after an item.
 pub(crate) fn course_with(
-    course: Course,
+    course: LabelOrder,
     number: u32,
     phase: Phase,
     item: Item<'_>,
     next: Phase,
-) -> Course
+) -> LabelOrder
     ensures { result ≡ course_with course number phase (tape_item item.entry) next }
 {
     match course {
-        Course::Follows => behind(number, phase, item, next),
-        Course::Blank => behind_blank(number, item),
-        Course::Ended => Course::Leaves(number, Wanted::End),
-        Course::Leaves(_, _) => course,
+        LabelOrder::Follows => behind(number, phase, item, next),
+        LabelOrder::Blank => behind_blank(number, item),
+        LabelOrder::Ended => LabelOrder::Leaves(number, ExpectedItem::End),
+        LabelOrder::Leaves(_, _) => course,
     }
 }

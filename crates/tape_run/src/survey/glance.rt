@@ -10,7 +10,7 @@ ghost use Rattle.tape_run.specs.SurveyGlance.{one_head, or_else, look_to};
 ghost use Rattle.tape_label.specs.Kinds.{kind_at};
 ghost use Rattle.tape_label.specs.Reading.{head2_at};
 
-use super::course::{Course, course_with};
+use super::course::{LabelOrder, course_with};
 use crate::passing::Phase;
 use tape_image::Item;
 use tape_label::{Head1, Kind, Vol1, kind, read_head1, read_head2, read_vol1};
@@ -34,7 +34,7 @@ pub enum First {
 
 /// What an image is, at a glance.
 #[derive(Clone, Copy)]
-pub struct Glance {
+pub struct ImageSummary {
     /// The number of its items.
     pub items: u32,
     /// What it begins with.
@@ -50,14 +50,14 @@ pub struct Glance {
     /// The number of the first file whose `HDR2` is not one that is read.
     pub unread: Option<u16>,
     /// How far it follows the order of a volume.
-    pub course: Course,
+    pub course: LabelOrder,
 }
 
 /// Nothing was looked at yet.
-pub(crate) fn blank_glance() -> Glance
+pub(crate) fn blank_glance() -> ImageSummary
     ensures { result ≡ blank_glance }
 {
-    Glance {
+    ImageSummary {
         items: 0,
         first: First::Nothing,
         late: None,
@@ -65,7 +65,7 @@ pub(crate) fn blank_glance() -> Glance
         files: 0,
         bad: 0,
         unread: None,
-        course: Course::Follows,
+        course: LabelOrder::Follows,
     }
 }
 
@@ -248,7 +248,12 @@ fn or_else<T: Copy>(first: Option<T>, second: Option<T>) -> Option<T>
 }
 
 /// The glance after one more item, with the phases before and after it.
-pub(crate) fn look(glance: &Glance, phase: &Phase, item: Item<'_>, next: &Phase) -> Glance
+pub(crate) fn look(
+    glance: &ImageSummary,
+    phase: &Phase,
+    item: Item<'_>,
+    next: &Phase,
+) -> ImageSummary
     requires items { glance.now.items < image_limit }
     requires files { glance.now.files ≤ glance.now.items }
     requires bad { glance.now.bad ≤ glance.now.items }
@@ -258,7 +263,7 @@ pub(crate) fn look(glance: &Glance, phase: &Phase, item: Item<'_>, next: &Phase)
 {
     let number = glance.items + 1;
     let head = head_in(phase, item);
-    Glance {
+    ImageSummary {
         items: number,
         first: first_with(&glance.first, number, item),
         late: late_with(glance.late, number, item),

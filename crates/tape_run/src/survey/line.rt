@@ -5,19 +5,19 @@ ghost use Rattle.tape_run.specs.SurveyLine.{first_text, late_text, system_text, 
 ghost use Rattle.tape_run.specs.SurveyLine.{bad_text, unread_text, wanted_text, left_text};
 ghost use Rattle.tape_run.specs.SurveyLine.{course_text, stop_text, guess_text, glance_text};
 ghost use Rattle.tape_run.specs.SurveyLine.{seen_text, met_text, is_no_image, fault_text};
-ghost use Rattle.tape_run.specs.SurveyLine.{sight_text, written_text, early_text, is_told};
+ghost use Rattle.tape_run.specs.SurveyLine.{survey_text_of, written_text, early_text, is_told};
 
-use super::course::{Course, Wanted};
-use super::glance::{First, Glance};
-use super::view::Sight;
+use super::course::{ExpectedItem, LabelOrder};
+use super::glance::{First, ImageSummary};
+use super::view::ImageSurvey;
 use crate::section::ImageStop;
 use crate::text::{Text, put, put_decimal, put_trimmed, trimmed_len};
 use tape_image::ImageFault;
 use tape_label::{Field, Head1};
 
 /// Returns what an image is, or that it was not opened, after its name.
-pub(crate) fn sight_text(sight: &Option<Sight>) -> Text
-    ensures { result.items ≡ sight_text sight.now }
+pub(crate) fn survey_text_of(sight: &Option<ImageSurvey>) -> Text
+    ensures { result.items ≡ survey_text_of sight.now }
 {
     let mut text = Text::new();
     put(&mut text, b": ");
@@ -27,7 +27,7 @@ pub(crate) fn sight_text(sight: &Option<Sight>) -> Text
 }
 
 /// What an image is, or that it was not opened.
-pub(crate) fn put_met(text: &mut Text, sight: &Option<Sight>)
+pub(crate) fn put_met(text: &mut Text, sight: &Option<ImageSurvey>)
     requires room { array_vec_len text.old ≤ 2 }
     ensures items { text.new.items ≡ text.old.items ++ met_text sight.now }
     ensures len { array_vec_len text.new ≤ 900 }
@@ -39,7 +39,7 @@ pub(crate) fn put_met(text: &mut Text, sight: &Option<Sight>)
 }
 
 /// What an image is.
-fn put_sight(text: &mut Text, sight: &Sight)
+fn put_sight(text: &mut Text, sight: &ImageSurvey)
     requires room { array_vec_len text.old ≤ 2 }
     ensures items { text.new.items ≡ text.old.items ++ seen_text sight.now }
     ensures len { array_vec_len text.new ≤ 900 }
@@ -50,7 +50,7 @@ fn put_sight(text: &mut Text, sight: &Sight)
 }
 
 /// What an image contains.
-fn put_glance(text: &mut Text, glance: &Glance)
+fn put_glance(text: &mut Text, glance: &ImageSummary)
     requires room { array_vec_len text.old ≤ 2 }
     ensures items { text.new.items ≡ text.old.items ++ glance_text glance.now }
     ensures len { array_vec_len text.new ≤ 500 }
@@ -170,15 +170,15 @@ fn put_unread(text: &mut Text, unread: Option<u16>)
 }
 
 /// How far it follows the order of a volume.
-fn put_course(text: &mut Text, course: &Course, stop: &ImageStop)
+fn put_course(text: &mut Text, course: &LabelOrder, stop: &ImageStop)
     requires room { array_vec_len text.old ≤ 500 }
     ensures items { text.new.items ≡ text.old.items ++ course_text course.now stop.now }
     ensures len { array_vec_len text.new ≤ 700 }
 {
     match course {
-        Course::Ended => {}
-        Course::Leaves(number, wanted) => put_left(text, *number, *wanted),
-        Course::Follows | Course::Blank => put_early(text, stop),
+        LabelOrder::Ended => {}
+        LabelOrder::Leaves(number, wanted) => put_left(text, *number, *wanted),
+        LabelOrder::Follows | LabelOrder::Blank => put_early(text, stop),
     }
 }
 
@@ -195,7 +195,7 @@ fn put_early(text: &mut Text, stop: &ImageStop)
 }
 
 /// The item that leaves the order.
-fn put_left(text: &mut Text, number: u32, wanted: Wanted)
+fn put_left(text: &mut Text, number: u32, wanted: ExpectedItem)
     requires room { array_vec_len text.old ≤ 500 }
     ensures items { text.new.items ≡ text.old.items ++ left_text number wanted }
     ensures len { array_vec_len text.new ≤ 700 }
@@ -208,29 +208,29 @@ fn put_left(text: &mut Text, number: u32, wanted: Wanted)
 }
 
 /// Whether to say what was expected; that no volume label was found is said before.
-fn is_told(wanted: Wanted) -> bool
+fn is_told(wanted: ExpectedItem) -> bool
     ensures { result ≡ is_told wanted }
 {
     match wanted {
-        Wanted::Volume => false,
+        ExpectedItem::Volume => false,
         _ => true,
     }
 }
 
 /// What the item that leaves the order is not.
-fn wanted_text(wanted: Wanted) -> &'static [u8]
+fn wanted_text(wanted: ExpectedItem) -> &'static [u8]
     ensures text { result.now ≡ wanted_text wanted }
     ensures short { length result.now ≤ 100 }
 {
     match wanted {
-        Wanted::Volume => b"",
-        Wanted::Section => b" is no HDR1: not read further",
-        Wanted::Second => b" is no HDR2: not read further",
-        Wanted::Mark => b" is no label and no tape mark: not read further",
-        Wanted::Trailer => b" is no EOF1 or EOV1 of its section: not read further",
-        Wanted::Next => b" is no HDR1 and no tape mark: not read further",
-        Wanted::SecondMark => b" is no second tape mark: not read further",
-        Wanted::End => b" stands behind the end of the volume: not read further",
+        ExpectedItem::Volume => b"",
+        ExpectedItem::Section => b" is no HDR1: not read further",
+        ExpectedItem::Second => b" is no HDR2: not read further",
+        ExpectedItem::Mark => b" is no label and no tape mark: not read further",
+        ExpectedItem::Trailer => b" is no EOF1 or EOV1 of its section: not read further",
+        ExpectedItem::Next => b" is no HDR1 and no tape mark: not read further",
+        ExpectedItem::SecondMark => b" is no second tape mark: not read further",
+        ExpectedItem::End => b" stands behind the end of the volume: not read further",
     }
 }
 

@@ -7,10 +7,10 @@ ghost use Rattle.tape_run.specs.SurveyRows.{key_cells, eof_cell, section_row, kn
 ghost use Rattle.tape_run.specs.SurveyRows.{wanted_cells, standing_cells, mixed_cell, file_row};
 
 use super::files::{FileKey, FileNote};
-use super::glance::{First, Glance};
+use super::glance::{First, ImageSummary};
 use super::line::put_met;
 use super::sets::{Standing, is_mixed, standing_of};
-use super::view::{Findings, Sight};
+use super::view::{Findings, ImageSurvey};
 use crate::check_line::{state_text, stop_text};
 use crate::section::{Entry, SectionKey};
 use crate::text::{Text, put, put_decimal, put_trimmed};
@@ -35,7 +35,7 @@ fn put_count(text: &mut Text, number: u32)
 }
 
 /// The columns of an image between its name and the words at the end.
-pub(crate) fn middle_cells(sight: &Option<Sight>) -> Text
+pub(crate) fn middle_cells(sight: &Option<ImageSurvey>) -> Text
     ensures { result.items ≡ middle_cells sight.now }
 {
     let mut text = Text::new();
@@ -46,7 +46,7 @@ pub(crate) fn middle_cells(sight: &Option<Sight>) -> Text
 }
 
 /// What an image is, or that it was not opened.
-fn put_sight(text: &mut Text, sight: &Option<Sight>)
+fn put_sight(text: &mut Text, sight: &Option<ImageSurvey>)
     requires room { array_vec_len text.old ≤ 1 }
     ensures items { text.new.items ≡ text.old.items ++ sight_cells sight.now }
     ensures len { array_vec_len text.new ≤ 900 }
@@ -58,7 +58,7 @@ fn put_sight(text: &mut Text, sight: &Option<Sight>)
 }
 
 /// What an image is.
-fn put_seen(text: &mut Text, sight: &Sight)
+fn put_seen(text: &mut Text, sight: &ImageSurvey)
     requires room { array_vec_len text.old ≤ 1 }
     ensures items { text.new.items ≡ text.old.items ++ seen_cells sight.now }
     ensures len { array_vec_len text.new ≤ 900 }
@@ -111,7 +111,7 @@ fn put_head(text: &mut Text, head: &Option<Head1>)
 }
 
 /// How many items there are, sections and bad blocks.
-fn put_counts(text: &mut Text, glance: &Glance)
+fn put_counts(text: &mut Text, glance: &ImageSummary)
     requires room { array_vec_len text.old ≤ 90 }
     ensures items { text.new.items ≡ text.old.items ++ count_cells glance.now }
     ensures len { array_vec_len text.new ≤ 300 }
@@ -124,7 +124,7 @@ fn put_counts(text: &mut Text, glance: &Glance)
 }
 
 /// What an image is, in words, at the end of its row.
-pub(crate) fn words_cell(sight: &Option<Sight>) -> Text
+pub(crate) fn words_cell(sight: &Option<ImageSurvey>) -> Text
     ensures { result.items ≡ words_cell sight.now }
 {
     let mut text = Text::new();

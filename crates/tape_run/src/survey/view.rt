@@ -9,9 +9,9 @@ ghost use Rattle.tape_run.specs.declared.fault.RunFault.TheVariants as faults;
 ghost use Rattle.tape_run.specs.SurveyRead.{ViewsItems, IsViewed, is_whole_sight};
 ghost use Rattle.tape_run.specs.SurveyRead.{nothing_found, is_ended, is_none, is_end};
 
-use super::course::Course;
+use super::course::LabelOrder;
 use super::files::{Files, note_met};
-use super::glance::{Glance, blank_glance, head_in, look};
+use super::glance::{ImageSummary, blank_glance, head_in, look};
 use super::locations::{Locations, note_location};
 use crate::catalogue::stop_at;
 use crate::fault::RunFault;
@@ -25,8 +25,8 @@ use tape_image::{ImageReader, Item};
 
 /// What an image is: what its items are at a glance, and how they stop.
 #[derive(Clone, Copy)]
-pub struct Sight {
-    pub glance: Glance,
+pub struct ImageSurvey {
+    pub glance: ImageSummary,
     pub stop: ImageStop,
 }
 
@@ -61,11 +61,11 @@ impl Model for Findings {
 }
 
 /// Whether the volume ended.
-fn is_ended(course: Course) -> bool
+fn is_ended(course: LabelOrder) -> bool
     ensures { result ≡ is_ended course }
 {
     match course {
-        Course::Ended => true,
+        LabelOrder::Ended => true,
         _ => false,
     }
 }
@@ -90,7 +90,7 @@ fn is_end(stop: ImageStop) -> bool
     }
 }
 
-impl Sight {
+impl ImageSurvey {
     /// Whether the items are a complete volume in its order, whose files can be read.
     pub(crate) fn is_whole(&self) -> bool
         ensures { result ≡ is_whole_sight self.now }
@@ -118,7 +118,7 @@ impl Findings {
     pub(crate) fn read<R: Read + Drop>(
         &mut self,
         image: Option<R>,
-    ) -> Result<Option<Sight>, RunFault>
+    ) -> Result<Option<ImageSurvey>, RunFault>
         ensures fault { IsOkUnless result faults.OutOfMemory }
         ensures ok { IfOk result (λ sight.
             IsViewed (option_map R.remaining image) sight self.old self.new) }
@@ -136,7 +136,7 @@ impl Findings {
     }
 
     /// The same for an image that was opened, whatever of it remains unread.
-    fn read_items<R: Read>(&mut self, reader: &mut R) -> Result<Sight, RunFault>
+    fn read_items<R: Read>(&mut self, reader: &mut R) -> Result<ImageSurvey, RunFault>
         ensures fault { IsOkUnless result faults.OutOfMemory }
         ensures ok { IfOk result (λ sight. ViewsItems (R.remaining reader.old)
             (R.remaining reader.new) self.old.images self.old.sections self.old.files
@@ -167,7 +167,7 @@ fn view_items<R: Read>(
     locations: &mut Locations,
     number: usize,
     image: &mut ImageReader<'_, R>,
-) -> Result<Sight, RunFault>
+) -> Result<ImageSurvey, RunFault>
     requires going { image.old.status ≡ going }
     requires first { image.old.place ≡ 0 }
     ensures same_device { image.new.device ≡ image.old.device }
@@ -193,12 +193,12 @@ fn view_items<R: Read>(
                 };
                 close_behind(sections, &phase)?;
                 let stop = stop_at(ending);
-                return Ok(Sight { glance, stop });
+                return Ok(ImageSurvey { glance, stop });
             }
             Err(fault) => {
                 close_behind(sections, &phase)?;
                 let stop = ImageStop::Fault(fault);
-                return Ok(Sight { glance, stop });
+                return Ok(ImageSurvey { glance, stop });
             }
         }
     }

@@ -293,7 +293,7 @@ fn write_whole<W: Write>(file: &mut W, bytes: &[u8]) -> Result<(), DiskFault> {
 const ROOM: usize = 32_768;
 
 /// A file as a disk, with 32,768 bytes of write buffer and as many of read-ahead.
-pub type HeldFile<F> = ReadAhead<WriteBehind<FileDisk<F>>>;
+pub type BufferedFile<F> = ReadAhead<WriteBehind<FileDisk<F>>>;
 
 /// Uses the whole file, with buffers. It must be open for reading and writing, and nobody else may
 /// change its length.
@@ -302,10 +302,10 @@ pub type HeldFile<F> = ReadAhead<WriteBehind<FileDisk<F>>>;
 ///
 /// Returns `OutOfMemory` if there is no memory for the buffers (the file was not used), and
 /// `Device` if the file's length is not available. The file is dropped.
-pub fn held_file<F: Read + Write + Seek + OpenFile + Drop>(
+pub fn buffered_file<F: Read + Write + Seek + OpenFile + Drop>(
     alloc: Global,
     file: F,
-) -> Result<HeldFile<F>, StageFault>
+) -> Result<BufferedFile<F>, StageFault>
     ensures fault { IfErr result
         (λ fault. (fault ≡ StageFault.OutOfMemory) ⊎ (fault ≡ StageFault.Device)) }
     ensures long { IfSome (F.stream_position file) (λ _. IfSome (F.stream_bytes file)

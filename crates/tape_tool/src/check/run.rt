@@ -1,23 +1,27 @@
 //! The `check` command: opens the files, and prints the report to standard output.
 
 use super::words::CHECK;
-use crate::explain::Site;
+use crate::explain::FaultSite;
 use crate::images::{Images, Named, names_of};
-use crate::program::{End, check_end, refuse_unfit};
+use crate::program::{End, check_end, end_refused};
 use std::io;
 use std::io::BufWriter;
 use std::rt::Runtime;
 use tape_run::{EngineFault, RunFault, check_to};
 
 /// Reports what is on the images named in the arguments. On error, the site says where it occurred.
-pub fn check<'a, R: Runtime + AllocGlobal>(rt: &R, named: &Named<'a>, site: &mut Site<'a>) -> End {
+pub fn check<'a, R: Runtime + AllocGlobal>(
+    rt: &R,
+    named: &Named<'a>,
+    site: &mut FaultSite<'a>,
+) -> End {
     let mut text = String::new(rt.alloc());
     match names_of(rt, named, &mut text, site) {
         Ok(names) => {
-            *site = Site::Lines;
+            *site = FaultSite::Lines;
             check_end(check_files(rt, names.as_slice()))
         }
-        Err(unfit) => refuse_unfit(rt, &CHECK, unfit),
+        Err(refusal) => end_refused(rt, &CHECK, refusal),
     }
 }
 

@@ -3,15 +3,15 @@ ghost use Rattle.std.specs.Prelude.{IfOk, IfErr};
 ghost use Rattle.clap.specs.Words.{found_of, rows_of};
 ghost use Rattle.tape_tool.specs.Words.{AreTooMany, NamesImages, RefusedFor};
 
+use crate::command_spec::{CommandSpec, Kind, Word};
 use crate::help;
 use crate::images::Named;
-use crate::outline::{Kind, Outline, Word};
 use crate::words::named;
 use clap::{ArgMatches, Error};
 use std::alloc::Global;
 
 /// `check`.
-pub const CHECK: Outline = Outline {
+pub const CHECK: CommandSpec = CommandSpec {
     name: "check",
     called: "tape check",
     about: help::ABOUT_CHECK,

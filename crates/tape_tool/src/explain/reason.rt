@@ -1,5 +1,5 @@
 //! The system's message about a file with a fault.
-use super::Site;
+use super::FaultSite;
 use crate::fault::{FileFault, ToolFault};
 use crate::write::run::split;
 use std::fs::File;
@@ -11,18 +11,25 @@ use tape_writer::system::folder_of;
 
 /// Accesses the file with this fault again, and returns the system's error. Returns `None` if there
 /// is no error now, and for faults that are not those of a file that can be read.
-pub fn reason_of<R: Runtime>(rt: &R, fault: ToolFault, site: Site<'_>) -> Option<io::Error> {
+pub fn reason_of<R: Runtime>(rt: &R, fault: ToolFault, site: FaultSite<'_>) -> Option<io::Error> {
     match fault {
         ToolFault::File(FileFault::NotOpened | FileFault::ReadFailed) => {}
         ToolFault::Image(fault) if fault.cause == ImageCause::Device => {}
         _ => return None,
     }
     match site {
-        Site::Image(path) | Site::List(Some(path)) | Site::Stage(path) => unread(rt, path),
-        Site::Input(word) => unread(rt, split(word).1),
-        Site::Out(path) | Site::New(path) => not_there(rt, folder_of(path)),
-        Site::Folder(path) | Site::Images(path) | Site::Volume(path, _, _) => not_there(rt, path),
-        Site::Unknown | Site::Lines | Site::Stdin | Site::List(None) | Site::Listed(_) => None,
+        FaultSite::Image(path) | FaultSite::List(Some(path)) | FaultSite::Stage(path) => unread(
+            rt, path,
+        ),
+        FaultSite::Input(word) => unread(rt, split(word).1),
+        FaultSite::Out(path) | FaultSite::New(path) => not_there(rt, folder_of(path)),
+        FaultSite::Folder(path) | FaultSite::Images(path) | FaultSite::Volume(path, _, _) =>
+            not_there(rt, path),
+        FaultSite::Unknown
+        | FaultSite::Lines
+        | FaultSite::Stdin
+        | FaultSite::List(None)
+        | FaultSite::Listed(_) => None,
     }
 }
 

@@ -7,7 +7,7 @@ use crate::fault::{FileFault, OUT_OF_MEMORY, ToolFault};
 use crate::host::Host;
 use crate::left::remove;
 use crate::program::End;
-use crate::unfit::{FileId, Taking, way_to_take};
+use crate::refusal::{FileId, Taking, way_to_take};
 use std::alloc::{AllocError, Global};
 use std::fs::{File, OpenOptions, Permissions};
 use std::io::{BufWriter, Error, ErrorKind, Write};

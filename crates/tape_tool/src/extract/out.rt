@@ -3,7 +3,7 @@
 use crate::extract::words::Extract;
 use crate::fault::{FileFault, OUT_OF_MEMORY};
 use crate::help;
-use crate::unfit::{FileId, Unfit, look, refused, same_file};
+use crate::refusal::{FileId, Refusal, look, refused, same_file};
 use std::alloc::Global;
 use std::fs;
 use std::fs::{File, Metadata};
@@ -60,7 +60,7 @@ pub fn way_of<R: Runtime + AllocGlobal>(
     rt: &R,
     order: &Extract<'_>,
     images: &[&str],
-) -> Result<Way, Unfit> {
+) -> Result<Way, Refusal> {
     if let (Some(list), Some(there)) = (order.images.list, look(rt, order.task.out)?) {
         differs(
             rt,
@@ -89,7 +89,7 @@ pub fn way_to_out<R: Runtime + AllocGlobal>(
     out: &str,
     stage: Option<&str>,
     images: &[&str],
-) -> Result<Way, Unfit> {
+) -> Result<Way, Refusal> {
     let Some(there) = look(rt, out)? else {
         return way_to_new(rt, out, stage);
     };
@@ -107,17 +107,17 @@ pub fn way_to_out<R: Runtime + AllocGlobal>(
 
 /// How to write to a name that does not exist or leads nowhere. A stage is created before the
 /// output is.
-fn way_to_new<R: Runtime>(rt: &R, out: &str, stage: Option<&str>) -> Result<Way, Unfit> {
+fn way_to_new<R: Runtime>(rt: &R, out: &str, stage: Option<&str>) -> Result<Way, Refusal> {
     if let Some(stage) = stage {
         if is_one_name(rt, out, stage)? {
-            return Err(Unfit::Words(help::OUT_IS_STAGE));
+            return Err(Refusal::Words(help::OUT_IS_STAGE));
         }
     }
     way_to(rt, out, None)
 }
 
 /// Whether both paths are the same name in the same directory.
-fn is_one_name<R: Runtime>(rt: &R, one: &str, other: &str) -> Result<bool, Unfit> {
+fn is_one_name<R: Runtime>(rt: &R, one: &str, other: &str) -> Result<bool, Refusal> {
     if one == other {
         return Ok(true);
     }
@@ -131,7 +131,7 @@ fn is_one_name<R: Runtime>(rt: &R, one: &str, other: &str) -> Result<bool, Unfit
 }
 
 /// How to write to what has this name. A missing file can be created, and a link is followed.
-fn way_to<R: Runtime>(rt: &R, path: &str, before: Option<FileId>) -> Result<Way, Unfit> {
+fn way_to<R: Runtime>(rt: &R, path: &str, before: Option<FileId>) -> Result<Way, Refusal> {
     match found(fs::symlink_metadata(rt, path)) {
         Ok(Some(there)) if !there.is_file() => Ok(Way::InPlace(before)),
         Ok(_) => Ok(Way::Renamed(before)),
@@ -145,15 +145,15 @@ fn differs<R: Runtime>(
     there: &Metadata,
     path: &str,
     text: &'static str,
-) -> Result<(), Unfit> {
+) -> Result<(), Refusal> {
     match look(rt, path)? {
-        Some(other) if same_file(there, &other) => Err(Unfit::Words(text)),
+        Some(other) if same_file(there, &other) => Err(Refusal::Words(text)),
         _ => Ok(()),
     }
 }
 
 /// Refuses a file that might be a tape.
-fn keeps_no_tape<R: Runtime + AllocGlobal>(rt: &R, path: &str) -> Result<(), Unfit> {
+fn keeps_no_tape<R: Runtime + AllocGlobal>(rt: &R, path: &str) -> Result<(), Refusal> {
     let Ok(mut file) = File::open(rt, path) else {
         return Err(refused(FileFault::NotOpened));
     };
@@ -182,14 +182,14 @@ fn begins_as_kept(front: &[u8]) -> bool {
 }
 
 /// Refuses a file that begins like an image.
-fn holds_no_image<R: Runtime + AllocGlobal>(rt: &R, path: &str) -> Result<(), Unfit> {
+fn holds_no_image<R: Runtime + AllocGlobal>(rt: &R, path: &str) -> Result<(), Refusal> {
     let Ok(mut file) = File::open(rt, path) else {
         return Err(refused(FileFault::NotOpened));
     };
     match begins_as_image(rt.alloc(), &mut file) {
         Ok(false) => Ok(()),
         Ok(true) => Err(refused(FileFault::Exists)),
-        Err(ImageCause::OutOfMemory) => Err(Unfit::Faulted(OUT_OF_MEMORY)),
+        Err(ImageCause::OutOfMemory) => Err(Refusal::Faulted(OUT_OF_MEMORY)),
         Err(_) => Err(refused(FileFault::ReadFailed)),
     }
 }

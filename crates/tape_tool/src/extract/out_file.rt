@@ -1,7 +1,7 @@
 //! The file that records are written to, in place.
 use crate::fault::FileFault;
 use crate::host::Host;
-use crate::unfit::FileId;
+use crate::refusal::FileId;
 use std::fs::{File, OpenOptions};
 use std::io::{Error, ErrorKind, Result, Write};
 use tape_writer::system::is_unable;

@@ -1,13 +1,13 @@
 //! The `extract` command: opens the images, the stage and the output, and calls `tape_run`.
 
-use crate::explain::Site;
+use crate::explain::FaultSite;
 use crate::extract::draft::Draft;
 use crate::extract::out::{Way, way_of};
 use crate::extract::out_file::OutFile;
 use crate::fault::{FileFault, OUT_OF_MEMORY, ToolFault};
 use crate::host::Host;
 use crate::images::{Image, Images, in_reading_order, names_of};
-use crate::program::{End, end_of, extract_end, refuse_unfit};
+use crate::program::{End, end_of, end_refused, extract_end};
 use crate::staging::session_in;
 use crate::words::{EXTRACT, Extract, Task};
 use std::alloc::Global;
@@ -15,8 +15,8 @@ use std::io::{BufWriter, Write};
 use std::{fs, io};
 use tape_core::{MemorySink, PartWalk, SinkFault};
 use tape_run::{
-    EngineFault, Locations, Mounted, OutSink, RunFault, Session, WriteFailed, extract_again,
-    extract_located, extract_now, extract_to, files_on, last_line, write_text,
+    EngineFault, Locations, Mounted, OutSink, RunFault, Session, WriteFailed, extract_in_passes,
+    extract_located, extract_streaming, extract_to, find_files, last_line, write_text,
 };
 use tape_set::Want;
 
@@ -24,14 +24,14 @@ use tape_set::Want;
 pub const HELD: usize = 65_536;
 
 /// Recovers the file that the arguments name. On error, the site says where it occurred.
-pub fn extract<'a, R: Host>(rt: &R, order: &Extract<'a>, site: &mut Site<'a>) -> End {
+pub fn extract<'a, R: Host>(rt: &R, order: &Extract<'a>, site: &mut FaultSite<'a>) -> End {
     let mut text = String::new(rt.alloc());
     match names_of(rt, &order.images, &mut text, site) {
         Ok(names) => {
-            *site = Site::Out(order.task.out);
+            *site = FaultSite::Out(order.task.out);
             extract_from(rt, order, names.as_slice(), site)
         }
-        Err(unfit) => refuse_unfit(rt, &EXTRACT, unfit),
+        Err(refusal) => end_refused(rt, &EXTRACT, refusal),
     }
 }
 
@@ -40,11 +40,11 @@ fn extract_from<'a, R: Host>(
     rt: &R,
     order: &Extract<'a>,
     names: &[&str],
-    site: &mut Site<'a>,
+    site: &mut FaultSite<'a>,
 ) -> End {
     let way = match way_of(rt, order, names) {
         Ok(way) => way,
-        Err(unfit) => return refuse_unfit(rt, &EXTRACT, unfit),
+        Err(refusal) => return end_refused(rt, &EXTRACT, refusal),
     };
     let names = match names_to_read(rt, &order.task, names) {
         Ok(names) => names,
@@ -62,7 +62,7 @@ fn names_to_read<'n, R: Host>(
     names: &'n [&'n str],
 ) -> Result<Vec<&'n str>, RunFault> {
     let ordered = if task.again && names.len() > 1 && are_files(rt, names) {
-        let met = files_on(rt.alloc(), &mut Images::new(rt, names))?;
+        let met = find_files(rt.alloc(), &mut Images::new(rt, names))?;
         in_reading_order(rt.alloc(), names, &met, (task.set_id, task.file), true)
     } else {
         Vec::from_slice(rt.alloc(), names)
@@ -92,7 +92,7 @@ pub fn extract_file<'a, R: Host, P: Write>(
     images: &mut Images<'_, R>,
     way: Way,
     report: &mut P,
-    site: &mut Site<'a>,
+    site: &mut FaultSite<'a>,
 ) -> End {
     match task.stage {
         Some(path) => on_stage(rt, task, images, way, path, report, site),
@@ -109,17 +109,17 @@ fn on_stage<'a, R: Host, P: Write>(
     way: Way,
     path: &'a str,
     report: &mut P,
-    site: &mut Site<'a>,
+    site: &mut FaultSite<'a>,
 ) -> End {
     let end = match session_in(rt, path, task.set_id, task.file) {
         Ok(mut session) => gather(rt, task, images, way, report, &mut session),
         Err(fault) => {
-            *site = Site::Stage(path);
+            *site = FaultSite::Stage(path);
             return end_of(Err(fault));
         }
     };
     if let End::Faulted(ToolFault::Run(_)) = end {
-        *site = Site::Stage(path);
+        *site = FaultSite::Stage(path);
     }
     end
 }
@@ -204,7 +204,7 @@ fn into_draft<R: Host, P: Write>(
     let Draft { mut name, file } = draft;
     let end = match session_into(rt.alloc(), task, file) {
         Ok(session) => {
-            end_as_written(extract_now(session, images, task.form, &mut name, report))
+            end_as_written(extract_streaming(session, images, task.form, &mut name, report))
         }
         Err(end) => end,
     };
@@ -298,7 +298,7 @@ fn written_to<R: Host, S: PartWalk + Drop, W: Write, P: Write>(
     out: &mut W,
 ) -> End {
     let answer = if task.again {
-        extract_again(session, images, task.form, out, report)
+        extract_in_passes(session, images, task.form, out, report)
     } else {
         extract_to(session, images, task.form, out, report)
     };

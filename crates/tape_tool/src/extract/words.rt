@@ -5,9 +5,9 @@ ghost use Rattle.clap.specs.Words.{found_of, rows_of};
 ghost use Rattle.tape_tool.specs.Words.{AsksForFile, AsksToExtract, IsNoExtract, IsNoSet, IsNoTask};
 ghost use Rattle.tape_tool.specs.Words.{RefusedFor, padded_set};
 
+use crate::command_spec::{CommandSpec, Kind, Word, mistake};
 use crate::help;
 use crate::images::Named;
-use crate::outline::{Kind, Outline, Word, mistake};
 use crate::words::{FORMS, flag_of, form_of, is_dash, named, number_of, option_of, text_of};
 use clap::{ArgMatches, Error};
 use std::alloc::Global;
@@ -35,7 +35,7 @@ pub struct Task<'a> {
 }
 
 /// `extract`.
-pub const EXTRACT: Outline = Outline {
+pub const EXTRACT: CommandSpec = CommandSpec {
     name: "extract",
     called: "tape extract",
     about: help::ABOUT_EXTRACT,
@@ -74,13 +74,13 @@ fn task_of<'a>(alloc: Global, matches: &ArgMatches<'a>) -> Result<Task<'a>, Erro
     ensures ok { IfOk result (AsksForFile (rows_of (found_of matches.now))) }
     ensures err { IfErr result (RefusedFor (IsNoTask (rows_of (found_of matches.now)))) }
 {
-    let outline = &EXTRACT;
+    let command_spec = &EXTRACT;
     let Some(set_id) = set_id_of(text_of(matches, "SET")) else {
-        return Err(mistake(alloc, outline, help::WRONG_SET));
+        return Err(mistake(alloc, command_spec, help::WRONG_SET));
     };
     let out = text_of(matches, "OUT");
     if is_dash(out) {
-        return Err(mistake(alloc, outline, help::OUT_IS_DASH));
+        return Err(mistake(alloc, command_spec, help::OUT_IS_DASH));
     }
     let stage = option_of(matches, "stage");
     Ok(Task {

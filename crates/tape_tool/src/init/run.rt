@@ -1,6 +1,6 @@
 //! The `init` command: creates blank volumes as files in a directory.
 use super::words::Init;
-use crate::explain::Site;
+use crate::explain::FaultSite;
 use crate::fault::{OUT_OF_MEMORY, ToolFault};
 use crate::host::Host;
 use crate::program::{End, end_of};
@@ -10,14 +10,14 @@ use tape_run::{WriteFailed, flush, write_text};
 use tape_writer::system::{image_path, make_image};
 
 /// Creates the images, and prints their number. On error, the site says where it occurred.
-pub fn init<'a, R: Host>(rt: &R, order: &Init<'a>, site: &mut Site<'a>) -> End {
+pub fn init<'a, R: Host>(rt: &R, order: &Init<'a>, site: &mut FaultSite<'a>) -> End {
     for number in 1..=order.count {
-        *site = Site::Volume(order.folder, order.prefix, number);
+        *site = FaultSite::Volume(order.folder, order.prefix, number);
         if let Err(fault) = make(rt, order, number) {
             return End::Faulted(fault);
         }
     }
-    *site = Site::Lines;
+    *site = FaultSite::Lines;
     tell(rt, order.count)
 }
 

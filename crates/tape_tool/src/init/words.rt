@@ -3,8 +3,8 @@ ghost use Rattle.std.specs.Prelude.{IfOk, IfErr};
 ghost use Rattle.clap.specs.Words.{found_of, rows_of};
 ghost use Rattle.tape_tool.specs.Words.{AsksToInit, IsNoInit, RefusedFor};
 
+use crate::command_spec::{CommandSpec, Kind, Word, mistake};
 use crate::help;
-use crate::outline::{Kind, Outline, Word, mistake};
 use crate::words::{number_of, text_of};
 use clap::{ArgMatches, Error};
 use std::alloc::Global;
@@ -19,7 +19,7 @@ pub struct Init<'a> {
 }
 
 /// `init`.
-pub const INIT: Outline = Outline {
+pub const INIT: CommandSpec = CommandSpec {
     name: "init",
     called: "tape init",
     about: help::ABOUT_INIT,
@@ -37,10 +37,10 @@ pub fn init_order<'a>(alloc: Global, matches: &ArgMatches<'a>) -> Result<Init<'a
     ensures ok { IfOk result (AsksToInit (rows_of (found_of matches.now))) }
     ensures err { IfErr result (RefusedFor (IsNoInit (rows_of (found_of matches.now)))) }
 {
-    let outline = &INIT;
+    let command_spec = &INIT;
     let folder = text_of(matches, "DIR");
     if folder.is_empty() {
-        return Err(mistake(alloc, outline, help::NO_FOLDER));
+        return Err(mistake(alloc, command_spec, help::NO_FOLDER));
     }
     match Prefix::new(text_of(matches, "PRE")) {
         Some(prefix) => Ok(Init {
@@ -48,6 +48,6 @@ pub fn init_order<'a>(alloc: Global, matches: &ArgMatches<'a>) -> Result<Init<'a
             prefix,
             count: number_of(matches, "COUNT"),
         }),
-        None => Err(mistake(alloc, outline, help::WRONG_PREFIX)),
+        None => Err(mistake(alloc, command_spec, help::WRONG_PREFIX)),
     }
 }

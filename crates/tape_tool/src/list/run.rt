@@ -1,6 +1,6 @@
 //! The `list` command: opens the file or standard input, and prints to standard output.
 use super::words::Listing;
-use crate::explain::Site;
+use crate::explain::FaultSite;
 use crate::fault::{FileFault, ToolFault};
 use crate::images::READ_AHEAD;
 use crate::program::{End, end_of};
@@ -18,13 +18,17 @@ const NO_MEMORY: ToolFault = ToolFault::Image(ImageFault {
 });
 
 /// Lists the image at the path, or that on standard input.
-pub fn list<'a, R: Runtime + AllocGlobal>(rt: &R, order: Listing<'a>, site: &mut Site<'a>) -> End {
+pub fn list<'a, R: Runtime + AllocGlobal>(
+    rt: &R,
+    order: Listing<'a>,
+    site: &mut FaultSite<'a>,
+) -> End {
     let (listed, read) = match order.image {
-        None => (list_input(rt, rt.reader(), order.offsets), Site::Stdin),
-        Some(path) => (list_file(rt, path, order.offsets), Site::Image(path)),
+        None => (list_input(rt, rt.reader(), order.offsets), FaultSite::Stdin),
+        Some(path) => (list_file(rt, path, order.offsets), FaultSite::Image(path)),
     };
     *site = match listed {
-        Err(ToolFault::File(FileFault::WriteFailed)) => Site::Lines,
+        Err(ToolFault::File(FileFault::WriteFailed)) => FaultSite::Lines,
         _ => read,
     };
     end_of(listed)

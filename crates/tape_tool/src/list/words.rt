@@ -3,8 +3,8 @@ ghost use Rattle.std.specs.Prelude.{codes, IfOk, IfErr};
 ghost use Rattle.clap.specs.Words.{found_of, rows_of};
 ghost use Rattle.tape_tool.specs.Words.{AsksToList, IsDashOrMore, RefusedFor, texts_in};
 
+use crate::command_spec::{CommandSpec, Kind, Word, mistake};
 use crate::help;
-use crate::outline::{Kind, Outline, Word, mistake};
 use crate::words::{at_most_one, flag_of};
 use clap::{ArgMatches, Error};
 use std::alloc::Global;
@@ -18,7 +18,7 @@ pub struct Listing<'a> {
 }
 
 /// `list`. It accepts any number of images, so that the error for a second one can suggest a loop.
-pub const LIST: Outline = Outline {
+pub const LIST: CommandSpec = CommandSpec {
     name: "list",
     called: "tape list",
     about: help::ABOUT_LIST,

@@ -1,14 +1,14 @@
 //! The `merge` and `compare` commands: open the files, and create the new image.
 
 use super::words::{COMPARE, MERGE, Merge};
-use crate::explain::Site;
+use crate::explain::FaultSite;
 use crate::extract::{Draft, HELD, Way, draft_of};
 use crate::fault::{FileFault, OUT_OF_MEMORY, ToolFault};
 use crate::help;
 use crate::host::Host;
 use crate::images::{Images, Named, names_of};
-use crate::program::{End, refuse_unfit};
-use crate::unfit::{Unfit, refused};
+use crate::program::{End, end_refused};
+use crate::refusal::{Refusal, refused};
 use std::io::{BufWriter, Sink, Write};
 use std::{fs, io};
 use tape_image::{ImageCause, ImageFault};
@@ -17,17 +17,17 @@ use tape_writer::system::found;
 
 /// Merges the readings named in the arguments into a new image. On error, the site says where it
 /// occurred.
-pub fn merge<'a, R: Host>(rt: &R, order: &Merge<'a>, site: &mut Site<'a>) -> End {
+pub fn merge<'a, R: Host>(rt: &R, order: &Merge<'a>, site: &mut FaultSite<'a>) -> End {
     let mut text = String::new(rt.alloc());
     let names = match readings_of(rt, &order.images, &mut text, site) {
         Ok(names) => names,
-        Err(unfit) => return refuse_unfit(rt, &MERGE, unfit),
+        Err(refusal) => return end_refused(rt, &MERGE, refusal),
     };
-    *site = Site::New(order.out);
+    *site = FaultSite::New(order.out);
     match found(fs::symlink_metadata(rt, order.out)) {
         Ok(None) => {}
-        Ok(Some(_)) => return refuse_unfit(rt, &MERGE, refused(FileFault::Exists)),
-        Err(fault) => return refuse_unfit(rt, &MERGE, refused(fault)),
+        Ok(Some(_)) => return end_refused(rt, &MERGE, refused(FileFault::Exists)),
+        Err(fault) => return end_refused(rt, &MERGE, refused(fault)),
     }
     match draft_of(rt, order.out, Way::New) {
         Ok(Some(draft)) => {
@@ -45,14 +45,14 @@ pub fn merge<'a, R: Host>(rt: &R, order: &Merge<'a>, site: &mut Site<'a>) -> End
 }
 
 /// Compares the readings named in the arguments. On error, the site says where it occurred.
-pub fn compare<'a, R: Host>(rt: &R, named: &Named<'a>, site: &mut Site<'a>) -> End {
+pub fn compare<'a, R: Host>(rt: &R, named: &Named<'a>, site: &mut FaultSite<'a>) -> End {
     let mut text = String::new(rt.alloc());
     match readings_of(rt, named, &mut text, site) {
         Ok(names) => {
-            *site = Site::Lines;
+            *site = FaultSite::Lines;
             merge_files(rt, named, names.as_slice(), io::sink(), &mut Nowhere, site)
         }
-        Err(unfit) => refuse_unfit(rt, &COMPARE, unfit),
+        Err(refusal) => end_refused(rt, &COMPARE, refusal),
     }
 }
 
@@ -75,10 +75,10 @@ fn readings_of<'t, 'a: 't, R: Host>(
     rt: &R,
     named: &Named<'a>,
     text: &'t mut String,
-    site: &mut Site<'a>,
-) -> Result<Vec<&'t str>, Unfit> {
+    site: &mut FaultSite<'a>,
+) -> Result<Vec<&'t str>, Refusal> {
     match names_of(rt, named, text, site) {
-        Ok(names) if names.len() < 2 => Err(Unfit::Words(help::ONE_READING)),
+        Ok(names) if names.len() < 2 => Err(Refusal::Words(help::ONE_READING)),
         answer => answer,
     }
 }
@@ -90,7 +90,7 @@ fn merge_files<'a, R: Host, W: Write + Drop, O: Place<W>>(
     names: &[&str],
     out: W,
     place: &mut O,
-    site: &mut Site<'a>,
+    site: &mut FaultSite<'a>,
 ) -> End {
     let images = &mut Images::new(rt, names);
     match merge_now(rt.alloc(), images, names, out, place, &mut io::writer(rt)) {
@@ -98,8 +98,10 @@ fn merge_files<'a, R: Host, W: Write + Drop, O: Place<W>>(
         Ok(MergeEnd::Partial | MergeEnd::Differs) => End::Incomplete,
         Err(MergeStop::NotOpened(number)) => {
             *site = match named.words.get(number) {
-                Some(name) => Site::Image(*name),
-                None => Site::Listed(number.saturating_sub(named.words.len()).saturating_add(1)),
+                Some(name) => FaultSite::Image(*name),
+                None => FaultSite::Listed(
+                    number.saturating_sub(named.words.len()).saturating_add(1),
+                ),
             };
             End::Faulted(ToolFault::File(FileFault::NotOpened))
         }

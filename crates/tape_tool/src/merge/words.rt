@@ -5,9 +5,9 @@ ghost use Rattle.clap.specs.Words.{found_of, rows_of};
 ghost use Rattle.tape_tool.specs.Words.{AreTooMany, AsksToMerge, IsNoMerge, NamesImages};
 ghost use Rattle.tape_tool.specs.Words.{RefusedFor};
 
+use crate::command_spec::{CommandSpec, Kind, Word, mistake};
 use crate::help;
 use crate::images::Named;
-use crate::outline::{Kind, Outline, Word, mistake};
 use crate::words::{is_dash, named, text_of};
 use clap::{ArgMatches, Error};
 use std::alloc::Global;
@@ -21,7 +21,7 @@ pub struct Merge<'a> {
 }
 
 /// `merge`.
-pub const MERGE: Outline = Outline {
+pub const MERGE: CommandSpec = CommandSpec {
     name: "merge",
     called: "tape merge",
     about: help::ABOUT_MERGE,
@@ -36,7 +36,7 @@ pub const MERGE: Outline = Outline {
 };
 
 /// `compare`.
-pub const COMPARE: Outline = Outline {
+pub const COMPARE: CommandSpec = CommandSpec {
     name: "compare",
     called: "tape compare",
     about: help::ABOUT_COMPARE,

@@ -1,13 +1,13 @@
 //! The `salvage` command: opens the files, and creates the output.
 
 use super::words::{SALVAGE, SalvageOrder};
-use crate::explain::Site;
+use crate::explain::FaultSite;
 use crate::extract::{Draft, HELD, Way, draft_of};
 use crate::fault::{FileFault, OUT_OF_MEMORY, ToolFault};
 use crate::host::Host;
 use crate::images::{Images, names_of};
-use crate::program::{End, check_end, refuse_unfit};
-use crate::unfit::refused;
+use crate::program::{End, check_end, end_refused};
+use crate::refusal::refused;
 use std::io::BufWriter;
 use std::{fs, io};
 use tape_run::salvage_to;
@@ -15,14 +15,14 @@ use tape_writer::system::found;
 
 /// Recovers what is readable of the file that the arguments name. On error, the site says where it
 /// occurred.
-pub fn salvage<'a, R: Host>(rt: &R, order: &SalvageOrder<'a>, site: &mut Site<'a>) -> End {
+pub fn salvage<'a, R: Host>(rt: &R, order: &SalvageOrder<'a>, site: &mut FaultSite<'a>) -> End {
     let mut text = String::new(rt.alloc());
     match names_of(rt, &order.images, &mut text, site) {
         Ok(names) => {
-            *site = Site::Out(order.out);
+            *site = FaultSite::Out(order.out);
             salvage_images(rt, order, names.as_slice())
         }
-        Err(unfit) => refuse_unfit(rt, &SALVAGE, unfit),
+        Err(refusal) => end_refused(rt, &SALVAGE, refusal),
     }
 }
 
@@ -31,8 +31,8 @@ pub fn salvage<'a, R: Host>(rt: &R, order: &SalvageOrder<'a>, site: &mut Site<'a
 fn salvage_images<R: Host>(rt: &R, order: &SalvageOrder<'_>, names: &[&str]) -> End {
     match found(fs::symlink_metadata(rt, order.out)) {
         Ok(None) => {}
-        Ok(Some(_)) => return refuse_unfit(rt, &SALVAGE, refused(FileFault::Exists)),
-        Err(fault) => return refuse_unfit(rt, &SALVAGE, refused(fault)),
+        Ok(Some(_)) => return end_refused(rt, &SALVAGE, refused(FileFault::Exists)),
+        Err(fault) => return end_refused(rt, &SALVAGE, refused(fault)),
     }
     let draft = match draft_of(rt, order.out, Way::New) {
         Ok(Some(draft)) => draft,

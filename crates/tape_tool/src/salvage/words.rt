@@ -6,9 +6,9 @@ ghost use Rattle.tape_run.specs.declared.salvage.Content.TheVariants.{Records, B
 ghost use Rattle.tape_tool.specs.Words.{AsksToSalvage, IsForm, IsNoExtract, IsNoSet, IsNoTask};
 ghost use Rattle.tape_tool.specs.Words.{RefusedFor, padded_set, text_in};
 
+use crate::command_spec::{CommandSpec, Kind, Word, mistake};
 use crate::help;
 use crate::images::Named;
-use crate::outline::{Kind, Outline, Word, mistake};
 use crate::words::{form_of, is_dash, named, number_of, option_of, set_id_of, text_of};
 use clap::{ArgMatches, Error};
 use std::alloc::Global;
@@ -28,7 +28,7 @@ pub struct SalvageOrder<'a> {
 const FORMS_OF_SALVAGE: &[&str] = &["lines", "raw", "blocks"];
 
 /// `salvage`.
-pub const SALVAGE: Outline = Outline {
+pub const SALVAGE: CommandSpec = CommandSpec {
     name: "salvage",
     called: "tape salvage",
     about: help::ABOUT_SALVAGE,

@@ -3,47 +3,47 @@
 use super::read_only::ReadOnly;
 use super::show::{show_damaged, show_stage};
 use super::words::{STAGE, StageOrder};
-use crate::explain::Site;
+use crate::explain::FaultSite;
 use crate::extract::{Draft, HELD, OutFile, Way, draft_of, way_to_out};
 use crate::fault::{FileFault, OUT_OF_MEMORY, ToolFault};
 use crate::host::Host;
-use crate::program::{End, damaged_end, end_of, refuse_unfit, stage_end};
+use crate::program::{End, damaged_end, end_of, end_refused, stage_end};
+use crate::refusal::Refusal;
 use crate::staging::locked_stage;
-use crate::unfit::Unfit;
 use std::fs::File;
 use std::io;
 use std::io::{BufWriter, Write};
-use tape_stage::{HeldFile, held_file};
+use tape_stage::{BufferedFile, buffered_file};
 
 /// The file of a stage, which is only read.
-type StageDisk = HeldFile<ReadOnly<File>>;
+type StageDisk = BufferedFile<ReadOnly<File>>;
 
 /// Shows the stage that the arguments name. On error, the site says where it occurred.
-pub fn stage<'a, R: Host>(rt: &R, order: &StageOrder<'a>, site: &mut Site<'a>) -> End {
+pub fn stage<'a, R: Host>(rt: &R, order: &StageOrder<'a>, site: &mut FaultSite<'a>) -> End {
     let place = match order.out {
-        None => Site::Lines,
-        Some(out) => Site::Out(out),
+        None => FaultSite::Lines,
+        Some(out) => FaultSite::Out(out),
     };
     *site = place;
     let way = match way_of(rt, order) {
         Ok(way) => way,
-        Err(unfit) => return refuse_unfit(rt, &STAGE, unfit),
+        Err(refusal) => return end_refused(rt, &STAGE, refusal),
     };
     let end = match disk_of(rt, order.stage) {
         Ok(disk) => show_disk(rt, &*order, way, disk),
         Err(fault) => {
-            *site = Site::Stage(order.stage);
+            *site = FaultSite::Stage(order.stage);
             return end_of(Err(fault));
         }
     };
     if let End::Faulted(ToolFault::Stage(_)) = end {
-        *site = Site::Stage(order.stage);
+        *site = FaultSite::Stage(order.stage);
     }
     end
 }
 
 /// How the output is to be written, if there is one.
-fn way_of<R: Host>(rt: &R, order: &StageOrder<'_>) -> Result<Option<Way>, Unfit> {
+fn way_of<R: Host>(rt: &R, order: &StageOrder<'_>) -> Result<Option<Way>, Refusal> {
     match order.out {
         None => Ok(None),
         Some(out) => Ok(Some(way_to_out(rt, out, Some(order.stage), &[])?)),
@@ -57,7 +57,7 @@ fn disk_of<R: Host>(rt: &R, path: &str) -> Result<StageDisk, ToolFault> {
         return Err(ToolFault::File(FileFault::NotOpened));
     };
     locked_stage(file.try_lock_shared())?;
-    match held_file(rt.alloc(), ReadOnly { file }) {
+    match buffered_file(rt.alloc(), ReadOnly { file }) {
         Ok(disk) => Ok(disk),
         Err(fault) => Err(ToolFault::Stage(fault)),
     }

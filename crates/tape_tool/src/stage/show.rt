@@ -7,10 +7,10 @@ ghost use Rattle.tape_blocks.specs.Block.{Portion};
 ghost use Rattle.tape_image.specs.Written.{AppendsFront};
 ghost use Rattle.tape_set.specs.Position.{want_at};
 ghost use Rattle.tape_stage.specs.Salvaged.{HoldsRest};
-ghost use Rattle.tape_tool.specs.Showing.{stage_line, told_with, ending_of, ending_line};
-ghost use Rattle.tape_tool.specs.Showing.{EndsInPart, break_line};
-ghost use Rattle.tape_tool.specs.Showing.{Gives, GivesFront, Shows, StopsShowing};
-ghost use Rattle.tape_tool.specs.Showing.{ShowsDamaged, StopsSalvaging};
+ghost use Rattle.tape_tool.specs.StageReport.{stage_line, told_with, ending_of, ending_line};
+ghost use Rattle.tape_tool.specs.StageReport.{EndsInPart, break_line};
+ghost use Rattle.tape_tool.specs.StageReport.{Gives, GivesFront, Shows, StopsShowing};
+ghost use Rattle.tape_tool.specs.StageReport.{ShowsDamaged, StopsSalvaging};
 
 use super::ending::StageEnding;
 use crate::fault::{FileFault, ToolFault};

@@ -3,8 +3,8 @@ ghost use Rattle.std.specs.Prelude.{codes, IfOk, IfErr};
 ghost use Rattle.clap.specs.Words.{found_of, rows_of};
 ghost use Rattle.tape_tool.specs.Words.{AsksForStage, IsDashOrMore, RefusedFor, texts_in};
 
+use crate::command_spec::{CommandSpec, Kind, Word, mistake};
 use crate::help;
-use crate::outline::{Kind, Outline, Word, mistake};
 use crate::words::{FORMS, at_most_one, flag_of, form_of, text_of};
 use clap::{ArgMatches, Error};
 use std::alloc::Global;
@@ -22,7 +22,7 @@ pub struct StageOrder<'a> {
 
 /// `stage`. It accepts any number of outputs, so that the error for a second one has a text of its
 /// own.
-pub const STAGE: Outline = Outline {
+pub const STAGE: CommandSpec = CommandSpec {
     name: "stage",
     called: "tape stage",
     about: help::ABOUT_STAGE,

@@ -3,9 +3,9 @@ ghost use Rattle.std.specs.Prelude.{codes, IfOk, IfErr};
 ghost use Rattle.clap.specs.Words.{found_of, rows_of};
 ghost use Rattle.tape_tool.specs.Words.{AreTooMany, AsksToSurvey, IsFlag, RefusedFor, is_in_rows};
 
+use crate::command_spec::{CommandSpec, Kind, Word};
 use crate::help;
 use crate::images::Named;
-use crate::outline::{Kind, Outline, Word};
 use crate::words::{flag_of, named};
 use clap::{ArgMatches, Error};
 use std::alloc::Global;
@@ -19,7 +19,7 @@ pub struct Survey<'a> {
 }
 
 /// `survey`.
-pub const SURVEY: Outline = Outline {
+pub const SURVEY: CommandSpec = CommandSpec {
     name: "survey",
     called: "tape survey",
     about: help::ABOUT_SURVEY,

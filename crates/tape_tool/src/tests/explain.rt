@@ -2,7 +2,7 @@
 
 use super::calls::{Step, take_all};
 use super::words::words_of;
-use crate::explain::{Explanation, Site, TEXTS};
+use crate::explain::{Explanation, FaultSite, TEXTS};
 use crate::fault::{FileFault, ToolFault};
 use crate::host::Host;
 use crate::program::{End, perform};
@@ -44,47 +44,56 @@ const TLD: Prefix = Prefix {
 };
 
 /// Lines that end with a fault, and its site.
-const SITES: &[(&str, Option<Site<'_>>)] = &[
+const SITES: &[(&str, Option<FaultSite<'_>>)] = &[
     ("list told_cut.tap", None),
     (
         "list --explain told_cut.tap",
-        Some(Site::Image("told_cut.tap")),
+        Some(FaultSite::Image("told_cut.tap")),
     ),
-    ("--explain list lost.tap", Some(Site::Image("lost.tap"))),
-    ("init . TLD 1 --explain", Some(Site::Volume(".", TLD, 1))),
+    (
+        "--explain list lost.tap",
+        Some(FaultSite::Image("lost.tap")),
+    ),
+    (
+        "init . TLD 1 --explain",
+        Some(FaultSite::Volume(".", TLD, 1)),
+    ),
     (
         "write . TLD 100000 A=told.tap Ab=told.tap --explain",
-        Some(Site::Input("Ab=told.tap")),
+        Some(FaultSite::Input("Ab=told.tap")),
     ),
     (
         "write none TLD 100000 A=told.stage --explain",
-        Some(Site::Images("none")),
+        Some(FaultSite::Images("none")),
     ),
     (
         "extract ABC001 1 told.tap lost.tap --explain",
-        Some(Site::Out("told.tap")),
+        Some(FaultSite::Out("told.tap")),
     ),
     (
         "check told.tap --files-from lost.names --explain",
-        Some(Site::List(Some("lost.names"))),
+        Some(FaultSite::List(Some("lost.names"))),
     ),
     (
         "extract ABC001 1 told.txt --files-from . --explain",
-        Some(Site::List(Some("."))),
+        Some(FaultSite::List(Some("."))),
     ),
     (
         "extract ABC001 1 told.txt told.tap --stage told.stage --explain",
-        Some(Site::Stage("told.stage")),
+        Some(FaultSite::Stage("told.stage")),
     ),
     (
         "extract ABC001 1 lost/told.txt told.tap --explain",
-        Some(Site::Out("lost/told.txt")),
+        Some(FaultSite::Out("lost/told.txt")),
     ),
-    ("unpack lost told.tap --explain", Some(Site::Folder("lost"))),
+    (
+        "unpack lost told.tap --explain",
+        Some(FaultSite::Folder("lost")),
+    ),
 ];
 
 /// The line ends with a fault, which has this site.
-fn is_at<H: Host + Abort>(rt: &H, line: &str, site: Option<Site<'_>>) -> Result<(), Fail> {
+fn is_at<H: Host + Abort>(rt: &H, line: &str, site: Option<FaultSite<'_>>) -> Result<(), Fail> {
     let words = words_of(rt.alloc(), line)?;
     let outcome = perform(rt, words.as_slice());
     assert!(rt;
@@ -121,66 +130,66 @@ const NO_MEMORY: ToolFault = ToolFault::Image(ImageFault {
 });
 
 /// Faults, their sites, and the first line that is printed for them, or the second.
-const TOLD: &[(ToolFault, Site<'_>, &str)] = &[
+const TOLD: &[(ToolFault, FaultSite<'_>, &str)] = &[
     (
         CUT_OFF,
-        Site::Image("cut.tap"),
+        FaultSite::Image("cut.tap"),
         "  Image: cut.tap\n  The image ends in the middle of a block: it was cut off.",
     ),
     (
         NO_IMAGE,
-        Site::Stdin,
+        FaultSite::Stdin,
         "  Image: standard input\n  This does not look like a .tap image.",
     ),
-    (NO_MEMORY, Site::Image("a.tap"), "  Out of memory."),
+    (NO_MEMORY, FaultSite::Image("a.tap"), "  Out of memory."),
     (
         ToolFault::File(FileFault::Exists),
-        Site::Volume("box", TLD, 7),
+        FaultSite::Volume("box", TLD, 7),
         "  Image: box/TLD007.tap\n  The image already exists; it was not changed.",
     ),
     (
         ToolFault::File(FileFault::Exists),
-        Site::Out("a.tap"),
+        FaultSite::Out("a.tap"),
         "  OUT: a.tap\n  OUT already exists and might be a tape image,",
     ),
     (
         ToolFault::File(FileFault::WriteFailed),
-        Site::Lines,
+        FaultSite::Lines,
         "  Output: standard output\n  Output failed: the disk is full,",
     ),
     (
         ToolFault::StageInUse,
-        Site::Stage("s"),
+        FaultSite::Stage("s"),
         "  Stage: s\n  Another run is using this stage.",
     ),
     (
         ToolFault::Run(RunFault::OtherFile),
-        Site::Stage("s"),
+        FaultSite::Stage("s"),
         "  Stage: s\n  This stage belongs to another file",
     ),
     (
         ToolFault::Stage(StageFault::NoPoint),
-        Site::Folder("d"),
+        FaultSite::Folder("d"),
         "  Stage: the path reported as FAILED, with .stage after it\n  This is not a stage,",
     ),
     (
         ToolFault::StageInUse,
-        Site::Folder("d"),
+        FaultSite::Folder("d"),
         "  Stage: the path reported as FAILED, with .stage after it\n  Another run is using",
     ),
     (
         ToolFault::Run(RunFault::OtherFile),
-        Site::Folder("d"),
+        FaultSite::Folder("d"),
         "  Stage: the path reported as FAILED, with .stage after it\n  This stage belongs",
     ),
     (
         ToolFault::File(FileFault::WriteFailed),
-        Site::Folder("d"),
+        FaultSite::Folder("d"),
         "  DIR: d\n  Writing to DIR or standard output failed:",
     ),
     (
         ToolFault::Run(RunFault::OutOfMemory),
-        Site::Out("o"),
+        FaultSite::Out("o"),
         "  Out of memory.",
     ),
 ];

@@ -1,8 +1,8 @@
 //! The lines of faults.
+use crate::diagnostics::FaultLine;
 use crate::fault::{FileFault, ToolFault};
 use crate::host::Host;
 use crate::program::{End, end_of};
-use crate::telling::FaultLine;
 use std::process::Abort;
 use tape_core::SinkFault;
 use tape_image::{ImageCause, ImageFault};

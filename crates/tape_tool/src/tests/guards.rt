@@ -2,7 +2,7 @@
 //! lost.
 
 use super::calls::{Step, holds, take_all};
-use super::desk::{MINE, Odd, called_oddly};
+use super::fake_system::{MINE, Odd, called_oddly};
 use crate::program::End;
 use std::io::ErrorKind;
 use std::test::Fail;

@@ -1,6 +1,6 @@
 //! Whole calls as a caller sees them: exit status, both streams, and which files are opened.
 use super::calls::{Step, put, take_all, with_images};
-use super::desk::{Seen, called};
+use super::fake_system::{Seen, called};
 use super::volumes::{first_of_two, second_of_two};
 use std::test::Fail;
 

@@ -10,10 +10,10 @@ use std::{fs, io};
 use tape_label::Field;
 use tape_run::Session;
 use tape_set::Want;
-use tape_stage::{HeldFile, MemoryDisk, Refused, Stage, StageFault, held_file};
+use tape_stage::{BufferedFile, MemoryDisk, Refused, Stage, StageFault, buffered_file};
 
 /// A session over the stage in a file.
-type FileSession = Session<Stage<HeldFile<File>>>;
+type FileSession = Session<Stage<BufferedFile<File>>>;
 
 /// One day: the session is opened, reads the reel with an unreadable block, and is saved. The
 /// result is the disk, and what is missing next.
@@ -143,7 +143,7 @@ fn session_in(rt: &HostRuntime, path: &str) -> io::Result<Option<FileSession>> {
     let mut options = OpenOptions::new();
     options.read(true).write(true).create(true);
     let file = options.open(rt, path)?;
-    let Ok(disk) = held_file(rt.alloc(), file) else {
+    let Ok(disk) = buffered_file(rt.alloc(), file) else {
         return Ok(None);
     };
     Ok(open_session(rt.alloc(), disk, Field::of_bytes(*b"ABC001"), 1).ok())

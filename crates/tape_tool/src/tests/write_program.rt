@@ -43,8 +43,8 @@ const FOLDER: &[Step<'_>] = &[
 const UNFIT: &[Step<'_>] = &[
     Step::Put("apart.txt", b"AB\n"),
     Step::Ends("init . UNF 2", End::Done),
-    Step::Remove("unfit.txt"),
-    Step::Link("unfit.txt", "UNF002.tap"),
+    Step::Remove("refusal.txt"),
+    Step::Link("refusal.txt", "UNF002.tap"),
     Step::Ends(
         "write . UNF 100000 A=UNF001.tap --format S --form raw",
         End::WrongWords,
@@ -53,7 +53,7 @@ const UNFIT: &[Step<'_>] = &[
         "write ./. UNF 100000 A=apart.txt B=./UNF002.tap",
         End::WrongWords,
     ),
-    Step::Ends("write . UNF 100000 A=unfit.txt", End::WrongWords),
+    Step::Ends("write . UNF 100000 A=refusal.txt", End::WrongWords),
     Step::HasLength("UNF001.tap", 100),
     Step::HasLength("UNF002.tap", 100),
     // A device and a directory, among images some of which would be written before them.

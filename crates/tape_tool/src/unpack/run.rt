@@ -3,7 +3,8 @@
 use super::last_line::LastLine;
 use super::paths::{Paths, paths_of};
 use super::words::{UNPACK, Unpack};
-use crate::explain::Site;
+use crate::diagnostics::FaultLine;
+use crate::explain::FaultSite;
 use crate::extract::words::Task;
 use crate::extract::{Way, extract_file, extract_whole};
 use crate::fault::{FileFault, OUT_OF_MEMORY, ToolFault};
@@ -11,15 +12,14 @@ use crate::help;
 use crate::host::Host;
 use crate::images::{Image, Images, in_reading_order, names_of};
 use crate::left::remove;
-use crate::program::{End, check_end, end_of, refuse_unfit};
-use crate::telling::FaultLine;
-use crate::unfit::{Unfit, refused};
+use crate::program::{End, check_end, end_of, end_refused};
+use crate::refusal::{Refusal, refused};
 use std::io::{BufWriter, Write};
 use std::{fs, io};
 use tape_label::Field;
 use tape_run::{
-    Heading, Mounted, SetFile, ShelfFiles, UnpackOutcome, WriteFailed, file_line, file_name,
-    files_on, flush, left_over_line, numbers_line, unpack_outcome_text, write_text,
+    FoundFiles, Heading, Mounted, SetFile, UnpackOutcome, WriteFailed, file_line, file_name,
+    find_files, flush, left_over_line, numbers_line, unpack_outcome_text, write_text,
 };
 use tape_writer::system::found;
 
@@ -34,32 +34,32 @@ const NOT_REPORTED: End = End::Faulted(ToolFault::File(FileFault::WriteFailed));
 #[derive(Drop)]
 struct Source<'n, D> {
     names: &'n [&'n str],
-    met: &'n ShelfFiles,
+    met: &'n FoundFiles,
     mounted: Option<Mounted<D>>,
 }
 
 /// Recovers every file on the images that the arguments name. On error, the site says where it
 /// occurred.
-pub fn unpack<'a, R: Host>(rt: &R, order: &Unpack<'a>, site: &mut Site<'a>) -> End {
+pub fn unpack<'a, R: Host>(rt: &R, order: &Unpack<'a>, site: &mut FaultSite<'a>) -> End {
     let mut text = String::new(rt.alloc());
     match names_of(rt, &order.images, &mut text, site) {
         Ok(names) => {
-            *site = Site::Folder(order.folder);
+            *site = FaultSite::Folder(order.folder);
             unpack_images(rt, order, names.as_slice())
         }
-        Err(unfit) => refuse_unfit(rt, &UNPACK, unfit),
+        Err(refusal) => end_refused(rt, &UNPACK, refusal),
     }
 }
 
 /// Recovers every file on the images with these names.
 fn unpack_images<R: Host>(rt: &R, order: &Unpack<'_>, names: &[&str]) -> End {
-    if let Err(unfit) = is_folder(rt, order.folder) {
-        return refuse_unfit(rt, &UNPACK, unfit);
+    if let Err(refusal) = is_folder(rt, order.folder) {
+        return end_refused(rt, &UNPACK, refusal);
     }
     let Ok(mut report) = BufWriter::with_capacity(rt.alloc(), LINES, io::writer(rt)) else {
         return End::Faulted(OUT_OF_MEMORY);
     };
-    let met = match files_on(rt.alloc(), &mut Images::new(rt, names)) {
+    let met = match find_files(rt.alloc(), &mut Images::new(rt, names)) {
         Ok(met) => met,
         Err(fault) => return end_of(Err(ToolFault::Run(fault))),
     };
@@ -71,10 +71,10 @@ fn unpack_images<R: Host>(rt: &R, order: &Unpack<'_>, names: &[&str]) -> End {
 }
 
 /// Refuses what is not a directory. An image in its place was named without a directory before it.
-fn is_folder<R: Host>(rt: &R, path: &str) -> Result<(), Unfit> {
+fn is_folder<R: Host>(rt: &R, path: &str) -> Result<(), Refusal> {
     match fs::metadata(rt, path) {
         Ok(found) if found.is_dir() => Ok(()),
-        Ok(_) => Err(Unfit::Words(help::DIR_IS_NO_FOLDER)),
+        Ok(_) => Err(Refusal::Words(help::DIR_IS_NO_FOLDER)),
         Err(_) => Err(refused(FileFault::NotOpened)),
     }
 }
@@ -85,7 +85,7 @@ fn unpack_all<R: Host, P: Write>(
     rt: &R,
     order: &Unpack<'_>,
     names: &[&str],
-    met: &ShelfFiles,
+    met: &FoundFiles,
     report: &mut P,
 ) -> End {
     let files = met.files.as_slice();
@@ -231,7 +231,7 @@ fn gather<R: Host>(
     is_staged: bool,
     last: &mut LastLine,
 ) -> End {
-    let mut site = Site::Unknown;
+    let mut site = FaultSite::Unknown;
     let stage = paths.stage.as_str();
     let at_once = Task {
         set_id: file.set_id,

@@ -3,9 +3,9 @@ ghost use Rattle.std.specs.Prelude.{IfOk, IfErr};
 ghost use Rattle.clap.specs.Words.{found_of, rows_of};
 ghost use Rattle.tape_tool.specs.Words.{AsksToUnpack, IsNoUnpack, RefusedFor};
 
+use crate::command_spec::{CommandSpec, Kind, Word, mistake};
 use crate::help;
 use crate::images::Named;
-use crate::outline::{Kind, Outline, Word, mistake};
 use crate::words::{FORMS, form_of, named, text_of};
 use clap::{ArgMatches, Error};
 use std::alloc::Global;
@@ -20,7 +20,7 @@ pub struct Unpack<'a> {
 }
 
 /// `unpack`.
-pub const UNPACK: Outline = Outline {
+pub const UNPACK: CommandSpec = CommandSpec {
     name: "unpack",
     called: "tape unpack",
     about: help::ABOUT_UNPACK,
@@ -45,14 +45,14 @@ pub fn unpack_order<'a>(alloc: Global, matches: &ArgMatches<'a>) -> Result<Unpac
     ensures ok { IfOk result (AsksToUnpack (rows_of (found_of matches.now))) }
     ensures err { IfErr result (RefusedFor (IsNoUnpack (rows_of (found_of matches.now)))) }
 {
-    let outline = &UNPACK;
+    let command_spec = &UNPACK;
     let folder = text_of(matches, "DIR");
     if folder.is_empty() {
-        return Err(mistake(alloc, outline, help::NO_FOLDER));
+        return Err(mistake(alloc, command_spec, help::NO_FOLDER));
     }
     Ok(Unpack {
         folder,
-        images: named(alloc, matches, outline, help::TOO_MANY_TO_UNPACK)?,
+        images: named(alloc, matches, command_spec, help::TOO_MANY_TO_UNPACK)?,
         form: form_of(matches),
     })
 }

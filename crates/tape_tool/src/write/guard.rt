@@ -1,7 +1,7 @@
 //! Checks of `write` before it writes: no input of a set is one of its images.
 use crate::fault::{FileFault, OUT_OF_MEMORY};
 use crate::help;
-use crate::unfit::{Unfit, look, refused, same_file};
+use crate::refusal::{Refusal, look, refused, same_file};
 use crate::write::run::split;
 use crate::write::words::WriteOrder;
 use std::fs::Metadata;
@@ -16,13 +16,13 @@ use tape_writer::system::{VOLUMES, image_path};
 /// name or link leads to it. Returns `Faulted` with `NotOpened` if a directory has the name of such
 /// an image, or one of these files cannot be looked at; with `Exists` if anything else does that is
 /// not a plain file, such as a pipe or a device; with `OutOfMemory` if an allocation was refused.
-pub fn look_ahead<R: Runtime + AllocGlobal>(rt: &R, order: &WriteOrder<'_>) -> Result<(), Unfit> {
+pub fn look_ahead<R: Runtime + AllocGlobal>(rt: &R, order: &WriteOrder<'_>) -> Result<(), Refusal> {
     let images = images_of(rt, order)?;
     differ(rt, order.files.as_slice(), images.as_slice())
 }
 
 /// Refuses an input that is one of these images.
-fn differ<R: Runtime>(rt: &R, files: &[&str], images: &[Metadata]) -> Result<(), Unfit> {
+fn differ<R: Runtime>(rt: &R, files: &[&str], images: &[Metadata]) -> Result<(), Refusal> {
     if images.is_empty() {
         return Ok(());
     }
@@ -30,7 +30,7 @@ fn differ<R: Runtime>(rt: &R, files: &[&str], images: &[Metadata]) -> Result<(),
         let (_, path) = split(word);
         match look(rt, path)? {
             Some(input) if images.iter().any(|image| same_file(image, &input)) => {
-                return Err(Unfit::Words(help::INPUT_IS_IMAGE));
+                return Err(Refusal::Words(help::INPUT_IS_IMAGE));
             }
             _ => {}
         }
@@ -42,7 +42,7 @@ fn differ<R: Runtime>(rt: &R, files: &[&str], images: &[Metadata]) -> Result<(),
 fn images_of<R: Runtime + AllocGlobal>(
     rt: &R,
     order: &WriteOrder<'_>,
-) -> Result<Vec<Metadata>, Unfit> {
+) -> Result<Vec<Metadata>, Refusal> {
     let mut images = Vec::new(rt.alloc());
     for number in 1..=VOLUMES {
         if let Some(image) = image_at(rt, order, number)? {
@@ -59,7 +59,7 @@ fn image_at<R: Runtime + AllocGlobal>(
     rt: &R,
     order: &WriteOrder<'_>,
     number: u16,
-) -> Result<Option<Metadata>, Unfit> {
+) -> Result<Option<Metadata>, Refusal> {
     let Ok(path) = image_path(rt.alloc(), order.folder, order.prefix, number) else {
         return Err(no_memory());
     };
@@ -70,7 +70,7 @@ fn image_at<R: Runtime + AllocGlobal>(
 }
 
 /// Refuses what is not a plain file.
-fn plain(found: Metadata) -> Result<Option<Metadata>, Unfit> {
+fn plain(found: Metadata) -> Result<Option<Metadata>, Refusal> {
     if found.is_file() {
         Ok(Some(found))
     } else if found.is_dir() {
@@ -81,6 +81,6 @@ fn plain(found: Metadata) -> Result<Option<Metadata>, Unfit> {
 }
 
 /// An allocation was refused.
-fn no_memory() -> Unfit {
-    Unfit::Faulted(OUT_OF_MEMORY)
+fn no_memory() -> Refusal {
+    Refusal::Faulted(OUT_OF_MEMORY)
 }

@@ -7,10 +7,10 @@ ghost use Rattle.tape_tool.specs.Writing.{record_length, IsNoShape, plain_head};
 use super::guard::look_ahead;
 use super::report::say;
 use super::words::{WRITE, WriteOrder};
-use crate::explain::Site;
+use crate::explain::FaultSite;
 use crate::fault::ToolFault;
 use crate::host::Host;
-use crate::program::{End, end_of, refuse_unfit};
+use crate::program::{End, end_of, end_refused};
 use std::io;
 use std::rt::Runtime;
 use tape_blocks::Shape;
@@ -20,11 +20,11 @@ use tape_writer::{Input, WriteFault};
 
 /// Writes files to volumes, unless a file would be lost by it. On error, the site says where it
 /// occurred.
-pub fn write<'a, R: Host>(rt: &R, order: &WriteOrder<'a>, site: &mut Site<'a>) -> End {
-    *site = Site::Images(order.folder);
+pub fn write<'a, R: Host>(rt: &R, order: &WriteOrder<'a>, site: &mut FaultSite<'a>) -> End {
+    *site = FaultSite::Images(order.folder);
     match look_ahead(rt, order) {
         Ok(()) => end_of(write_set(rt, order, site)),
-        Err(unfit) => refuse_unfit(rt, &WRITE, unfit),
+        Err(refusal) => end_refused(rt, &WRITE, refusal),
     }
 }
 
@@ -36,12 +36,12 @@ pub fn write<'a, R: Host>(rt: &R, order: &WriteOrder<'a>, site: &mut Site<'a>) -
 fn write_set<'a, R: Host>(
     rt: &R,
     order: &WriteOrder<'a>,
-    site: &mut Site<'a>,
+    site: &mut FaultSite<'a>,
 ) -> Result<(), ToolFault> {
     let plan = plan_of(order)?;
     check_ids(order, site)?;
     let mut files = find_inputs(rt, order, site)?;
-    *site = Site::Images(order.folder);
+    *site = FaultSite::Images(order.folder);
     write_files(rt, &plan, files.as_mut_slice())
 }
 
@@ -111,9 +111,9 @@ fn record_length(order: &WriteOrder<'_>) -> u32
 }
 
 /// Checks the identifiers of all files. Nothing of them is kept, since there may be thousands.
-fn check_ids<'a>(order: &WriteOrder<'a>, site: &mut Site<'a>) -> Result<(), ToolFault> {
+fn check_ids<'a>(order: &WriteOrder<'a>, site: &mut FaultSite<'a>) -> Result<(), ToolFault> {
     for word in order.files.as_slice() {
-        *site = Site::Input(*word);
+        *site = FaultSite::Input(*word);
         head_for(word)?;
     }
     Ok(())
@@ -159,11 +159,11 @@ fn head_of(file_id: Field<17>) -> Head1
 fn find_inputs<'r, 'a: 'r, R: Runtime + AllocGlobal>(
     rt: &'r R,
     order: &WriteOrder<'a>,
-    site: &mut Site<'a>,
+    site: &mut FaultSite<'a>,
 ) -> Result<Vec<Input<InputFile<'r, R>>>, ToolFault> {
     let mut inputs = Vec::new(rt.alloc());
     for word in order.files.as_slice() {
-        *site = Site::Input(*word);
+        *site = FaultSite::Input(*word);
         if inputs.push(input_of(rt, *word)?).is_err() {
             return Err(ToolFault::Write(WriteFault::OutOfMemory));
         }

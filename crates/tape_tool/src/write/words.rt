@@ -7,8 +7,8 @@ ghost use Rattle.clap.specs.Words.{found_of, rows_of};
 ghost use Rattle.tape_tool.specs.Words.{AreAtOdds, AsksToWrite, HavePaths, IsAtOdds, IsNoWrite};
 ghost use Rattle.tape_tool.specs.Words.{RefusedFor, text_in, texts_in};
 
+use crate::command_spec::{CommandSpec, Kind, Word, mistake};
 use crate::help;
-use crate::outline::{Kind, Outline, Word, mistake};
 use crate::words::{FORMS, flag_of, form_of, text_of};
 use clap::{ArgMatches, Error};
 use std::alloc::Global;
@@ -38,7 +38,7 @@ pub struct WriteOrder<'a> {
 }
 
 /// `write`.
-pub const WRITE: Outline = Outline {
+pub const WRITE: CommandSpec = CommandSpec {
     name: "write",
     called: "tape write",
     about: help::ABOUT_WRITE,

@@ -12,7 +12,7 @@ use Rattle.tape_run.proofs.extract.extract_to.Goals as goal
 pub returns-in_err-read_images-clause-err : goal.returns-in_err-read_images-clause-err
 returns-in_err-read_images-clause-err g c =
     on_err c.from_residual.result _
-    (stops_reading g.S.PartSink g.L.Shelf.size g.L.Shelf.gives
+    (stops_reading g.S.PartSink g.L.ImageSource.size g.L.ImageSource.gives
     g.R.Read.remaining c.args.session.now c.read_images.new.session _ _ c.args.form
     g.W.Write.contents c.args.out.now _ _ _
     c.has_note-back.ensures
@@ -36,7 +36,7 @@ returns-clause-ok g c =
     (g.W.Write.contents c.args.out.now) (g.W.Write.contents c.end_file.new.out)
     (g.P.Write.contents c.read_images.new.report) (g.P.Write.contents c.end_file.new.report))
     (Extracts g.S.PartSink
-    g.L.Shelf.size g.L.Shelf.gives
+    g.L.ImageSource.size g.L.ImageSource.gives
     g.R.Read.remaining c.args.session.now c.end_file.new.session c.args.images.now
     c.read_images.new.images c.args.form
     (g.W.Write.contents c.args.out.now) (g.W.Write.contents c.end_file.new.out)
@@ -44,7 +44,7 @@ returns-clause-ok g c =
     (g.S.PartSink.refusals c.end_file.new.session.sink
     ≡ g.S.PartSink.refusals c.read_images.new.session.sink)
     c.end_file.ensures.ok c.end_file.ensures.calm (λ want e calm.
-    extracted g.S.PartSink g.L.Shelf.size g.L.Shelf.gives
+    extracted g.S.PartSink g.L.ImageSource.size g.L.ImageSource.gives
     g.R.Read.remaining c.args.session.now c.read_images.new.session c.end_file.new.session _ _
     c.args.form _ _ _ _ _ want _ c.has_note-back.ensures c.in_ok-read_images.ensures.ok e
     c.end_file.ensures.same calm)
@@ -55,12 +55,12 @@ returns-clause-err g c =
     c.args.form g.W.Write.contents c.args.out.now c.end_file.new.out
     (g.P.Write.contents c.read_images.new.report) (g.P.Write.contents c.end_file.new.report))
     (Stops g.S.PartSink
-    g.L.Shelf.size g.L.Shelf.gives
+    g.L.ImageSource.size g.L.ImageSource.gives
     g.R.Read.remaining c.args.session.now c.end_file.new.session c.args.images.now
     c.read_images.new.images c.args.form
     g.W.Write.contents c.args.out.now c.end_file.new.out
     (g.P.Write.contents c.args.report.now) (g.P.Write.contents c.end_file.new.report))
-    (λ e. stops_at_end g.S.PartSink g.L.Shelf.size g.L.Shelf.gives
+    (λ e. stops_at_end g.S.PartSink g.L.ImageSource.size g.L.ImageSource.gives
     g.R.Read.remaining c.args.session.now c.read_images.new.session
     c.end_file.new.session _ _ c.args.form
     g.W.Write.contents c.args.out.now c.end_file.new.out _ _ _

@@ -19,7 +19,7 @@ use Rattle.tape_set.specs.Position.{block_of}
 use Rattle.tape_run.specs.Steps.{Saved}
 use Rattle.tape_run.specs.Seen.{Seen, seen, IsKept}
 use Rattle.tape_run.specs.ReelLine.{reel_lines}
-use Rattle.tape_run.specs.Reeling.{is_doubtful, IsNoted, IsKeptFor, WentToLast, HasNotedHere}
+use Rattle.tape_run.specs.Reeling.{counts_differ, IsNoted, IsKeptFor, WentToLast, HasNotedHere}
 use Rattle.tape_run.specs.Reeling.{Turn, answer_of, AreTurns, IsTurn, Mounting}
 use Rattle.tape_run.proofs.Headline.{took_so_many}
 use Rattle.tape_run.proofs.extract.images.note.Reads as note
@@ -34,7 +34,7 @@ saved_behind_a_wrong_count : (S : _) (L : _) (g : _) (d : _) (κs : _) (a : _) (
 saved_behind_a_wrong_count S L g d κs a s label seen noted l count more =
     absurd (omega (
       arith,
-      sym more ∙ ap (λ z. length z.notes) (l.doubtful (ap is_doubtful count)),
+      sym more ∙ ap (λ z. length z.notes) (l.doubtful (ap counts_differ count)),
     ))
 
 -- saved_in_the_list_alone: after a section the session is at block 5, its first checkpoint is made,
@@ -49,7 +49,7 @@ saved_in_the_list_alone S L g d κs a s held there older l done was none five ba
     let (now, has, (noted, last)) = l.ok held was in
     let (elsewhere, saved) : (a.1.1.0 ≡ true → HasNotedHere old → ⊥)
     × Saved old (seen g s.0.now now) =
-    subst (λ b. IsNoted false a.1.1.0 b true old (seen g s.0.now now)) (ap is_doubtful done)
+    subst (λ b. IsNoted false a.1.1.0 b true old (seen g s.0.now now)) (ap counts_differ done)
     noted in
     let here = saved_point old.place (weight_of held) in
     let one : s.0.now.notes ≡ here ∷ [] = saved.notes ∙ ap (λ l. l ++ here ∷ []) none in
@@ -82,8 +82,8 @@ wrong_count_not_taken_back : (S : _) (L : _) (g : _) (d : _) (κs : _) (a : _) (
 wrong_count_not_taken_back S L g d κs a s label count held is l told back was kept broken =
     let old = seen g a.0.now held in
     let (now, has, (noted, last)) = l.ok held was (subst (λ b. IsKeptFor b old) (sym back) kept) in
-    let (n, one, w) = went a.1.1.0 a.1.1.1.0 (is_doubtful a.1.0.now.answer) is old
-    (seen g s.0.now now) back (ap is_doubtful told) noted in
+    let (n, one, w) = went a.1.1.0 a.1.1.1.0 (counts_differ a.1.0.now.answer) is old
+    (seen g s.0.now now) back (ap counts_differ told) noted in
     absurd (let e : Broken ≡ Over = sym (ap resting broken) ∙ ap (λ p. p.phase) w.place in cc)
 
 -- taken_back_to_the_beginning: of two notes one is left, and not the last
@@ -95,8 +95,8 @@ taken_back_to_the_beginning : (S : _) (L : _) (g : _) (d : _) (κs : _) (a : _) 
 taken_back_to_the_beginning S L g d κs a s label count held is l told back was kept two left =
     let old = seen g a.0.now held in
     let (now, has, (noted, last)) = l.ok held was (subst (λ b. IsKeptFor b old) (sym back) kept) in
-    let (n, one, w) = went a.1.1.0 a.1.1.1.0 (is_doubtful a.1.0.now.answer) is old
-    (seen g s.0.now now) back (ap is_doubtful told) noted in
+    let (n, one, w) = went a.1.1.0 a.1.1.1.0 (counts_differ a.1.0.now.answer) is old
+    (seen g s.0.now now) back (ap counts_differ told) noted in
     absurd (omega (
       arith,
       two,

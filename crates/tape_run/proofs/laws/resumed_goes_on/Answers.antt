@@ -1,4 +1,4 @@
-use Rattle.tape_run.proofs.Lives.{goes_on}
+use Rattle.tape_run.proofs.CrashRuns.{goes_on}
 use Rattle.tape_run.proofs.laws.resumed_goes_on.Goals as goal
 
 pub returns : goal.returns

@@ -22,7 +22,7 @@ returns-in_err-place-clause-err g c =
 pub returns-in_err-write_text-clause-err : goal.returns-in_err-write_text-clause-err
 returns-in_err-write_text-clause-err g c =
     on_err c.from_residual-in_err-write_text.result _ (inr (file_placed g.W.Write.contents
-    g.L.Shelf.size g.L.Shelf.gives g.R.Read.remaining c.args.task.now c.args.out _ _ _ _ _ _ _
+    g.L.ImageSource.size g.L.ImageSource.gives g.R.Read.remaining c.args.task.now c.args.out _ _ _ _ _ _ _
     c.into_out-written.result c.flush.new.writer _ _ _ _ c.records-records.result
     c.deref.result.now c.in_ok-copies.ensures.ok c.in_ok-recover_sections.ensures.ok
     c.as_slice.ensures.value c.new-recovery.ensures c.into_out-written.ensures
@@ -32,7 +32,7 @@ returns-in_err-write_text-clause-err g c =
 pub returns-in_err-flush-2-clause-err : goal.returns-in_err-flush-2-clause-err
 returns-in_err-flush-2-clause-err g c =
     on_err c.from_residual-in_err-flush-2.result _ (inr (file_placed g.W.Write.contents
-    g.L.Shelf.size g.L.Shelf.gives g.R.Read.remaining c.args.task.now c.args.out _ _ _ _ _ _ _
+    g.L.ImageSource.size g.L.ImageSource.gives g.R.Read.remaining c.args.task.now c.args.out _ _ _ _ _ _ _
     c.into_out-written.result c.flush.new.writer _ _ _ _ c.records-records.result
     c.deref.result.now c.in_ok-copies.ensures.ok c.in_ok-recover_sections.ensures.ok
     c.as_slice.ensures.value c.new-recovery.ensures c.into_out-written.ensures
@@ -41,7 +41,7 @@ returns-in_err-flush-2-clause-err g c =
 
 pub returns-clause-ok : goal.returns-clause-ok
 returns-clause-ok g c =
-    file_salvaged g.W.Write.contents g.L.Shelf.size g.L.Shelf.gives g.R.Read.remaining
+    file_salvaged g.W.Write.contents g.L.ImageSource.size g.L.ImageSource.gives g.R.Read.remaining
     c.args.task.now c.args.out _ _ _ _ _ _ _ c.into_out-written.result c.flush.new.writer _ _ _ _
     _ _ c.records-records.result c.deref.result.now c.in_ok-copies.ensures.ok
     c.in_ok-recover_sections.ensures.ok c.as_slice.ensures.value c.new-recovery.ensures

@@ -2,7 +2,7 @@
 -- it.
 use Rattle.std.proofs.Common.{ℕ, List}
 use Rattle.tape_run.specs.declared.passing.Phase.TheVariants.{Next, Over}
-use Rattle.tape_run.specs.declared.survey.course.Course.TheVariants.{Ended}
+use Rattle.tape_run.specs.declared.survey.course.LabelOrder.TheVariants.{Ended}
 use Rattle.tape_run.proofs.survey.course.left_by.Reads as left_by
 
 -- disorder_taken_for_the_end: an item behind a section that begins no other, as a block that could

@@ -4,12 +4,12 @@ use Rattle.std.specs.Prelude.{◌&&◌}
 use Rattle.tape_image.specs.declared.item.ImageFault.{ImageFault}
 use Rattle.tape_run.specs.declared.section.ImageStop.{ImageStop}
 use Rattle.tape_run.specs.declared.section.ImageStop.TheVariants.{Fault}
-use Rattle.tape_run.specs.declared.survey.course.Course.{Course}
-use Rattle.tape_run.specs.declared.survey.course.Course.TheVariants.{Ended}
+use Rattle.tape_run.specs.declared.survey.course.LabelOrder.{LabelOrder}
+use Rattle.tape_run.specs.declared.survey.course.LabelOrder.TheVariants.{Ended}
 use Rattle.tape_run.specs.SurveyRead.{is_end, is_ended, is_none}
-use Rattle.tape_run.proofs.survey.view.Sight.is_whole.Reads as is_whole
+use Rattle.tape_run.proofs.survey.view.ImageSurvey.is_whole.Reads as is_whole
 
-abbrev whole : Course → Option ℕ → ImageStop → Bool
+abbrev whole : LabelOrder → Option ℕ → ImageStop → Bool
 whole course unread stop = is_ended course && (is_none unread && is_end stop)
 
 -- unread_format_is_whole: a volume with a file in a format that is not read has nothing left over

@@ -10,7 +10,7 @@ use Rattle.tape_set.specs.Position.{want_at}
 use Rattle.tape_run.specs.RecordText.{output_of}
 use Rattle.tape_stage.specs.Staged.{Staged}
 use Rattle.tape_stage.specs.declared.stage.StageFault.TheVariants.{BadFrame, NoPoint}
-use Rattle.tape_tool.specs.Showing.{StopsSalvaging, StopsShowing, ending_of, stage_line}
+use Rattle.tape_tool.specs.StageReport.{StopsSalvaging, StopsShowing, ending_of, stage_line}
 use Rattle.tape_tool.specs.declared.fault.ToolFault.TheVariants.{Stage}
 use Rattle.tape_tool.specs.declared.stage.ending.StageEnding.TheVariants.{Whole}
 use Rattle.tape_tool.proofs.ExamplesOfShowing.{no_frame, none_told}

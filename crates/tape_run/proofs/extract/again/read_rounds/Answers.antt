@@ -11,7 +11,7 @@ rounds-init g c = (
   [],
   refl,
   omega (arith, c.count-count.type_inv),
-  none_gone g.S.PartSink c.count-count.result g.L.Shelf.gives
+  none_gone g.S.PartSink c.count-count.result g.L.ImageSource.gives
       g.R.Read.remaining c.args.back c.args.session.now c.args.images.now
       (g.P.Write.contents c.args.report.now),
   calm_same g.S.PartSink c.args.session.now,
@@ -22,7 +22,7 @@ rounds-preserved g c =
     let (rounds, e, room, h, calm) = c.rounds.invariant in
     let (some, other) = c.if-is_enough.ensures.no in
     let (more, count, gone) = gone_on g.S.PartSink
-    c.count-count.result c.rounds.lines g.L.Shelf.gives g.R.Read.remaining c.args.back
+    c.count-count.result c.rounds.lines g.L.ImageSource.gives g.R.Read.remaining c.args.back
     c.args.session.now c.rounds.session c.read_round.new.session c.args.images.now c.rounds.images
     c.read_round.new.images (g.P.Write.contents c.args.report.now)
     (g.P.Write.contents c.rounds.report) (g.P.Write.contents c.read_round.new.report) rounds h e
@@ -43,7 +43,7 @@ rounds-smaller g c =
     let other = not_same _ _ _ _ c.want-before.ensures c.want.ensures
     c.if-is_enough.ensures.no.1 in
     let some = some_images g.S.PartSink c.count-count.result
-    c.rounds.lines g.L.Shelf.gives g.R.Read.remaining c.args.back c.rounds.session
+    c.rounds.lines g.L.ImageSource.gives g.R.Read.remaining c.args.back c.rounds.session
     c.read_round.new.session c.rounds.images c.read_round.new.images
     (g.P.Write.contents c.rounds.report) (g.P.Write.contents c.read_round.new.report)
     c.in_ok-read_round.ensures.ok other in
@@ -55,8 +55,8 @@ pub returns-in_err-read_round-clause-err : goal.returns-in_err-read_round-clause
 returns-in_err-read_round-clause-err g c =
     let (rounds, e, room, h, calm) = c.rounds.invariant in
     on_err c.from_residual.result _ (stops_round g.S.PartSink
-    (g.L.Shelf.size c.args.images.now)
-    c.count-count.result c.rounds.lines g.L.Shelf.gives g.R.Read.remaining c.args.back
+    (g.L.ImageSource.size c.args.images.now)
+    c.count-count.result c.rounds.lines g.L.ImageSource.gives g.R.Read.remaining c.args.back
     c.args.session.now c.rounds.session c.read_round.new.session c.args.images.now c.rounds.images
     c.read_round.new.images (g.P.Write.contents c.args.report.now)
     (g.P.Write.contents c.rounds.report) (g.P.Write.contents c.read_round.new.report) rounds
@@ -65,8 +65,8 @@ returns-in_err-read_round-clause-err g c =
 pub returns-then-is_enough-clause-ok : goal.returns-then-is_enough-clause-ok
 returns-then-is_enough-clause-ok g c =
     let (rounds, e, room, h, calm) = c.rounds.invariant in
-    takes_rounds g.S.PartSink (g.L.Shelf.size c.args.images.now)
-    c.count-count.result c.rounds.lines g.L.Shelf.gives g.R.Read.remaining c.args.back
+    takes_rounds g.S.PartSink (g.L.ImageSource.size c.args.images.now)
+    c.count-count.result c.rounds.lines g.L.ImageSource.gives g.R.Read.remaining c.args.back
     c.args.session.now c.rounds.session c.read_round.new.session c.args.images.now c.rounds.images
     c.read_round.new.images (g.P.Write.contents c.args.report.now)
     (g.P.Write.contents c.rounds.report) (g.P.Write.contents c.read_round.new.report) rounds
@@ -76,8 +76,8 @@ returns-then-is_enough-clause-ok g c =
 pub returns-then-lines-count-clause-ok : goal.returns-then-lines-count-clause-ok
 returns-then-lines-count-clause-ok g c =
     let (rounds, e, room, h, calm) = c.rounds.invariant in
-    takes_rounds g.S.PartSink (g.L.Shelf.size c.args.images.now)
-    c.count-count.result c.rounds.lines g.L.Shelf.gives g.R.Read.remaining c.args.back
+    takes_rounds g.S.PartSink (g.L.ImageSource.size c.args.images.now)
+    c.count-count.result c.rounds.lines g.L.ImageSource.gives g.R.Read.remaining c.args.back
     c.args.session.now c.rounds.session c.read_round.new.session c.args.images.now c.rounds.images
     c.read_round.new.images (g.P.Write.contents c.args.report.now)
     (g.P.Write.contents c.rounds.report) (g.P.Write.contents c.read_round.new.report) rounds

@@ -7,7 +7,7 @@ abbrev pub invariant-rounds : goal.invariant-rounds
 invariant-rounds g l = (rounds : List Round) × (l.lines ≡ length (turns_of rounds))
     × (l.lines + l.count ≤ 18446744073709551615)
     × HasGone g.S.PartSink
-    l.count g.L.Shelf.gives g.R.Read.remaining
+    l.count g.L.ImageSource.gives g.R.Read.remaining
     l.fn.back l.fn.session l.session l.fn.images l.images (g.P.Write.contents l.fn.report)
     (g.P.Write.contents l.report) rounds
     × IsCalm g.S.PartSink l.fn.session l.session

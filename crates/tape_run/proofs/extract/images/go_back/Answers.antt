@@ -4,7 +4,7 @@ use Rattle.tape_run.proofs.Lasting.{last_went}
 use Rattle.tape_run.proofs.Left.{restart_left}
 use Rattle.tape_run.proofs.Causes.{back_fails, calm_back, on_both, on_pair}
 use Rattle.tape_run.proofs.Ended.{if_err}
-use Rattle.tape_run.proofs.Lives.{on_ok}
+use Rattle.tape_run.proofs.CrashRuns.{on_ok}
 use Rattle.tape_run.proofs.extract.images.go_back.Goals as goal
 
 pub returns : goal.returns

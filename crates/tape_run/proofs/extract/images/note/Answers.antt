@@ -25,7 +25,7 @@ returns-clause-ok g c = λ held was.
       (
         subst (λ b. IsNoted false c.args.spares b true (seen sink old held)
             (seen sink c.save.new.self now))
-            (sym (sym c.is_doubtful.ensures ∙ c.if-is_doubtful.false)) (
+            (sym (sym c.counts_differ.ensures ∙ c.if-counts_differ.false)) (
               λ is. elim c.else-spares.branch [
                 | else-spares-via-then-spares+else-noted w ↦
                     on_false c.is_noted-noted.result _ w.if-noted.false c.is_noted-noted.ensures.no

@@ -20,7 +20,7 @@ returns-in_err-take_image-clause-err g c =
     let (more, few, part) = c.in_err-take_image.ensures.err in
     let number : c.args.lines + c.loop-number.number + 1 ≡ c.args.lines + 1 + length turns =
     omega (arith, e) in
-    let mounted = subst (λ n. g.L.Shelf.gives c.loop-number.images n c.in-Ok.image
+    let mounted = subst (λ n. g.L.ImageSource.gives c.loop-number.images n c.in-Ok.image
     c.mount.new.self) (sym e) c.in-Ok.ensures.ok in
     on_err c.from_residual.result _ (record {
       turns = turns;
@@ -94,11 +94,11 @@ loop-number-preserved g c =
     let taken = c.in_ok-take_image.ensures.ok in
     let number : c.args.lines + n + 1 ≡ c.args.lines + 1 + length turns = omega (arith, e) in
     let at : n ≡ 0 + length turns = omega (arith, e) in
-    let mounted = subst (λ m. g.L.Shelf.gives c.loop-number.images m c.in-Ok.image
+    let mounted = subst (λ m. g.L.ImageSource.gives c.loop-number.images m c.in-Ok.image
     c.mount.new.self) at c.in-Ok.ensures.ok in (
       turns ++ taken.turn ∷ [],
       length-append turns (taken.turn ∷ []) ∙ ap (λ m. m + 1) e,
-      one_mounted g.L.Shelf.gives (IsTurn g.R.Read.remaining) c.args.images.now 0 turns
+      one_mounted g.L.ImageSource.gives (IsTurn g.R.Read.remaining) c.args.images.now 0 turns
           c.loop-number.images
           taken.turn c.in-Ok.image c.mount.new.self are mounted taken.is_turn,
       line_behind (c.args.lines + 1) _ _ _ turns taken.turn _ number lines taken.line,

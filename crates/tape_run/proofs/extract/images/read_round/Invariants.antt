@@ -7,7 +7,7 @@ use Rattle.tape_run.proofs.extract.images.read_round.Given as goal
 
 abbrev pub invariant-loop-number : goal.invariant-loop-number
 invariant-loop-number g l = (turns : List Turn) × (length turns ≡ l.number)
-    × AreTurns g.L.Shelf.gives g.R.Read.remaining l.fn.images 0 turns l.images
+    × AreTurns g.L.ImageSource.gives g.R.Read.remaining l.fn.images 0 turns l.images
     × Appends (g.P.Write.contents l.fn.report) (g.P.Write.contents l.report) (reel_lines
     (l.lines + 1) (map answer_of turns))
     × (l.number ≡ 0 → l.session ≡ l.fn.session)

@@ -4,7 +4,7 @@ use Rattle.tape_run.specs.declared.fault.EngineFault.TheVariants.{Run}
 use Rattle.tape_run.specs.Seen.{seen}
 use Rattle.tape_image.specs.Written.{AppendsFront}
 use Rattle.tape_run.specs.ReelLine.{reel_line}
-use Rattle.tape_run.specs.Reeling.{Opened, is_doubtful}
+use Rattle.tape_run.specs.Reeling.{Opened, counts_differ}
 use Rattle.tape_image.proofs.Pieces.{on_err}
 use Rattle.tape_run.proofs.Turns.{part_line, whole_line, noted, kept_for, kept_behind}
 use Rattle.tape_run.proofs.Lasting.{last_stays, last_then}
@@ -39,7 +39,7 @@ returns-clause-ok g c =
       follows = λ held was kept.
           let (now, has, (front, keeps, reeled)) = c.in_ok-answer.ensures.ok held was in
           let back = c.args.back in
-          let doubtful = is_doubtful c.in_ok-answer.answer.answer in
+          let doubtful = counts_differ c.in_ok-answer.answer.answer in
           let mid = seen sink c.reel.new.self now in
           let still = kept_for back (seen sink c.args.session.now held) mid keeps kept in
           let (behind, has_behind, (saved, lasts)) = c.in_ok-settle.ensures.ok now has still in (

@@ -7,13 +7,13 @@ use Rattle.tape_run.proofs.extract.located.read_sections.Goals as goal
 
 pub sections-init : goal.sections-init
 sections-init g c whole held =
-    nothing_read g.S.PartSink g.L.Shelf.gives g.R.Read.remaining c.args.session.now
+    nothing_read g.S.PartSink g.L.ImageSource.gives g.R.Read.remaining c.args.session.now
     c.args.images.now whole c.args.mounted.now held
 
 pub sections-preserved : goal.sections-preserved
 sections-preserved g c whole held =
     let s = c.sections.invariant whole held in
-    section_read g.S.PartSink g.L.Shelf.gives g.R.Read.remaining c.args.session.now
+    section_read g.S.PartSink g.L.ImageSource.gives g.R.Read.remaining c.args.session.now
     c.sections.session c.read_section.new.session c.args.images.now c.sections.images
     c.read_section.new.images whole c.sections.mounted _ s
     (c.in_ok-mounted.ensures.ok (held_behind whole s.stretches)
@@ -24,7 +24,7 @@ sections-preserved g c whole held =
 pub returns-then-is_none-clause-ok : goal.returns-then-is_none-clause-ok
 returns-then-is_none-clause-ok g c whole held =
     let s = c.sections.invariant whole held in
-    section_failed g.S.PartSink g.L.Shelf.gives g.R.Read.remaining c.args.session.now
+    section_failed g.S.PartSink g.L.ImageSource.gives g.R.Read.remaining c.args.session.now
     c.sections.session c.read_section.new.session c.args.images.now c.sections.images
     c.read_section.new.images whole c.sections.mounted _ s
     (c.in_ok-mounted.ensures.ok (held_behind whole s.stretches)
@@ -35,20 +35,20 @@ returns-then-is_none-clause-ok g c whole held =
 pub returns-then-want-last-clause-ok : goal.returns-then-want-last-clause-ok
 returns-then-want-last-clause-ok g c whole held =
     let s = c.sections.invariant whole held in
-    sections_read g.S.PartSink g.L.Shelf.gives g.R.Read.remaining c.args.session.now
+    sections_read g.S.PartSink g.L.ImageSource.gives g.R.Read.remaining c.args.session.now
     c.sections.session c.args.images.now c.sections.images c.sections.images whole
     c.sections.mounted c.sections.mounted s (inl refl) s.held
 
 pub returns-in_default-get-clause-ok : goal.returns-in_default-get-clause-ok
 returns-in_default-get-clause-ok g c whole held =
     let s = c.sections.invariant whole held in
-    sections_read g.S.PartSink g.L.Shelf.gives g.R.Read.remaining c.args.session.now
+    sections_read g.S.PartSink g.L.ImageSource.gives g.R.Read.remaining c.args.session.now
     c.sections.session c.args.images.now c.sections.images c.sections.images whole
     c.sections.mounted c.sections.mounted s (inl refl) s.held
 
 pub returns-clause-ok : goal.returns-clause-ok
 returns-clause-ok g c whole held =
     let s = c.sections.invariant whole held in
-    sections_read g.S.PartSink g.L.Shelf.gives g.R.Read.remaining c.args.session.now
+    sections_read g.S.PartSink g.L.ImageSource.gives g.R.Read.remaining c.args.session.now
     c.sections.session c.args.images.now c.sections.images c.sections.images whole
     c.sections.mounted c.sections.mounted s (inl refl) s.held

@@ -5,7 +5,7 @@ use Rattle.tape_run.proofs.extract.located.read_sections.Given as goal
 
 abbrev pub invariant-sections : goal.invariant-sections
 invariant-sections g l = (whole : Option (List ℕ)) → IsHeld g.R.Read.remaining l.fn.mounted whole
-    → ReadSoFar g.S.PartSink g.L.Shelf.gives g.R.Read.remaining l.fn.session l.session l.fn.images
+    → ReadSoFar g.S.PartSink g.L.ImageSource.gives g.R.Read.remaining l.fn.session l.session l.fn.images
     l.images whole l.mounted
 
 abbrev pub decreases-sections : goal.decreases-sections

@@ -3,6 +3,6 @@ use Rattle.tape_run.proofs.merge.now.mount_all.Goals as goal
 
 pub loop-number-preserved : goal.loop-number-preserved
 loop-number-preserved g c =
-    mounts_more g.L.Shelf.gives _ c.loop-number.images _ c.loop-number.number
+    mounts_more g.L.ImageSource.gives _ c.loop-number.images _ c.loop-number.number
     c.loop-number.devices.items _ _ c.in-Some.device c.loop-number.invariant
     c.in_ok-device.ensures.ok c.in-Some.is c.in-Ok.ensures.items

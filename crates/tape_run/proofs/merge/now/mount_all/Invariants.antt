@@ -3,4 +3,4 @@ use Rattle.tape_run.proofs.merge.now.mount_all.Given as goal
 
 abbrev pub invariant-loop-number : goal.invariant-loop-number
 invariant-loop-number g l =
-    MountsFirst g.L.Shelf.gives l.fn.images l.images l.number l.devices.items
+    MountsFirst g.L.ImageSource.gives l.fn.images l.images l.number l.devices.items

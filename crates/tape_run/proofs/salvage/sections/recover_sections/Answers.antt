@@ -9,17 +9,17 @@ use Rattle.tape_run.proofs.salvage.sections.recover_sections.Goals as goal
 
 pub loop-before-init : goal.loop-before-init
 loop-before-init g c =
-    none_taken g.W.Write.contents g.L.Shelf.gives g.R.Read.remaining c.args.copies.now
+    none_taken g.W.Write.contents g.L.ImageSource.gives g.R.Read.remaining c.args.copies.now
     c.args.content _ _ _ _
 
 pub loop-before-preserved : goal.loop-before-preserved
 loop-before-preserved g c =
-    more_taken g.W.Write.contents g.L.Shelf.gives g.R.Read.remaining c.args.copies.now
+    more_taken g.W.Write.contents g.L.ImageSource.gives g.R.Read.remaining c.args.copies.now
     c.args.content _ c.loop-before.before _ _ _ _ _ _ _ _ _ _ _ c.loop-before.invariant
     c.in_ok-end.ensures.ok (c.ends_file.ensures.no c.if-ends_file.false)
 
 pub returns-then-ends_file-clause-ok : goal.returns-then-ends_file-clause-ok
-returns-then-ends_file-clause-ok g c = ends_file g.W.Write.contents g.L.Shelf.gives g.R.Read.remaining c.args.copies.now
+returns-then-ends_file-clause-ok g c = ends_file g.W.Write.contents g.L.ImageSource.gives g.R.Read.remaining c.args.copies.now
     c.args.content _ c.loop-before.before _ _ _ _ _ _ _ _ _ _ _
     (omega (arith, c.loop-before-test.true, c.last_section-last.ensures)) c.loop-before.invariant
     c.in_ok-end.ensures.ok (c.ends_file.ensures.yes c.if-ends_file.true)
@@ -38,7 +38,7 @@ returns-in-Continues-clause-ok g c =
     let next : c.saturating_add.result ≡ next_section n =
     omega (arith, c.saturating_add.ensures, all, c.last_section-last.ensures) in
     on_ok c.miss_section.result (λ missed. continues_file g.W.Write.contents
-    g.L.Shelf.gives g.R.Read.remaining c.args.copies.now c.args.content _ n _ _ _ _ _ _ _ _ _
+    g.L.ImageSource.gives g.R.Read.remaining c.args.copies.now c.args.content _ n _ _ _ _ _ _ _ _ _
     all c.loop-before.invariant c.in-Continues.is c.form_of_file-form.ensures
     (subst (λ m. Recovers g.W.Write.contents c.loop-before.recovery c.miss_section.new.self
     (g.P.Write.contents c.loop-before.report) (g.P.Write.contents c.miss_section.new.report)

@@ -6,7 +6,7 @@ use Rattle.tape_core.specs.Point.{Point}
 use Rattle.tape_core.specs.Table.{saved}
 use Rattle.tape_run.specs.Reeling.{HasNotedHere}
 use Rattle.tape_run.specs.Seen.{seen, IfSeen}
-use Rattle.tape_run.specs.Story.{Story}
+use Rattle.tape_run.specs.SessionState.{SessionState}
 use Rattle.tape_run.proofs.Noting.{noted_here, noted_elsewhere, true_map, false_map, within}
 use Rattle.tape_run.proofs.session.Session.is_noted.Goals as goal
 
@@ -17,9 +17,9 @@ returns-in-Some-clause-yes g c =
     let last : slice_get notes (length notes - 1) ≡ Some c.in-Some.last.now =
     subst (λ (l : List Point). slice_get l (length l - 1) ≡ Some c.in-Some.last.now)
     c.deref.ensures.value (sym c.in-Some.ensures.value) in
-    let story : Story _ = record {
-      core = c.self.inside.intake.core;
-      sink = c.self.inside.intake.sink;
+    let story : SessionState _ = record {
+      core = c.self.inside.reel_reader.core;
+      sink = c.self.inside.reel_reader.sink;
       notes = notes;
       failures = c.self.inside.failures;
     } in
@@ -27,7 +27,7 @@ returns-in-Some-clause-yes g c =
     (true_map c.same_point.result _ _ (λ same held was.
     noted_here (seen sink story held) c.in-Some.last.now (within notes c.in-Some.last.now last) last
     (same ∙ (c.save-here.ensures.value
-    ∙ ap (saved (rest_of c.self.inside.intake.core)) (c.weight.ensures.of held was))))
+    ∙ ap (saved (rest_of c.self.inside.reel_reader.core)) (c.weight.ensures.of held was))))
     c.same_point.ensures.yes)
 
 pub returns-in-Some-clause-no : goal.returns-in-Some-clause-no
@@ -37,9 +37,9 @@ returns-in-Some-clause-no g c =
     let last : slice_get notes (length notes - 1) ≡ Some c.in-Some.last.now =
     subst (λ (l : List Point). slice_get l (length l - 1) ≡ Some c.in-Some.last.now)
     c.deref.ensures.value (sym c.in-Some.ensures.value) in
-    let story : Story _ = record {
-      core = c.self.inside.intake.core;
-      sink = c.self.inside.intake.sink;
+    let story : SessionState _ = record {
+      core = c.self.inside.reel_reader.core;
+      sink = c.self.inside.reel_reader.sink;
       notes = notes;
       failures = c.self.inside.failures;
     } in
@@ -48,5 +48,5 @@ returns-in-Some-clause-no g c =
     (false_map c.same_point.result _ _ (λ other held was.
     noted_elsewhere (seen sink story held) c.in-Some.last.now last
     (λ is. other (is ∙ sym (c.save-here.ensures.value
-    ∙ ap (saved (rest_of c.self.inside.intake.core)) (c.weight.ensures.of held was)))))
+    ∙ ap (saved (rest_of c.self.inside.reel_reader.core)) (c.weight.ensures.of held was)))))
     c.same_point.ensures.no)

@@ -6,7 +6,7 @@ use Rattle.tape_core.specs.Weight.{IsFront}
 use Rattle.tape_run.specs.Given.{is_device, counted}
 use Rattle.tape_run.specs.ByTable.{IsCutAt}
 use Rattle.tape_run.specs.GoesBehind.{ReeledBehind, ReelFailsBehind}
-use Rattle.tape_run.specs.Story.{Story}
+use Rattle.tape_run.specs.SessionState.{SessionState}
 use Rattle.tape_run.specs.declared.fault.RunFault.TheVariants.{Sink}
 use Rattle.tape_run.specs.Seen.{seen, IsKept, IfSeen, IsSeen}
 use Rattle.tape_run.proofs.GoesBehind.{not_read_behind, reeled_behind, behind_rest}
@@ -17,10 +17,10 @@ use Rattle.tape_run.proofs.session.Session.reel_behind.Goals as goal
 pub returns-then-is_none-clause-ok : goal.returns-then-is_none-clause-ok
 returns-then-is_none-clause-ok g c =
     let sink = g.S.PartSink in
-    let story : Story _ =
+    let story : SessionState _ =
     record {
-      core = c.self.inside.intake.core;
-      sink = c.self.inside.intake.sink;
+      core = c.self.inside.reel_reader.core;
+      sink = c.self.inside.reel_reader.sink;
       notes = c.self.inside.notes.items;
       failures = c.self.inside.failures;
     } in
@@ -30,7 +30,7 @@ returns-then-is_none-clause-ok g c =
     (λ bytes. ReeledBehind bytes (g.R.Read.remaining c.args.device.now)
     (is_device c.new.result.fault) old new))))
     c.self.view_is (λ held was.
-    let finished = want_none _ (rest_of c.self.inside.intake.core).position c.is_none.result
+    let finished = want_none _ (rest_of c.self.inside.reel_reader.core).position c.is_none.result
     (ap is_some (sym c.want.ensures.value) ∙ c.is_none.ensures) c.if-is_none.true in (
       held,
       was,
@@ -38,7 +38,7 @@ returns-then-is_none-clause-ok g c =
         front_self held,
         (λ k. k),
         some_all _ _ (λ bytes. not_read_behind bytes _ (seen sink story held)
-            c.self.inside.intake.core (is_device c.new.result.fault)
+            c.self.inside.reel_reader.core (is_device c.new.result.fault)
             (ap is_device c.new.ensures.fault) refl finished),
       ),
     ))
@@ -46,7 +46,7 @@ returns-then-is_none-clause-ok g c =
 pub returns-in-Ok-read-clause-ok : goal.returns-in-Ok-read-clause-ok
 returns-in-Ok-read-clause-ok g c =
     rw (← c.self.view_is) (λ held was.
-    let p = rest_of c.self.inside.intake.core in
+    let p = rest_of c.self.inside.reel_reader.core in
     let end = c.in-Ok-read.ensures in
     let set_id = end.set_id ∙ ap (λ (z : State). z.set_id) c.mount_behind.ensures.same in
     let file = end.file ∙ ap (λ (z : State). z.file) c.mount_behind.ensures.same in
@@ -65,13 +65,13 @@ returns-in-Ok-read-clause-ok g c =
             set_id file end.calm front
             (c.counted-self-inside.ensures ∙ ap (λ b. counted b c.self.inside.failures)
             c.is_device.ensures)
-            (c.mount_behind.ensures.table ∙ behind_rest c.self.inside.intake.core) r) reads,
+            (c.mount_behind.ensures.table ∙ behind_rest c.self.inside.reel_reader.core) r) reads,
       ),
     ))
 
 pub returns-in-Err-clause-err : goal.returns-in-Err-clause-err
 returns-in-Err-clause-err g c =
-    let new : Story _ =
+    let new : SessionState _ =
     record {
       core = c.read-read.new.self.core;
       sink = c.read-read.new.self.sink;
@@ -83,7 +83,7 @@ returns-in-Err-clause-err g c =
     × IfSome (g.R.Read.remaining c.args.device.now)
     (λ bytes. ReelFailsBehind bytes (Sink c.in-Err.cause) old is))))
     c.self.view_is (λ held was.
-    let p = rest_of c.self.inside.intake.core in
+    let p = rest_of c.self.inside.reel_reader.core in
     let end = c.in-Err.ensures in
     let set_id = end.set_id ∙ ap (λ (z : State). z.set_id) c.mount_behind.ensures.same in
     let file = end.file ∙ ap (λ (z : State). z.file) c.mount_behind.ensures.same in
@@ -103,7 +103,7 @@ returns-in-Err-clause-err g c =
               grows = front;
               table = λ xs end stop b. subst (λ (z : State). IsCutAt xs z
                   (rest_of c.read-read.new.self.core) held now)
-                  (c.mount_behind.ensures.table ∙ behind_rest c.self.inside.intake.core)
+                  (c.mount_behind.ensures.table ∙ behind_rest c.self.inside.reel_reader.core)
                   (t xs end stop b);
             }) cuts,
       ),

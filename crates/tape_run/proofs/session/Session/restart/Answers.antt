@@ -15,14 +15,14 @@ returns-clause-ok g c =
     let point = c.in-Some.field-0.now in
     let refusals = g.S.PartSink.refusals in
     let noted : slice_get s.notes.items c.args.n ≡ Some point = grind (arith, common_steps, gets) in
-    let back = goes_back c.args.n point (rest_of s.intake.core)
+    let back = goes_back c.args.n point (rest_of s.reel_reader.core)
     (rest_of c.restart.new.self) held s.notes.items c.truncate.new.self.items s.failures
-    (refusals s.intake.sink) (refusals c.cut_to.new.self) noted kept
+    (refusals s.reel_reader.sink) (refusals c.cut_to.new.self) noted kept
     (λ set file. from_taken c.restart.result _ c.restart.ensures.there
     (c.restart.ensures.taken set file)) c.truncate.ensures.items c.in-Ok.ensures.calm in (
       back.parts,
       c.in-Ok.ensures.ok back.parts back.front.0
-          (subst (g.S.PartSink.holds s.intake.sink) back.front.1 was) back.weighs,
+          (subst (g.S.PartSink.holds s.reel_reader.sink) back.front.1 was) back.weighs,
       (back.kept, back.went),
     ))
 
@@ -32,7 +32,7 @@ returns-then-point-weight-clause-err g c =
     let s = c.self.inside in
     let point = c.in-Some.field-0.now in
     let noted : slice_get s.notes.items c.args.n ≡ Some point = grind (arith, common_steps, gets) in
-    let at = kept_at (rest_of s.intake.core) [] s.notes.items c.args.n point held noted kept in
+    let at = kept_at (rest_of s.reel_reader.core) [] s.notes.items c.args.n point held noted kept in
     absurd (omega (
       arith,
       c.weight.ensures.of held was,
@@ -55,7 +55,7 @@ returns-then-point-weight-clause-refuses g c =
             let point = c.in-Some.field-0.now in
             let noted : slice_get s.notes.items c.args.n ≡ Some point =
             grind (arith, common_steps, gets) in
-            let at = kept_at (rest_of s.intake.core) [] s.notes.items c.args.n point held noted
+            let at = kept_at (rest_of s.reel_reader.core) [] s.notes.items c.args.n point held noted
             kept in
             absurd (omega (
               arith,
@@ -75,9 +75,9 @@ returns-in-Err-clause-crash g c =
     let s = c.self.inside in
     let point = c.in-Some.field-0.now in
     let noted : slice_get s.notes.items c.args.n ≡ Some point = grind (arith, common_steps, gets) in
-    let here = session_of (rest_of s.intake.core) held s.notes.items s.failures
-    (g.S.PartSink.refusals s.intake.sink) in
-    cut_only here c.args.n point _ _ noted kept (g.S.PartSink.holds s.intake.sink) was
+    let here = session_of (rest_of s.reel_reader.core) held s.notes.items s.failures
+    (g.S.PartSink.refusals s.reel_reader.sink) in
+    cut_only here c.args.n point _ _ noted kept (g.S.PartSink.holds s.reel_reader.sink) was
     c.cut_to.ensures.crash)
 
 pub returns-clause-crash : goal.returns-clause-crash
@@ -86,7 +86,7 @@ returns-clause-crash g c =
     let s = c.self.inside in
     let point = c.in-Some.field-0.now in
     let noted : slice_get s.notes.items c.args.n ≡ Some point = grind (arith, common_steps, gets) in
-    let here = session_of (rest_of s.intake.core) held s.notes.items s.failures
-    (g.S.PartSink.refusals s.intake.sink) in
-    cut_only here c.args.n point _ _ noted kept (g.S.PartSink.holds s.intake.sink) was
+    let here = session_of (rest_of s.reel_reader.core) held s.notes.items s.failures
+    (g.S.PartSink.refusals s.reel_reader.sink) in
+    cut_only here c.args.n point _ _ noted kept (g.S.PartSink.holds s.reel_reader.sink) was
     c.cut_to.ensures.crash)

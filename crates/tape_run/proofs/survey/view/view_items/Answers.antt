@@ -2,7 +2,7 @@ use Rattle.std.proofs.Common.{◌≡◌, ◌+◌, Ok, ap, ◌∙◌, arith, refl
 use Rattle.tape_image.specs.Reader.{tape_item, ending_of}
 use Rattle.tape_image.proofs.Callers.{gave, met_end, met_fault, same_some}
 use Rattle.tape_label.specs.declared.values.Head1.{Head1}
-use Rattle.tape_run.specs.declared.survey.glance.Glance.{Glance}
+use Rattle.tape_run.specs.declared.survey.glance.ImageSummary.{ImageSummary}
 use Rattle.tape_run.specs.Added.{stop_at}
 use Rattle.tape_run.specs.Passing.{blocks_of}
 use Rattle.tape_run.specs.SurveyFiles.{with_met}
@@ -18,9 +18,9 @@ items-init g c =
     record {
       on = c.requires.going;
       limit = omega (arith, c.requires.first);
-      few = omega (arith, ap (λ (h : Glance). h.items) e);
-      files = omega (arith, ap (λ (h : Glance). h.files) e);
-      bad = omega (arith, ap (λ (h : Glance). h.bad) e);
+      few = omega (arith, ap (λ (h : ImageSummary). h.items) e);
+      files = omega (arith, ap (λ (h : ImageSummary). h.files) e);
+      bad = omega (arith, ap (λ (h : ImageSummary). h.bad) e);
       blocks = omega arith;
       same_device = refl;
       looked = looks_start _ _ _ _ _ _ _ _ c.requires.first refl e;
@@ -35,7 +35,7 @@ items-preserved g c =
     let phase = c.in_ok-behind-in-Ok-Some.ensures.phase in
     let looks = c.look-glance.ensures.exact in
     let count : c.look-glance.result.items ≡ c.items.glance.items + 1 =
-    ap (λ (h : Glance). h.items) looks in
+    ap (λ (h : ImageSummary). h.items) looks in
     record {
       on = step.goes_on;
       limit = step.within;

@@ -1,8 +1,8 @@
 use Rattle.std.proofs.Common.{refl}
 use Rattle.std.proofs.KnownBytes.{Keeps-refl}
 use Rattle.tape_stage.specs.Salvaged.{HoldsRest}
-use Rattle.tape_tool.specs.Showing.{GivesFront, ending_of, nothing}
-use Rattle.tape_tool.proofs.Showing.{stops_salvaging, of_held_err}
+use Rattle.tape_tool.specs.StageReport.{GivesFront, ending_of, nothing}
+use Rattle.tape_tool.proofs.StageReport.{stops_salvaging, of_held_err}
 use Rattle.tape_tool.proofs.stage.show.show_damaged.Goals as goal
 
 pub returns-in-Ok-clause-err : goal.returns-in-Ok-clause-err

@@ -1,5 +1,5 @@
 use Rattle.tape_image.proofs.Pieces.{on_err}
-use Rattle.tape_tool.proofs.Showing.{gives_front}
+use Rattle.tape_tool.proofs.StageReport.{gives_front}
 use Rattle.tape_tool.proofs.stage.show.show_parts.Goals as goal
 
 pub returns-in_err-tell-in-Ok-clause-err : goal.returns-in_err-tell-in-Ok-clause-err

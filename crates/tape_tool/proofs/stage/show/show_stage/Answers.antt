@@ -2,8 +2,8 @@ use Rattle.std.proofs.Common.{refl}
 use Rattle.std.proofs.KnownBytes.{Keeps-refl}
 use Rattle.std.specs.Prelude.{None}
 use Rattle.tape_stage.specs.Stages.{Holds}
-use Rattle.tape_tool.specs.Showing.{GivesFront, ending_of, unopened}
-use Rattle.tape_tool.proofs.Showing.{stops_in_part, of_held_err}
+use Rattle.tape_tool.specs.StageReport.{GivesFront, ending_of, unopened}
+use Rattle.tape_tool.proofs.StageReport.{stops_in_part, of_held_err}
 use Rattle.tape_tool.proofs.stage.show.show_stage.Goals as goal
 
 pub returns-in-Ok-clause-err : goal.returns-in-Ok-clause-err

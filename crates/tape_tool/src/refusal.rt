@@ -10,7 +10,7 @@ use tape_writer::system::found;
 
 /// Why files may not be used as the arguments ask.
 #[derive(Clone, Copy)]
-pub enum Unfit {
+pub enum Refusal {
     /// The arguments would destroy a file, or name nothing that exists.
     Words(&'static str),
     /// The name with this number, from 1, in a list is not text. Whether it ends with a NUL, or is
@@ -21,8 +21,8 @@ pub enum Unfit {
 }
 
 /// Refuses, with this fault, to touch a file.
-pub fn refused(fault: FileFault) -> Unfit {
-    Unfit::Faulted(ToolFault::File(fault))
+pub fn refused(fault: FileFault) -> Refusal {
+    Refusal::Faulted(ToolFault::File(fault))
 }
 
 /// Returns what this path leads to, if anything.
@@ -30,7 +30,7 @@ pub fn refused(fault: FileFault) -> Unfit {
 /// # Errors
 ///
 /// Returns `Faulted` with `NotOpened` if the lookup failed: something may exist there.
-pub fn look<R: Files>(files: &R, path: &str) -> Result<Option<Metadata>, Unfit> {
+pub fn look<R: Files>(files: &R, path: &str) -> Result<Option<Metadata>, Refusal> {
     match found(fs::metadata(files, path)) {
         Ok(there) => Ok(there),
         Err(fault) => Err(refused(fault)),

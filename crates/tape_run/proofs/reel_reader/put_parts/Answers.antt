@@ -8,9 +8,9 @@ use Rattle.tape_blocks.specs.Judged.{begun_behind}
 use Rattle.tape_blocks.proofs.SizeLaws.{few_parts, short_part}
 use Rattle.tape_run.proofs.Blocks.{number_of, front_is, none_put, one_passed, one_put, stands_here}
 use Rattle.tape_run.proofs.Crashes.{adds_then}
-use Rattle.tape_run.proofs.intake.put_parts.Given.{Over}
-use Rattle.tape_run.proofs.intake.put_parts.Goals.{In-Some, then-first-seen+in-Ok, else-first-seen}
-use Rattle.tape_run.proofs.intake.put_parts.Goals as goal
+use Rattle.tape_run.proofs.reel_reader.put_parts.Given.{Over}
+use Rattle.tape_run.proofs.reel_reader.put_parts.Goals.{In-Some, then-first-seen+in-Ok, else-first-seen}
+use Rattle.tape_run.proofs.reel_reader.put_parts.Goals as goal
 
 -- the place of the part among those of the block
 here : (g : Over) (c : In-Some g) (parts : List Portion)

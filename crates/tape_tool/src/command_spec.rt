@@ -9,7 +9,7 @@ use clap::{Arg, ArgAction, Command, Error};
 use std::alloc::{AllocError, Global};
 
 /// A command: its texts, and its arguments.
-pub struct Outline {
+pub struct CommandSpec {
     pub name: &'static str,
     /// Its name in the usage line.
     pub called: &'static str,
@@ -49,24 +49,27 @@ pub enum Kind {
     NameOption(&'static str, &'static [&'static str], &'static [&'static str]),
 }
 
-/// Returns the command of an outline.
-pub fn command_of<'a>(alloc: Global, outline: &Outline) -> Result<Command<'a>, AllocError> {
-    let mut command = bare(alloc, outline)?;
-    for word in outline.words {
+/// Returns the command of a command description.
+pub fn command_of<'a>(
+    alloc: Global,
+    command_spec: &CommandSpec,
+) -> Result<Command<'a>, AllocError> {
+    let mut command = bare(alloc, command_spec)?;
+    for word in command_spec.words {
         command = command.arg(argument(alloc, word)?)?;
     }
-    match outline.usage {
+    match command_spec.usage {
         Some(usage) => Ok(command.override_usage(usage)),
         None => Ok(command),
     }
 }
 
 /// The command with only its texts.
-fn bare<'a>(alloc: Global, outline: &Outline) -> Result<Command<'a>, AllocError> {
-    Command::new(alloc, outline.name)
-        .about(outline.about)
-        .after_long_help(outline.after_help)
-        .bin_name(outline.called)
+fn bare<'a>(alloc: Global, command_spec: &CommandSpec) -> Result<Command<'a>, AllocError> {
+    Command::new(alloc, command_spec.name)
+        .about(command_spec.about)
+        .after_long_help(command_spec.after_help)
+        .bin_name(command_spec.called)
 }
 
 /// The parser's argument for an argument or an option.
@@ -143,18 +146,18 @@ fn defaults_of(kind: Kind) -> &'static [&'static str] {
 }
 
 /// A usage error of a command, with its usage line after the text; or out of memory for it.
-pub fn mistake(alloc: Global, outline: &Outline, text: &str) -> Error
+pub fn mistake(alloc: Global, command_spec: &CommandSpec, text: &str) -> Error
     ensures { RefusedFor ⊤ result }
 {
-    match told(alloc, outline, text) {
+    match told(alloc, command_spec, text) {
         Ok(error) => error,
         Err(error) => Error::from(error),
     }
 }
 
 /// The same, if there is memory for it.
-fn told(alloc: Global, outline: &Outline, text: &str) -> Result<Error, AllocError>
+fn told(alloc: Global, command_spec: &CommandSpec, text: &str) -> Result<Error, AllocError>
     ensures { IfOk result (λ error. kind_of error ≡ ErrorKind.ValueValidation) }
 {
-    command_of(alloc, outline)?.error(ErrorKind::ValueValidation, text)
+    command_of(alloc, command_spec)?.error(ErrorKind::ValueValidation, text)
 }

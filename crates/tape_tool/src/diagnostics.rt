@@ -1,7 +1,7 @@
 //! The line on standard error that reports a fault.
 
 ghost use Rattle.std.specs.Prelude.{Some};
-ghost use Rattle.tape_tool.specs.Telling.{fault_line};
+ghost use Rattle.tape_tool.specs.Diagnostics.{fault_line};
 
 use crate::fault::{ToolFault, number_of_file, number_of_write};
 use std::fmt;

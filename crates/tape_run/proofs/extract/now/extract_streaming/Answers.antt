@@ -6,20 +6,20 @@ use Rattle.tape_run.proofs.Causes.{images_fault, ending_fault}
 use Rattle.tape_run.proofs.Ended.{told_err}
 use Rattle.tape_run.proofs.Extracted.{nothing_more, none_finished}
 use Rattle.tape_run.proofs.Now.{extracted_now, stops_reading_now, stops_at_end_now}
-use Rattle.tape_run.proofs.extract.now.extract_now.Goals as goal
+use Rattle.tape_run.proofs.extract.now.extract_streaming.Goals as goal
 
 pub returns-in_err-read_images-clause-err : goal.returns-in_err-read_images-clause-err
 returns-in_err-read_images-clause-err g c =
     on_err c.from_residual.result _
-    (stops_reading_now _ g.L.Shelf.size g.L.Shelf.gives
+    (stops_reading_now _ g.L.ImageSource.size g.L.ImageSource.gives
     g.R.Read.remaining c.args.session c.read_images.new.session _ _ c.args.form
     (TellsAlways g.W.Write.contents) g.O.Place.stands c.args.out.now _ _
     c.in_err-read_images.ensures.err)
 
 pub returns-in_err-end_report-clause-err : goal.returns-in_err-end_report-clause-err
 returns-in_err-end_report-clause-err g c =
-    on_err _ _ (stops_at_end_now _ g.L.Shelf.size
-    g.L.Shelf.gives
+    on_err _ _ (stops_at_end_now _ g.L.ImageSource.size
+    g.L.ImageSource.gives
     g.R.Read.remaining
     c.args.session c.read_images.new.session _ _ c.args.form (TellsAlways g.W.Write.contents)
     g.O.Place.stands c.args.out.now c.args.out.now _ _ _ (Some c.in-Some.want) 0
@@ -29,7 +29,7 @@ returns-in_err-end_report-clause-err g c =
 
 pub returns-in-Some-clause-ok : goal.returns-in-Some-clause-ok
 returns-in-Some-clause-ok g c =
-    extracted_now _ g.L.Shelf.size g.L.Shelf.gives
+    extracted_now _ g.L.ImageSource.size g.L.ImageSource.gives
     g.R.Read.remaining c.args.session
     c.read_images.new.session _ _ c.args.form (TellsAlways g.W.Write.contents) _ _ _ _
     (Some c.in-Some.want) 0
@@ -38,8 +38,8 @@ returns-in-Some-clause-ok g c =
 
 pub returns-in_err-written-clause-err : goal.returns-in_err-written-clause-err
 returns-in_err-written-clause-err g c =
-    on_err _ _ (stops_at_end_now _ g.L.Shelf.size
-    g.L.Shelf.gives
+    on_err _ _ (stops_at_end_now _ g.L.ImageSource.size
+    g.L.ImageSource.gives
     g.R.Read.remaining
     c.args.session c.read_images.new.session _ _ c.args.form (TellsAlways g.W.Write.contents)
     g.O.Place.stands c.args.out.now c.args.out.now _ _ _ None 0
@@ -50,8 +50,8 @@ pub returns-in_err-place-clause-err : goal.returns-in_err-place-clause-err
 returns-in_err-place-clause-err g c =
     let mid = c.read_images.new.session in
     let none : None ≡ want_at mid.core.file mid.core.position = search rules in
-    on_err _ _ (stops_at_end_now _ g.L.Shelf.size
-    g.L.Shelf.gives
+    on_err _ _ (stops_at_end_now _ g.L.ImageSource.size
+    g.L.ImageSource.gives
     g.R.Read.remaining
     c.args.session mid _ _ c.args.form (TellsAlways g.W.Write.contents)
     g.O.Place.stands c.args.out.now c.place.new.self _ _ _ None 0
@@ -65,8 +65,8 @@ pub returns-in_err-end_report-2-clause-err : goal.returns-in_err-end_report-2-cl
 returns-in_err-end_report-2-clause-err g c =
     let mid = c.read_images.new.session in
     let none : None ≡ want_at mid.core.file mid.core.position = search rules in
-    on_err _ _ (stops_at_end_now _ g.L.Shelf.size
-    g.L.Shelf.gives
+    on_err _ _ (stops_at_end_now _ g.L.ImageSource.size
+    g.L.ImageSource.gives
     g.R.Read.remaining
     c.args.session mid _ _ c.args.form (TellsAlways g.W.Write.contents)
     g.O.Place.stands c.args.out.now c.place.new.self _ _ _ None c.in_ok-written.records
@@ -90,7 +90,7 @@ pub returns-clause-ok : goal.returns-clause-ok
 returns-clause-ok g c =
     let mid = c.read_images.new.session in
     let none : None ≡ want_at mid.core.file mid.core.position = search rules in
-    extracted_now _ g.L.Shelf.size g.L.Shelf.gives
+    extracted_now _ g.L.ImageSource.size g.L.ImageSource.gives
     g.R.Read.remaining c.args.session mid _ _
     c.args.form (TellsAlways g.W.Write.contents) _ _ _ _ None c.in_ok-written.records
     c.in_ok-read_images.ensures.ok none c.in_ok-end_report-2.ensures.ok

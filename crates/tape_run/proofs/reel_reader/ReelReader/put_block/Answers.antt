@@ -7,7 +7,7 @@ use Rattle.tape_core.specs.Table.{saved}
 use Rattle.tape_core.specs.Place.{place_of, rest_of}
 use Rattle.tape_run.specs.Puts.{refused_point}
 use Rattle.tape_run.proofs.Places.{shape_fits, from_taken, refused_set, refused_file}
-use Rattle.tape_run.proofs.intake.Intake.put_block.Goals as goal
+use Rattle.tape_run.proofs.reel_reader.ReelReader.put_block.Goals as goal
 
 pub returns-in-Err-clause-err : goal.returns-in-Err-clause-err
 returns-in-Err-clause-err g c = λ held parts k known_is h was.

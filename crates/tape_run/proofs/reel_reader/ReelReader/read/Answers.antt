@@ -11,9 +11,9 @@ use Rattle.tape_run.proofs.Notes.{front_self, front_trans}
 use Rattle.tape_image.proofs.Pieces.{on_err}
 use Rattle.tape_run.proofs.Reels.{item_came, item_given, block_given, none_read, read_on}
 use Rattle.tape_run.proofs.Reels.{reads_reel, reads_to_block}
-use Rattle.tape_run.proofs.intake.Intake.read.Given.{Over}
-use Rattle.tape_run.proofs.intake.Intake.read.Goals.{In_ok-answer}
-use Rattle.tape_run.proofs.intake.Intake.read.Goals as goal
+use Rattle.tape_run.proofs.reel_reader.ReelReader.read.Given.{Over}
+use Rattle.tape_run.proofs.reel_reader.ReelReader.read.Goals.{In_ok-answer}
+use Rattle.tape_run.proofs.reel_reader.ReelReader.read.Goals as goal
 
 -- the core processed the event, and the sink what it delivers
 took : (g : Over) (c : In_ok-answer g) → Grows (g.S.PartSink.holds c.items.self.sink)

@@ -39,7 +39,7 @@ pub enum Odd<'a> {
 
 /// The system, with arguments and streams of its own.
 #[derive(Clone, Copy)]
-struct Desk<'a> {
+struct FakeSystem<'a> {
     rt: HostRuntime,
     words: &'a [String],
     /// Whether standard output accepts anything.
@@ -55,7 +55,7 @@ struct Desk<'a> {
 /// The contents of files that appear.
 pub const MINE: &[u8] = b"mine";
 
-impl Desk<'_> {
+impl FakeSystem<'_> {
     /// Makes looking up this path fail, if the test says so.
     fn look(&self, path: &str) -> io::Result<()> {
         match self.odd {
@@ -85,7 +85,7 @@ fn note<D: Display + Drop>(page: &RefCell<String>, value: D) -> io::Result<()> {
     }
 }
 
-impl Files for Desk<'_> {
+impl Files for FakeSystem<'_> {
     type File = File;
 
     type Dir = <HostRuntime as Files>::Dir;
@@ -155,7 +155,7 @@ impl Files for Desk<'_> {
     }
 }
 
-impl Env for Desk<'_> {
+impl Env for FakeSystem<'_> {
     fn arg(&self, i: usize, buf: &mut [u8]) -> Result<usize, FillError> {
         let Some(word) = self.words.get(i) else {
             return Err(FillError::NotPresent);
@@ -177,7 +177,7 @@ impl Env for Desk<'_> {
     }
 }
 
-impl Clock for Desk<'_> {
+impl Clock for FakeSystem<'_> {
     fn monotonic(&self) -> io::Result<Duration> {
         self.rt.monotonic()
     }
@@ -187,7 +187,7 @@ impl Clock for Desk<'_> {
     }
 }
 
-impl Print for Desk<'_> {
+impl Print for FakeSystem<'_> {
     fn print<D: Display + Drop>(&self, value: D) -> io::Result<()> {
         if self.takes {
             note(self.out, value)
@@ -209,7 +209,7 @@ impl Print for Desk<'_> {
     }
 }
 
-impl Eprint for Desk<'_> {
+impl Eprint for FakeSystem<'_> {
     fn eprint<D: Display + Drop>(&self, value: D) -> io::Result<()> {
         note(self.told, value)
     }
@@ -220,7 +220,7 @@ impl Eprint for Desk<'_> {
     }
 }
 
-impl Input for Desk<'_> {
+impl Input for FakeSystem<'_> {
     type Reader = &'static [u8];
 
     fn read_line<A: Allocator + Clone>(&self, buf: &mut String<A>) -> io::Result<usize> {
@@ -236,7 +236,7 @@ impl Input for Desk<'_> {
     }
 }
 
-impl Alloc for Desk<'_> {
+impl Alloc for FakeSystem<'_> {
     type A = Global;
 
     fn alloc(&self) -> Global {
@@ -244,7 +244,7 @@ impl Alloc for Desk<'_> {
     }
 }
 
-impl Runtime for Desk<'_> {}
+impl Runtime for FakeSystem<'_> {}
 
 /// The result of a call.
 #[derive(Drop)]
@@ -277,7 +277,7 @@ pub fn called_oddly(rt: &HostRuntime, line: &str, takes: bool, odd: Odd<'_>) -> 
     let out = RefCell::new(String::new(rt.alloc()));
     let told = RefCell::new(String::new(rt.alloc()));
     let opened = RefCell::new(String::new(rt.alloc()));
-    let status = run(&Desk {
+    let status = run(&FakeSystem {
         rt: *rt,
         words: words.as_slice(),
         takes,

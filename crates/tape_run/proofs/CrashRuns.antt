@@ -11,15 +11,15 @@ use Rattle.tape_core.specs.Point.{Point}
 use Rattle.tape_core.specs.State.{State}
 use Rattle.tape_core.specs.Stands.{Stands}
 use Rattle.tape_core.proofs.Standing.{noted}
-use Rattle.tape_run.specs.Mount.{Happening}
+use Rattle.tape_run.specs.Mount.{MountEvent}
 use Rattle.tape_run.specs.declared.script.Step.{Step}
 use Rattle.tape_run.specs.declared.script.Step.TheVariants.{Reel, Save, Restart}
 use Rattle.tape_run.specs.Seen.{Seen, IsSession}
 use Rattle.tape_run.specs.History.{Course, course, course_of, IsHistory}
 use Rattle.tape_run.specs.Runs.{Runs}
 use Rattle.tape_run.specs.Crash.{IsOf, StoodAt}
-use Rattle.tape_run.specs.Lives.{IsPlaceOf, ComesBack, Life, IsResumed, Outlives, AreHistories}
-use Rattle.tape_run.specs.Lives.{ResumedGoesOn, LivesOn}
+use Rattle.tape_run.specs.CrashRuns.{IsPlaceOf, ComesBack, CrashRun, IsResumed, Outlives, AreHistories}
+use Rattle.tape_run.specs.CrashRuns.{ResumedGoesOn, LivesOn}
 use Rattle.tape_run.proofs.Notes.{same_front, note_at}
 use Rattle.tape_core.specs.Crash.{OnlyThis, Returns}
 use Rattle.tape_run.proofs.Headline.{headline}
@@ -148,7 +148,7 @@ resumed_session set c ps s r st =
     })) (sym r.parts) at
 
 -- what is left of one run is valid
-one_life : (set : FileSet) (c : Point) (ps : List Portion) (life : Life) (hs : List Happening)
+one_life : (set : FileSet) (c : Point) (ps : List Portion) (life : CrashRun) (hs : List MountEvent)
     (back : Point) (there : List Portion)
     → IsLawful set → Stands set c.file c ps → IsResumed c ps life.began
     → IsHistory set 0 life.done life.given hs
@@ -164,8 +164,8 @@ one_life set c ps life hs back there l st r h (inr b) =
     (resumed_session set c ps life.began r st) in
     subst (λ (f : ℕ). Stands set f back there) file stands
 
-pub across : (set : FileSet) (c : Point) (ps : List Portion) (lives : List Life)
-    (hss : List (List Happening)) (back : Point) (there : List Portion)
+pub across : (set : FileSet) (c : Point) (ps : List Portion) (lives : List CrashRun)
+    (hss : List (List MountEvent)) (back : Point) (there : List Portion)
     → IsLawful set → Stands set c.file c ps
     → Outlives c ps lives back there → AreHistories set lives hss → Stands set c.file back there
 across set c ps [] hss back there l st (e, f) h = rw (e, f) st
@@ -183,7 +183,7 @@ one_more_life : (c : Point) (ps : List Portion) (s : Seen) (steps : List Step)
     (old : Point → List Portion → Type 0) (back : Point) (there : List Portion)
     → IsResumed c ps s → reels ≡ map Some bytes
     → OnlyThis c ps old → old back there ⊎ StoodAt s steps reels left back there
-    → (life : Life) × (life.steps ≡ steps) × (life.bytes ≡ bytes) × (life.left ≡ left)
+    → (life : CrashRun) × (life.steps ≡ steps) × (life.bytes ≡ bytes) × (life.left ≡ left)
     × Outlives c ps (life ∷ []) back there
 one_more_life c ps s steps reels left bytes old back there r e only (inl h) = (
   record { began = s; steps = steps; bytes = bytes; left = left; done = []; given = bytes },

@@ -10,7 +10,7 @@ use Rattle.tape_core.specs.Crash.{Returns, OnlyThis}
 use Rattle.tape_core.specs.Point.{Point}
 use Rattle.tape_core.specs.Place.{place_of}
 use Rattle.tape_core.specs.Stands.{Stands}
-use Rattle.tape_run.specs.Mount.{Happening}
+use Rattle.tape_run.specs.Mount.{MountEvent}
 use Rattle.tape_run.specs.declared.script.Step.{Step}
 use Rattle.tape_run.specs.Seen.{Seen, IsSession}
 use Rattle.tape_run.specs.History.{Course, course, course_of, IsHistory}
@@ -32,7 +32,7 @@ pub record ComesBack (old : Seen) (steps done : List Step) (bytes : List (List �
   pub all : steps ≡ done ++ rest
   pub which : List Bool
   pub are_given : AreGivenBy which bytes left given
-  pub stands : (set : FileSet) (hs : List Happening) → IsLawful set
+  pub stands : (set : FileSet) (hs : List MountEvent) → IsLawful set
       → IsHistory set (length old.notes) done given hs → IsSession set old
       → Stands set old.place.file back there
       × IsPlaceOf (course set old.place.file (course_of old) hs) back.position
@@ -46,7 +46,7 @@ StoodComesBack = (old : Seen) (steps : List Step) (bytes : List (List ℕ))
 
 -- one run of a session, up to a crash: its beginning, its steps and readers, with what these have
 -- left, and the steps after which what was left is valid, with what was returned
-pub record Life : Type 0 where
+pub record CrashRun : Type 0 where
   pub began : Seen
   pub steps : List Step
   pub bytes : List (List ℕ)
@@ -63,7 +63,7 @@ pub record IsResumed (c : Point) (ps : List Portion) (s : Seen) : Type 0 where
 
 -- Each run was resumed at what the crash before it left: what was there when the run began, or what
 -- a crash leaves of it.
-abbrev pub Outlives : Point → List Portion → List Life → Point → List Portion → Type 0
+abbrev pub Outlives : Point → List Portion → List CrashRun → Point → List Portion → Type 0
 Outlives c ps [] back there = (back ≡ c) × (there ≡ ps)
 Outlives c ps (life ∷ lives) back there =
     IsResumed c ps life.began
@@ -78,11 +78,11 @@ abbrev pub LivesOn : Point → List Portion → List Step → List (List ℕ) �
     → Returns → Returns → Type 0
 LivesOn c ps steps bytes left old new = OnlyThis c ps old → (back : Point) (there : List Portion)
     → new back there
-    → (life : Life) × (life.steps ≡ steps) × (life.bytes ≡ bytes) × (life.left ≡ left)
+    → (life : CrashRun) × (life.steps ≡ steps) × (life.bytes ≡ bytes) × (life.left ≡ left)
     × Outlives c ps (life ∷ []) back there
 
 -- a history for each run
-abbrev pub AreHistories : FileSet → List Life → List (List Happening) → Type 0
+abbrev pub AreHistories : FileSet → List CrashRun → List (List MountEvent) → Type 0
 AreHistories set [] hss = hss ≡ []
 AreHistories set (life ∷ lives) [] = ⊥
 AreHistories set (life ∷ lives) (hs ∷ hss) = IsHistory set 0 life.done life.given hs
@@ -90,8 +90,8 @@ AreHistories set (life ∷ lives) (hs ∷ hss) = IsHistory set 0 life.done life.
 
 -- Across any number of crashes what is left is valid.
 abbrev pub StandsAcrossCrashes : Type 0
-StandsAcrossCrashes = (set : FileSet) (c : Point) (ps : List Portion) (lives : List Life)
-    (hss : List (List Happening)) (back : Point) (there : List Portion) → IsLawful set
+StandsAcrossCrashes = (set : FileSet) (c : Point) (ps : List Portion) (lives : List CrashRun)
+    (hss : List (List MountEvent)) (back : Point) (there : List Portion) → IsLawful set
     → Stands set c.file c ps → Outlives c ps lives back there → AreHistories set lives hss
     → Stands set c.file back there
 
@@ -101,7 +101,7 @@ StandsAcrossCrashes = (set : FileSet) (c : Point) (ps : List Portion) (lives : L
 abbrev pub ResumedGoesOn : Type 0
 ResumedGoesOn = (set : FileSet) (c : Point) (ps : List Portion) (began new : Seen)
     (steps : List Step) (bytes : List (List ℕ)) (left : List (Option (List ℕ)))
-    (hs : List Happening) → IsLawful set → Stands set c.file c ps → IsResumed c ps began
+    (hs : List MountEvent) → IsLawful set → Stands set c.file c ps → IsResumed c ps began
     → (run : HasRun began steps bytes left new) → IsHistory set 0 steps run.given hs
     → (course set c.file (record { at = c.position; notes = [] }) hs ≡ course_of new)
     × (new.parts ≡ before set c.file new.place.position)

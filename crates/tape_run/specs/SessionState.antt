@@ -4,7 +4,7 @@ use Rattle.tape_core.specs.Point.{Point}
 use Rattle.tape_core.specs.State.{State}
 
 -- its core, its sink, its checkpoints, and how many readers failed
-pub record Story (S : Type 0) : Type 0 where
+pub record SessionState (S : Type 0) : Type 0 where
   pub core : State
   pub sink : S
   pub notes : List Point

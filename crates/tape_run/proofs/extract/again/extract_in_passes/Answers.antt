@@ -8,12 +8,12 @@ use Rattle.tape_run.specs.Reeling.{goes_back}
 use Rattle.tape_run.proofs.Causes.{file_fails, images_fail}
 use Rattle.tape_run.proofs.Ended.{told_err}
 use Rattle.tape_run.proofs.Reporting.{if_ok_both}
-use Rattle.tape_run.proofs.extract.again.extract_again.Goals as goal
+use Rattle.tape_run.proofs.extract.again.extract_in_passes.Goals as goal
 
 pub returns-in_err-read_rounds-clause-err : goal.returns-in_err-read_rounds-clause-err
 returns-in_err-read_rounds-clause-err g c =
     on_err c.from_residual.result _
-    (stops_in_round g.S.PartSink g.L.Shelf.size g.L.Shelf.gives
+    (stops_in_round g.S.PartSink g.L.ImageSource.size g.L.ImageSource.gives
     g.R.Read.remaining c.args.session.now c.read_rounds.new.session _ _ c.args.form
     g.W.Write.contents c.args.out.now _ _ _
     c.has_note-back.ensures
@@ -37,7 +37,7 @@ returns-clause-ok g c =
     (g.W.Write.contents c.args.out.now) (g.W.Write.contents c.end_file.new.out)
     (g.P.Write.contents c.read_rounds.new.report) (g.P.Write.contents c.end_file.new.report))
     (ExtractsAgain g.S.PartSink
-    g.L.Shelf.size g.L.Shelf.gives
+    g.L.ImageSource.size g.L.ImageSource.gives
     g.R.Read.remaining c.args.session.now c.end_file.new.session c.args.images.now
     c.read_rounds.new.images c.args.form
     (g.W.Write.contents c.args.out.now) (g.W.Write.contents c.end_file.new.out)
@@ -45,7 +45,7 @@ returns-clause-ok g c =
     (g.S.PartSink.refusals c.end_file.new.session.sink
     ≡ g.S.PartSink.refusals c.read_rounds.new.session.sink)
     c.end_file.ensures.ok c.end_file.ensures.calm (λ want e calm.
-    extracted_again g.S.PartSink g.L.Shelf.size g.L.Shelf.gives
+    extracted_again g.S.PartSink g.L.ImageSource.size g.L.ImageSource.gives
     g.R.Read.remaining c.args.session.now c.read_rounds.new.session c.end_file.new.session _ _
     c.args.form _ _ _ _ _ want _ c.has_note-back.ensures c.in_ok-read_rounds.ensures.ok e
     c.end_file.ensures.same calm)
@@ -56,13 +56,13 @@ returns-clause-err g c =
     c.args.form g.W.Write.contents c.args.out.now c.end_file.new.out
     (g.P.Write.contents c.read_rounds.new.report) (g.P.Write.contents c.end_file.new.report))
     (StopsAgain g.S.PartSink
-    g.L.Shelf.size g.L.Shelf.gives
+    g.L.ImageSource.size g.L.ImageSource.gives
     g.R.Read.remaining c.args.session.now c.end_file.new.session c.args.images.now
     c.read_rounds.new.images c.args.form
     g.W.Write.contents c.args.out.now c.end_file.new.out
     (g.P.Write.contents c.args.report.now) (g.P.Write.contents c.end_file.new.report))
-    (λ e. stops_at_end_again g.S.PartSink g.L.Shelf.size
-    g.L.Shelf.gives g.R.Read.remaining c.args.session.now c.read_rounds.new.session
+    (λ e. stops_at_end_again g.S.PartSink g.L.ImageSource.size
+    g.L.ImageSource.gives g.R.Read.remaining c.args.session.now c.read_rounds.new.session
     c.end_file.new.session _ _ c.args.form
     g.W.Write.contents c.args.out.now c.end_file.new.out _ _ _
     _ c.has_note-back.ensures c.in_ok-read_rounds.ensures.ok c.end_file.ensures.same e)

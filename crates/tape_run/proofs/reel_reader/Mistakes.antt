@@ -1,4 +1,4 @@
--- Answers that the contracts of an intake exclude: each is what a wrong body would give.
+-- Answers that the contracts of a reel reader exclude: each is what a wrong body would give.
 use Rattle.std.proofs.Common.{◌≡◌, ℕ, List, [], ◌∷◌, ◌++◌, length, drop, Bool, true}
 use Rattle.std.proofs.Common.{false, sym, ap, ◌∙◌, subst, arith, length-append}
 use Rattle.std.specs.Prelude.{Some, Ok, ◌==◌, ◌&&◌, if◌then◌else◌}
@@ -13,9 +13,9 @@ use Rattle.tape_core.specs.Point.{Point}
 use Rattle.tape_core.specs.Stands.{inside_block}
 use Rattle.tape_run.specs.Puts as puts
 use Rattle.tape_run.proofs.ByTable.{puts_none}
-use Rattle.tape_run.proofs.intake.refused_point.Reads as refused_point
-use Rattle.tape_run.proofs.intake.Intake.put_block.Reads as put_block
-use Rattle.tape_run.proofs.intake.Intake.take.Reads as take
+use Rattle.tape_run.proofs.reel_reader.refused_point.Reads as refused_point
+use Rattle.tape_run.proofs.reel_reader.ReelReader.put_block.Reads as put_block
+use Rattle.tape_run.proofs.reel_reader.ReelReader.take.Reads as take
 
 -- a sink of this kind contains one list of parts, as a sink in memory does
 abbrev HoldsOne : (List Portion → Type 0) → Type 0

@@ -17,7 +17,7 @@ use Rattle.tape_run.proofs.Notes.{front_more, front_self}
 use Rattle.tape_run.proofs.Places.{no_block}
 use Rattle.tape_image.proofs.Pieces.{on_err}
 use Rattle.tape_run.proofs.Taken.{checked_parts, takes_other, takes_block, refuses_block}
-use Rattle.tape_run.proofs.intake.Intake.take.Goals as goal
+use Rattle.tape_run.proofs.reel_reader.ReelReader.take.Goals as goal
 
 pub returns-in_err-put_block-clause-err : goal.returns-in_err-put_block-clause-err
 returns-in_err-put_block-clause-err g c = on_err c.from_residual.result _ (λ held was.

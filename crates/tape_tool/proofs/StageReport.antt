@@ -12,8 +12,8 @@ use Rattle.tape_stage.specs.Salvaged.{Remains}
 use Rattle.tape_stage.specs.Staged.{Staged}
 use Rattle.tape_tool.specs.declared.fault.ToolFault.{ToolFault}
 use Rattle.tape_tool.specs.declared.stage.ending.StageEnding.{StageEnding}
-use Rattle.tape_tool.specs.Showing.{told_with, ending_of, EndsInPart, GivesFront, StopsShowing}
-use Rattle.tape_tool.specs.Showing.{in_part, salvaged_in_part, StopsSalvaging}
+use Rattle.tape_tool.specs.StageReport.{told_with, ending_of, EndsInPart, GivesFront, StopsShowing}
+use Rattle.tape_tool.specs.StageReport.{in_part, salvaged_in_part, StopsSalvaging}
 
 -- the records were written, and a prefix of the lines
 pub gives_front : (point : Point) (ending : StageEnding) (records : ℕ) (form : Form)

@@ -6,7 +6,7 @@ use Rattle.tape_core.specs.Crash.{AddsNothing}
 use Rattle.tape_core.specs.Weight.{IsFront}
 use Rattle.tape_run.proofs.Images.{SoFar}
 use Rattle.tape_run.proofs.Reels.{ReadsSoFar}
-use Rattle.tape_run.proofs.intake.Intake.read.Given as goal
+use Rattle.tape_run.proofs.reel_reader.ReelReader.read.Given as goal
 
 abbrev pub invariant-items : goal.invariant-items
 invariant-items g l = record {

@@ -1,9 +1,9 @@
 use Rattle.std.proofs.Common.{map, [], sym, ap, ◌∙◌, subst, arith}
-use Rattle.tape_run.specs.Lives.{LivesOn}
+use Rattle.tape_run.specs.CrashRuns.{LivesOn}
 use Rattle.tape_run.specs.Seen.{seen}
-use Rattle.tape_run.proofs.Lives.{lives_on, on_ok}
+use Rattle.tape_run.proofs.CrashRuns.{lives_on, on_ok}
 use Rattle.tape_run.proofs.Ended.{if_err}
-use Rattle.tape_run.proofs.whole.go_on.Goals as goal
+use Rattle.tape_run.proofs.whole.resume_and_run.Goals as goal
 
 pub returns-clause-crash : goal.returns-clause-crash
 returns-clause-crash g c = λ held was bytes e.

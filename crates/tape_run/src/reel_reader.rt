@@ -124,7 +124,7 @@ pub fn put_parts<S: PartSink>(
 
 /// A core, and the sink of what it delivers.
 #[derive(Drop)]
-pub struct Intake<S> {
+pub struct ReelReader<S> {
     pub core: ReaderCore,
     pub sink: S,
 }
@@ -182,7 +182,7 @@ fn refused_point(before: &Checkpoint, after: &Checkpoint, part: u32, begun: bool
     after.inside_block(position, part, begun, 0)
 }
 
-impl<S: PartSink> Intake<S> {
+impl<S: PartSink> ReelReader<S> {
     /// Processes one event: passes it to the core, and puts what this delivers. If a part is
     /// refused, the core's position becomes that part.
     fn take(&mut self, event: Event<'_>) -> Result<Answer, SinkFault>
