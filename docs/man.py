@@ -2,11 +2,11 @@
 """Writes the man page docs/tape.1 from the texts of the program's help.
 
     docs/man.py                   writes the page
-    docs/man.py --check           reports if the page, or docs/tape.bash, is older than the help
+    docs/man.py --check           reports if the page or docs/tape.bash is older than the help
     docs/man.py --program PATH    reports which of these texts the help of this program does not print
 
-The last two end with status 1 if something differs. The texts are those of
-crates/tape_tool/src/help.rt and help/; the table below says which argument of a command has which text.
+The last two exit with status 1 if something differs. The texts are those of crates/tape_tool/src/help.rt
+and help/; the table below says which argument of a command has which text.
 """
 import os
 import re
@@ -19,7 +19,7 @@ SOURCE = os.path.join(TOP, "crates", "tape_tool", "src")
 PAGE = os.path.join(TOP, "docs", "tape.1")
 COMPLETION = os.path.join(TOP, "docs", "tape.bash")
 
-# For each command its usage, and its words with the name of what they say in help.rt.
+# For each command its usage, and its arguments with the names of their texts in help.rt.
 COMMANDS = {
     "list": ("[--offsets] [IMAGE]", [("IMAGE", "IMAGE"), ("--offsets", "OFFSETS")]),
     "check": ("[--files-from LIST [--null]] [IMAGE]...", [
@@ -39,6 +39,10 @@ COMMANDS = {
     "unpack": ("[--form FORM] [--files-from LIST [--null]] DIR [IMAGE]...", [
         ("DIR", "FOLDER_OF_FILES"), ("IMAGE", "SHELF"), ("--files-from LIST", "FROM"),
         ("--null", "NULL"), ("--form lines|raw", "FORM_OF_FILES")]),
+    "salvage": ("[--form FORM] [--files-from LIST [--null]] SET FILE OUT [IMAGE]...", [
+        ("SET", "SET"), ("FILE", "FILE"), ("OUT", "OUT_OF_SALVAGE"), ("IMAGE", "IMAGES"),
+        ("--files-from LIST", "FROM"), ("--null", "NULL"),
+        ("--form lines|raw|blocks", "FORM_OF_SALVAGED")]),
     "stage": ("[--form FORM] [--damaged] PATH [OUT]", [
         ("PATH", "STAGE_READ"), ("OUT", "OUT_OF_STAGE"), ("--form lines|raw", "FORM_OF_OUT"),
         ("--damaged", "DAMAGED")]),
@@ -54,8 +58,8 @@ DATE = "2026-11-26"
 
 # The files that the program creates: a name, and what it is.
 FILES = [
-    ("OUT.part", "an unfinished output, next to OUT. It is renamed to OUT when the "
-     "file is complete. A run that was killed may leave it; it may be deleted."),
+    (".tape-1.part", "an unfinished output, in the directory of OUT. It gets the name OUT when the "
+     "file is complete. A run that was killed may leave it; the next run in that directory removes it."),
     ("PATH of --stage, DIR/SET.FILE.NAME.stage", "a stage: what was recovered so far. The next run "
      "continues from it."),
     ("DIR/SET.FILE.NAME", "a file that unpack recovered, named after its labels."),
@@ -77,8 +81,11 @@ from a shelf of reels to files
 .B RECIPES.md
 shell one\\-liners
 .TP
+.B REFERENCE.md
+every option, every line of output, every error
+.TP
 .B FORMATS.md
-images, labels, stages, and every line of output
+images, labels, blocks, stages
 .TP
 .B PROVED.md
 what is proved, and what is only tested
@@ -111,22 +118,20 @@ def words_of(name):
 
 def texts():
     """The texts of help.rt and help/ by their names."""
-    below = [("help", f"{name}.rt") for name in
-             ("extract", "lists", "merge", "stage", "survey", "unpack", "volumes")]
-    parts = [("help.rt",), *below]
-    source = "".join(read(SOURCE, *part) for part in parts)
+    below = [("help", name) for name in sorted(os.listdir(os.path.join(SOURCE, "help")))]
+    source = "".join(read(SOURCE, *part) for part in [("help.rt",), *below])
     found = re.findall(r'pub const (\w+): &str =\s*"((?:[^"\\]|\\.)*)";', source, re.S)
     return {name: unescaped(text) for name, text in found}
 
 
 def unescaped(text):
-    """What a string of the source stands for."""
+    """The text of a string in the source."""
     text = re.sub(r"\\\n\s*", "", text)
     return re.sub(r"\\(.)", lambda it: "\n" if it[1] == "n" else it[1], text)
 
 
 def escaped(text):
-    """Text as roff spells it."""
+    """Text with the escapes of roff."""
     for old, new in [("\\", "\\e"), ("-", "\\-"), ("'", "\\(aq"), ("`", "\\(ga"), ("^", "\\(ha"),
                      ("~", "\\(ti")]:
         text = text.replace(old, new)
@@ -139,7 +144,7 @@ def quoted(text):
 
 
 def one_column(lines):
-    """Lines that stand in two columns, each with a heading, one column behind the other."""
+    """Lines in two columns, each with a heading, with the second column after the first."""
     out, at = [], 0
     while at < len(lines):
         second = re.match(r"\S.*?:\s{3,}(?=\S.*:$)", lines[at])
@@ -202,7 +207,7 @@ def paragraphs(text):
 
 
 def titled(text):
-    """A text in sections by the headings that stand alone in it, such as `Image faults:`."""
+    """A text in sections, by its headings such as `Image faults:`."""
     out = [".SH DIAGNOSTICS"]
     for part in re.split(r"\n\n", text):
         first, _, rest = part.partition("\n")
@@ -223,14 +228,14 @@ def usage(name):
 
 
 def defaults(name):
-    """What stands for the options of a command that are left out, as its help tells it."""
+    """The default values of a command's options, as its help shows them."""
     found = re.findall(r'Word\(\s*"([\w-]+)",\s*Kind::\w+Option\([^()]*&\["(\w+)"\]\)',
                        read(SOURCE, words_of(name)))
     return {"--" + option: f" [default: {value}]" for option, value in found}
 
 
 def command_part(name, said):
-    """What is said of a command."""
+    """The section of a command."""
     out = [f".SS {quoted('tape ' + name)}", escaped(said["ABOUT_" + name.upper()]) + "."]
     left_out = defaults(name)
     for word, text in COMMANDS[name][1]:
@@ -280,7 +285,7 @@ def tidied(lines):
 
 
 def words_of_source():
-    """Each word of the commands with the name of its text, as the sources pair them."""
+    """Each argument of the commands with the name of its text, as in the sources."""
     parts = [("words.rt",), *((words_of(name),) for name in COMMANDS if name != "compare")]
     source = "".join(read(SOURCE, *part) for part in parts)
     rows = re.findall(r'Word\(\s*"([^"]+)",\s*Kind::(\w+).*?help::(\w+)', source, re.S)
@@ -295,13 +300,16 @@ def words_of_source():
 
 def old():
     """What is older than the help."""
+    commands = {name[6:].lower() for name in texts() if name.startswith("ABOUT_")}
+    for name in sorted(commands ^ set(COMMANDS)):
+        yield f"man.py: the command {name} is only in man.py or only in the help"
     listed = {(word.split(" ")[0], text)
               for words in [OPTIONS, *(words for _, words in COMMANDS.values())]
               for word, text in words}
     for word, text in sorted(listed ^ words_of_source()):
-        yield f"man.py: {word} with the text {text} stands in one of man.py and the sources alone"
+        yield f"man.py: {word} with the text {text} is only in man.py or only in the sources"
     if not os.path.exists(PAGE) or read(PAGE) != page():
-        yield "docs/tape.1 is old: make it anew by docs/man.py"
+        yield "docs/tape.1 is out of date: run docs/man.py"
     completion = read(COMPLETION)
     for word in sorted({*COMMANDS, *(word for word, _ in listed if word.startswith("--"))}):
         if not re.search(rf"(?<![\w-]){word}(?![\w-])", completion):
@@ -312,16 +320,16 @@ def not_printed(program):
     """The texts that the help of the program does not print."""
     said = texts()
 
-    def lacks(arguments, names):
+    def missing(arguments, names):
         run = subprocess.run([program, *arguments], stdout=subprocess.PIPE, check=True)
         printed = " ".join(run.stdout.decode().split())
         return [f"{' '.join(['tape', *arguments])} does not print {name}"
                 for name in names if " ".join(said[name].split()) not in printed]
 
-    found = lacks(["--help"], ["ABOUT", "AFTER", *(text for _, text in OPTIONS)])
+    found = missing(["--help"], ["ABOUT", "AFTER", *(text for _, text in OPTIONS)])
     for name, (_, words) in COMMANDS.items():
         mine = [f"ABOUT_{name.upper()}", f"AFTER_{name.upper()}"]
-        found += lacks([name, "--help"], mine + [text for _, text in words])
+        found += missing([name, "--help"], mine + [text for _, text in words])
     return found
 
 
@@ -339,4 +347,5 @@ def main():
     return 1 if wrong else 0
 
 
-sys.exit(main())
+if __name__ == "__main__":
+    sys.exit(main())
