@@ -1,5 +1,5 @@
 /* lister [IMAGE]: prints the items of a tape image, one a line, as `tape list` does.
-   Plain C over buffered stdio. docs/FORMATS.md, 'The listing', has the lines. */
+   Plain C over buffered stdio. docs/REFERENCE.md, 'list', has the lines. */
 #include <string.h>
 
 #include "image.h"

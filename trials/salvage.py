@@ -7,7 +7,7 @@ Each set is made here from docs/FORMATS.md alone: files in the three formats on 
 or two images. Blocks, labels and tape marks are made unreadable, images are cut at any byte, left out, and shuffled;
 blocks are lost or doubled, so that a trailer label counts wrongly; images of other sets lie among them.
 
-A model in this file, written from the description of the report in docs/FORMATS.md, says what must be written and
+A model in this file, written from the description of `salvage` in docs/REFERENCE.md, says what must be written and
 printed. For each file the output must be equal byte for byte, and so must the lines and the exit status. The model has
 two parts that do not depend on each other: the lines are made block by block, and the output is also calculated from
 the records that the set was made of, as those of which every block was read. If `tape extract --again` completes a file
