@@ -23,23 +23,23 @@ pub enum BlockCause {
     ShortOffset,
     /// In format F the bytes after the last whole record are fewer than a record, and not all
     /// circumflexes.
-    #[error("the block is no multiple of the record length")]
+    #[error("the block is not a multiple of the record length")]
     NotMultiple,
     /// A count has fewer than four characters, contains a character that is not a digit, or is less
     /// than the length of its own head.
-    #[error("a count is no count")]
+    #[error("a count is not a valid number")]
     BadCount,
     /// A count is more than the number of bytes left in the block.
-    #[error("a record ends past the block")]
+    #[error("a record would end after the block")]
     PastEnd,
     /// A segment of format S does not begin with one of the indicators `0` to `3`.
-    #[error("an indicator is no indicator")]
+    #[error("a segment indicator is invalid")]
     BadIndicator,
     /// A part continues a record that has not begun, or begins one before another has ended.
-    #[error("a record does not go on as it began")]
+    #[error("segments are out of order")]
     SpanBroken,
     /// The padding contains a byte that is not a circumflex.
-    #[error("the padding has another byte")]
+    #[error("the padding contains a byte that is not a circumflex")]
     BadPadding,
 }
 

@@ -98,26 +98,25 @@ FitsHeading heading b = (t : Trail1) × IsTrail1 b t × (other_numbers heading t
 abbrev pub IsNoHeader : List ℕ → Type 0
 IsNoHeader b = (h : Head1) → IsHead1 b h → ⊥
 
--- The rest cannot move the position in this phase: no HDR1 can come where the next file is expected
--- ..
+-- If the next file is expected, the rest cannot move the position: no HDR1 can come.
 abbrev pub BarrenNext : List Entry → Type 0
 BarrenNext (a_label b ∷ es) = IsNoHeader b
 BarrenNext (a_data_block b ∷ es) = IsNoHeader b
 BarrenNext _ = Unit {0}
 
--- .. after a trailer ..
+-- If further trailers are expected, the rest cannot move the position.
 abbrev pub BarrenTrailers : List Entry → Type 0
 BarrenTrailers [] = Unit {0}
 BarrenTrailers (a_mark ∷ es) = BarrenNext es
 BarrenTrailers (_ ∷ es) = BarrenTrailers es
 
--- .. where a trailer with these numbers is expected ..
+-- If a trailer with these numbers is expected, the rest cannot move the position.
 abbrev pub BarrenTrailer : Heading → List Entry → Type 0
 BarrenTrailer heading (a_label b ∷ es) = FitsHeading heading b → BarrenTrailers es
 BarrenTrailer heading (a_data_block b ∷ es) = FitsHeading heading b → BarrenTrailers es
 BarrenTrailer heading _ = Unit {0}
 
--- .. and in skipped data, where a mark may be read or be bad
+-- If skipped data are expected, the rest cannot move the position, whether a mark is read or bad.
 abbrev pub BarrenData : Heading → List Entry → Type 0
 BarrenData heading [] = Unit {0}
 BarrenData heading (a_mark ∷ es) = BarrenTrailer heading es × BarrenData heading es

@@ -115,7 +115,7 @@ impl Checkpoint {
         }
     }
 
-    /// Returns the position. The contract also gives callers the invariant of the checkpoint.
+    /// Returns the position. The contract also states the invariant of the checkpoint.
     pub fn position(&self) -> Position
         ensures value { result ≡ self.now.position }
         ensures fits { IsPoint self.now }
@@ -148,7 +148,7 @@ impl Checkpoint {
         self.in_block(p, part, begun, staged)
     }
 
-    /// The checkpoint inside a block, as a value.
+    /// Returns the checkpoint inside a block, as a value.
     fn in_block(&self, p: Position, part: u32, begun: bool, staged: u64) -> Checkpoint
         requires numbers { PositionFits p }
         requires waits { is_finished p ≡ false }
@@ -237,7 +237,7 @@ fn length_in_range(format: Format, rec_len: u32) -> bool
 /// The greatest weight of staged parts.
 pub(crate) const MOST_STAGED: u64 = 999_999_999_999_999;
 
-/// Whether these can be the numbers and flags of a checkpoint.
+/// Returns whether these can be the numbers and flags of a checkpoint.
 pub(crate) fn is_in_range(
     file: u16,
     position: Position,
@@ -256,7 +256,7 @@ pub(crate) fn is_in_range(
         && staged <= MOST_STAGED
 }
 
-/// Whether the position's numbers are in range.
+/// Returns whether the position's numbers are in range.
 fn position_in_range(position: Position) -> bool
     ensures { result ≡ position_in_range position }
 {
@@ -283,7 +283,7 @@ fn may_begin(known: &Option<Known>, position: Position) -> bool
     may_span(known) && !matches!(position, Position::Finished)
 }
 
-/// Whether the records of the file may continue in the next block.
+/// Returns whether the records of the file may continue in the next block.
 pub(crate) fn may_span(known: &Option<Known>) -> bool
     ensures { result ≡ may_span known.now }
 {

@@ -87,12 +87,12 @@ pub enum CoreFault {
     #[error("the file number is not 1 to 9,999")]
     FileNumber,
     /// The checkpoint is one of another file or file set.
-    #[error("the checkpoint is one of another file")]
+    #[error("the checkpoint belongs to another file")]
     OtherFile,
 }
 
 impl CoreFault {
-    /// The fault's fixed number, 1 for `FileNumber` and 2 for `OtherFile`.
+    /// Returns the fault's fixed number, 1 for `FileNumber` and 2 for `OtherFile`.
     pub fn number(&self) -> u8
         ensures { result ≡ number self.now }
     {

@@ -106,7 +106,7 @@ impl MemorySink {
         5 * number as u64 + self.end_of(number) as u64
     }
 
-    /// How many of the first parts fit within this weight.
+    /// Returns how many of the first parts fit within this weight.
     fn front(&self, most: u64) -> usize
         ensures within { result ≤ length (portions self.now) }
         ensures light { weight_of (take result (portions self.now)) ≤ most }

@@ -115,9 +115,9 @@ impl ReaderCore {
         self.begin()
     }
 
-    /// Begins a reading after a trailer label, where a reader of an earlier file of the set
-    /// completed a section: nothing that was read before is missed. A broken reader stays broken,
-    /// and a reader whose file is complete needs no reel.
+    /// Begins a reading after a trailer label at which a reader of an earlier file of the set
+    /// completed a section. It misses nothing that came before. A broken reader stays broken, and a
+    /// reader whose file is complete needs no reel.
     pub fn mount_behind(&mut self)
         ensures table { self.new ≡ behind_of self.old }
         ensures same { rest_of self.new ≡ rest_of self.old }
@@ -125,7 +125,7 @@ impl ReaderCore {
         self.begin_behind()
     }
 
-    /// The reading continues after a trailer label.
+    /// Continues the reading after a trailer label.
     fn begin_behind(&mut self)
         ensures table { self.new ≡ behind_of self.old }
     {
@@ -251,7 +251,7 @@ impl ReaderCore {
 }
 
 impl ReaderCore {
-    /// The item was expected; sets what is expected next.
+    /// Answers that the item was expected, and sets what is expected next.
     pub(crate) fn passed(&mut self, phase: Phase) -> Answer
         requires { ToldFits self.old.begun (told phase) }
         ensures table { (result, self.new) ≡ Table.passed self.old phase }
@@ -261,7 +261,7 @@ impl ReaderCore {
         Answer::Passed
     }
 
-    /// The reading is over.
+    /// Ends the reading for this reason.
     pub(crate) fn useless(&mut self, why: Reason) -> Answer
         ensures table { (result, self.new) ≡ Table.useless self.old why }
         ensures silent { result ≢ Answer.Deliver }

@@ -12,7 +12,7 @@ use tape_blocks::Part;
 /// `Device`, `cut_to` with `Failed`. A refused call does not reach the inner sink.
 #[derive(Drop)]
 pub struct Refusing<S> {
-    /// The sink within.
+    /// The inner sink.
     inner: S,
     /// The number of calls before the one that is refused.
     left: usize,
@@ -34,14 +34,14 @@ impl<S: PartSink> Refusing<S> {
         }
     }
 
-    /// The sink within.
+    /// Returns the inner sink.
     pub fn inner(&self) -> &S
         ensures { result.now ≡ self.now.inner }
     {
         &self.inner
     }
 
-    /// Whether this call is the one to refuse.
+    /// Returns whether this call is the one to refuse.
     fn is_refused(&mut self) -> bool
         ensures inner { self.new.inner ≡ self.old.inner }
         ensures due { IsTrue result ↔ (self.old.left ≡ 0) }

@@ -38,7 +38,7 @@ pub enum SinkFault {
 }
 
 impl SinkFault {
-    /// The fault's fixed number, from 1 for `OutOfMemory` to 4 for `Failed`.
+    /// Returns the fault's fixed number, from 1 for `OutOfMemory` to 4 for `Failed`.
     pub fn number(&self) -> u8
         ensures { result ≡ sink_fault_number self.now }
     {
@@ -53,8 +53,8 @@ impl SinkFault {
 
 /// Receives the parts of a file, in order.
 ///
-/// Receives the parts of a file, in order. `holds` relates a sink to its contents. An untrusted
-/// sink holds no list of parts; then only its weight and its count of refused calls are specified.
+/// `holds` relates a sink to its contents. An untrusted sink holds no list of parts; then only its
+/// weight and its count of refused calls are specified.
 pub trait PartSink {
     /// The sink contains these parts.
     ghost holds: { Self → List Portion → Type 0 };

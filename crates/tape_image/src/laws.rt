@@ -47,8 +47,8 @@ pub fn calls_give_the_items_that_bytes_begin_with()
     ensures fault { GiveUpToFault }
 {}
 
-/// Items that were passed are the first that the bytes begin with, and the bytes left begin with
-/// the others.
+/// The items read so far are the first ones that the bytes begin with, and the remaining bytes
+/// begin with the others.
 pub fn walked_items_come_first()
     ensures { WalkedIsFront }
 {}

@@ -1,7 +1,7 @@
 //! Writes bytes to a writer, however few of them it accepts at a time.
 //!
-//! The loop is here, because std's `write_all` calls an interrupted writer again, and here any
-//! error is a failure. A writer that accepts no byte has failed too, and is not called again.
+//! This loop replaces std's `write_all`, which calls an interrupted writer again: here any error is
+//! a failure. A writer that accepts no byte has failed too, and is not called again.
 
 ghost use Rattle.std.specs.Prelude.{◌≡◌, ◌≤◌, length, take, replicate, OnOk, OnErr, IsOkUnless};
 ghost use Rattle.std.specs.Io.KnownBytes.{Appends};
@@ -17,7 +17,7 @@ use std::io::Write;
 /// writer then gets it in one call, not in three.
 const SHORT: usize = 119;
 
-/// The size of such a block with its two words and its pad byte.
+/// The size of the longest such block, including its two words and its pad byte.
 const SPELLED: usize = SHORT + 9;
 
 /// Writes all the bytes, or a prefix of them if the writer fails.

@@ -151,7 +151,7 @@ impl<W: Write + Drop> ImageWriter<W> {
         self.device
     }
 
-    /// Returns the reason if nothing may be written: the device failed, or the writer is finished.
+    /// Returns an error if nothing may be written: the device failed, or the writer is finished.
     fn may_write(&self) -> Result<(), ImageWriteFault>
         ensures { MayWrite self.now.standing result }
     {

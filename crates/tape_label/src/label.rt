@@ -19,19 +19,19 @@ pub enum LabelFault {
     #[error("a label has 80 characters")]
     NotEighty,
     /// The first four characters are not the identifier of a label that the function reads.
-    #[error("the identifier is that of another label, or of none")]
+    #[error("the block does not begin with the expected label identifier")]
     Identifier,
     /// The number that begins at this position contains a character that is not a digit.
-    #[error("the number at position {0} is not all digits")]
+    #[error("the number at position {0} contains a character that is not a digit")]
     NotDigits(u8),
     /// This character, at position 5, is not one of the record formats `F`, `D` and `S`.
-    #[error("the record format is the byte {0}")]
+    #[error("byte {0} is not a record format")]
     Format(u8),
     /// The number that begins at this position is less than its minimum.
-    #[error("the number at position {0} is out of its range")]
+    #[error("the number at position {0} is out of range")]
     FieldRange(u8),
     /// The byte at this index of the text, counted from 0, is not an a-character.
-    #[error("the byte at place {0} is no a-character")]
+    #[error("the byte at index {0} is not an a-character")]
     NotACharacter(usize),
     /// The text has more bytes than its field has positions.
     #[error("the text is longer than its field")]

@@ -103,11 +103,11 @@ fn texts_of_faults(rt: HostRuntime) -> Result<(), Fail> {
     for (fault, text) in [
         (
             LabelFault::NotDigits(28),
-            "the number at position 28 is not all digits",
+            "the number at position 28 contains a character that is not a digit",
         ),
         (
             LabelFault::NotACharacter(3),
-            "the byte at place 3 is no a-character",
+            "the byte at index 3 is not an a-character",
         ),
     ] {
         let told = format!(in rt.alloc(); "{fault}")?;

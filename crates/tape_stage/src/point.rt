@@ -121,7 +121,7 @@ pub fn write_point(point: &Checkpoint) -> [u8; 80]
 /// A file identifier of spaces, which means none.
 const SPACES: [u8; 17] = [b' '; 17];
 
-/// The state, and whether a record is unfinished and the form is known.
+/// Returns the state, and whether a record is unfinished and the form is known.
 fn flags_of(position: Position, begun: bool, known: &Option<Known>) -> Flags
     ensures { result ≡ flags_of position begun known.now }
 {
@@ -132,7 +132,7 @@ fn flags_of(position: Position, begun: bool, known: &Option<Known>) -> Flags
     }
 }
 
-/// The fields of the file's form.
+/// Returns the fields of the file's form.
 fn form_of(known: &Option<Known>) -> Form
     ensures value { result ≡ form_of known.now }
     ensures rec_len { result.rec_len < 100000 }
@@ -155,7 +155,7 @@ fn form_of(known: &Option<Known>) -> Form
     }
 }
 
-/// The number of the section.
+/// Returns the number of the section.
 fn sect_of(position: Position) -> u64
     requires { PositionFits position }
     ensures value { result ≡ sect_of position }
@@ -167,7 +167,7 @@ fn sect_of(position: Position) -> u64
     }
 }
 
-/// The numbers of the block and the part.
+/// Returns the numbers of the block and the part.
 fn place_of(position: Position) -> Place
     requires { PositionFits position }
     ensures value { result ≡ place_of position }
@@ -183,7 +183,7 @@ fn place_of(position: Position) -> Place
     }
 }
 
-/// The fields of a checkpoint.
+/// Returns the fields of a checkpoint.
 pub(crate) fn fields_of(point: &Checkpoint) -> Fields
     ensures value { result ≡ fields_of point.now }
     ensures fit { Fit Two result }
@@ -203,7 +203,7 @@ pub(crate) fn fields_of(point: &Checkpoint) -> Fields
 /// The greatest number of a block.
 const MOST_BLOCKS: u64 = 4_294_967_295;
 
-/// Whether the section, the block and the part are possible in this state.
+/// Returns whether the section, the block and the part are possible in this state.
 fn place_agrees(fields: &Fields) -> bool
     ensures { result ≡ place_agrees fields.now }
 {
@@ -213,7 +213,7 @@ fn place_agrees(fields: &Fields) -> bool
     fields.place.block <= MOST_BLOCKS
 }
 
-/// Whether the fields of the file's form are empty.
+/// Returns whether the fields of the file's form are empty.
 fn is_blank(form: &Form) -> bool
     ensures { result ≡ is_blank form.now }
 {

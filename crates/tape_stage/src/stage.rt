@@ -4,7 +4,7 @@
 //!
 //! | Places | Content |
 //! |---|---|
-//! | 0 | the gate of the first slot: `O` where it counts, else closed |
+//! | 0 | the gate of the first slot: `O` if it is open; any other byte: closed |
 //! | 1-127 | its generation (15 digits), a checkpoint (80 characters), spaces |
 //! | 128 | the gate of the second slot |
 //! | 129-255 | its generation, checkpoint and spaces |
@@ -54,11 +54,11 @@ pub(crate) const CLOSED: u8 = b'C';
 #[derive(Clone, Copy, Debug, PartialEq, Eq, Error)]
 pub enum StageFault {
     /// The disk does not contain a stage: it is too short, or no slot is valid.
-    #[error("no checkpoint is staged")]
+    #[error("the disk contains no stage")]
     NoPoint,
     /// One of the parts that the checkpoint counts has no valid frame; the frame should be at this
     /// byte offset.
-    #[error("no frame of a part stands at {0}")]
+    #[error("no valid frame at byte {0}")]
     BadFrame(u64),
     /// The disk failed in this call.
     #[error("the disk failed")]
@@ -75,7 +75,7 @@ pub enum StageFault {
 }
 
 impl StageFault {
-    /// The fixed number of the fault, from 1 to 6 in the order of the list above.
+    /// Returns the fixed number of the fault, from 1 to 6 in the order of the list above.
     pub fn number(&self) -> u8
         ensures { result ≡ number self.now }
     {
@@ -147,7 +147,7 @@ pub(crate) struct Found {
 }
 
 impl Found {
-    /// The weight of the parts that the checkpoint counts.
+    /// Returns the weight of the parts that the checkpoint counts.
     pub(crate) fn staged(&self) -> u64
         ensures value { result ≡ self.now.point.staged }
         ensures bound { result ≤ most_staged }

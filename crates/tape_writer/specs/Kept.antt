@@ -13,7 +13,7 @@ pub record InMemory : Type 0 where
   pub misused : ℕ
   pub refused : ℕ
 
--- the calls that it failed: without a volume under way, and for want of memory
+-- the calls that failed: those without a current volume, and those that ran out of memory
 abbrev pub failures_in : InMemory → Failures
 failures_in m = record { device = m.misused; memory = m.refused }
 

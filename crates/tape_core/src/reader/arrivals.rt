@@ -25,7 +25,7 @@ use tape_label::{Format, LabelFault, is_volume_label, kind, read_head1, read_tra
 use tape_set::Position;
 
 impl ReaderCore {
-    /// One step. A complete file stays complete, whatever the item.
+    /// Processes one item. A complete file stays complete, whatever the item.
     #[inline(always)]
     pub(crate) fn advance(&mut self, event: Event<'_>) -> Answer
         ensures table { (result, self.new) ≡ Table.step_of self.old (arrival event.entry) }
@@ -44,7 +44,8 @@ impl ReaderCore {
         }
     }
 
-    /// A block. Nearly all blocks of a reel are data, which need no copy of what is expected.
+    /// Processes a block. Nearly all blocks of a reel are data, which need no copy of what is
+    /// expected.
     #[inline(always)]
     fn at_block(&mut self, block: &[u8]) -> Answer
         requires { is_finished self.old.position ≡ false }
@@ -59,7 +60,7 @@ impl ReaderCore {
         }
     }
 
-    /// A block that is not data of the section needed.
+    /// Processes a block that is not data of the section needed.
     fn at_other_block(&mut self, block: &[u8]) -> Answer
         requires other { wants_data self.old.phase ≡ false }
         ensures table { (result, self.new) ≡ Table.at_block self.old self.old.phase block.now }
@@ -83,7 +84,7 @@ impl ReaderCore {
         }
     }
 
-    /// A tape mark.
+    /// Processes a tape mark.
     fn at_mark(&mut self) -> Answer
         ensures table { (result, self.new) ≡ Table.at_mark self.old self.old.phase }
         ensures silent { result ≢ Answer.Deliver }
@@ -104,7 +105,7 @@ impl ReaderCore {
         }
     }
 
-    /// The mark after the headers.
+    /// Processes the mark after the headers.
     fn data_follow(&mut self, heading: Heading, wanted: Option<Known>) -> Answer
         requires { ToldFits self.old.begun wanted }
         ensures table { (result, self.new)
@@ -117,7 +118,7 @@ impl ReaderCore {
         }
     }
 
-    /// An unreadable item.
+    /// Processes an unreadable item.
     fn at_bad(&mut self) -> Answer
         ensures table { (result, self.new) ≡ Table.at_bad self.old self.old.phase }
         ensures silent { result ≢ Answer.Deliver }
@@ -132,7 +133,7 @@ impl ReaderCore {
         }
     }
 
-    /// The end of the reel.
+    /// Processes the end of the reel.
     fn at_reel_end(&mut self) -> Answer
         ensures table { (result, self.new) ≡ Table.at_reel_end self.old self.old.phase }
         ensures silent { result ≢ Answer.Deliver }
@@ -145,7 +146,7 @@ impl ReaderCore {
 }
 
 impl ReaderCore {
-    /// A reading begins.
+    /// Begins a reading.
     pub(crate) fn begin(&mut self)
         ensures table { self.new ≡ Table.mount_of self.old }
     {
@@ -172,8 +173,8 @@ impl ReaderCore {
 }
 
 impl ReaderCore {
-    /// A block: one that was delivered before is skipped. What is expected is changed in place,
-    /// since nearly all items of a reel are such blocks.
+    /// Processes a data block: one that was delivered before is skipped. What is expected is
+    /// changed in place, since nearly all items of a reel are such blocks.
     #[inline(always)]
     pub(crate) fn at_data(&mut self, block: &[u8]) -> Answer
         requires wanted { wants_data self.old.phase ≡ true }
@@ -203,8 +204,8 @@ impl ReaderCore {
         }
     }
 
-    /// An unreadable item after `seen` blocks: the reading stops only if it is the expected block
-    /// or a later one.
+    /// Processes an unreadable item after `seen` blocks: the reading stops only if it is the
+    /// expected block or a later one.
     pub(crate) fn at_bad_data(&mut self, heading: Heading, form: Known, seen: u32) -> Answer
         requires told { ToldFits self.old.begun (Some form) }
         ensures table { (result, self.new) ≡ Table.at_bad_data self.old heading form seen }
@@ -217,7 +218,7 @@ impl ReaderCore {
         }
     }
 
-    /// The mark after the data: all blocks that were delivered before must precede it.
+    /// Processes the mark after the data: all blocks that were delivered before must precede it.
     pub(crate) fn at_data_end(&mut self, heading: Heading, form: Known, seen: u32) -> Answer
         requires told { ToldFits self.old.begun (Some form) }
         ensures table { (result, self.new) ≡ Table.at_data_end self.old heading form seen }
@@ -231,8 +232,8 @@ impl ReaderCore {
     }
 }
 
-/// Whether a block leaves a record unfinished, if it has this number, or why it is refused. `part`
-/// of its parts were delivered, and `begun` is the state before the next part.
+/// Returns whether a block leaves a record unfinished, if it has this number, or why it is refused.
+/// `part` of its parts were delivered, and `begun` is the state before the next part.
 #[inline(always)]
 fn judge_awaited(
     form: &Known,
@@ -265,7 +266,7 @@ fn judge_awaited(
     }
 }
 
-/// The shape of the file's blocks, as far as readers check it.
+/// Returns the shape of the file's blocks, as far as readers check it.
 pub(crate) fn shape_of(known: &Known) -> Shape
     ensures format { result.format ≡ known.now.format }
     ensures rec_len { result.rec_len ≡ known.now.rec_len }
@@ -282,7 +283,8 @@ pub(crate) fn shape_of(known: &Known) -> Shape
     }
 }
 
-/// Whether the block's first unit continues a record: in format S its indicator is `2` or `3`.
+/// Returns whether the block's first unit continues a record: in format S its indicator is `2` or
+/// `3`.
 fn goes_on_at(format: Format, offset: u8, block: &[u8]) -> bool
     ensures { result ≡ Parts'.goes_on_at format offset block.now }
 {
@@ -298,8 +300,8 @@ fn goes_on_at(format: Format, offset: u8, block: &[u8]) -> bool
     }
 }
 
-/// Whether a record is unfinished where the block begins, if `part` of its parts were delivered;
-/// `begun` is the state before the expected part.
+/// Returns whether a record is unfinished where the block begins, if `part` of its parts were
+/// delivered; `begun` is the state before the expected part.
 pub(crate) fn begun_before(known: &Known, part: u32, begun: bool, block: &[u8]) -> bool
     ensures { result ≡ Parts'.begun_before known.now part begun block.now }
 {
@@ -310,16 +312,15 @@ pub(crate) fn begun_before(known: &Known, part: u32, begun: bool, block: &[u8]) 
     }
 }
 
-/// Whether the two differ.
+/// Returns whether the two differ.
 fn differs(a: bool, b: bool) -> bool
     ensures { result ≡ not (bool_eq a b) }
 {
     if a { !b } else { b }
 }
 
-/// Whether the block, which was checked, cannot be the one of which `part` parts were delivered: it
-/// has too few, or after these parts the record is unfinished where it should not be, or the other
-/// way round.
+/// Returns whether the block, which was checked, cannot be the one of which `part` parts were
+/// delivered: it has too few, or the state of the record after these parts is not the expected one.
 pub(crate) fn other_front(known: &Known, part: u32, begun: bool, block: &[u8]) -> bool
     requires { (before : Bool) × (end : Bool)
         × (judged known.now.format known.now.rec_len known.now.offset before block.now ≡ Ok end) }

@@ -19,7 +19,7 @@ use tape_label::{
 use tape_set::{Position, label_count};
 
 impl ReaderCore {
-    /// VOL1 is expected.
+    /// Processes a block when VOL1 is expected.
     pub(crate) fn first_label(&mut self, kind: Option<Kind>) -> Answer
         ensures table { (result, self.new) ≡ Table.first_label self.old kind }
         ensures silent { result ≢ Answer.Deliver }
@@ -30,7 +30,7 @@ impl ReaderCore {
         }
     }
 
-    /// HDR1 of the first section on the reel is expected.
+    /// Processes a block when HDR1 of the first section on the reel is expected.
     pub(crate) fn first_labels(&mut self, block: &[u8]) -> Answer
         ensures table { (result, self.new)
             ≡ Table.first_labels self.old block.now (kind_at block.now) }
@@ -42,7 +42,7 @@ impl ReaderCore {
         }
     }
 
-    /// HDR1: set, file, section and file identifier are compared, in this order.
+    /// Processes an HDR1: compares set, file, section and file identifier, in this order.
     pub(crate) fn at_head1(&mut self, head: Result<Head1, LabelFault>) -> Answer
         ensures table { (result, self.new) ≡ Table.at_head1 self.old head }
         ensures silent { result ≢ Answer.Deliver }
@@ -68,7 +68,7 @@ impl ReaderCore {
         }
     }
 
-    /// HDR2 is expected. In a skipped section only its kind is checked.
+    /// Processes a block when HDR2 is expected. In a skipped section only its kind is checked.
     pub(crate) fn second_label(&mut self, heading: Heading, wanted: bool, block: &[u8]) -> Answer
         ensures table { (result, self.new)
             ≡ Table.second_label self.old heading wanted block.now (kind_at block.now) }
@@ -81,7 +81,7 @@ impl ReaderCore {
         }
     }
 
-    /// HDR2 of the section needed.
+    /// Processes the HDR2 of the section needed.
     fn at_head2(&mut self, heading: Heading, block: &[u8]) -> Answer
         ensures table { (result, self.new) ≡ Table.at_head2 self.old heading (head2_at block.now) }
         ensures silent { result ≢ Answer.Deliver }
@@ -98,7 +98,7 @@ impl ReaderCore {
         }
     }
 
-    /// The trailer of a skipped section: its numbers show whether a mark was lost.
+    /// Processes the trailer of a skipped section: its numbers show whether a mark was lost.
     pub(crate) fn at_passed_trailer(
         &mut self,
         heading: Heading,
@@ -114,7 +114,7 @@ impl ReaderCore {
         }
     }
 
-    /// The trailer of the section needed, all of whose blocks were seen.
+    /// Processes the trailer of the section needed, all of whose blocks were seen.
     pub(crate) fn at_wanted_trailer(
         &mut self,
         heading: Heading,
@@ -141,7 +141,7 @@ impl ReaderCore {
         }
     }
 
-    /// EOF1: the file is complete.
+    /// Processes EOF1: the file is complete.
     fn at_file_end(&mut self, form: Known) -> Answer
         ensures table { (result, self.new) ≡ Table.at_end self.old form true }
         ensures silent { result ≢ Answer.Deliver }
@@ -155,7 +155,7 @@ impl ReaderCore {
         Answer::Complete
     }
 
-    /// EOV1: the section is complete. A record may continue in the next one.
+    /// Processes EOV1: the section is complete. A record may continue in the next one.
     fn at_section_end(&mut self, form: Known) -> Answer
         requires told { ToldFits self.old.begun (Some form) }
         ensures table { (result, self.new) ≡ Table.at_end self.old form false }
@@ -172,7 +172,7 @@ impl ReaderCore {
     }
 }
 
-/// The fault of a block that is not of the kind that is expected.
+/// Returns the fault of a block that is not of the expected kind.
 pub(crate) fn not_of_kind(block: &[u8]) -> LabelFault
     ensures { result ≡ Labels.not_of_kind block.now }
 {
@@ -183,7 +183,7 @@ pub(crate) fn not_of_kind(block: &[u8]) -> LabelFault
     }
 }
 
-/// What is remembered of an HDR1.
+/// Returns what is remembered of an HDR1.
 pub(crate) fn heading_of(head: &Head1) -> Heading
     ensures { result ≡ Labels.heading_of head.now }
 {
@@ -194,7 +194,7 @@ pub(crate) fn heading_of(head: &Head1) -> Heading
     }
 }
 
-/// Whether the form is known, with another file identifier.
+/// Returns whether the form is known, with another file identifier.
 pub(crate) fn other_file_id(known: &Option<Known>, file_id: &Field<17>) -> bool
     ensures { result ≡ Labels.other_file_id known.now file_id.now }
 {
@@ -204,7 +204,7 @@ pub(crate) fn other_file_id(known: &Option<Known>, file_id: &Field<17>) -> bool
     }
 }
 
-/// Whether the form is known, with another format, record length or offset.
+/// Returns whether the form is known, with another format, record length or offset.
 pub(crate) fn other_shape(known: &Option<Known>, form: &Known) -> bool
     ensures { result ≡ Labels.other_shape known.now form.now }
 {
@@ -218,7 +218,7 @@ pub(crate) fn other_shape(known: &Option<Known>, form: &Known) -> bool
     }
 }
 
-/// The form that HDR1 and HDR2 of a section describe.
+/// Returns the form that HDR1 and HDR2 of a section describe.
 pub(crate) fn form_at(heading: &Heading, head: &Head2) -> Known
     requires { (which : Kind) × (label : List ℕ) × IsHead2 label which head.now }
     ensures { result ≡ Labels.form_at heading.now head.now }
@@ -235,7 +235,7 @@ pub(crate) fn form_at(heading: &Heading, head: &Head2) -> Known
     }
 }
 
-/// Whether the trailer has other numbers than the header.
+/// Returns whether the trailer has other numbers than the header.
 pub(crate) fn other_numbers(heading: Heading, trailer: &Trail1) -> bool
     ensures { result ≡ Table.other_numbers heading trailer.now }
 {

@@ -6,7 +6,7 @@ ghost use Rattle.tape_stage.specs.Same.{SameContent, DidCall};
 use crate::disk::content::{Call, Content};
 use std::alloc::{AllocError, Global};
 
-/// The old bytes, overwritten from an offset on.
+/// Returns the old bytes, overwritten from an offset on.
 fn written(alloc: Global, old: &[u8], place: usize, bytes: &[u8]) -> Result<Vec<u8>, AllocError>
     requires { place ≤ length old.now }
     ensures { IfOk result (λ v. v.items ≡ take place old.now ++ bytes.now ++ drop
@@ -20,7 +20,7 @@ fn written(alloc: Global, old: &[u8], place: usize, bytes: &[u8]) -> Result<Vec<
     Ok(next)
 }
 
-/// This many bytes that may be anything: 255 each.
+/// Returns this many bytes that may be anything: 255 each.
 fn unknown(alloc: Global, count: usize) -> Result<Vec<u8>, AllocError>
     ensures { IfOk result (λ v. v.items ≡ replicate count 255) }
 {
@@ -28,7 +28,7 @@ fn unknown(alloc: Global, count: usize) -> Result<Vec<u8>, AllocError>
 }
 
 impl Content {
-    /// These bytes, all of them durable.
+    /// Creates a disk's contents from these bytes, all of them durable.
     pub fn new(alloc: Global, bytes: Vec<u8>) -> Self
         ensures bytes { result.bytes ≡ bytes }
         ensures calls { result.calls.items ≡ [] }

@@ -319,7 +319,8 @@ pub fn buffered_file<F: Read + Write + Seek + OpenFile + Drop>(
     Ok(ReadAhead::over(WriteBehind::over(disk, behind), ahead))
 }
 
-/// The buffer for reading ahead.
+/// Allocates the buffer for reading ahead. No contract describes its contents: so many bytes would
+/// make proofs slow.
 // No contract describes its contents: in a proof that many bytes would be slow.
 fn read_room(alloc: Global) -> Result<Vec<u8>, AllocError> {
     vec![in alloc; 0u8; ROOM]

@@ -41,14 +41,14 @@ impl MemoryDisk {
         }
     }
 
-    /// The bytes that reads return.
+    /// Returns the contents, as reads return them.
     pub fn bytes(&self) -> &[u8]
         ensures { result.now ≡ memory_bytes self.now }
     {
         &self.content.bytes
     }
 
-    /// After the next `count` calls each call fails.
+    /// Makes every call fail after the next `count` calls.
     pub fn stop_after(&mut self, count: u64)
         ensures left { self.new.left ≡ Some count }
         ensures bytes { memory_bytes self.new ≡ memory_bytes self.old }
@@ -99,7 +99,7 @@ impl MemoryDisk {
         }
     }
 
-    /// A call that ran out of memory fails.
+    /// Counts a call that ran out of memory, which is a failure of the disk.
     pub(crate) fn fail(&mut self) -> DiskFault
         ensures content { self.new.content ≡ self.old.content }
         ensures counted { Rose self.old.failed self.new.failed }

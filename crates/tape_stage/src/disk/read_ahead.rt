@@ -68,8 +68,8 @@ impl<D: Disk> ReadAhead<D> {
         self.disk
     }
 
-    /// Fills the start of the buffer with the bytes at an offset that were read ahead. Returns how
-    /// many there are.
+    /// Fills the start of the buffer with the bytes at an offset that were read ahead. Returns the
+    /// number of these bytes.
     fn give(&self, place: u64, buf: &mut [u8]) -> usize
         ensures same_size { length buf.new ≡ length buf.old }
         ensures few { result ≤ length buf.old }

@@ -76,7 +76,7 @@ impl<D: Disk> WriteBehind<D> {
         }
     }
 
-    /// Whether so many bytes fit in the buffer, and have offsets below 2^64 from this one on.
+    /// Returns whether so many bytes fit the buffer, and have offsets below 2^64 from this one on.
     fn fits(&self, place: u64, size: usize) -> bool
         ensures fits { OnTrue result
             (length self.now.bytes.items + size ≤ vec_capacity self.now.bytes) }
@@ -85,7 +85,7 @@ impl<D: Disk> WriteBehind<D> {
         size <= self.bytes.capacity() - self.bytes.len() && place.checked_add(size as u64).is_some()
     }
 
-    /// Whether this offset is the one after the end of the buffer.
+    /// Returns whether this offset is the one after the end of the buffer.
     fn continues(&self, place: u64) -> bool
         ensures end { OnTrue result (self.now.start + length self.now.bytes.items ≡ place) }
     {

@@ -24,21 +24,21 @@ pub enum PointFault {
     #[error("a checkpoint has 80 characters")]
     Length,
     /// It does not begin `TPCK`.
-    #[error("the text is no checkpoint")]
+    #[error("the text is not a checkpoint")]
     Mark,
     /// Its version is neither `1` nor `2`.
-    #[error("the version is not known")]
+    #[error("unknown version")]
     Version,
     /// A character of the field that begins at this position is not allowed there.
-    #[error("the field at position {0} has a wrong character")]
+    #[error("invalid character in the field at position {0}")]
     Field(u8),
     /// Each field is valid, but together they are not those of a checkpoint.
-    #[error("the fields are those of no checkpoint")]
+    #[error("the fields do not form a valid checkpoint")]
     Range,
 }
 
 impl PointFault {
-    /// The fixed number of the fault, from 1 to 5 in the order of the list above.
+    /// Returns the fixed number of the fault, from 1 to 5 in the order of the list above.
     pub fn number(&self) -> u8
         ensures { result ≡ number self.now }
     {
@@ -84,7 +84,7 @@ pub(crate) fn flag_at(text: &[u8], position: u8, yes: u8, no: u8) -> Result<bool
     Err(PointFault::Field(position))
 }
 
-/// The record format, or a space.
+/// Returns the record format at the position, or `None` for a space.
 pub(crate) fn format_at(text: &[u8], position: u8) -> Result<Option<Format>, PointFault>
     requires first { 1 ≤ position }
     requires last { position ≤ length text.now }
@@ -99,7 +99,7 @@ pub(crate) fn format_at(text: &[u8], position: u8) -> Result<Option<Format>, Poi
     }
 }
 
-/// Spaces from the position to the end.
+/// Accepts spaces from the position to the end.
 pub(crate) fn tail_at(text: &[u8], first: u8) -> Result<(), PointFault>
     requires size { length text.now ≡ 80 }
     requires first { (69 ≤ first) × (first ≤ 81) }
@@ -134,7 +134,7 @@ fn version_by(digit: u8) -> Result<Version, PointFault>
     }
 }
 
-/// The position of the state.
+/// Returns the position of the state.
 fn state_position(version: Version) -> u8
     ensures value { result ≡ state_position version }
     ensures low { 26 ≤ result }
@@ -146,7 +146,7 @@ fn state_position(version: Version) -> u8
     }
 }
 
-/// All fields after the version.
+/// Reads all fields after the version.
 #[tactic(auto, unfolding(crate::specs::Reading::fields_at))]
 fn fields_at(version: Version, text: &[u8]) -> Result<Fields, PointFault>
     requires { length text.now ≡ 80 }
@@ -170,7 +170,7 @@ fn fields_at(version: Version, text: &[u8]) -> Result<Fields, PointFault>
     })
 }
 
-/// The version and the fields.
+/// Reads the version and the fields.
 #[tactic(auto, unfolding(crate::specs::Reading::text_at))]
 pub(crate) fn text_at(text: &[u8]) -> Result<(Version, Fields), PointFault>
     ensures { result ≡ text_at text.now }
@@ -186,7 +186,7 @@ pub(crate) fn text_at(text: &[u8]) -> Result<(Version, Fields), PointFault>
     Ok((version, fields))
 }
 
-/// The block and the part.
+/// Reads the block and the part.
 #[tactic(auto, unfolding(crate::specs::Reading::place_at))]
 pub(crate) fn place_at(version: Version, text: &[u8]) -> Result<Place, PointFault>
     requires { length text.now ≡ 80 }
@@ -205,7 +205,7 @@ pub(crate) fn place_at(version: Version, text: &[u8]) -> Result<Place, PointFaul
     }
 }
 
-/// The state and the next two digits.
+/// Reads the state and the next two digits.
 #[tactic(auto, unfolding(crate::specs::Reading::flags_at))]
 pub(crate) fn flags_at(text: &[u8], first: u8) -> Result<Flags, PointFault>
     requires size { length text.now ≡ 80 }
@@ -218,7 +218,7 @@ pub(crate) fn flags_at(text: &[u8], first: u8) -> Result<Flags, PointFault>
     Ok(Flags { done, begun, known })
 }
 
-/// The fields of the file's form.
+/// Reads the fields of the file's form.
 #[tactic(auto, unfolding(crate::specs::Reading::form_at))]
 pub(crate) fn form_at(text: &[u8], first: u8) -> Result<Form, PointFault>
     requires size { length text.now ≡ 80 }
@@ -236,7 +236,7 @@ pub(crate) fn form_at(text: &[u8], first: u8) -> Result<Form, PointFault>
     })
 }
 
-/// The staged weight, and spaces to the end.
+/// Reads the staged weight, and spaces to the end.
 #[tactic(auto, unfolding(crate::specs::Reading::staged_at))]
 pub(crate) fn staged_at(text: &[u8], first: u8) -> Result<u64, PointFault>
     requires size { length text.now ≡ 80 }
@@ -281,21 +281,21 @@ pub(crate) fn whole<const N: usize>(text: ArrayVec<u8, N>) -> [u8; N]
     }
 }
 
-/// `D` if the whole file was delivered, otherwise `R`.
+/// Returns `D` if the whole file was delivered, otherwise `R`.
 fn state_letter(done: bool) -> u8
     ensures { result ≡ state_letter done }
 {
     if done { b'D' } else { b'R' }
 }
 
-/// `1` or `0`.
+/// Returns `1` or `0`.
 fn flag_digit(flag: bool) -> u8
     ensures { result ≡ flag_digit flag }
 {
     if flag { b'1' } else { b'0' }
 }
 
-/// `F`, `D` or `S`, or a space.
+/// Returns `F`, `D` or `S`, or a space.
 fn format_letter(format: Option<Format>) -> u8
     ensures { result ≡ format_letter format }
 {
@@ -305,7 +305,7 @@ fn format_letter(format: Option<Format>) -> u8
     }
 }
 
-/// The text of these fields in version 2.
+/// Returns the text of these fields in version 2.
 pub(crate) fn fields_text(fields: &Fields) -> [u8; 80]
     requires { Fit Two fields.now }
     ensures text { result ≡ text_of (pieces Two fields.now) }

@@ -40,7 +40,7 @@ fn span_by(digit: u8) -> Option<Span>
     }
 }
 
-/// The contents of a header.
+/// Returns the contents of a header.
 pub(crate) fn header_of(header: &[u8; 5]) -> Option<(Span, u64)>
     ensures { MatchOption result (IsNoHeader header.now)
         (λ found. (found.1 ≤ longest_part)
@@ -54,7 +54,7 @@ pub(crate) fn header_of(header: &[u8; 5]) -> Option<(Span, u64)>
     Some((span, u64::from(size)))
 }
 
-/// The size of the part that follows a header.
+/// Returns the size of the part that follows a header.
 fn part_size(header: &[u8; 5]) -> Option<u64>
     ensures { MatchOption result (IsNoHeader header.now)
         (λ size. (size ≤ longest_part) × ((span : Span)

@@ -1,4 +1,4 @@
-//! Opening.
+//! Opens and creates stages on disks.
 
 ghost use Rattle.std.specs.Prelude.{◌≡◌, ◌+◌, ◌≤◌, ◌∷◌, ◌++◌, [], ℕ, List, length, false};
 ghost use Rattle.std.specs.Prelude.{take, max, IfOk, IfErr, OnOk, OnErr, ◌<◌, ◌^◌, IfSome};
@@ -26,7 +26,7 @@ use std::alloc::{AllocError, Global};
 use tape_core::Checkpoint;
 use tape_label::{digits_of, digits_value};
 
-/// The generation, the checkpoint and spaces.
+/// Returns the bytes after a gate: the generation, the checkpoint and spaces.
 pub(crate) fn body_bytes(generation: u64, point: Checkpoint) -> [u8; 127]
     requires { generation < 10 ^ 15 }
     ensures text { result ≡ body_text generation point }
@@ -55,14 +55,14 @@ pub(crate) fn read_body(body: &[u8]) -> Option<(u64, Checkpoint)>
 
 const ROOM: usize = 100_000;
 
-/// The buffer from which parts are lent.
+/// Allocates the buffer from which parts are lent.
 pub(crate) fn buffer_of(alloc: Global) -> Result<Vec<u8>, AllocError>
     ensures room { IfOk result (λ buffer. longest_part ≤ length buffer.items) }
 {
     Vec::from_elem(alloc, 0u8, ROOM)
 }
 
-/// Writes and syncs. If a crash comes before that is done, the range may contain anything.
+/// Writes and syncs. If a crash interrupts this, the range may contain anything.
 pub(crate) fn write_kept<D: Disk>(disk: &mut D, place: u64, bytes: &[u8]) -> Result<(), DiskFault>
     requires { place ≤ D.length_of disk.old }
     ensures written { D.is_honest disk.old
@@ -128,7 +128,7 @@ fn recover<D: Disk>(alloc: Global, disk: &mut D) -> Result<(Found, Vec<u8>), Sta
     Ok((found, buffer))
 }
 
-/// Both slots with closed gates, the first with generation 1 and the checkpoint.
+/// Returns both slots with closed gates, the first with generation 1 and the checkpoint.
 fn header(alloc: Global, point: Checkpoint) -> Result<Vec<u8>, AllocError>
     ensures text { IfOk result (λ v. v.items ≡ (67 ∷ []) ++
         (body_text 1 point ++ ((67 ∷ []) ++ blank))) }
@@ -167,7 +167,7 @@ pub struct Refused<D, F> {
 }
 
 impl<D: Disk> Stage<D> {
-    /// Opens the stage on a disk, and cuts what follows it. It may be interrupted by a crash too.
+    /// Opens the stage on a disk, and cuts the bytes after it. A crash may interrupt this too.
     ///
     /// # Errors
     ///

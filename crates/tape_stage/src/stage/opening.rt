@@ -1,4 +1,4 @@
-//! Finding a stage on a disk.
+//! Finds a stage on a disk.
 
 ghost use Rattle.std.specs.Prelude.{◌≡◌, ◌+◌, ◌≤◌, ◌==◌, ◌⊎◌, ℕ, List, length, OnOk};
 ghost use Rattle.std.specs.Prelude.{IfOk, IfErr, IfSome, MatchOption, None, Some, false};
@@ -46,7 +46,7 @@ fn slot(bytes: &[u8], second: bool) -> Option<(u64, Checkpoint)>
     read_slot(bytes[0], &bytes[1..128])
 }
 
-/// The current slot, and the other one's gate.
+/// Returns the current slot, and the other one's gate.
 fn found_in(bytes: &[u8], in_second: bool, generation: u64, point: Checkpoint) -> Found
     requires size { length bytes.now ≡ 256 }
     requires says { slot_at in_second bytes.now ≡ Some (generation, point) }
@@ -64,7 +64,7 @@ fn found_in(bytes: &[u8], in_second: bool, generation: u64, point: Checkpoint) -
     }
 }
 
-/// The current slot: the one with the greater generation, or the first if both are equal.
+/// Returns the current slot: the one with the greater generation, or the first if both are equal.
 fn find(bytes: &[u8]) -> Option<Found>
     requires { length bytes.now ≡ 256 }
     ensures found { MatchOption result
@@ -121,7 +121,7 @@ pub(crate) fn find_on<D: Disk>(disk: &mut D) -> Result<Found, StageFault>
     }
 }
 
-/// Finds what is staged. It only reads.
+/// Finds what is staged, by reading only.
 pub(crate) fn look<D: Disk>(disk: &mut D) -> Result<Found, StageFault>
     ensures found { D.is_honest disk.old → IfOk result (λ found. IsFound found (D.seen disk.old)) }
     ensures parts { D.is_honest disk.old → IfOk result

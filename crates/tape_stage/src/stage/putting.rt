@@ -25,7 +25,7 @@ use crate::stage::{MOST_STAGED, Stage, StageFault};
 use tape_blocks::{Part, Span};
 use tape_core::{Checkpoint, PartSink, PartWalk, SinkFault};
 
-/// The digit of a span.
+/// Returns the digit of a span.
 fn digit(span: Span) -> u8
     ensures { result ≡ indicator span }
 {
@@ -37,7 +37,7 @@ fn digit(span: Span) -> u8
     }
 }
 
-/// The header of a part: its span, and its length in four bytes.
+/// Returns the header of a part: its span, and its length in four bytes.
 fn header(span: Span, size: u32) -> [u8; 5]
     ensures { result ≡ indicator span ∷ to_be_bytes w32 size }
 {
@@ -113,7 +113,7 @@ impl<D: Disk> Stage<D> {
     }
 }
 
-/// The fault of a sink; only opening has others.
+/// Returns the same fault as one of a sink; only opening has others.
 fn sink_fault(fault: StageFault) -> SinkFault
     ensures { result ≡ sink_fault_of fault }
 {

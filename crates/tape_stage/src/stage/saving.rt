@@ -87,7 +87,8 @@ impl<D: Disk> Stage<D> {
         }
     }
 
-    /// The checkpoint that was acknowledged last: by creating, opening, saving or rolling back.
+    /// Returns the checkpoint that was acknowledged last: by creating, opening, saving or rolling
+    /// back.
     pub fn acknowledged(&self) -> Checkpoint
         ensures value { result ≡ self.now.acknowledged }
         // Whatever a crash leaves now represents the checkpoint and its parts.

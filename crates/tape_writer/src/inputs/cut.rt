@@ -16,7 +16,7 @@ pub enum Cut {
     Whole,
 }
 
-/// The first of some bytes, which continue a record.
+/// A prefix of some bytes, which continues a record.
 #[derive(Clone, Copy)]
 pub struct Piece {
     /// How many of the bytes are in the record.

@@ -1,4 +1,4 @@
-//! What answers of the system mean: an error says nothing of what is there, but for one kind.
+//! The meaning of answers of the system. Only one kind of error says that a file does not exist.
 ghost use Rattle.std.specs.Prelude.{◌≡◌};
 ghost use Rattle.tape_writer.specs.Answers.{found_of, has_no_locks, locked_of};
 
@@ -7,11 +7,11 @@ use std::fs::{Metadata, TryLockError};
 use std::io;
 use std::io::ErrorKind;
 
-/// Returns what a look found: nothing only if the system says that nothing is there.
+/// Returns what a lookup found: `None` only if the system says that no file exists.
 ///
 /// # Errors
 ///
-/// `NotOpened` if the look failed in any other way: something may be there.
+/// `NotOpened` if the lookup failed in any other way: a file may exist.
 pub fn found(look: io::Result<Metadata>) -> Result<Option<Metadata>, FileFault>
     ensures { result ≡ found_of look }
 {
@@ -25,18 +25,18 @@ pub fn found(look: io::Result<Metadata>) -> Result<Option<Metadata>, FileFault>
 /// Why a file is not locked.
 #[derive(Clone, Copy, Debug, PartialEq, Eq)]
 pub enum LockFault {
-    /// Another run has it locked.
+    /// Another run holds the lock.
     InUse,
-    /// The system did not say whether another run has it.
+    /// The system did not say whether another run holds the lock.
     Failed,
 }
 
-/// Returns whether a run may go on with a file that it tried to lock: if it has the lock, or the
+/// Returns Ok if a run may continue with a file that it tried to lock: it holds the lock, or the
 /// file system has no locks.
 ///
 /// # Errors
 ///
-/// `InUse` if another run has the lock, `Failed` for every other error.
+/// `InUse` if another run holds the lock, `Failed` for every other error.
 pub fn locked(attempt: Result<(), TryLockError>) -> Result<(), LockFault>
     ensures { result ≡ locked_of attempt }
 {
@@ -51,7 +51,7 @@ pub fn locked(attempt: Result<(), TryLockError>) -> Result<(), LockFault>
 /// The number of the error that NFS returns if it has no lock service.
 const ENOLCK: i32 = 37;
 
-/// Whether the error says that the file system has no locks.
+/// Returns whether the error says that the file system has no locks.
 fn has_no_locks(error: &io::Error) -> bool
     ensures { result ≡ has_no_locks error.now }
 {

@@ -3,9 +3,9 @@ use std::fs::{File, Files, OpenFile};
 use std::io;
 use std::io::ErrorKind;
 
-/// Syncs the directory that this path is in. If the directory may not be read, or the file system
-/// has no such call, like some over a network, the system makes the names durable at a time of its
-/// own choice.
+/// Syncs the directory of this path. If the directory may not be read, or the file system has no
+/// such call, as with some network file systems, the system makes the names durable at a time of
+/// its own choice.
 ///
 /// # Errors
 ///
@@ -39,7 +39,7 @@ pub fn name_in_folder(path: &str) -> &str {
     }
 }
 
-/// Returns true if a file system reports this when it cannot sync what it was asked to.
+/// Returns true if a file system reports this kind of error when it cannot sync.
 pub fn is_unable(kind: ErrorKind) -> bool {
     matches!(kind, ErrorKind::InvalidInput | ErrorKind::Unsupported)
 }

@@ -1,4 +1,4 @@
-//! What is asked of the system that a program runs on.
+//! What the program requires of the system that it runs on.
 use std::fs::{File, Files};
 use std::rt::Runtime;
 

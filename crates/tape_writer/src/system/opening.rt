@@ -47,7 +47,7 @@ fn lock(file: File) -> Result<File, FileFault> {
 }
 
 /// Opens an existing file, if it is a blank volume, and empties it. Two runs may both see a blank
-/// volume, so the one that has the lock looks again.
+/// volume, so the run that holds the lock checks again.
 fn open_blank<R: Host>(rt: &R, path: &str, prefix: Prefix, number: u16) -> Result<File, FileFault> {
     let mut options = OpenOptions::new();
     options.read(true).write(true);
