@@ -16,7 +16,7 @@ import sys
 TOP = pathlib.Path(__file__).resolve().parent.parent
 ALLOWED = TOP / "docs" / "words.txt"
 PHRASES = re.compile(r"""\b(
-    tell|tells|told|diagnostics | stand|stands|stood|standing | behind | met|meet|meets
+    tell|tells|told|telling | stand|stands|stood|standing | behind | met|meet|meets
     | wanted|wants | lack|lacks|lacking|lacked | (?:is|are|was|were)\ there | just
     | bring|brings|brought | lies|lie|lay | in\ (?:the|its|their)\ place\ of
     | (?:is|are|be|was)\ none | fronts? | at\ hand | left\ over
