@@ -31,7 +31,7 @@ StopsAgainListed session behind shelf left form out written said says =
     StopsAgain as_sink length Took (λ r. r) session behind shelf left form (λ w. w) out written said
     says
 
--- of rounds
+-- of passes
 pub record CasesOfRounds : Type 0 where
   -- two passes are one sequence of turns, and lead where the second one ends
   pub two_rounds : (a b : List Turn) (p q core : State)

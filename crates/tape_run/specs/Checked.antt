@@ -16,7 +16,7 @@ use Rattle.tape_run.specs.CheckLine.{image_line, image_lines, section_line, lack
 use Rattle.tape_image.specs.Written.{AppendsFront}
 use Rattle.tape_run.specs.Reeling.{Mounting, AreMounted}
 
--- an image: none if it was not opened, otherwise the bytes that its reader has, if it tells them
+-- an image: none if it was not opened, otherwise the bytes of its reader, if these are known
 abbrev pub Reel : Type 0
 Reel = Option (Option (List ℕ))
 

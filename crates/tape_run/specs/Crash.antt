@@ -115,7 +115,7 @@ abbrev pub IsOf : Seen → Point → List Portion → Type 0
 IsOf s back there = IsHere s back there ⊎ ((n : ℕ) × IsNoteOf n s back there)
 
 -- This is true of the session before the first of the steps, or after one that succeeded, with
--- readers that have this left. After a reader that does not tell its bytes nothing is known.
+-- readers that have this left. After a reader that does not know its bytes nothing is known.
 abbrev pub StoodAt : Seen → List Step → List (Option (List ℕ)) → List (Option (List ℕ)) → Point
     → List Portion → Type 0
 StoodAt s [] reels left back there = IsOf s back there

@@ -37,7 +37,7 @@ pub record ComesBack (old : Seen) (steps done : List Step) (bytes : List (List �
       → Stands set old.place.file back there
       × IsPlaceOf (course set old.place.file (course_of old) hs) back.position
 
--- Whatever may be left of a session over readers that tell their bytes is valid in this sense.
+-- Whatever may be left of a session over readers that know their bytes is valid in this sense.
 abbrev pub StoodComesBack : Type 0
 StoodComesBack = (old : Seen) (steps : List Step) (bytes : List (List ℕ))
     (left : List (Option (List ℕ))) (back : Point) (there : List Portion)

@@ -21,12 +21,12 @@ abbrev pub is_device : Option ImageFault → Bool
 is_device None = false
 is_device (Some fault) = is_device_cause fault.cause
 
--- All that a reader had was returned, or, if it failed, what it no longer has.
+-- The returned bytes are all that a reader had or, if it failed, those that it no longer has.
 abbrev pub IsGiven : Bool → List ℕ → Option (List ℕ) → List ℕ → Type 0
 IsGiven false bytes left given = given ≡ bytes
 IsGiven true bytes left given = (rest : List ℕ) × (left ≡ Some rest) × (bytes ≡ given ++ rest)
 
--- If each of the readers tells its bytes, this is true of them.
+-- If each of the readers knows its bytes, this is true of them.
 abbrev pub IfTold : {R : Type 0} → (R → Option (List ℕ)) → List R → (List (List ℕ) → Type 0)
     → Type 0
 IfTold remaining readers so = (bytes : List (List ℕ)) → map remaining readers ≡ map Some bytes
@@ -39,7 +39,8 @@ counted false n = n
 counted true n = min (n + 1) 18446744073709551615
 
 -- The bytes that each of the first readers returned, one for each entry of the list, which says
--- whether it failed: all that it had, or what it no longer has. The other readers were not taken.
+-- whether it failed: all its bytes, or those that it no longer has. The other readers were not
+-- used.
 abbrev pub AreGivenBy : List Bool → List (List ℕ) → List (Option (List ℕ)) → List (List ℕ) → Type 0
 AreGivenBy [] all left given = given ≡ all
 AreGivenBy (f ∷ which) [] left given = ⊥
@@ -54,7 +55,7 @@ failed_of [] = 0
 failed_of (true ∷ which) = suc (failed_of which)
 failed_of (false ∷ which) = failed_of which
 
--- What is written over a list, from its beginning, as far as it reaches.
+-- Values written over a list, from its beginning, as far as it reaches.
 abbrev pub written : List Bool → List Bool → List Bool
 written [] row = row
 written (f ∷ which) [] = []

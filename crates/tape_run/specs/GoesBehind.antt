@@ -116,7 +116,7 @@ ReadsByHistory = (set : FileSet) (h : MountEvent) (old new : Seen) (core : State
     → Begins 0 r.given more end stop
     → ReadBy set old.place.file old.place.position h new.place new.parts
 
--- After a reel that completed a section, what is left is what follows that section.
+-- After a reel that completed a section, the items that follow that section are left.
 abbrev pub LeavesBehind : Type 0
 LeavesBehind = (core : State) (bytes left : List ℕ) (answer : ReelAnswer)
     → is_finished core.position ≡ false → core.phase ≢ Broken

@@ -30,7 +30,7 @@ pub record Lead : Type 0 where
   pub parts : List Portion
   pub notes : List Noted
 
--- a file of which nothing was read
+-- the start of a file
 abbrev pub at_start : List ℕ → ℕ → Lead
 at_start set_id file = record { place = reader_of set_id file; parts = []; notes = [] }
 

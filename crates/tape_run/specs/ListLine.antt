@@ -16,8 +16,7 @@ use Rattle.tape_label.specs.Kinds.{identifier}
 use Rattle.tape_label.specs.Labels.{label_at}
 use Rattle.tape_run.specs.Identifier.{identifier_text}
 
--- The number of an item in digits: six, or more if it needs them. An image has room for less than 2
--- ^ 30 items.
+-- The number of an item in at least six digits. An image has room for less than 2 ^ 30 items.
 abbrev pub item_number : ℕ → List ℕ
 item_number n =
     if nat_lt n 1000000 then digits 6 n

@@ -10,10 +10,10 @@ use Rattle.tape_run.specs.Given.{written}
 use Rattle.tape_run.specs.Runs.{Runs, RunsUpTo}
 use Rattle.tape_run.specs.Seen.{Seen}
 
--- The first of the steps succeeded, with the first of the readers, of which these failed, and which
--- have this unread: whatever the remaining steps do from here, all steps do from the start, if
--- those stop these stop as many steps later, and a session's state between those is one between
--- these.
+-- The first `made` steps succeeded, with the first of the readers: `which` says which of these
+-- failed, `unread` what they have left. If the remaining steps lead somewhere from here, all steps
+-- lead there from the start. If the remaining ones stop, all stop, `made` steps later. Each state
+-- of the session between the remaining steps is one between all steps.
 pub record HasMade (made : ℕ) (which : List Bool) (old : Seen) (steps : List Step)
     (readers unread : List (Option (List ℕ))) (new : Seen) (left : List Step)
     (others : List (Option (List ℕ))) : Type 0 where
@@ -27,9 +27,9 @@ pub record HasMade (made : ℕ) (which : List Bool) (old : Seen) (steps : List S
       → StoodAt new left others behind back there
       → StoodAt old steps readers (unread ++ behind) back there
 
--- A step succeeded, with the first of the readers if it is a reel: whatever the steps after it do
--- from here, all of them do from before; and if a crash left only the last checkpoint, where this
--- is assumed, it still does, where this is assumed after the step.
+-- A step succeeded, with the first of the readers if it is a reel. If the steps after it lead
+-- somewhere from here, all of them lead there from before it. If, whenever only reels followed the
+-- last save, a crash left only the last checkpoint, this is still so after the step.
 pub record IsMade (which : List Bool) (step : Step) (readers unread others : List (Option (List ℕ)))
     (was now : Crashes) (old new : Seen) : Type 0 where
   pub makes : (rest : List Step) → HasMade 1 which old (step ∷ rest) readers unread new rest others
@@ -37,8 +37,8 @@ pub record IsMade (which : List Bool) (step : Step) (readers unread others : Lis
       × ((rest : List Step) → is_saved saved (step ∷ rest) ≡ is_saved still rest)
       × (still ≡ true → LastAlone now new)
 
--- Exactly these were written over the list, from this number on, as far as it reaches; and this
--- many numbers follow them then.
+-- These values were written over the list, from this index on, as far as the list reaches;
+-- `now_used` is the next index.
 abbrev pub WritesFrom : ℕ → List Bool → List Bool → List Bool → ℕ → Type 0
 WritesFrom used which old new now_used =
     (new ≡ take used old ++ written which (drop used old)) × (now_used ≡ used + length which)

@@ -21,7 +21,7 @@ abbrev pub with_end : Bool → ℕ → ℕ
 with_end true n = n
 with_end false n = n + 1
 
--- a writer of this kind always tells its bytes
+-- a writer of this kind always knows its bytes
 abbrev pub TellsAlways : {W : Type 0} → (W → Option (List ℕ)) → Type 0
 TellsAlways {W} contents = (w : W) → IsSome (contents w)
 
@@ -31,7 +31,7 @@ IsText failed text known = (more : List ℕ) × (known ≡ Some (text ++ more))
     × (failed ≡ false → more ≡ [])
 
 -- The parts were received: their weight and their records are recorded, and whether a record is
--- unfinished; and if the writer tells its bytes these are their text.
+-- unfinished. If the writer knows its bytes, these are the text of the parts.
 pub record HasTaken {W : Type 0} (contents : W → Option (List ℕ)) (form : Form) (out : W)
     (weight records : ℕ) (begun failed : Bool) (parts : List Portion) : Type 0 where
   pub weighs : weight ≡ weight_of parts

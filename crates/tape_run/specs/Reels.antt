@@ -96,8 +96,8 @@ Reads Finished core bytes left answer =
     (left ≡ bytes) × (answer.answer ≡ Complete) × (answer.fault ≡ None) × (answer.blocks ≡ 0)
 Reads (Awaits sect number part) core bytes left answer = ReadsReel (mount_of core) bytes left answer
 
--- What a reel that was not read to its end leaves unread, if the reader tells it: what follows the
--- refused block, which the core in this state came to, or all of it if memory was refused.
+-- The bytes that a reel leaves unread if it was not read to its end, if they are known: those after
+-- the refused block, which the core in this state came to, or all of them if memory was refused.
 abbrev pub Leaves : RunFault → State → Option (List ℕ) → Option (List ℕ) → Type 0
 Leaves (Sink cause) core old new = IfKnown old new (ReadsToBlock core)
 Leaves OutOfMemory core old new = new ≡ old

@@ -18,7 +18,7 @@ use Rattle.tape_run.specs.SessionState.{SessionState}
 use Rattle.tape_core.specs.declared.sink.PartSink.{Ghosts}
 
 -- All steps succeeded, one after another, each reel with the next reader; the lists say whether it
--- failed, and what it has left. After a reader that does not tell its bytes nothing is known.
+-- failed, and what it has left. After a reader that does not know its bytes nothing is known.
 abbrev pub Runs : List Bool → Seen → List Step → List (Option (List ℕ)) → List (Option (List ℕ))
     → Seen → Type 0
 Runs which old [] reels left new = (which ≡ []) × (new ≡ old)
@@ -50,7 +50,7 @@ pub record RunsUpTo (which : List Bool) (old : Seen) (steps : List Step)
   pub runs : Runs which old (take n steps) reels left mid
   pub fails : Fails step (drop (reels_in (take n steps)) reels) fault mid new
 
--- Why the step failed, for any sink, whether or not readers tell their bytes.
+-- Why the step failed, for any sink, whether or not readers know their bytes.
 abbrev pub RefusesStep : {S : Type 0} → Ghosts S → Step → RunFault → SessionState S → SessionState S → Type 0
 RefusesStep g Reel fault old new = Refuses g fault old new ⊎ ((fault ≡ TooFewReels) × (new ≡ old))
 RefusesStep g Save fault old new = Refuses g fault old new

@@ -34,7 +34,7 @@ pub record ReadBy (set : FileSet) (file : ℕ) (p : Position) (h : MountEvent) (
   pub at : IsPlaced set place parts
   pub position : place.position ≡ after_mount set file p h
 
--- A reel was read: what its reader returned, all of it, or, if it failed, what it no longer has.
+-- A reel was read: its reader returned all its bytes or, if it failed, those that it no longer has.
 pub record Reeled (bytes : List ℕ) (left : Option (List ℕ)) (failed : Bool) (old new : Seen)
     : Type 0 where
   pub given : List ℕ
@@ -118,7 +118,7 @@ ReelFails bytes OutOfMemory old new = new ≡ old
 ReelFails bytes OtherFile old new = ⊥
 
 -- Why a reel was not read to its end, or no checkpoint was made, for any sink, whether or not a
--- reader tells its bytes: the sink refused a call, or memory was refused, and nothing changed.
+-- reader knows its bytes: the sink refused a call, or memory was refused, and nothing changed.
 abbrev pub Refuses : {S : Type 0} → Ghosts S → RunFault → SessionState S → SessionState S → Type 0
 Refuses g (Sink cause) old new = (new.failures ≡ old.failures)
     × Rose (g.refusals old.sink) (g.refusals new.sink)

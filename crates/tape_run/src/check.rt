@@ -26,10 +26,10 @@ use std::io::{Read, Write};
 /// which they were found first, a line for each file with a missing section, and a last line if
 /// sections were found and none is missing. Returns whether that is so.
 ///
-/// An image is opened when its turn comes, read to its end or to a fault, and then closed. One that
-/// cannot be opened is reported and skipped. Allocates the buffer of one image, what opening it
-/// takes, and the sections. The line of an image is flushed before the next one is opened, and the
-/// rest of the report at the end; a contract cannot say that of a writer, so tests show it.
+/// Opens an image when its turn comes, reads it to its end or to a fault, and closes it. Reports
+/// and skips one that cannot be opened. Allocates the buffer of one image, what opening it takes,
+/// and the sections. Flushes the line of an image before opening the next one, and the rest of the
+/// report at the end; a contract cannot say that of a writer, so tests show it.
 ///
 /// # Errors
 ///
@@ -132,7 +132,7 @@ fn summarize<P: Write>(
     Ok(found)
 }
 
-/// Whether sections were found and none is missing.
+/// Returns whether sections were found and none is missing.
 pub(crate) fn is_found(listed: &[SectionLine], lacking: &[Lack]) -> bool
     ensures { (met : List Told) → listed.now ≡ map line_of met → lacking.now ≡ lacks met
         → result ≡ found_all met }
@@ -209,7 +209,7 @@ pub(crate) fn pass_on<P: Write>(report: &mut P, text: &[u8]) -> Result<(), Write
     flush(report)
 }
 
-/// The last line, which is printed if all was found.
+/// Returns the last line, which is printed if all was found.
 fn last_line(found: bool) -> &'static [u8]
     ensures { result.now ≡ last_line found }
 {

@@ -27,7 +27,7 @@ pub fn image_line(number: usize, met: &Option<ImageLine>) -> CheckLine
     line
 }
 
-/// What was found on an image.
+/// Appends what was found on an image.
 fn put_met(line: &mut CheckLine, met: &Option<ImageLine>)
     requires room { array_vec_len line.old ≤ 50 }
     ensures items { line.new.items ≡ line.old.items ++ met_text met.now }
@@ -39,7 +39,7 @@ fn put_met(line: &mut CheckLine, met: &Option<ImageLine>)
     }
 }
 
-/// The number of an image's items, and how it ended.
+/// Appends the number of an image's items, and how it ended.
 fn put_items(line: &mut CheckLine, met: &ImageLine)
     requires room { array_vec_len line.old ≤ 50 }
     ensures items { line.new.items ≡ line.old.items ++ items_text met.now }
@@ -50,7 +50,7 @@ fn put_items(line: &mut CheckLine, met: &ImageLine)
     put_stop(line, &met.stop);
 }
 
-/// How an image ended, without the rest of its line.
+/// Returns how an image ended, without the rest of its line.
 pub(crate) fn stop_text(stop: &ImageStop) -> CheckLine
     ensures text { result.items ≡ stop_text stop.now }
     ensures short { array_vec_len result ≤ 190 }
@@ -60,7 +60,7 @@ pub(crate) fn stop_text(stop: &ImageStop) -> CheckLine
     line
 }
 
-/// How an image ended.
+/// Appends how an image ended.
 fn put_stop(line: &mut CheckLine, stop: &ImageStop)
     requires room { array_vec_len line.old ≤ 91 }
     ensures items { line.new.items ≡ line.old.items ++ stop_text stop.now }
@@ -73,7 +73,7 @@ fn put_stop(line: &mut CheckLine, stop: &ImageStop)
     }
 }
 
-/// The fault of an image: the number of its cause, and its offset.
+/// Appends the fault of an image: the number of its cause, and its offset.
 fn put_fault(line: &mut CheckLine, fault: &ImageFault)
     requires room { array_vec_len line.old ≤ 91 }
     ensures items { line.new.items ≡ line.old.items ++ stop_fault fault.now }
@@ -114,7 +114,7 @@ pub fn lack_line(lack: &Lack) -> CheckLine
     line
 }
 
-/// A section's set, file and number.
+/// Appends a section's set, file and number.
 fn put_section(line: &mut CheckLine, set_id: &Field<6>, file: u16, sect: u16)
     requires room { array_vec_len line.old ≤ 8 }
     ensures items { line.new.items ≡ line.old.items ++ section_text set_id.now file sect }
@@ -127,7 +127,7 @@ fn put_section(line: &mut CheckLine, set_id: &Field<6>, file: u16, sect: u16)
     put_decimal(line, u64::from(sect));
 }
 
-/// The state of a section.
+/// Returns the state of a section.
 pub(crate) fn state_text(state: SectionState) -> &'static [u8]
     ensures text { result.now ≡ state_text state }
     ensures short { length result.now ≤ 5 }

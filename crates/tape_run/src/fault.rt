@@ -18,7 +18,7 @@ pub enum RunFault {
     #[error("the sink refused: {0}")]
     Sink(SinkFault),
     /// There is no checkpoint with this number. Nothing changed.
-    #[error("no such point was saved")]
+    #[error("no checkpoint has this number")]
     NoSuchPoint,
     /// A reel is requested, and no reader is left. Nothing changed.
     #[error("too few reels")]
@@ -28,12 +28,12 @@ pub enum RunFault {
     OutOfMemory,
     /// A stored checkpoint belongs to another set or file. No session returns this: it is for
     /// callers that open a stored checkpoint before they create a session.
-    #[error("the checkpoint is one of another file")]
+    #[error("the checkpoint belongs to another file")]
     OtherFile,
 }
 
 impl RunFault {
-    /// The fault's fixed number, from 1 for `Sink` to 5 for `OtherFile`.
+    /// Returns the fault's fixed number, from 1 for `Sink` to 5 for `OtherFile`.
     pub fn number(&self) -> u8
         ensures { result ≡ number_of self.now }
     {
@@ -96,7 +96,7 @@ impl From<WriteFailed> for EngineFault {
 /// What ends the listing of an image.
 #[derive(Clone, Copy, Debug, PartialEq, Eq, Error)]
 pub enum ListFault {
-    /// The image could not be read on.
+    /// The rest of the image could not be read.
     #[error("{0}")]
     Image(ImageFault),
     /// The listing could not be written.

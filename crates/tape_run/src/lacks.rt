@@ -10,7 +10,7 @@ use tape_label::Field;
 /// The greatest number of a section.
 const MOST: u16 = 9_999;
 
-/// Whether a good section ends its file, or `None` if there is no good one.
+/// Returns whether a good section ends its file, or `None` if there is no good one.
 pub(crate) fn good_end(sections: &Sections, key: &SectionKey) -> Option<bool>
     ensures { result ≡ good_end (entry_at sections.now.entries key.now) }
 {
@@ -20,7 +20,7 @@ pub(crate) fn good_end(sections: &Sections, key: &SectionKey) -> Option<bool>
     }
 }
 
-/// The first missing section from this one on, among this many at most.
+/// Returns the first missing section from this one on, among this many at most.
 fn first_lack(sections: &Sections, set_id: Field<6>, file: u16, from: u16, most: u16) -> Option<u16>
     requires { from + most ≤ 65535 }
     ensures { result ≡ first_lack sections.now.entries set_id file from most }
@@ -40,7 +40,8 @@ fn first_lack(sections: &Sections, set_id: Field<6>, file: u16, from: u16, most:
     Some(sect)
 }
 
-/// The first missing section of a file, counting from section 1 while good ones end with `EOV1`.
+/// Returns the first missing section of a file, counting from section 1 while good ones end with
+/// `EOV1`.
 #[tactic(auto, unfolding(crate::specs::Lacks::lack_of))]
 pub(crate) fn lack_of(sections: &Sections, set_id: Field<6>, file: u16) -> Option<u16>
     ensures { result ≡ lack_of sections.now.entries set_id file }

@@ -29,13 +29,14 @@ pub fn only_refusals_stop()
     ensures { OnlyRefusalsStop }
 {}
 
-/// What a crash leaves of a session is valid, if the reels read before it were those of the set.
+/// After a crash, what is left of a session is valid, if the reels read before it were those of the
+/// set.
 pub fn stood_comes_back()
     ensures { StoodComesBack }
 {}
 
-/// Across any number of crashes, if each session is resumed at what the one before left, what is
-/// left is valid.
+/// Across any number of crashes, if each session resumes from what the one before left, the
+/// checkpoint that is left is valid.
 pub fn stands_across_crashes()
     ensures { StandsAcrossCrashes }
 {}
@@ -46,18 +47,19 @@ pub fn resumed_goes_on()
     ensures { ResumedGoesOn }
 {}
 
-/// What a reader returned of a mount before it failed is a mount.
+/// The bytes that a reader returned of a mount before it failed are a mount.
 pub fn fronts_are_mounts()
     ensures { FrontsAreMounts }
 {}
 
-/// Whichever readers failed, what was returned is a history if all that the readers have is one.
+/// Whichever readers failed, the returned bytes are a history if all bytes of the readers are one.
 pub fn given_is_history()
     ensures { GivenIsHistory }
 {}
 
-/// A worked history satisfies the premises of the headline; also what follows from the headline for
-/// it, and for its set if a reader fails, if the sink refuses a part, and on another day.
+/// A worked history satisfies the premises of the headline. The law also states what follows from
+/// the headline for it, and for its set if a reader fails, if the sink refuses a part, and on
+/// another day.
 pub fn worked_history()
     ensures history { HistoryIsWorked }
     ensures days { DaysAreWorked }

@@ -44,7 +44,7 @@ pub fn list_to<R: Read, W: Write>(
     let buffer = reserve(alloc)?;
     let mut image = ImageReader::over(buffer, reader);
     let listed = list_items(&mut image, writer);
-    // The rest of the reader is its caller's again.
+    // The caller gets back the rest of the reader.
     image.into_device();
     listed
 }
@@ -110,7 +110,7 @@ fn write_end<W: Write>(writer: &mut W, ending: Ending) -> Result<(), WriteFailed
     flush(writer)
 }
 
-/// The line for the end of the medium.
+/// Returns the line for the end of the medium.
 pub fn last_line(ending: Ending) -> &'static [u8]
     ensures { result.now ≡ end_line ending }
 {

@@ -38,7 +38,7 @@ pub fn line_of(number: u64, item: Item<'_>) -> Line
     line
 }
 
-/// The number of an item, in at least six digits.
+/// Appends the number of an item, in at least six digits.
 fn put_item_number(line: &mut Line, number: u64)
     requires empty { array_vec_len line.old ≡ 0 }
     requires fits { number < 10 ^ 10 }
@@ -54,7 +54,7 @@ fn put_item_number(line: &mut Line, number: u64)
     }
 }
 
-/// The text of an item.
+/// Appends the text of an item.
 fn put_item(line: &mut Line, item: Item<'_>)
     requires room { array_vec_len line.old ≤ 11 }
     requires fits { IsTapeItem (tape_item item) }
@@ -68,7 +68,7 @@ fn put_item(line: &mut Line, item: Item<'_>)
     }
 }
 
-/// A block, as the label that it reads as, otherwise by its length.
+/// Appends a block, as the label that it reads as, otherwise by its length.
 fn put_block(line: &mut Line, bytes: &[u8])
     requires room { array_vec_len line.old ≤ 11 }
     requires fits { length bytes.now ≤ longest_block }
@@ -81,7 +81,7 @@ fn put_block(line: &mut Line, bytes: &[u8])
     }
 }
 
-/// A label that was read from a block.
+/// Appends a label that was read from a block.
 fn put_label(line: &mut Line, label: &Label)
     requires room { array_vec_len line.old ≤ 11 }
     requires read { (block : List ℕ) × IsLabel block label.now }
@@ -96,7 +96,7 @@ fn put_label(line: &mut Line, label: &Label)
     }
 }
 
-/// A block that cannot be read as a label.
+/// Appends a block that cannot be read as a label.
 fn put_plain(line: &mut Line, bytes: &[u8])
     requires room { array_vec_len line.old ≤ 11 }
     requires fits { length bytes.now ≤ longest_block }
@@ -107,7 +107,7 @@ fn put_plain(line: &mut Line, bytes: &[u8])
     put_number::<5>(line, bytes.len() as u64);
 }
 
-/// The volume's identifier.
+/// Appends the volume's identifier.
 fn put_vol1(line: &mut Line, label: &Vol1)
     requires { array_vec_len line.old ≤ 11 }
     ensures items { line.new.items ≡ line.old.items ++ vol1_text label.now }
@@ -117,7 +117,7 @@ fn put_vol1(line: &mut Line, label: &Vol1)
     put_identifier(line, &label.volume);
 }
 
-/// A first header label.
+/// Appends a first header label.
 fn put_head1(line: &mut Line, label: &Head1)
     requires room { array_vec_len line.old ≤ 11 }
     requires fits { HeadFits label.now }
@@ -128,7 +128,7 @@ fn put_head1(line: &mut Line, label: &Head1)
     put_head(line, label);
 }
 
-/// A first trailer label: like the header, followed by the number of blocks.
+/// Appends a first trailer label: like the header, followed by the number of blocks.
 fn put_trail1(line: &mut Line, label: &Trail1)
     requires room { array_vec_len line.old ≤ 11 }
     requires fits { TrailFits label.now }
@@ -141,7 +141,7 @@ fn put_trail1(line: &mut Line, label: &Trail1)
     put_number::<6>(line, u64::from(label.blocks));
 }
 
-/// File, file set, section and sequence number.
+/// Appends file, file set, section and sequence number.
 fn put_head(line: &mut Line, head: &Head1)
     requires room { array_vec_len line.old ≤ 16 }
     requires fits { HeadFits head.now }
@@ -157,7 +157,7 @@ fn put_head(line: &mut Line, head: &Head1)
     put_number::<4>(line, u64::from(head.sequence));
 }
 
-/// A second label: its identifier, format, lengths and buffer offset.
+/// Appends a second label: its identifier, format, lengths and buffer offset.
 fn put_head2(line: &mut Line, kind: Kind, label: &Head2)
     requires room { array_vec_len line.old ≤ 11 }
     requires fits { Head2Fits label.now }
@@ -175,7 +175,7 @@ fn put_head2(line: &mut Line, kind: Kind, label: &Head2)
     put_number::<2>(line, u64::from(label.offset));
 }
 
-/// The four characters that name a kind of label.
+/// Returns the four characters that name a kind of label.
 fn identifier(kind: Kind) -> &'static [u8; 4]
     ensures { result.now ≡ identifier kind }
 {
@@ -190,7 +190,7 @@ fn identifier(kind: Kind) -> &'static [u8; 4]
     }
 }
 
-/// A number in exactly W digits.
+/// Appends a number in exactly W digits.
 fn put_number<const W: usize>(line: &mut Line, number: u64)
     requires room { array_vec_len line.old + W ≤ 64 }
     requires fits { number < 10 ^ W }

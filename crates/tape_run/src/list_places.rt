@@ -43,7 +43,7 @@ pub fn list_places_to<R: Read, W: Write>(
     let buffer = reserve(alloc)?;
     let mut image = ImageReader::over(buffer, reader);
     let listed = list_items(&mut image, writer);
-    // The rest of the reader is its caller's again.
+    // The caller gets back the rest of the reader.
     image.into_device();
     listed
 }
@@ -104,7 +104,7 @@ fn write_end<W: Write>(writer: &mut W, ending: Ending, behind: u64) -> Result<()
     flush(writer)
 }
 
-/// How many bytes of an image the item occupies, if it says so.
+/// Returns how many bytes of the image the item occupies, or `None` for a bad block.
 fn extent_of(item: Item<'_>) -> Option<u64>
     requires { IsTapeItem (tape_item item) }
     ensures { result ≡ item_extent (tape_item item.entry) }
@@ -122,7 +122,7 @@ fn extent_of(item: Item<'_>) -> Option<u64>
 /// The length of the longest line, with its two numbers.
 type PlacedLine = ArrayVec<u8, 192>;
 
-/// The line, after its offset and its size.
+/// Returns the line, after its offset and its size.
 fn told_at(place: u64, size: u64, line: &[u8]) -> PlacedLine
     requires { length line.now ≤ 64 }
     ensures { result.items ≡ told_at place size line.now }
@@ -134,7 +134,7 @@ fn told_at(place: u64, size: u64, line: &[u8]) -> PlacedLine
     placed
 }
 
-/// A number in decimals, and a space.
+/// Appends a number in decimals, and a space.
 fn put_number(line: &mut PlacedLine, number: u64)
     requires room { array_vec_len line.old ≤ 64 }
     ensures items { line.new.items ≡ line.old.items ++ (decimal number ++ codes " ") }

@@ -36,7 +36,7 @@ pub(crate) enum Phase {
     Over,
 }
 
-/// After the first block.
+/// Returns what is expected after the first block.
 fn volume_phase(block: &[u8]) -> Phase
     ensures { result ≡ volume_phase block.now }
 {
@@ -46,7 +46,7 @@ fn volume_phase(block: &[u8]) -> Phase
     }
 }
 
-/// After a block where a section may begin; `other` if it does not.
+/// Returns what is expected after a block where a section may begin; `other` if none does.
 fn header_phase(volume: Field<6>, block: &[u8], other: Phase) -> Phase
     ensures { result ≡ header_phase volume block.now other }
 {
@@ -65,7 +65,7 @@ fn header_phase(volume: Field<6>, block: &[u8], other: Phase) -> Phase
     }
 }
 
-/// After a block where a further volume label or a section may begin.
+/// Returns what is expected after a block where a further volume label or a section may begin.
 fn labels_phase(volume: Field<6>, bytes: &[u8]) -> Phase
     ensures { result ≡ labels_phase volume bytes.now }
 {
@@ -75,7 +75,8 @@ fn labels_phase(volume: Field<6>, bytes: &[u8]) -> Phase
     header_phase(volume, bytes, Phase::Over)
 }
 
-/// After a block where a section's trailer label is expected.
+/// Returns what is expected after a block in place of a section's trailer label, with the completed
+/// section.
 fn told_by(met: Met, block: &[u8]) -> (Phase, Option<Told>)
     ensures { result ≡ told_by met block.now }
 {
@@ -85,7 +86,8 @@ fn told_by(met: Met, block: &[u8]) -> (Phase, Option<Told>)
     }
 }
 
-/// After a trailer label where a section's is expected.
+/// Returns what is expected after a trailer label in place of a section's, with the completed
+/// section.
 fn told_with(met: Met, trail: &Trail1) -> (Phase, Option<Told>)
     ensures { result ≡ told_with met (Ok trail.now) }
 {
@@ -96,7 +98,7 @@ fn told_with(met: Met, trail: &Trail1) -> (Phase, Option<Told>)
     }
 }
 
-/// After a block where a section's second label is expected.
+/// Returns what is expected after a block where a section's second label is expected.
 fn second_phase(met: Met, block: &[u8]) -> Phase
     ensures { result ≡ second_with met (kind_at block.now) }
 {
@@ -106,7 +108,7 @@ fn second_phase(met: Met, block: &[u8]) -> Phase
     }
 }
 
-/// After a block, with the section that it completes.
+/// Returns what is expected after a block, with the section that it completes.
 fn block_step(phase: Phase, bytes: &[u8]) -> (Phase, Option<Told>)
     requires { blocks_of phase < most_blocks }
     ensures { result ≡ step phase (block bytes.now) }
@@ -124,7 +126,7 @@ fn block_step(phase: Phase, bytes: &[u8]) -> (Phase, Option<Told>)
     }
 }
 
-/// After a tape mark, with the section that it completes.
+/// Returns what is expected after a tape mark, with the section that it completes.
 fn mark_step(phase: Phase) -> (Phase, Option<Told>)
     ensures { result ≡ step phase mark }
 {
@@ -137,7 +139,7 @@ fn mark_step(phase: Phase) -> (Phase, Option<Told>)
     }
 }
 
-/// After an unreadable block, with the section that it completes.
+/// Returns what is expected after an unreadable block, with the section that it completes.
 fn bad_step(phase: Phase) -> (Phase, Option<Told>)
     requires { blocks_of phase < most_blocks }
     ensures { result ≡ step phase bad }
@@ -149,7 +151,7 @@ fn bad_step(phase: Phase) -> (Phase, Option<Told>)
     }
 }
 
-/// What is expected after an item, with the section that it completes, if any.
+/// Returns what is expected after an item, with the section that it completes, if any.
 pub(crate) fn step(phase: Phase, item: Item<'_>) -> (Phase, Option<Told>)
     requires { blocks_of phase < most_blocks }
     ensures { result ≡ step phase (tape_item item.entry) }
@@ -162,7 +164,7 @@ pub(crate) fn step(phase: Phase, item: Item<'_>) -> (Phase, Option<Told>)
 }
 
 impl Phase {
-    /// The section that is not complete when the items end here: it is cut.
+    /// Returns the section that is not complete when the items end here: it is cut.
     pub(crate) fn under_way(&self) -> Option<Told>
         ensures { result ≡ under_way self.now }
     {

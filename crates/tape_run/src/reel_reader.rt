@@ -42,7 +42,7 @@ pub struct ReelAnswer {
 }
 
 impl ReelAnswer {
-    /// An outcome with these three values.
+    /// Creates an outcome with these three values.
     pub(crate) fn new(answer: Answer, fault: Option<ImageFault>, blocks: u32) -> ReelAnswer
         ensures answer { result.answer ≡ answer }
         ensures fault { result.fault ≡ fault }
@@ -55,7 +55,7 @@ impl ReelAnswer {
         }
     }
 
-    /// Whether the reader failed.
+    /// Returns whether the reader failed.
     pub fn is_device(&self) -> bool
         ensures { result ≡ is_device self.now.fault }
     {
@@ -69,7 +69,7 @@ impl ReelAnswer {
 /// A part of a block that a sink refused.
 #[derive(Clone, Copy)]
 pub struct Refused {
-    /// Why.
+    /// Why the part was refused.
     pub cause: SinkFault,
     /// The part's number in its block, counted from 0.
     pub part: u32,
@@ -129,7 +129,7 @@ pub struct ReelReader<S> {
     pub sink: S,
 }
 
-/// The event for what an image's reader returned, and the image's fault, if any.
+/// Returns the event for the result of an image's reader, and the image's fault, if any.
 fn event_of<'a>(told: Result<Option<Item<'a>>, ImageFault>) -> (Event<'a>, Option<ImageFault>)
     ensures comes { arrival result.0 ≡ came_of (seen told.entry) }
     ensures fault { result.1 ≡ fault_of (seen told.entry) }
@@ -143,7 +143,7 @@ fn event_of<'a>(told: Result<Option<Item<'a>>, ImageFault>) -> (Event<'a>, Optio
     }
 }
 
-/// How many blocks an answer delivers; `None` if it ends the reading.
+/// Returns how many blocks an answer delivers, or `None` if it ends the reading.
 fn delivered(answer: Answer) -> Option<u32>
     ensures on { IfSome result (λ _. GoesOn answer) }
     ensures count { IfSome result (λ more. more ≡ delivered_by (answer ∷ [])) }
@@ -157,7 +157,7 @@ fn delivered(answer: Answer) -> Option<u32>
     }
 }
 
-/// The number of the expected part.
+/// Returns the number of the expected part.
 fn part_of(position: Position) -> u32
     ensures { result ≡ part_of position }
 {
@@ -167,7 +167,7 @@ fn part_of(position: Position) -> u32
     }
 }
 
-/// The checkpoint at a refused part of the block that was delivered between these two.
+/// Returns the checkpoint at a refused part of the block that was delivered between these two.
 fn refused_point(before: &Checkpoint, after: &Checkpoint, part: u32, begun: bool) -> Checkpoint
     requires waits { is_finished before.now.position ≡ false }
     requires from { part_of before.now.position ≤ part }

@@ -31,7 +31,7 @@ pub struct Report {
 /// The file sets of a catalogue, each with the greatest number of a file.
 pub(crate) type Sets = IndexMap<Field<6>, u16>;
 
-/// A section's line.
+/// Returns a section's line.
 fn line_of(key: &SectionKey, entry: &Entry) -> SectionLine
     ensures { result ≡ line_of (key.now, entry.now) }
 {
@@ -64,7 +64,7 @@ fn add_line(
     }
 }
 
-/// A line for each section.
+/// Returns a line for each section.
 fn lines_of(alloc: Global, sections: &Sections) -> Result<Vec<SectionLine>, AllocError>
     ensures { IfOk result (λ lines. lines.items ≡ map line_of sections.now.entries) }
 {
@@ -75,7 +75,7 @@ fn lines_of(alloc: Global, sections: &Sections) -> Result<Vec<SectionLine>, Allo
     Ok(lines)
 }
 
-/// The greatest number of a file of a set, after one more file was found.
+/// Returns the greatest number of a file of a set, after one more file was found.
 fn greatest_of(sets: &Sets, set_id: &Field<6>, file: u16) -> u16
     ensures { result ≡ greatest (lookup (bytes_eq set_id.now) sets.now.entries) file }
 {
@@ -85,7 +85,7 @@ fn greatest_of(sets: &Sets, set_id: &Field<6>, file: u16) -> u16
     }
 }
 
-/// Adds that a file of a set was found.
+/// Records that a file of a set was found.
 fn note_file(sets: &mut Sets, set_id: Field<6>, file: u16) -> Result<(), AllocError>
     ensures { OnOk result (sets.new.entries ≡ with_file sets.old.entries set_id file) }
 {
@@ -109,7 +109,8 @@ fn note_place(sets: &mut Sets, sections: &Sections, place: usize) -> Result<(), 
     Ok(())
 }
 
-/// The sets in the order in which they were found first, each with the greatest number of a file.
+/// Returns the sets in the order in which they were found first, each with the greatest number of a
+/// file.
 pub(crate) fn sets_of(alloc: Global, sections: &Sections) -> Result<Sets, AllocError>
     ensures { IfOk result (λ sets. sets.entries ≡ sets_from [] sections.now.entries) }
 {
@@ -174,7 +175,7 @@ fn add_set(
     Ok(())
 }
 
-/// What is missing of the files of these sets.
+/// Returns what is missing of the files of these sets.
 fn lacks_of(alloc: Global, sections: &Sections, sets: &Sets) -> Result<Vec<Lack>, AllocError>
     ensures { IfOk result (λ lacks.
         lacks.items ≡ set_lacks sections.now.entries sets.now.entries) }
@@ -186,7 +187,7 @@ fn lacks_of(alloc: Global, sections: &Sections, sets: &Sets) -> Result<Vec<Lack>
     Ok(lacks)
 }
 
-/// The report of these sections.
+/// Returns the report of these sections.
 pub(crate) fn report_of(alloc: Global, sections: &Sections) -> Result<Report, AllocError>
     ensures lines { IfOk result (λ report. report.lines ≡ map line_of sections.now.entries) }
     ensures lacks { IfOk result (λ report. report.lacks ≡ lacks sections.now.entries) }

@@ -78,21 +78,21 @@ pub fn run<S: PartSink, R: Read>(
         × ((rest_of session.new.core).position ≡ Finished)
         × ((join (section_parts f)).rest ≡ None)) }
     // If it stopped at a step, the headline is true of the steps before it; the session's position
-    // is the part that was refused. Only a failed rollback may lose what the sink contains.
+    // is the part that was refused. Only a failed rollback may lose the contents of the sink.
     ensures stopped { IfErr result (λ end. IfSeen S.PartSink session.old (λ old. IsKept old
         → IsSeenUnless (LosesParts steps.now end.step end.fault) S.PartSink session.new (λ new.
         IsKept new × IfTold R.remaining reels.old (λ bytes.
         (stop : HasStopped old steps.now bytes (map R.remaining reels.new) end.step end.fault new)
         × (failed.new ≡ written stop.which failed.old))))) }
     // For any set and history: each step did what `reel`, `save` and `restart` promise; and after a
-    // save followed by reels, a crash leaves exactly what was saved, now and from then on.
+    // save followed by reels, a crash leaves exactly the saved state, now and from then on.
     ensures runs { OnOk result (IfSeen S.PartSink session.old (λ old. IsKept old
         → IsSeen S.PartSink session.new (λ new.
         ((which : List Bool) × (failed.new ≡ written which failed.old)
         × Runs which old steps.now (map R.remaining reels.old) (map R.remaining reels.new) new)
         × (is_saved false steps.now ≡ true → LastAlone (S.crashes session.new.sink) new)))) }
-    // If it stopped: the same for the steps before, and the failed step left what its call
-    // promises.
+    // If it stopped: the same for the steps before, and the failed step left the state that its
+    // call promises.
     ensures faults { IfErr result (λ end. IfSeen S.PartSink session.old (λ old. IsKept old
         → IsSeenUnless (LosesParts steps.now end.step end.fault) S.PartSink session.new (λ new.
         IsKept new × (which : List Bool) × (failed.new ≡ written which failed.old)
@@ -109,8 +109,8 @@ pub fn run<S: PartSink, R: Read>(
         ≡ drop (reels_in steps.now) reels.old) }
     ensures untaken { IfErr result (λ end. let taken = reels_in (take (end.step + 1) steps.now) in
         drop taken reels.new ≡ drop taken reels.old) }
-    // In any case: what a crash during or after it leaves could have been left before, or is the
-    // session's position between two steps, or one of its checkpoints there.
+    // In any case: a state that a crash during or after it leaves could have been left before, or
+    // is the session's position between two steps, or one of its checkpoints there.
     ensures crash { IfSeen S.PartSink session.old (λ old. IsKept old
         → AddsOnly (StoodAt old steps.now (map R.remaining reels.old) (map R.remaining reels.new))
         (S.crashes session.old.sink) (S.crashes session.new.sink)) }
@@ -125,7 +125,7 @@ pub fn run<S: PartSink, R: Read>(
     Ok(())
 }
 
-/// Makes a step, and returns how many of the readers are used then; `used` were before.
+/// Makes a step, and returns how many of the readers are used after it; `used` were before.
 fn make<S: PartSink, R: Read>(
     session: &mut Session<S>,
     step: Step,

@@ -21,7 +21,7 @@ use tape_image::Item;
 pub(crate) type Sections = IndexMap<SectionKey, Entry>;
 
 impl SectionState {
-    /// Whether the section is complete.
+    /// Returns whether the section is complete.
     pub fn is_good(&self) -> bool
         ensures { result ≡ is_good self.now }
     {
@@ -29,7 +29,7 @@ impl SectionState {
     }
 }
 
-/// What is kept of a section that was found before and is found again.
+/// Returns the better of two entries for a section that is found again.
 fn better(old: Entry, new: Entry) -> Entry
     ensures { result ≡ better old new }
 {
@@ -39,7 +39,7 @@ fn better(old: Entry, new: Entry) -> Entry
     old
 }
 
-/// What is kept of a section that is found, given the sections so far.
+/// Returns the entry to keep for a section that is found, given the sections so far.
 fn kept_of(sections: &Sections, key: &SectionKey, entry: Entry) -> Entry
     ensures { result ≡ kept (lookup (same_key key.now) sections.now.entries) entry }
 {

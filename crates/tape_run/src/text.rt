@@ -17,7 +17,7 @@ use tape_label::Field;
 /// Room for the longest text of `survey`, and for each of `unpack`.
 pub type Text = ArrayVec<u8, 1024>;
 
-/// The byte, or a question mark for one outside the printable range.
+/// Returns the byte, or a question mark for one outside the printable range.
 pub(crate) fn printed(byte: u8) -> u8
     ensures { result ≡ printed byte }
 {
@@ -28,7 +28,7 @@ pub(crate) fn printed(byte: u8) -> u8
     }
 }
 
-/// Adds bytes that fit.
+/// Appends bytes that fit.
 pub fn put<const N: usize>(text: &mut ArrayVec<u8, N>, more: &[u8])
     requires { array_vec_len text.old + length more.now ≤ N }
     ensures items { text.new.items ≡ text.old.items ++ more.now }
@@ -40,7 +40,7 @@ pub fn put<const N: usize>(text: &mut ArrayVec<u8, N>, more: &[u8])
     }
 }
 
-/// Adds a number in decimals, without leading zeros.
+/// Appends a number in decimals, without leading zeros.
 pub fn put_decimal<const N: usize>(text: &mut ArrayVec<u8, N>, number: u64)
     requires room { array_vec_len text.old + 20 ≤ N }
     ensures items { text.new.items ≡ text.old.items ++ decimal number }
@@ -49,7 +49,7 @@ pub fn put_decimal<const N: usize>(text: &mut ArrayVec<u8, N>, number: u64)
     put(text, itoa::Buffer::new().format(number).as_bytes());
 }
 
-/// Adds a number in decimals, without leading zeros, to a string.
+/// Appends a number in decimals, without leading zeros, to a string.
 pub fn push_decimal<const N: usize>(text: &mut ArrayString<N>, number: u64)
     requires room { array_string_len text.old + 20 ≤ N }
     ensures text { text.new.bytes ≡ text.old.bytes ++ decimal number }
@@ -58,7 +58,7 @@ pub fn push_decimal<const N: usize>(text: &mut ArrayString<N>, number: u64)
     text.push_str(itoa::Buffer::new().format(number));
 }
 
-/// Adds an identifier in its full width, with a question mark for each byte that can't be printed.
+/// Appends an identifier in its full width, with a question mark for each unprintable byte.
 pub fn put_identifier<const W: usize, const N: usize>(text: &mut ArrayVec<u8, N>, field: &Field<W>)
     requires { array_vec_len text.old + W ≤ N }
     ensures items { text.new.items ≡ text.old.items ++ identifier_text field.now }
@@ -69,7 +69,7 @@ pub fn put_identifier<const W: usize, const N: usize>(text: &mut ArrayVec<u8, N>
     }
 }
 
-/// How long bytes are without the spaces at their end.
+/// Returns the length of the bytes without the spaces at their end.
 pub(crate) fn trimmed_len(bytes: &[u8]) -> usize
     ensures { result ≡ trimmed_len bytes.now }
 {
@@ -80,8 +80,8 @@ pub(crate) fn trimmed_len(bytes: &[u8]) -> usize
     count
 }
 
-/// Adds an identifier without the spaces at its end, with a question mark for each byte that can't
-/// be printed.
+/// Appends an identifier without the spaces at its end, with a question mark for each unprintable
+/// byte.
 pub(crate) fn put_trimmed<const W: usize, const N: usize>(
     text: &mut ArrayVec<u8, N>,
     field: &Field<W>,
@@ -125,7 +125,7 @@ pub fn write_text<W: Write>(writer: &mut W, text: &[u8]) -> Result<(), WriteFail
 ///
 /// # Errors
 ///
-/// Returns `WriteFailed` as `write_text` does; and for a line of more than 1,024 bytes, which does
+/// Returns `WriteFailed` as `write_text` does, and for a line of more than 1,024 bytes, which does
 /// not occur.
 pub fn write_line<W: Write, D: Display>(writer: &mut W, line: &D) -> Result<(), WriteFailed>
     ensures ok { OnOk result (IfSome (D.output line.now) (λ text.

@@ -85,13 +85,13 @@ pub fn resume_and_run<S: PartSink, R: Read>(
         IfTold R.remaining reels.old (λ bytes.
         HasStopped began steps.now bytes (map R.remaining reels.new) end.step end.fault
         new))) }
-    // Why it stopped, of any sink: as above.
+    // Why it stopped, for any sink: as above.
     ensures cause { IfErr result.1 (λ end. (began : SessionState S) × (began.sink ≡ sink)
         × (began.notes ≡ [])
         × StopsFor S.PartSink steps.now end.step end.fault began result.0) }
     ensures calm { OnOk result.1 (S.refusals result.0.sink ≡ S.refusals sink) }
-    // In any case: what a crash during or after it leaves is what was there, or something that this
-    // run saved.
+    // In any case: the state that a crash during or after it leaves existed before, or was saved by
+    // this run.
     ensures crash { (held : List Portion) → S.holds sink held → IfTold R.remaining reels.old
         (λ bytes. LivesOn point.now held steps.now bytes (map R.remaining reels.new)
         (S.crashes sink).returns (S.crashes result.0.sink).returns
