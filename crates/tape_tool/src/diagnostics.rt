@@ -25,7 +25,7 @@ impl fmt::Display for FaultLine {
             ToolFault::File(fault) => write!(f, "tape: file fault {}\n", number_of_file(fault)),
             ToolFault::Run(fault) => write!(f, "tape: run fault {}\n", fault.number()),
             ToolFault::Stage(fault) => write!(f, "tape: stage fault {}\n", fault.number()),
-            // After the numbers of the stage's own faults, 1 to 6.
+            // The stage's own faults have the numbers 1 to 6.
             ToolFault::StageInUse => write!(f, "tape: stage fault {}\n", 7u8),
         }
     }

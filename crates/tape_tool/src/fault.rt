@@ -47,9 +47,9 @@ pub fn number_of_write(fault: WriteFault) -> u8
 /// An error that ends the program with status 1, and is reported on one line.
 #[derive(Clone, Copy, Debug, PartialEq, Eq)]
 pub enum ToolFault {
-    /// An image could not be read on.
+    /// The rest of an image could not be read.
     Image(ImageFault),
-    /// A text cannot be the field of a label.
+    /// A text is not valid for the field of a label.
     Label(LabelFault),
     /// A set could not be written.
     Write(WriteFault),
@@ -63,7 +63,7 @@ pub enum ToolFault {
     StageInUse,
 }
 
-/// Out of memory, for the arguments of the command line too.
+/// Out of memory, which includes the arguments of the command line.
 pub const OUT_OF_MEMORY: ToolFault = ToolFault::Run(RunFault::OutOfMemory);
 
 impl From<ImageFault> for ToolFault {

@@ -1,2 +1,2 @@
-//! What the program needs of its operating system.
+//! What the program requires of its operating system.
 pub use tape_writer::system::Host;

@@ -1,5 +1,5 @@
 //! Reasons for refusing to start a command: its arguments name files that it would destroy, or that
-//! do not exist. Also what is found under their names.
+//! do not exist. Also the files found under these names.
 ghost use Rattle.std.specs.Prelude.{◌≡◌, ◌⊎◌, None, Some, Ok, Err, IfErr, IsOk};
 
 use crate::fault::{FileFault, ToolFault};
@@ -16,20 +16,20 @@ pub enum Refusal {
     /// The name with this number, from 1, in a list is not text. Whether it ends with a NUL, or is
     /// a line.
     NoText(bool, usize),
-    /// What has this name is unusable, or cannot be looked at.
+    /// The file with this name is unusable, or the lookup failed.
     Faulted(ToolFault),
 }
 
-/// Refuses, with this fault, to touch a file.
+/// Returns the refusal with this fault of a file.
 pub fn refused(fault: FileFault) -> Refusal {
     Refusal::Faulted(ToolFault::File(fault))
 }
 
-/// Returns what this path leads to, if anything.
+/// Returns the file that this path leads to, if there is one.
 ///
 /// # Errors
 ///
-/// Returns `Faulted` with `NotOpened` if the lookup failed: something may exist there.
+/// Returns `Faulted` with `NotOpened` if the lookup failed: a file may exist there.
 pub fn look<R: Files>(files: &R, path: &str) -> Result<Option<Metadata>, Refusal> {
     match found(fs::metadata(files, path)) {
         Ok(there) => Ok(there),
@@ -49,7 +49,7 @@ pub struct FileId {
     device: u64,
     number: u64,
     length: u64,
-    /// When it was written last, in seconds and nanoseconds.
+    /// When it was last written, in seconds and nanoseconds.
     written: (i64, i64),
 }
 
@@ -74,7 +74,7 @@ impl FileId {
         self.device == other.device && self.number == other.number
     }
 
-    /// Whether it contains nothing that could be lost: it is empty, or no plain file.
+    /// Returns whether it contains nothing that could be lost: it is empty, or not a plain file.
     pub fn is_empty(&self) -> bool {
         self.length == 0
     }
@@ -83,19 +83,19 @@ impl FileId {
 /// How a new file takes a name.
 #[derive(Clone, Copy, PartialEq, Eq)]
 pub enum Taking {
-    /// Only if nothing has the name.
+    /// Only if no file has the name.
     New,
-    /// Replacing the file that has it.
+    /// By replacing the file that has it.
     Over,
 }
 
-/// Returns how a new file takes a name, by what was found under the name before the run and what is
-/// found now. What did not exist before is never replaced.
+/// Returns how a new file takes a name, given the file found under the name before the run and the
+/// one found now. A name that was free before never replaces a file.
 ///
 /// # Errors
 ///
 /// Returns `Exists` if another file has the name now, or the same file with other contents;
-/// `NotOpened` if it could not be looked at.
+/// `NotOpened` if the lookup failed.
 pub fn way_to_take(
     before: Option<FileId>,
     now: Result<Option<FileId>, FileFault>,

@@ -100,7 +100,7 @@ pub fn open_session<D: Disk + Drop>(
     }
 }
 
-/// A session at the start of the file, over a new stage.
+/// Creates a new stage, and a session at the start of the file over it.
 fn begin<D: Disk + Drop>(
     alloc: Global,
     disk: D,
@@ -129,7 +129,7 @@ fn begin<D: Disk + Drop>(
     };
     match Stage::create(alloc, disk, &core.save(0)) {
         Ok(stage) => {
-            // A file can have this number, since the reader was created.
+            // The file number is valid, since the reader was created.
             let Ok(session) = Session::new(alloc, set_id, file, stage) else {
                 unreachable!()
             };
@@ -207,8 +207,8 @@ fn open_or_make(
     Err(Refused { disk, fault })
 }
 
-/// Whether each byte on the disk is zero, or the byte at this offset of a new stage of this file
-/// before its first gate is opened. A file has zeros where its system lost what was written.
+/// Returns whether each byte on the disk is zero, or the byte at this offset of a new stage of this
+/// file before its first gate is opened. A file has zeros where its system lost written bytes.
 fn is_unmade<D: Disk>(alloc: Global, disk: &mut D, set_id: Field<6>, file: u16) -> bool {
     let Ok(core) = ReaderCore::new(set_id, file) else {
         return false;
@@ -229,7 +229,7 @@ fn is_unmade<D: Disk>(alloc: Global, disk: &mut D, set_id: Field<6>, file: u16) 
     matches!(bytes[0], 0 | b'C') && body.all(|(byte, due)| *byte == 0 || byte == due)
 }
 
-/// Whether the checkpoint is one of this file, of a set with this identifier.
+/// Returns whether the checkpoint is one of this file, of a set with this identifier.
 pub fn same_file(point: &Checkpoint, set_id: Field<6>, file: u16) -> bool
     ensures { IsTrue result ↔ IsOfFile set_id file point.now }
 {
@@ -265,7 +265,7 @@ pub fn session_in<R: Host>(
     }
     match open_or_make(rt.alloc(), disk, set_id, file) {
         Ok(mut session) => {
-            // Checkpoint of the opened stage, to return to after a reel with a wrong count.
+            // The checkpoint of the opened stage, to return to after a reel with a wrong count.
             if let Err(fault) = session.note() {
                 return Err(ToolFault::Run(fault));
             }
@@ -286,8 +286,8 @@ fn locked_file<R: Host>(rt: &R, path: &str) -> Result<File, ToolFault> {
     Ok(file)
 }
 
-/// Whether a run may continue with a stage that it tried to lock. On a file system without locks
-/// nobody is excluded.
+/// Returns whether a run may continue with a stage that it tried to lock. On a file system without
+/// locks other runs are not excluded.
 pub fn locked_stage(attempt: Result<(), TryLockError>) -> Result<(), ToolFault>
     ensures { result ≡ locked_stage attempt }
 {
@@ -298,7 +298,7 @@ pub fn locked_stage(attempt: Result<(), TryLockError>) -> Result<(), ToolFault>
     }
 }
 
-/// The fault as the program reports it.
+/// Returns the fault as the program reports it.
 fn tool_fault(fault: StagingFault) -> ToolFault {
     match fault {
         StagingFault::Stage(fault) => ToolFault::Stage(fault),

@@ -39,7 +39,7 @@ pub fn keep_numbers<R: Host>(rt: &R) -> Result<Vec<File>, ToolFault> {
 }
 
 /// Opens a directory for reading: a directory has no bytes to read. If the root directory may not
-/// be read, it is a device that accepts and yields nothing.
+/// be read, opens a device that accepts and returns no bytes.
 fn neither_read_nor_written<R: Host>(rt: &R) -> io::Result<File> {
     match File::open(rt, "/") {
         Ok(folder) => Ok(folder),

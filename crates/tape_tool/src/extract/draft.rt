@@ -16,9 +16,9 @@ use std::{fs, io};
 use tape_run::{Place, WriteFailed};
 use tape_writer::system::{LockFault, found, locked, sync_folder_of};
 
-/// Whether the output may be written in place although no draft could be created, for this reason:
-/// in a directory that accepts no new file. In a directory that does not exist, nothing can be
-/// lost.
+/// Returns whether the output may be written in place if no draft could be created, for this
+/// reason: in a directory that accepts no new file, and in one that does not exist, where nothing
+/// can be lost.
 pub fn is_written_in_place(kind: ErrorKind, there: bool) -> bool
     ensures { result ≡ is_written_in_place kind there }
 {
@@ -45,19 +45,20 @@ impl Write for DraftFile {
     }
 }
 
-/// The name of an output, and that of its draft.
+/// The name of an output, and the name of its draft.
 #[derive(Drop)]
 pub struct OutName<'a, R: Host> {
     rt: &'a R,
     draft: String,
     name: &'a str,
-    /// The draft, which is locked as long as this is open: until it has its name or is removed.
+    /// The draft, which is locked as long as this is open: until it gets the output's name or is
+    /// removed.
     _lock: File,
-    /// What was found under the output's name, before anything was read.
+    /// The file found under the output's name, before anything was read.
     before: Option<FileId>,
     /// Whether the draft has a name of its own.
     is_draft: bool,
-    /// Whether something else has the output's name.
+    /// Whether another file has the output's name.
     is_taken: bool,
 }
 
@@ -107,7 +108,7 @@ impl<'a, R: Host> OutName<'a, R> {
         sync_folder_of(self.rt, self.name)
     }
 
-    /// Returns what has the output's name now, if anything.
+    /// Returns the file that has the output's name now, if there is one.
     fn now(&self) -> Result<Option<FileId>, FileFault> {
         match found(fs::symlink_metadata(self.rt, self.name))? {
             Some(there) => Ok(Some(FileId::of(&there))),
@@ -115,7 +116,7 @@ impl<'a, R: Host> OutName<'a, R> {
         }
     }
 
-    /// Takes a name that nothing has: the draft gets it as a second name, and loses its own. On a
+    /// Takes a name that no file has: the draft gets it as a second name, and loses its own. On a
     /// file system without second names, an empty file takes the name first.
     fn take_new(&mut self) -> io::Result<()> {
         match self.rt.hard_link(self.draft.as_str(), self.name) {
@@ -288,7 +289,7 @@ fn remove_left<R: Host>(rt: &R, path: &str) -> bool {
     file.try_lock().is_ok() && has_name(rt, &file, path) && rt.remove_file(path).is_ok()
 }
 
-/// Whether the open file is the one with this name.
+/// Returns whether the open file is the one with this name.
 fn has_name<R: Host>(rt: &R, file: &File, path: &str) -> bool {
     match (file.metadata(), fs::symlink_metadata(rt, path)) {
         (Ok(open), Ok(named)) => FileId::of(&open).is_same(&FileId::of(&named)),

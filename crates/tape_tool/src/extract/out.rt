@@ -12,7 +12,7 @@ use std::rt::Runtime;
 use tape_image::{Ending, ImageCause, ImageFault, ImageReader, fill};
 use tape_writer::system::{folder_of, found, name_in_folder};
 
-/// How to recognise a file that might be a tape although it is not an image: an offset, and the
+/// The beginnings of files that might be a tape although they are not images: an offset, and the
 /// bytes there. The last two are the checkpoints in the slots of a stage.
 const FRONTS: &[(usize, &[u8])] = &[
     // gzip, compress, bzip2, xz, Zstandard, zip.
@@ -26,22 +26,22 @@ const FRONTS: &[(usize, &[u8])] = &[
     (144, b"TPCK"),
 ];
 
-/// The number of bytes that these tests need, at most.
+/// The number of bytes that these tests need.
 const FRONT: usize = 148;
 
-/// How an output is to be written, and what was found under its name before.
+/// How an output is to be written, and the file found under its name before.
 #[derive(Clone, Copy)]
 pub enum Way {
     /// To a new file, which takes the name once it is complete.
     Renamed(Option<FileId>),
     /// The same, for a name that does not exist: it is never written in place.
     New,
-    /// The name is not a plain file, but a pipe, a device or a link: it is written to.
+    /// The name is that of a pipe, a device or a link: it is written to.
     InPlace(Option<FileId>),
 }
 
 impl Way {
-    /// What was found under the name, if anything.
+    /// Returns the file found under the name, if there was one.
     pub fn before(&self) -> Option<FileId> {
         match self {
             Way::Renamed(before) | Way::InPlace(before) => *before,
@@ -72,7 +72,7 @@ pub fn way_of<R: Runtime + AllocGlobal>(
     way_to_out(rt, order.task.out, order.task.stage, images)
 }
 
-/// What standard input is, as a file.
+/// The path of standard input, as a file.
 const STANDARD_INPUT: &str = "/dev/stdin";
 
 /// Returns how an output recovered from the stage and the images is to be written. Nothing is
@@ -105,8 +105,8 @@ pub fn way_to_out<R: Runtime + AllocGlobal>(
     way_to(rt, out, Some(FileId::of(&there)))
 }
 
-/// How to write to a name that does not exist or leads nowhere. A stage is created before the
-/// output is.
+/// Returns how to write to a name that does not exist or leads nowhere. A stage is created before
+/// the output is.
 fn way_to_new<R: Runtime>(rt: &R, out: &str, stage: Option<&str>) -> Result<Way, Refusal> {
     if let Some(stage) = stage {
         if is_one_name(rt, out, stage)? {
@@ -116,7 +116,7 @@ fn way_to_new<R: Runtime>(rt: &R, out: &str, stage: Option<&str>) -> Result<Way,
     way_to(rt, out, None)
 }
 
-/// Whether both paths are the same name in the same directory.
+/// Returns whether both paths are the same name in the same directory.
 fn is_one_name<R: Runtime>(rt: &R, one: &str, other: &str) -> Result<bool, Refusal> {
     if one == other {
         return Ok(true);
@@ -130,7 +130,8 @@ fn is_one_name<R: Runtime>(rt: &R, one: &str, other: &str) -> Result<bool, Refus
     }
 }
 
-/// How to write to what has this name. A missing file can be created, and a link is followed.
+/// Returns how to write to the file with this name. A missing file can be created, and a link is
+/// followed.
 fn way_to<R: Runtime>(rt: &R, path: &str, before: Option<FileId>) -> Result<Way, Refusal> {
     match found(fs::symlink_metadata(rt, path)) {
         Ok(Some(there)) if !there.is_file() => Ok(Way::InPlace(before)),
@@ -167,14 +168,14 @@ fn keeps_no_tape<R: Runtime + AllocGlobal>(rt: &R, path: &str) -> Result<(), Ref
     holds_no_image(rt, path)
 }
 
-/// Whether a name ends like those of images, in upper or lower case.
+/// Returns whether a name ends like those of images, in upper or lower case.
 fn is_named_image(path: &str) -> bool {
     let name = path.as_bytes();
     let end = name.len().saturating_sub(4);
     name[end..].eq_ignore_ascii_case(b".tap")
 }
 
-/// Whether one of the tests succeeds.
+/// Returns whether one of the tests succeeds.
 fn begins_as_kept(front: &[u8]) -> bool {
     FRONTS.iter().any(|(place, bytes)| front
         .get(*place..)
@@ -194,11 +195,11 @@ fn holds_no_image<R: Runtime + AllocGlobal>(rt: &R, path: &str) -> Result<(), Re
     }
 }
 
-/// Whether the first item of an image, or its end-of-medium marker, is complete.
+/// Returns whether the first item of an image, or its end-of-medium marker, is complete.
 ///
 /// # Errors
 ///
-/// `Device` and `OutOfMemory`: it cannot be determined.
+/// `Device` and `OutOfMemory`, if it cannot be determined.
 fn begins_as_image<R: Read>(alloc: Global, device: &mut R) -> Result<bool, ImageCause> {
     let mut image = match ImageReader::new(alloc, device) {
         Ok(image) => image,
@@ -212,7 +213,8 @@ fn begins_as_image<R: Read>(alloc: Global, device: &mut R) -> Result<bool, Image
     }
 }
 
-/// An error at a file's beginning: it is not an image, or it could not be read.
+/// Returns whether a file with this error at its beginning is an image: it is not, or it could not
+/// be read.
 fn unseen(fault: ImageFault) -> Result<bool, ImageCause> {
     match fault.cause {
         ImageCause::Device | ImageCause::OutOfMemory => Err(fault.cause),

@@ -11,7 +11,7 @@ use tape_writer::system::is_unable;
 pub struct OutFile<'a, R: Host> {
     rt: &'a R,
     path: &'a str,
-    /// What was found under its name, before anything was read.
+    /// The file found under its name, before anything was read.
     before: Option<FileId>,
     file: Option<File>,
     refused: Option<FileFault>,
@@ -29,13 +29,13 @@ impl<'a, R: Host> OutFile<'a, R> {
         }
     }
 
-    /// Returns why it could not be created, if it could not.
+    /// Returns the reason why it could not be created, if it could not.
     pub fn refused(&self) -> Option<FileFault> {
         self.refused
     }
 
-    /// Creates it, unless that was done. A failed attempt is not repeated: a buffer that is dropped
-    /// flushes its contents once more.
+    /// Creates it, unless that was done before. A failed attempt is not repeated: a buffer that is
+    /// dropped flushes its contents once more.
     fn make(&mut self) -> Result<()> {
         if self.refused.is_some() {
             return Err(Error::from(ErrorKind::Other));
@@ -55,8 +55,8 @@ impl<'a, R: Host> OutFile<'a, R> {
         }
     }
 
-    /// Opens the file that was found, or creates one, and truncates it. Another file that appeared
-    /// meanwhile is unchanged.
+    /// Opens the file that was found, or creates one, and truncates it. Leaves another file that
+    /// appeared meanwhile unchanged.
     fn open(&self) -> std::result::Result<File, FileFault> {
         let mut options = OpenOptions::new();
         options.write(true).create(self.before.is_none());
@@ -90,7 +90,7 @@ impl<R: Host> Write for OutFile<'_, R> {
         }
     }
 
-    /// Syncs what was written. A file that is not on a disk has no such call.
+    /// Syncs the written bytes. A file that is not on a disk has no such call.
     fn flush(&mut self) -> Result<()> {
         self.make()?;
         match &self.file {

@@ -71,7 +71,7 @@ pub fn salvage_order<'a>(alloc: Global, matches: &ArgMatches<'a>) -> Result<Salv
     })
 }
 
-/// The file set identifier.
+/// Returns the file set identifier.
 fn set_in(alloc: Global, matches: &ArgMatches<'_>) -> Result<Field<6>, Error>
     ensures set_id { IfOk result (λ set_id. set_id
         ≡ padded_set (text_in (rows_of (found_of matches.now)) (codes "SET"))) }
@@ -85,7 +85,7 @@ fn set_in(alloc: Global, matches: &ArgMatches<'_>) -> Result<Field<6>, Error>
     }
 }
 
-/// The name of the output.
+/// Returns the name of the output.
 fn out_in<'a>(alloc: Global, matches: &ArgMatches<'a>) -> Result<&'a str, Error>
     ensures out { IfOk result (λ out. out.now
         ≡ text_in (rows_of (found_of matches.now)) (codes "OUT")) }
@@ -100,7 +100,7 @@ fn out_in<'a>(alloc: Global, matches: &ArgMatches<'a>) -> Result<&'a str, Error>
     Ok(out)
 }
 
-/// What is recovered of each block.
+/// Returns what is recovered of each block.
 fn content_in(matches: &ArgMatches<'_>) -> Content
     ensures { result ≡ Blocks → first_of (codes "form") (rows_of (found_of matches.now))
         ≡ Some (codes "blocks") }
@@ -111,7 +111,7 @@ fn content_in(matches: &ArgMatches<'_>) -> Content
     }
 }
 
-/// How records are written. Blocks are written without terminators.
+/// Returns how records are written. Blocks are written without terminators.
 fn form_with(matches: &ArgMatches<'_>, content: Content) -> Form
     ensures { content ≡ Records → IsForm (rows_of (found_of matches.now)) result }
 {

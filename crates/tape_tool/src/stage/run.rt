@@ -42,7 +42,7 @@ pub fn stage<'a, R: Host>(rt: &R, order: &StageOrder<'a>, site: &mut FaultSite<'
     end
 }
 
-/// How the output is to be written, if there is one.
+/// Returns how the output is to be written, if there is one.
 fn way_of<R: Host>(rt: &R, order: &StageOrder<'_>) -> Result<Option<Way>, Refusal> {
     match order.out {
         None => Ok(None),
@@ -50,8 +50,8 @@ fn way_of<R: Host>(rt: &R, order: &StageOrder<'_>) -> Result<Option<Way>, Refusa
     }
 }
 
-/// Opens the file of the stage at this path for reading only. It is not read while another run
-/// writes to it; on a file system without locks nobody is excluded.
+/// Opens the file of the stage at this path for reading only, unless another run is writing to it.
+/// On a file system without locks other runs are not excluded.
 fn disk_of<R: Host>(rt: &R, path: &str) -> Result<StageDisk, ToolFault> {
     let Ok(file) = File::open(rt, path) else {
         return Err(ToolFault::File(FileFault::NotOpened));

@@ -133,7 +133,7 @@ fn show_rest<D: Disk + Drop, W: Write, P: Write>(
     Ok(ending)
 }
 
-/// What follows the parts of a stage that is damaged there, or intact.
+/// Returns what follows the parts of a stage that is damaged there, or intact.
 fn ending_at(point: &Checkpoint, broken: Option<u64>) -> StageEnding
     ensures { result ≡ ending_of point.now broken }
 {
@@ -166,7 +166,8 @@ fn show_parts<S: PartWalk, W: Write, P: Write>(
     }
 }
 
-/// The fault of writing the records: if the parts could not be read, it is one of the stage.
+/// Returns the fault of writing the records: if the parts could not be read, it is a fault of the
+/// stage.
 fn as_read(fault: EngineFault) -> ToolFault
     ensures { EndsInPart result }
 {
@@ -192,10 +193,10 @@ fn tell<P: Write>(
     flush(report)
 }
 
-/// The length of both lines.
+/// The maximum length of both lines.
 type Lines = ArrayVec<u8, 512>;
 
-/// The line of the stage, and that of what follows its parts.
+/// Returns the line of the stage, and that of what follows its parts.
 fn lines_of(point: &Checkpoint, ending: StageEnding, records: u64) -> Lines
     ensures { result.items ≡ told_with point.now ending records }
 {
@@ -205,7 +206,7 @@ fn lines_of(point: &Checkpoint, ending: StageEnding, records: u64) -> Lines
     lines
 }
 
-/// What is missing, or that the file is complete; or where the frames are damaged.
+/// Appends what is missing, or that the file is complete; or where the frames are damaged.
 fn put_ending(lines: &mut Lines, ending: StageEnding, records: u64)
     requires { array_vec_len lines.old ≤ 200 }
     ensures { lines.new.items ≡ lines.old.items ++ ending_line ending records }
@@ -216,7 +217,7 @@ fn put_ending(lines: &mut Lines, ending: StageEnding, records: u64)
     }
 }
 
-/// The line for the damage.
+/// Appends the line for the damage.
 fn put_break(lines: &mut Lines, place: u64)
     requires { array_vec_len lines.old ≤ 200 }
     ensures { lines.new.items ≡ lines.old.items ++ break_line place }
@@ -226,7 +227,7 @@ fn put_break(lines: &mut Lines, place: u64)
     put(lines, b"\n");
 }
 
-/// The line of a stage: set, file, and number of complete records.
+/// Appends the line of a stage: set, file, and number of complete records.
 fn put_stage(lines: &mut Lines, point: &Checkpoint, records: u64)
     requires { array_vec_len lines.old ≡ 0 }
     ensures items { lines.new.items ≡ lines.old.items ++ stage_line point.now records }
