@@ -19,7 +19,7 @@ pub const REELS: &str = "SIMH .tap images (at most 256; see --files-from)";
 pub const FORM_OF_OUT: &str = "lines: end each record with a line feed; raw: do not";
 
 /// What the stage is.
-pub const STAGE: &str = "Save what is recovered in this file, and continue from it";
+pub const STAGE: &str = "Save the recovered data in this file, and continue from it";
 
 /// What `--again` does.
 pub const AGAIN: &str = "Read the images repeatedly until a pass recovers nothing new";
@@ -71,33 +71,33 @@ One line per image:
   REEL n NOT ON REEL              does not contain this file
   REEL n NOT LABELLED             no ECMA-13 labels, or a blank volume
   REEL n NOT OPENED               check its name and your permissions
-  REEL n BLOCK COUNT LABEL SEEN   the trailer counts other blocks: one was lost
-                                  or is there twice
+  REEL n BLOCK COUNT LABEL SEEN   the trailer has another block count: a block
+                                  was lost or duplicated
   REEL n BROKEN                   not read, because a count before it was wrong:
                                   use --again or --stage
   REEL n BAD BLOCK CAUSE OFFSET   block contents do not fit the record format
   REEL n BAD LABEL CAUSE          label cannot be read
-  REEL n SECTION DIFFERS          labels do not fit those read before
+  REEL n SECTION DIFFERS          labels do not match those read before
   REEL n SPAN LEFT                file ends inside a record
 followed by ' IMAGE CAUSE OFFSET' if the image itself ended the reading ('tape
 --help' lists the causes). The last line is 'COMPLETE n' (n records), or 'AWAITS
 FILE SECTION BLOCK', the first block that is missing, counted from 0, and the
 part of it if some of its parts were read.
 
-With --again the numbers of the lines go on: the second pass over three images
-is REEL 4 to REEL 6. With --again or --stage nothing of an image that answers
-BLOCK COUNT is used. With --again and without --stage the records are held in
-memory until the file is complete.
+With --again the numbering continues: the second pass over three images is
+REEL 4 to REEL 6. With --again or --stage the data of an image that answers
+BLOCK COUNT is discarded. With --again and without --stage the records are kept
+in memory until the file is complete.
 
-With --stage what is recovered is saved after each image, and the next run
-continues there. If a run is interrupted at any moment, the stage has what was
-saved last or what was just being saved.
+With --stage the recovered data is saved after each image, and the next run
+continues from it. If a run is interrupted at any moment, the stage has the data
+that was saved last, or the data that was being saved.
 
-The records go to .tape-1.part in OUT's directory, which becomes OUT when the
-file is complete, and is removed otherwise. What a killed run left there is
-removed by the next. An OUT that is the stage, the list or one of the images is
-refused, and so is one that may be a tape ('tape: file fault 1'): an existing
-file that is not empty and has a name in .tap, begins as an image, or is
+The records go to .tape-1.part in OUT's directory. It becomes OUT when the file
+is complete, and is removed otherwise; the next run removes one that a killed
+run left. An OUT that is the stage, the list or one of the images is refused,
+and so is one that may be a tape ('tape: file fault 1'): an existing file that
+is not empty and has a name ending in .tap, begins like an image, or is
 compressed, an archive or a stage. If OUT is a pipe, a link or a device, the
 records are written to it at the end.
 

@@ -21,28 +21,30 @@ pub const AFTER_SALVAGE: &str = "Examples:
   tape salvage ABC001 2 ../out/dump.bin old.tap --form blocks
 
 Try 'tape extract --again' first: it writes a file only if nothing is missing.
-'tape salvage' writes all records whose blocks are readable, in order, and prints
-a line for each gap. A record with a missing part is left out. With --form blocks
-it copies each readable block unchanged, even if tape does not read the record
-format or the volume has no HDR2.
+'tape salvage' writes all records whose blocks are readable, in order, and
+prints a line for each gap. A record with a missing part is left out. With
+--form blocks it copies each readable block unchanged, even if tape does not
+read the record format or the volume has no HDR2.
 
 The lines give a section (counted from 1), its blocks (from 0) and the number
 of records written so far:
-  IMAGE 2 NOT OPENED  the second image could not be opened
-  SECTION 1 2 40      section 1 is read from the second image, which has 40
-                      data blocks of it, unreadable ones included
-  GAP 1 5 7 120       blocks 5 to 7 of section 1 are missing, after record 120
-  GAP 1 30 - 700      all blocks from 30 on are missing, number unknown
-  GAP 2 - - 700       section 2 was not found on any image
-  NO FORM 2 700       no label records the form of section 2: use --form blocks
-  TORN 1 8 120        a record interrupted at block 8 is left out
-  REFUSED 1 9 3 0 120 block 9 does not fit the record format (block fault 3 at
-                      byte 0) and counts as missing
-  UNSURE 1 30 38      items 30 to 38 may be blocks or labels, and are left out
-  COUNT 1 40 39       the trailer label counts 40 blocks, but there are 39
+  IMAGE 2 NOT OPENED    the second image could not be opened
+  SECTION 1 2 40        section 1 is read from the second image, which has 40
+                        data blocks of it, unreadable ones included
+  GAP 1 5 7 120         blocks 5 to 7 of section 1 are missing, after record
+                        120
+  GAP 1 30 - 700        all blocks from 30 on are missing, number unknown
+  GAP 2 - - 700         section 2 was not found on any image
+  NO FORM 2 700         no label has the form of section 2: use --form blocks
+  TORN 1 8 120          a record interrupted at block 8 is left out
+  REFUSED 1 9 3 0 120   block 9 does not fit the record format (block fault 3
+                        at byte 0) and counts as missing
+  UNSURE 1 30 38        items 30 to 38 may be blocks or labels, and are left
+                        out
+  COUNT 1 40 39         the trailer label counts 40 blocks, but there are 39
 The last line is COMPLETE and the number of records if nothing is missing, and
 otherwise SALVAGED and their number. OUT is written in both cases. Keep the
-lines beside it: OUT itself does not show where something is missing.
+lines with it: OUT itself does not show where something is missing.
 
 Each image is opened twice, so a pipe such as '<(zcat NAME)' does not work.
 

@@ -10,7 +10,7 @@ pub const STAGE_READ: &str = "Stage of 'tape extract' or 'tape unpack'; it is no
 pub const OUT_OF_STAGE: &str = "Output file for the records recovered so far";
 
 /// What `--damaged` does.
-pub const DAMAGED: &str = "Accept a damaged stage, and use what precedes the damage";
+pub const DAMAGED: &str = "Accept a damaged stage, and use the part before the damage";
 
 /// `stage` was called with several outputs.
 pub const ONE_OUT: &str = "stage takes one stage and at most one OUT";
@@ -27,7 +27,7 @@ without gaps. An incomplete last record is left out. The same files are refused
 as OUT as by 'extract'.
 
 'tape: stage fault 2' means that the stage is damaged. With --damaged, tape uses
-what precedes the damage:
+the part before the damage:
   tape stage payroll.stage part.txt --damaged
   STAGE ABC001 1 12
   TRUNCATED AT 1276
