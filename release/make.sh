@@ -1,5 +1,5 @@
 #!/bin/bash
-# make.sh OUT [GATE-LOG]: makes a release of the program from this clone, which is at a commit, with
+# make.sh OUT [CI-LOG]: makes a release of the program from this clone, which is at a commit, with
 # a clean work tree, and has its proofs in crates/*/out (what is not there is proved first).
 #
 # OUT is a new or an empty directory, and gets
@@ -91,7 +91,7 @@ commit     $commit
 toolchain  $(rt version)
 proofs     the last line of 'rt check' in each crate, over the work that earlier checks kept:
 $(cat "$room/verdicts")
-gate       ${gate:-not told}
+CI         ${gate:-not given}
 examples   $(tail -n 1 "$room/log")
 sums       (SHA-256)
   $(sum "$object")  tape_tool.o, as the toolchain made it
