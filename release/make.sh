@@ -1,21 +1,21 @@
 #!/bin/bash
-# make.sh OUT [GATE-LOG]: makes a release of the program from this clone, which is at a commit, with
+# make.sh OUT [CI-LOG]: makes a release of the program from this clone, which is at a commit, with
 # a clean work tree, and has its proofs in crates/*/out (what is not there is proved first).
 #
-# OUT is a new folder, or an empty one, and gets
-#   tape-volumes_VERSION_amd64.deb      the program as it was proved and built, over Debian's libc6
-#   tape-VERSION-x86_64-linux.tar.gz    the program linked without any library, and what it is
-#                                       linked from (relink/)
-#   tape_tool.stamp                     the build's own sum of sources, toolchain and program
-#   PROVED.txt                          commit, toolchain, the line of each proof, sums
+# OUT is a new or an empty directory, and gets
+#   tape-volumes_VERSION_amd64.deb      the program as proved and built, for Debian's C library
+#   tape-VERSION-x86_64-linux.tar.gz    the program linked statically, and in relink/ the files
+#                                       that it is linked from
+#   tape_tool.stamp                     the toolchain's checksum of sources, toolchain and program
+#   PROVED.txt                          commit, toolchain, the last line of each proof, checksums
 #   SHA256SUMS
-# Both packages have man page, completion, pages and an image to try. GATE-LOG is what 'rt ci'
-# printed at this commit; its last line goes into PROVED.txt.
-# The same commit and GATE-LOG, with the same toolchain, C compiler and packers, give the same
-# bytes: times are the commit's, names are sorted.
+# Both packages have man page, completion, pages and a sample image. CI-LOG is the output of 'rt ci'
+# at this commit; its last line is copied into PROVED.txt.
+# The same commit and CI-LOG, with the same toolchain, C compiler and packers, give the same bytes:
+# times are the commit's, and names are sorted.
 set -eu
 here=$(dirname "$(readlink -f "$0")")
-out=$(realpath -m "${1:?usage: make.sh OUT [GATE-LOG]}")
+out=$(realpath -m "${1:?usage: make.sh OUT [CI-LOG]}")
 gate=${2:+$(tail -n 1 "$2")}
 cd "$here/.."
 
@@ -27,9 +27,9 @@ fail() {
 [ -z "$(git status --porcelain)" ] || fail "the work tree is not clean"
 case ${gate:-, 0 failed} in
 *', 0 failed') ;;
-*) fail "the gate's last line is '$gate'" ;;
+*) fail "the last line of CI is '$gate'" ;;
 esac
-[ ! -e "$out" ] || rmdir "$out" || fail "OUT is there, and is no empty folder"
+[ ! -e "$out" ] || rmdir "$out" || fail "OUT exists, and is not an empty directory"
 docs/man.py --check || fail "the man page is out of date"
 docs/reference.py --check || fail "docs/REFERENCE.md is out of date"
 docs/links.py >/dev/null || fail "a link leads nowhere: docs/links.py"
@@ -65,7 +65,7 @@ built=$PWD/crates/tape_tool/out
 program=$built/tape_tool object=$built/tape_tool.o
 number=$(env -i "$program" --version | cut -d' ' -f2)
 version=$number+$(git log -1 --format=%cd --date=format:%Y%m%d).$(git rev-parse --short=8 HEAD)
-docs/man.py --program "$program" || fail "the man page is not what the program says"
+docs/man.py --program "$program" || fail "the man page differs from the help of the program"
 
 # The same object file, linked by the system's compiler with no library left outside.
 relink=$room/relink
@@ -91,7 +91,7 @@ commit     $commit
 toolchain  $(rt version)
 proofs     the last line of 'rt check' in each crate, over the work that earlier checks kept:
 $(cat "$room/verdicts")
-gate       ${gate:-not told}
+CI         ${gate:-not given}
 examples   $(tail -n 1 "$room/log")
 sums       (SHA-256)
   $(sum "$object")  tape_tool.o, as the toolchain made it
