@@ -114,6 +114,7 @@ disk_of may_leave left_since = record {
   moment = λ d. d;
   left_since = left_since;
   faults = λ d. 0;
+  calls_left = λ d. None;
 }
 
 -- what a crash may have left at some moment

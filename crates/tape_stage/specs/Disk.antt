@@ -1,5 +1,6 @@
 -- How the calls of a disk change what a read returns, and what a crash may leave.
-use Rattle.std.specs.Prelude.{◌≡◌, ◌⊎◌, ℕ, ◌+◌, ◌≤◌, max, min, List, ◌++◌, length, take, drop}
+use Rattle.std.specs.Prelude.{◌≡◌, ◌⊎◌, ℕ, zero, suc, ◌+◌, ◌≤◌, max, min, List, ◌++◌, length, take}
+use Rattle.std.specs.Prelude.{drop, Option, Some, None}
 
 -- new is old with these bytes at this place
 abbrev pub Holds : List ℕ → ℕ → List ℕ → List ℕ → Type 0
@@ -54,3 +55,10 @@ IsLater moment left_since may_leave old new = Elapses (moment old) (moment new) 
 pub record SameFact (old new : Type 0) : Type 0 where
   pub onward : old → new
   pub back : new → old
+
+-- A call was made, which succeeded or did not: if the calls that may succeed are counted, it was one
+-- of them, or it failed and none is left.
+abbrev pub CountsDown : Type 0 → Option ℕ → Option ℕ → Type 0
+CountsDown ok None after = after ≡ None
+CountsDown ok (Some zero) after = (ok → ⊥) × (after ≡ Some zero)
+CountsDown ok (Some (suc n)) after = after ≡ Some n

@@ -9,10 +9,10 @@ pub mod read_ahead;
 pub mod write_behind;
 
 ghost use Rattle.std.specs.Prelude.{◌≡◌, ◌+◌, ◌≤◌, ℕ, List, length, take, max, slice_range, IfOk};
-ghost use Rattle.std.specs.Prelude.{OnOk, OnErr};
+ghost use Rattle.std.specs.Prelude.{OnOk, OnErr, IsOk, Option, None};
 ghost use Rattle.tape_core.specs.Weight.{Rose};
 ghost use Rattle.tape_stage.specs.Disk.{Holds, Torn, CutShort, Follows, Allows, NoMore, Only};
-ghost use Rattle.tape_stage.specs.Disk.{IsLater, SameFact};
+ghost use Rattle.tape_stage.specs.Disk.{IsLater, SameFact, CountsDown};
 
 /// The disk failed.
 #[derive(Clone, Copy, Debug, PartialEq, Eq)]
@@ -43,6 +43,9 @@ pub trait Disk {
     /// The number of failures so far.
     ghost faults: { Self → ℕ };
 
+    /// After how many more calls each call fails, if that was decided.
+    ghost calls_left: { Self → Option ℕ } = { λ _. None };
+
     /// Returns the length in bytes.
     ///
     /// # Errors
@@ -56,6 +59,7 @@ pub trait Disk {
         ensures time { is_honest self.old → IsLater moment left_since may_leave self.old self.new }
         ensures cause { OnErr result (Rose (faults self.old) (faults self.new)) }
         ensures calm { OnOk result (faults self.new ≡ faults self.old) }
+        ensures stop { CountsDown (IsOk result) (calls_left self.old) (calls_left self.new) }
         ensures honest { SameFact (is_honest self.old) (is_honest self.new) }
         ensures stays { is_honest self.old → NoMore (may_leave self.new) (may_leave self.old) };
 
@@ -74,6 +78,7 @@ pub trait Disk {
         ensures time { is_honest self.old → IsLater moment left_since may_leave self.old self.new }
         ensures cause { OnErr result (Rose (faults self.old) (faults self.new)) }
         ensures calm { OnOk result (faults self.new ≡ faults self.old) }
+        ensures stop { CountsDown (IsOk result) (calls_left self.old) (calls_left self.new) }
         ensures honest { SameFact (is_honest self.old) (is_honest self.new) };
 
     /// Overwrites bytes, and extends the disk if needed. Until a sync, a crash may leave any bytes
@@ -99,6 +104,7 @@ pub trait Disk {
         ensures time { is_honest self.old → IsLater moment left_since may_leave self.old self.new }
         ensures cause { OnErr result (Rose (faults self.old) (faults self.new)) }
         ensures calm { OnOk result (faults self.new ≡ faults self.old) }
+        ensures stop { CountsDown (IsOk result) (calls_left self.old) (calls_left self.new) }
         ensures honest { SameFact (is_honest self.old) (is_honest self.new) }
         ensures stays { is_honest self.old → NoMore (may_leave self.new) (may_leave self.old) }
         ensures any { is_honest self.old
@@ -122,6 +128,7 @@ pub trait Disk {
         ensures time { is_honest self.old → IsLater moment left_since may_leave self.old self.new }
         ensures cause { OnErr result (Rose (faults self.old) (faults self.new)) }
         ensures calm { OnOk result (faults self.new ≡ faults self.old) }
+        ensures stop { CountsDown (IsOk result) (calls_left self.old) (calls_left self.new) }
         ensures honest { SameFact (is_honest self.old) (is_honest self.new) };
 
     /// After a sync, a crash leaves what a read returns.
@@ -139,6 +146,7 @@ pub trait Disk {
         ensures time { is_honest self.old → IsLater moment left_since may_leave self.old self.new }
         ensures cause { OnErr result (Rose (faults self.old) (faults self.new)) }
         ensures calm { OnOk result (faults self.new ≡ faults self.old) }
+        ensures stop { CountsDown (IsOk result) (calls_left self.old) (calls_left self.new) }
         ensures honest { OnOk result (is_honest self.old → is_honest self.new) }
         ensures back { is_honest self.new → is_honest self.old };
 

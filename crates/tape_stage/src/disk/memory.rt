@@ -1,8 +1,7 @@
 //! A disk in memory, which keeps a record of its calls.
-ghost use Rattle.std.specs.Prelude.{◌≡◌, ◌≤◌, ◌+◌, ℕ, [], length, Some, None, true, false};
-ghost use Rattle.std.specs.Bool.{OnTrue, OnFalse};
+ghost use Rattle.std.specs.Prelude.{◌≡◌, ◌≤◌, [], length, Some, None, OnOk, OnErr};
 ghost use Rattle.tape_core.specs.Weight.{Rose};
-ghost use Rattle.tape_stage.specs.Disk.{Only};
+ghost use Rattle.tape_stage.specs.Disk.{Only, CountsDown};
 
 use crate::disk::DiskFault;
 use crate::disk::content::Content;
@@ -11,6 +10,7 @@ use std::alloc::Global;
 #[derive(Drop)]
 pub struct MemoryDisk {
     pub(crate) content: Content,
+    /// After how many more calls each call fails, if that was decided.
     left: Option<u64>,
     pub(crate) failed: u64,
 }
@@ -76,32 +76,32 @@ impl MemoryDisk {
         }
     }
 
-    /// Counts a call, and returns whether the disk stopped before it; such a call fails.
-    pub(crate) fn is_stopped(&mut self) -> bool
-        ensures stops { self.old.left ≡ Some 0 → result ≡ true }
-        ensures runs { self.old.left ≡ None → (result ≡ false) × (self.new.left ≡ None) }
-        ensures counts { (n : ℕ) → self.old.left ≡ Some (n + 1)
-            → (result ≡ false) × (self.new.left ≡ Some n) }
+    /// Counts a call.
+    ///
+    /// # Errors
+    ///
+    /// Returns `Device` if none is left.
+    pub(crate) fn count(&mut self) -> Result<(), DiskFault>
         ensures content { self.new.content ≡ self.old.content }
-        ensures yes { OnTrue result (Rose self.old.failed self.new.failed) }
-        ensures no { OnFalse result (self.new.failed ≡ self.old.failed) }
+        ensures made { OnOk result (CountsDown (Unit {0}) self.old.left self.new.left) }
+        ensures counts { CountsDown ⊥ self.old.left self.new.left }
+        ensures cause { OnErr result (Rose self.old.failed self.new.failed) }
+        ensures calm { OnOk result (self.new.failed ≡ self.old.failed) }
     {
-        match self.left {
-            None => false,
-            Some(left) => {
-                if left == 0 {
-                    self.failed = self.failed.saturating_add(1);
-                    return true;
-                }
-                self.left = Some(left - 1);
-                false
-            }
+        let Some(left) = self.left else {
+            return Ok(());
+        };
+        if left == 0 {
+            return Err(self.fail());
         }
+        self.left = Some(left - 1);
+        Ok(())
     }
 
-    /// Counts a call that ran out of memory, which is a failure of the disk.
+    /// Counts a failure.
     pub(crate) fn fail(&mut self) -> DiskFault
         ensures content { self.new.content ≡ self.old.content }
+        ensures left { self.new.left ≡ self.old.left }
         ensures counted { Rose self.old.failed self.new.failed }
     {
         self.failed = self.failed.saturating_add(1);

@@ -21,6 +21,8 @@ impl Disk for MemoryDisk {
 
     ghost faults = { λ d. d.failed };
 
+    ghost calls_left = { λ d. d.left };
+
     ghost long_as_seen = { λ d _. refl };
 
     ghost seen_now = { λ d _. seen_image (first_of d.content)
@@ -33,9 +35,7 @@ impl Disk for MemoryDisk {
         (first_of d.content) d.content.calls.items c left };
 
     fn len(&mut self) -> Result<u64, DiskFault> {
-        if self.is_stopped() {
-            return Err(DiskFault::Device);
-        }
+        self.count()?;
         match self.content.look() {
             Ok(()) => Ok(self.content.bytes.len() as u64),
             Err(_) => Err(self.fail()),
@@ -43,9 +43,7 @@ impl Disk for MemoryDisk {
     }
 
     fn read(&mut self, place: u64, buf: &mut [u8]) -> Result<(), DiskFault> {
-        if self.is_stopped() {
-            return Err(DiskFault::Device);
-        }
+        self.count()?;
         match self.content.look() {
             Ok(()) => {
                 let start = place as usize;
@@ -57,9 +55,7 @@ impl Disk for MemoryDisk {
     }
 
     fn write_at(&mut self, place: u64, bytes: &[u8]) -> Result<(), DiskFault> {
-        if self.is_stopped() {
-            return Err(DiskFault::Device);
-        }
+        self.count()?;
         match self.content.write(place as usize, bytes) {
             Ok(()) => Ok(()),
             Err(_) => Err(self.fail()),
@@ -67,9 +63,7 @@ impl Disk for MemoryDisk {
     }
 
     fn cut(&mut self, len: u64) -> Result<(), DiskFault> {
-        if self.is_stopped() {
-            return Err(DiskFault::Device);
-        }
+        self.count()?;
         match self.content.cut(len as usize) {
             Ok(()) => Ok(()),
             Err(_) => Err(self.fail()),
@@ -77,9 +71,7 @@ impl Disk for MemoryDisk {
     }
 
     fn sync(&mut self) -> Result<(), DiskFault> {
-        if self.is_stopped() {
-            return Err(DiskFault::Device);
-        }
+        self.count()?;
         match self.content.sync() {
             Ok(()) => Ok(()),
             Err(_) => Err(self.fail()),

@@ -4,9 +4,9 @@ use Rattle.tape_stage.proofs.disk.memory_disk.MemoryDiskDisk.cut.Goals as goal
 
 pub returns-in-Ok-clause-crash : goal.returns-in-Ok-clause-crash
 returns-in-Ok-clause-crash c _ d now =
-    cut_left c.args.self.now.content c.is_stopped.new.self.content c.cut.new.self c.args.len
-    c.is_stopped.ensures.content c.in-Ok.ensures.ok d now
+    cut_left c.args.self.now.content c.count.new.self.content c.cut.new.self c.args.len
+    c.count.ensures.content c.in-Ok.ensures.ok d now
 
 pub returns-in-Ok-clause-time : goal.returns-in-Ok-clause-time
-returns-in-Ok-clause-time c _ = did_elapses c.args.self.now.content c.is_stopped.new.self.content
-    c.cut.new.self (Cut c.args.len) c.is_stopped.ensures.content c.in-Ok.ensures.ok
+returns-in-Ok-clause-time c _ = did_elapses c.args.self.now.content c.count.new.self.content
+    c.cut.new.self (Cut c.args.len) c.count.ensures.content c.in-Ok.ensures.ok
