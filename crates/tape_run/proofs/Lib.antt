@@ -58,7 +58,8 @@ mod PlacedSoFar
 mod PlacedExamples
 mod Reporting
 pub mod SurveyGaps
-mod SurveyJoins
+mod SurveyProblems
+mod SurveyCounts
 mod SurveyLooks
 mod SurveyTexts
 mod SurveyOrder

@@ -56,6 +56,8 @@ pub mod SurveyFiles
 pub mod SurveyRead
 pub mod SurveyLine
 pub mod SurveyLocations
+pub mod Dates
+pub mod SurveyProblems
 pub mod SurveySets
 pub mod SurveyRows
 pub mod SurveyWording
