@@ -30,8 +30,10 @@ case ${gate:-, 0 failed} in
 *) fail "the gate's last line is '$gate'" ;;
 esac
 [ ! -e "$out" ] || rmdir "$out" || fail "OUT is there, and is no empty folder"
-docs/man.py --check || fail "the man page is old"
-docs/definitions.py --check || fail "docs/DEFINITIONS.md is old"
+docs/man.py --check || fail "the man page is out of date"
+docs/reference.py --check || fail "docs/REFERENCE.md is out of date"
+docs/links.py >/dev/null || fail "a link leads nowhere: docs/links.py"
+docs/definitions.py --check || fail "docs/DEFINITIONS.md is out of date"
 
 commit=$(git rev-parse HEAD)
 export SOURCE_DATE_EPOCH LC_ALL=C TZ=UTC

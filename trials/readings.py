@@ -270,6 +270,8 @@ def devices(program, folder):
         tried += 1
         lines = said.split('\n')[:-1]
         expect(f'{fail}: a failure is reported', 'FAULT 5' in said, True)
+        if len(lines) < len(readings):
+            continue
         read = [cut(reading, text) for reading, text in zip(readings, lines)]
         right, ends, data = model(read, paths)
         expect(fail, (lines, status, line), (right, ends, ''))

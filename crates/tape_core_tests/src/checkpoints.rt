@@ -15,7 +15,7 @@ const MOST: u64 = 999_999_999_999_999;
 /// What a checkpoint says of its position.
 type Told = (Position, bool, Option<Known>);
 
-/// Whether the checkpoint has these values.
+/// Returns whether the checkpoint has these values.
 fn tells(point: &Checkpoint, (position, begun, known): Told) -> bool {
     point.set_id == set_id()
         && point.position() == position
@@ -158,7 +158,7 @@ fn forms_in_range_and_out_of_it(rt: HostRuntime) {
     is_no_form(&rt, Format::Spanned, 0, 100);
 }
 
-/// Whether there is a reader of this file, or the file's number is refused.
+/// Returns whether there is a reader of this file, or the file's number is refused.
 fn is_numbered(file: u16) -> bool {
     match ReaderCore::new(set_id(), file) {
         Ok(_) => true,

@@ -1,4 +1,4 @@
-//! What labels are refused, and in which order.
+//! Which labels are refused, and in which order.
 
 use crate::readers::{go_to, known, point_at, reader, reader_at};
 use crate::reels::{HDR1, HDR2, HDR2_D, HDR2_S, VOL1, numbered};

@@ -10,7 +10,7 @@ use tape_label::Format;
 use tape_set::{Layout, Position};
 use tape_set_tests::{EntryLayout, before, entries, far};
 
-/// Whether a record is unfinished before this block of a section.
+/// Returns whether a record is unfinished before this block of a section.
 fn is_begun(style: Style, plan: &[Planned], file: u16, sect: u16, block: u32) -> bool {
     let before = blocks_before(plan, file, sect).saturating_add(block);
     let count = blocks_before(plan, file, u16::MAX);
@@ -55,7 +55,7 @@ fn read(core: &mut ReaderCore, volume: &[EntryLayout], good: &[bool]) -> u32 {
     delivered
 }
 
-/// How many parts precede the position.
+/// Returns how many parts precede the position.
 fn parts_before(rt: &impl Abort, alloc: Global, set: &Set, position: &Position) -> usize {
     before(alloc, &set.layout, set.file, position)
         .expect(rt, NO_MEMORY)
@@ -110,7 +110,7 @@ fn compare(
     }
 }
 
-/// How many parts this many blocks have, from the position on.
+/// Returns how many parts this many blocks have, from the position on.
 fn parts_given(style: &Style, from: &Position, blocks: u32) -> usize {
     let first = match from {
         Position::Awaits { part, .. } if blocks > 0 => *part,

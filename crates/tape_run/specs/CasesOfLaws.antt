@@ -82,8 +82,8 @@ pub record CasesOfRunLaws : Type 0 where
       × (new.parts ≡ before set c.file new.place.position)
   pub items_are : ItemsAreThere → (bytes : List ℕ)
       → (reels : List (List TapeItem)) × AreItems (bytes ∷ []) reels
-  -- a run begins with what was there, ends with what a crash leaves of it, and has the history of
-  -- what was returned in it
+  -- a run begins with the checkpoint and parts that existed, ends with those that a crash leaves,
+  -- and has the history of the returned bytes
   pub no_life : (c : Point) (ps : List Portion) → Outlives c ps [] c ps
   pub one_life : (c back : Point) (ps there : List Portion) (life : CrashRun)
       → IsResumed c ps life.began

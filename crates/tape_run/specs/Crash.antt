@@ -39,10 +39,10 @@ abbrev pub LastAlone : Crashes → Seen → Type 0
 LastAlone now s = BringsLast now.returns s
     × ((t : ℕ) × (t ≤ now.moment) × BringsLast (now.returned t) s)
 
--- Only the last checkpoint is left, if it was made meanwhile or only the last one was left before;
--- if none was made meanwhile, nothing else was left since a moment, provided that nothing else had
--- been left until the start; and if something survived every crash, it still does, and did at each
--- moment meanwhile.
+-- What a crash leaves of a session between two of its states. Only the last checkpoint is left if
+-- the session made one meanwhile, or if nothing else was left before. If it made none, and nothing
+-- else was left between a moment t and the start, nothing else is left since t. If something
+-- survived every crash before, it still does, now and at each moment since t.
 pub record KeepsLast {S : Type 0} (g : Ghosts S) (old : SessionState S) (held : List Portion)
     (new : SessionState S) (now : List Portion) : Type 0 where
   pub last : (length new.notes ≡ length old.notes
@@ -57,23 +57,23 @@ pub record KeepsLast {S : Type 0} (g : Ghosts S) (old : SessionState S) (held : 
   pub survived : (t : ℕ) → t ≤ (g.crashes old.sink).moment
       → (g.crashes old.sink).survived t → (g.crashes new.sink).survived t
 
--- the session's position, with all that its sink contains: these parts, and perhaps more
+-- the session's position, with everything in its sink: these parts, and perhaps more
 abbrev pub IsHeld : {S : Type 0} → Ghosts S → List Portion → SessionState S → Returns
 IsHeld g parts s back there = g.holds s.sink there × IsFront parts there
     × (back ≡ saved (rest_of s.core) (weight_of there))
 
--- A step failed: a crash leaves only what it could before, or the session's position then, and for
--- a rollback the last checkpoint.
+-- A step failed: a crash leaves only what it could leave before, or the session's position after
+-- the step, and after a rollback also the last checkpoint.
 abbrev pub LeavesStep : {S : Type 0} → Ghosts S → Bool → SessionState S → List Portion → SessionState S → Type 0
 LeavesStep g goes old held new =
     AddsOnly (λ back there. ((goes ≡ true) × IsLast (seen g old held) back there)
     ⊎ IsHeld g held new back there) (g.crashes old.sink) (g.crashes new.sink)
 
--- A fault came after this: a crash leaves only the last checkpoint at that time, if it was made
--- meanwhile or only the last one was left before, or the session's position now; if none was made
--- meanwhile, nothing else was left since a moment, provided that nothing else had been left until
--- the start; and if something survived every crash, it still does, and did at each moment
--- meanwhile.
+-- A fault came after the session had the state `now`. A crash leaves only the last checkpoint of
+-- that state, or the session's position after the fault, if the session made a checkpoint meanwhile
+-- or nothing but its last one was left before. If it made none, and nothing else was left between a
+-- moment t and the start, nothing else is left since t. If something survived every crash before,
+-- it still does, now and at each moment since t.
 pub record LeavesSaved {S : Type 0} (g : Ghosts S) (old : SessionState S) (held : List Portion)
     (now : Seen) (new : SessionState S) : Type 0 where
   pub comes : (length now.notes ≡ length old.notes
@@ -89,13 +89,13 @@ pub record LeavesSaved {S : Type 0} (g : Ghosts S) (old : SessionState S) (held 
   pub survived : (t : ℕ) → t ≤ (g.crashes old.sink).moment
       → (g.crashes old.sink).survived t → (g.crashes new.sink).survived t
 
--- Of a sink that contained parts, a crash leaves no more than before.
+-- If a sink contained parts, a crash leaves no more of it than before.
 abbrev pub BringsNoMore : {S : Type 0} → Ghosts S → S → S → Type 0
 BringsNoMore g old new = (parts : List Portion) → g.holds old parts
     → AddsNothing (g.crashes old) (g.crashes new)
 
--- The session is unchanged, except perhaps its sink, which has the same contents, and of which a
--- crash leaves no more.
+-- The session is unchanged, except perhaps its sink. That has the same contents, and a crash leaves
+-- no more of it.
 pub record IsWalked {S : Type 0} (g : Ghosts S) (old new : SessionState S) : Type 0 where
   pub core : new.core ≡ old.core
   pub notes : new.notes ≡ old.notes

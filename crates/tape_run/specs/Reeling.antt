@@ -183,7 +183,7 @@ left_in [] = []
 left_in (None ∷ turns) = left_in turns
 left_in (Some o ∷ turns) = o.left ∷ left_in turns
 
--- which of the readers that were taken failed, as the lines of their images say
+-- for each reader that was used, whether it failed, by the line of its image
 abbrev pub failed_in : List Turn → List Bool
 failed_in [] = []
 failed_in (None ∷ turns) = failed_in turns

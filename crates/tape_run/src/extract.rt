@@ -112,7 +112,7 @@ fn end_file<S: PartWalk, W: Write, P: Write>(
     Ok(None)
 }
 
-/// Whether the session has a checkpoint to roll back to.
+/// Returns whether the session has a checkpoint to roll back to.
 fn has_note<S: PartSink>(session: &Session<S>) -> bool
     ensures { result ≡ goes_back session.now.notes }
 {

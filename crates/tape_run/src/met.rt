@@ -47,7 +47,7 @@ impl Met {
         (self.key, entry)
     }
 
-    /// Whether this is its trailer label.
+    /// Returns whether this is its trailer label.
     pub(crate) fn closes(&self, trail: &Trail1) -> bool
         ensures { result ≡ closes self.now trail.now }
     {

@@ -28,7 +28,7 @@ const RESERVED: ReelAnswer = ReelAnswer {
 };
 
 const SCRIPTS: &[Script<'_>] = &[
-    // A restart mends a session that another count broke.
+    // A rollback repairs a session that a wrong count broke.
     (
         "another count",
         1,

@@ -138,7 +138,7 @@ const ROWS: &[Row<'_>] = &[
     ),
 ];
 
-/// Whether this is reported of the image.
+/// Returns whether this is reported of the image.
 fn adds(
     alloc: Global,
     catalogue: &mut Catalogue,
@@ -149,7 +149,7 @@ fn adds(
     Ok(catalogue.add(&mut image.bytes.as_slice())? == line)
 }
 
-/// Whether these are the lines.
+/// Returns whether these are the lines.
 fn are_lines(found: &[SectionLine], lines: &[Found<'_>]) -> bool {
     for (found, (set_id, file, sect, volume, blocks, state)) in found.iter().zip(lines) {
         let line = SectionLine {
@@ -167,7 +167,7 @@ fn are_lines(found: &[SectionLine], lines: &[Found<'_>]) -> bool {
     found.len() == lines.len()
 }
 
-/// Whether these are missing.
+/// Returns whether these are missing.
 fn are_lacking(found: &[Lack], lacks: &[Missing<'_>]) -> bool {
     for (found, (set_id, file, sect)) in found.iter().zip(lacks) {
         let lack = Lack {
@@ -182,7 +182,7 @@ fn are_lacking(found: &[Lack], lacks: &[Missing<'_>]) -> bool {
     found.len() == lacks.len()
 }
 
-/// Whether these are the lines of the catalogue and the missing sections.
+/// Returns whether these are the lines of the catalogue and the missing sections.
 fn reports(
     alloc: Global,
     catalogue: &Catalogue,
@@ -194,7 +194,7 @@ fn reports(
     Ok(are_lines(report.lines.as_slice(), lines) && lacks)
 }
 
-/// Whether all of this is reported of the images of a row.
+/// Returns whether all of this is reported of the images of a row.
 fn is_told(alloc: Global, row: &Row<'_>) -> Result<bool, Fail> {
     let (_, images, lines, lacks) = row;
     let mut catalogue = Catalogue::new(alloc);
@@ -217,8 +217,8 @@ fn images_and_sections_are_told(rt: HostRuntime) -> Result<(), Fail> {
     Ok(())
 }
 
-/// How many sections there are, and whether only the one after them is missing, if all that a file
-/// can have were added, each of which continues.
+/// Returns how many sections there are, and whether only the one after them is missing, if all that
+/// a file can have were added, each of which continues.
 fn of_all_sections(alloc: Global) -> Result<(usize, bool), Fail> {
     let mut catalogue = Catalogue::new(alloc);
     for number in 1..10000u16 {

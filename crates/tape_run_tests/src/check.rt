@@ -230,7 +230,7 @@ ALL SECTIONS FOUND
     )
 }
 
-/// An image that breaks off, and one that could not be opened.
+/// A truncated image, and one that could not be opened.
 #[test]
 fn faults_are_told(rt: HostRuntime) -> Result<(), Fail> {
     let cut = cut(rt.alloc(), 1885)?;
@@ -242,12 +242,12 @@ LACKS ABC001 1 1
     check(&rt, &mut [Some(cut.bytes.as_slice()), None], false, lines)
 }
 
-/// One that could not be opened, and these two.
+/// Returns three images: one that could not be opened, and these two.
 fn behind_unopened<'a>(first: &'a [u8], second: &'a [u8]) -> [Option<&'a [u8]>; 3] {
     [None, Some(first), Some(second)]
 }
 
-/// After such images a complete one.
+/// A complete image after such images.
 #[test]
 fn faults_are_told_and_passed(rt: HostRuntime) -> Result<(), Fail> {
     let image = payroll(rt.alloc())?;

@@ -89,7 +89,7 @@ const SCRIPTS: &[Script<'_>] = &[
             Do::Holds(25, None),
         ],
     ),
-    // Cut between two items an image ends physically, and that is no fault.
+    // An image that is cut between two items has a physical end, which is not a fault.
     (
         "a cut is told with its place",
         1,

@@ -10,7 +10,7 @@ use tape_core::MemorySink;
 use tape_run::{Session, Step, run};
 use tape_set::Want;
 
-/// How many of the blocks end at the cut or before it.
+/// Returns how many of the blocks end at the cut or before it.
 fn blocks_before(cut: usize) -> u16 {
     match cut {
         0..268 => 0,
@@ -28,15 +28,15 @@ fn awaited(cut: usize) -> Option<Want> {
     wanted(1, blocks_before(cut) as u32)
 }
 
-/// Whether a session that read the volume up to a cut has this position, and this many of its
-/// readers failed.
+/// Returns whether a session that read the volume up to a cut has this position, and this many of
+/// its readers failed.
 fn stands_behind(session: &Session<MemorySink>, cut: usize, failed: u64) -> bool {
     session.want() == awaited(cut)
         && session.device_faults() == failed
         && holds_long(session.sink(), blocks_before(cut) as usize)
 }
 
-/// Whether a session has this position if the bytes end at the cut.
+/// Returns whether a session has this position if the bytes end at the cut.
 fn ends_at(alloc: Global, whole: &[u8], cut: usize) -> Result<bool, Fail> {
     let mut session = begun(alloc, 1)?;
     run(
@@ -48,8 +48,8 @@ fn ends_at(alloc: Global, whole: &[u8], cut: usize) -> Result<bool, Fail> {
     Ok(stands_behind(&session, cut, 0))
 }
 
-/// Whether it has this position if the reader fails at the cut. After the trailer label nothing is
-/// requested from the reader.
+/// Returns whether it has this position if the reader fails at the cut. After the trailer label
+/// nothing is requested from the reader.
 fn fails_at(alloc: Global, whole: &[u8], cut: usize) -> Result<bool, Fail> {
     let mut session = begun(alloc, 1)?;
     let mut failed = [false];
@@ -86,7 +86,7 @@ fn failing_behind(whole: &[u8], left: usize) -> Dribble<'_> {
     }
 }
 
-/// Tells which of three readers failed: the first breaks off inside a block, the last inside the
+/// Returns which of three readers failed: the first ends inside a block, the last inside the
 /// labels.
 fn tell_three(alloc: Global, whole: &[u8], failed: &mut [bool]) -> Result<(), Fail> {
     let mut session = begun(alloc, 1)?;

@@ -244,7 +244,8 @@ fn a_section_that_differs(rt: HostRuntime) -> Result<(), Fail> {
     reports_both(&rt, cut, other, lines)
 }
 
-/// One that was not opened keeps its number, and none is read after the completing one.
+/// An image that was not opened keeps its number, and none is read after the one that completes the
+/// file.
 #[test]
 fn images_that_are_not_read(rt: HostRuntime) -> Result<(), Fail> {
     let image = payroll(rt.alloc())?;

@@ -47,7 +47,7 @@ impl Image {
         }
     }
 
-    /// So many of its first bytes.
+    /// Keeps this many of its first bytes.
     pub fn cut(mut self, length: usize) -> Image {
         self.bytes.truncate(length);
         self

@@ -1,4 +1,4 @@
-//! Images are closed: each before the next one is opened, and the last one too.
+//! Images are closed, each before the next one is opened.
 ghost use Rattle.std.specs.Prelude.{⊤, length};
 
 use crate::image::set_id;

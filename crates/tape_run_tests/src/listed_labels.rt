@@ -91,7 +91,7 @@ fn bytes_outside_the_printable_range(rt: HostRuntime) -> Result<(), Fail> {
     reads_as(&rt, b"VOL1\x1F\x20\x7E\x7F\x80\xFF", 0, "VOL1 ? ~???")
 }
 
-/// Positions that are reserved, or not judged, hold anything.
+/// Positions that are reserved, or not checked, may contain anything.
 #[test]
 fn labels_of_another_producer(rt: HostRuntime) -> Result<(), Fail> {
     reads_as(&rt, b"VOL1DEC001", b'3', "VOL1 DEC001")?;

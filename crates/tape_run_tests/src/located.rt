@@ -69,8 +69,8 @@ fn come_to<H: Abort + AllocGlobal>(
     Ok(())
 }
 
-/// The second file is read after the first. There is no way back from the second to the first, and
-/// a file that no label names has no section.
+/// The second file is read after the first. The first cannot be read after the second, and a file
+/// that no label names has no section.
 #[test]
 fn images_stay_mounted(rt: HostRuntime) -> Result<(), Fail> {
     let (first, second) = ((Some(1), Some(b'A')), (Some(1), Some(b'B')));

@@ -85,7 +85,7 @@ const ROWS: &[Row<'_>] = &[
     (2484, 2025, true, false, FAILED, "REEL 1 COMPLETE\n", None),
 ];
 
-/// Whether the result is that of the row.
+/// Returns whether the result is that of the row.
 fn comes_to(alloc: Global, row: &Row<'_>) -> Result<bool, Fail> {
     let (length, left, flushes, is_free, wanted, lines, there) = row;
     let image = cut(alloc, *length)?;
@@ -102,7 +102,7 @@ fn comes_to(alloc: Global, row: &Row<'_>) -> Result<bool, Fail> {
     Ok(answer == *wanted && report.as_slice() == lines.as_bytes() && stands == *there)
 }
 
-/// While something is missing, and if something fails, nothing is given the name.
+/// While something is missing, and if something fails, no file gets the name.
 #[test]
 fn outputs_that_fail(rt: HostRuntime) -> Result<(), Fail> {
     for (number, row) in ROWS.iter().enumerate() {

@@ -88,7 +88,7 @@ const STOPPED: Position = Position::Awaits {
     part: 0,
 };
 
-/// Whether a session that was stopped there continues to the end of both volumes.
+/// Returns whether a session that was stopped there continues to the end of both volumes.
 fn goes_on(alloc: Global, first: &[u8], second: &[u8]) -> Result<bool, Fail> {
     let (point, sink) = stopped(alloc, front(first, 500))?;
     let stood = (point.position, point.begun, point.staged) == (STOPPED, true, 8 * 18);
@@ -106,19 +106,19 @@ fn a_resumed_session_goes_on(rt: HostRuntime) -> Result<(), Fail> {
     Ok(())
 }
 
-/// Whether the file is read whole from both volumes.
+/// Returns whether the file is read whole from both volumes.
 fn is_whole(alloc: Global, first: &[u8], second: &[u8]) -> Result<bool, CoreFault> {
     let (session, made) = read_file(alloc, set_id(), 1, TWO, &mut [first, second])?;
     Ok(made == Ok(()) && session.want().is_none() && holds_long(session.sink(), 23))
 }
 
-/// Whether the error is a missing reel, and something of the file is missing.
+/// Returns whether the error is a missing reel, and something of the file is missing.
 fn lacks_a_reel(alloc: Global, first: &[u8]) -> Result<bool, CoreFault> {
     let (session, made) = read_file(alloc, set_id(), 1, TWO, &mut [first])?;
     Ok(made == Err(NO_SECOND_REEL) && session.want().is_some())
 }
 
-/// Whether there is no file with this number.
+/// Returns whether there is no file with this number.
 fn is_no_file(alloc: Global, number: u16, first: &[u8]) -> bool {
     match read_file(alloc, set_id(), number, TWO, &mut [first]) {
         Ok(_) => false,

@@ -37,12 +37,13 @@ fn failed_at(step: usize) -> Result<(), Stopped> {
 
 const ONE: &[Step] = &[Step::Reel];
 
-/// Whether the sink contains this many of the worked records, and this is missing.
+/// Returns whether the sink contains this many of the worked records, and this is missing.
 fn has(session: &Session<Refusing<MemorySink>>, count: u8, want: Option<Want>) -> bool {
     session.want() == want && holds_records(session.sink().inner(), count)
 }
 
-/// Whether the reel stops at the put that is refused, and completes the file when it is read again.
+/// Returns whether the reel stops at the put that is refused, and completes the file when it is
+/// read again.
 fn completes(alloc: Global, whole: &[u8], refused: u8) -> Result<bool, Fail> {
     let mut session = refusing(alloc, refused as usize)?;
     let failed = run(&mut session, ONE, &mut [whole], &mut []) == failed_at(0);
@@ -117,9 +118,9 @@ fn end_at(call: usize) -> Result<(), Stopped> {
     }
 }
 
-/// Whether the script stops in the step of the refused call, and one more reel completes the file:
-/// the sink contains what precedes the position, and nothing is put twice. After the last call it
-/// is complete.
+/// Returns whether the script stops in the step of the refused call, and one more reel completes
+/// the file: the sink contains what precedes the position, and nothing is put twice. After the last
+/// call it is complete.
 fn completes_script(alloc: Global, whole: &[u8], refused: usize) -> Result<bool, Fail> {
     let mut session = refusing(alloc, refused)?;
     let mut reels = [front(whole, 1884), whole, whole];
@@ -142,21 +143,22 @@ fn each_call_of_a_script_refused_in_turn(rt: HostRuntime) -> Result<(), Fail> {
     Ok(())
 }
 
-/// A save without its point.
+/// Saves, without returning the checkpoint.
 fn save(session: &mut Session<Refusing<MemorySink>>) -> Result<(), RunFault> {
     session.save()?;
     Ok(())
 }
 
-/// Whether a save is refused, so that there is no checkpoint to return to, and nothing changed.
+/// Returns whether a save is refused, so that there is no checkpoint to return to, and nothing
+/// changed.
 fn is_refused(session: &mut Session<Refusing<MemorySink>>) -> bool {
     save(session) == Err(FAILED)
         && session.restart(0) == Err(RunFault::NoSuchPoint)
         && has(session, 20, part_of(2, 0))
 }
 
-/// Whether a session's position is unchanged after a refused save, after a successful one, and
-/// after a rollback to that.
+/// Returns whether a session's position is unchanged after a refused save, after a successful one,
+/// and after a rollback to that.
 fn stands_still(alloc: Global, whole: &[u8]) -> Result<bool, Fail> {
     let mut session = refusing(alloc, 20)?;
     run(&mut session, ONE, &mut [front(whole, 1884)], &mut [])?;
@@ -188,7 +190,7 @@ fn two_records(alloc: Global) -> Result<Image, AllocError> {
     Ok(image)
 }
 
-/// Whether this is missing, and the sink contains this many parts with this weight.
+/// Returns whether this is missing, and the sink contains this many parts with this weight.
 fn weighs(
     session: &Session<Refusing<MemorySink>>,
     want: Option<Want>,
@@ -199,8 +201,8 @@ fn weighs(
     (session.want(), sink.inner().count(), sink.weight()) == (want, parts, weight)
 }
 
-/// Whether a refused second part of a block is put when the reel is read again, and the first one
-/// is not.
+/// Returns whether a refused second part of a block is put when the reel is read again, and the
+/// first one is not.
 fn goes_on_inside(alloc: Global, whole: &[u8]) -> Result<bool, Fail> {
     let mut session = refusing(alloc, 1)?;
     let failed = run(&mut session, ONE, &mut [whole], &mut []) == failed_at(0);

@@ -65,7 +65,7 @@ const VOLUMES: &str = "REEL 1 LATER SECTION\nREEL 2 SECTION DONE\nREEL 3 COMPLET
 
 const ALONE: &str = "REEL 1 BAD ITEM\nREEL 2 BAD ITEM\nAWAITS 1 1 1\n";
 
-/// The second one has one block less, and is rolled back in each pass.
+/// The second reel has one block less, and the session rolls back in each pass.
 const DOUBT: &str = "REEL 1 BAD ITEM\nREEL 2 BLOCK COUNT 3 2\nREEL 3 BAD ITEM
 REEL 4 BLOCK COUNT 3 2\nAWAITS 1 1 1\n";
 

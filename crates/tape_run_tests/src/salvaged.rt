@@ -58,7 +58,7 @@ const ROWS: &[(usize, bool, &str, usize)] = &[
     (2484, true, "SECTION 1 1 3\nCOMPLETE 25\n", 2025),
 ];
 
-/// Whether it comes to what stands in the row.
+/// Returns whether the result is that of the row.
 fn comes_to(alloc: Global, row: &(usize, bool, &str, usize)) -> Result<bool, Fail> {
     let (again, complete, lines, length) = row;
     let first = cut(alloc, 2484)?;

@@ -20,7 +20,7 @@ use tape_set::{Position, Want};
 pub enum Reel<'a> {
     /// The worked volume.
     Worked,
-    /// So many of its first bytes.
+    /// This many of its first bytes.
     Cut(usize),
     /// The worked file in five blocks, of which this one is bad (5: none is), with this trailer.
     Five(u8, &'a str),
@@ -61,13 +61,13 @@ pub enum Do<'a> {
     Reads(Reel<'a>, Answer, u32, Wanted),
     /// The same, with a fault of the image.
     Breaks(Reel<'a>, ReelAnswer, Wanted),
-    /// These steps are made over these reels, and end like this.
+    /// These steps are made over these reels, with this result.
     Runs(&'a [Step], &'a [Reel<'a>], Result<(), Stopped>),
     /// The first two of these reels were read by such steps, and this many bytes of each are left.
     Leaves(&'a [Step], &'a [Reel<'a>], [usize; 2]),
     /// A checkpoint is saved at this position, with this weight staged.
     Saves(Position, u64),
-    /// The session rolls back to the checkpoint with this number, which ends like this.
+    /// The session rolls back to the checkpoint with this number, with this result.
     Restarts(usize, Result<(), RunFault>),
     /// The sink contains this many of the worked records, and this is missing.
     Holds(u8, Wanted),
@@ -131,7 +131,7 @@ fn takes(
     }
 }
 
-/// Whether the session is in the state of the step.
+/// Returns whether the session is in the state of the step.
 fn stands_so(session: &Session<MemorySink>, file: u16, step: Do<'_>) -> bool {
     let sink = session.sink();
     match step {
@@ -153,7 +153,7 @@ fn of_no_fault(answer: Answer, blocks: u32) -> ReelAnswer {
     }
 }
 
-/// Whether a checkpoint is saved at this position, with this weight staged.
+/// Returns whether a checkpoint is saved at this position, with this weight staged.
 fn saves(
     session: &mut Session<MemorySink>,
     position: Position,
@@ -163,7 +163,7 @@ fn saves(
     Ok((point.position, point.staged) == (position, staged))
 }
 
-/// Whether this is missing of the file.
+/// Returns whether this is missing of the file.
 fn wants(session: &Session<MemorySink>, file: u16, wanted: Wanted) -> bool {
     let want = match wanted {
         Some((sect, block)) => Some(Want {
@@ -199,7 +199,7 @@ fn runs(
     Ok(run(session, steps, readers.as_mut_slice(), &mut []))
 }
 
-/// Whether these steps over two reels leave this much of each.
+/// Returns whether these steps over two reels leave this much of each.
 fn leaves(
     alloc: Global,
     session: &mut Session<MemorySink>,

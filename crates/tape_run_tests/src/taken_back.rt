@@ -54,7 +54,7 @@ fn from_block(block: u32) -> Option<Want> {
     })
 }
 
-/// Its second block was lost, and its trailer shows that.
+/// A volume whose second block was lost, which its trailer shows.
 pub fn lost(alloc: Global) -> Result<Image, AllocError> {
     volume(alloc, &[(0, 10, true), (20, 25, true)])
 }
@@ -82,7 +82,7 @@ fn what_a_reel_gave_that_lost_a_block(rt: HostRuntime) -> Result<(), Fail> {
     )
 }
 
-/// What the reels before it yielded remains, and nothing of it: the last one has no first block.
+/// The data of the reels before it remains, and none of its own: the last one has no first block.
 #[test]
 fn what_stood_before_such_a_reel(rt: HostRuntime) -> Result<(), Fail> {
     let all = records(rt.alloc(), b"\n")?;

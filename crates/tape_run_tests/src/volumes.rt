@@ -12,7 +12,7 @@ pub const EOF_ONE: &str = "EOF1PAYROLL          ABC00100010001000100 00000 00000
 
 pub const EOF_FOUR: &str = "EOF1PAYROLL          ABC00100010001000100 00000 00000 000004";
 
-/// So many of the first bytes of the worked volume.
+/// This many of the first bytes of the worked volume.
 pub fn cut(alloc: Global, length: usize) -> Result<Image, AllocError> {
     let mut image = payroll(alloc)?;
     image.bytes.truncate(length);

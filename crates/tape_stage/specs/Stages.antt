@@ -102,7 +102,7 @@ abbrev pub Survives : {D : Type 0} {disk : Ghosts D} → Stage D disk → Type 0
 Survives {D} {disk} stage = (bytes : List ℕ) → disk.may_leave stage.disk bytes → (g : ℕ)
     × (point : Point) × (parts : List Portion) × Staged bytes g point parts
 
--- a crash now, or at a moment from that one on, may have left this
+-- a crash now, or at a moment from t on, may have left these bytes
 abbrev pub WasLeft : {D : Type 0} {disk : Ghosts D} → Stage D disk → ℕ → List ℕ → Type 0
 WasLeft {D} {disk} stage t bytes =
     disk.left_since stage.disk t bytes ⊎ disk.may_leave stage.disk bytes
@@ -135,8 +135,8 @@ pub record IsOpened {D : Type 0} (disk : Ghosts D) (found : Found) (old new : D)
   pub ready : Ready found.in_second found.generation found.point parts found.other_open
       (disk.seen new) (disk.may_leave new)
 
--- A crash at any moment from the one disk to the other left what it might have left before, or what
--- still represents what was read.
+-- A crash at any moment between the two disks left bytes that it might have left before, or bytes
+-- that represent the same as those that were read.
 abbrev pub OpensOver : {D : Type 0} → Ghosts D → D → D → Type 0
 OpensOver disk old new = Passes disk old new
     (λ c. disk.may_leave old c ⊎ StandsLike (disk.seen old) c)

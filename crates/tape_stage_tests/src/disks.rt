@@ -29,7 +29,7 @@ enum Step {
     Sync,
 }
 
-/// Whether the call succeeds.
+/// Returns whether the call succeeds.
 fn takes(disk: &mut MemoryDisk, step: Step) -> bool {
     match step {
         Step::Write(place, bytes) => write(disk, place, bytes),
@@ -38,7 +38,7 @@ fn takes(disk: &mut MemoryDisk, step: Step) -> bool {
     }
 }
 
-/// Whether all of these calls succeed.
+/// Returns whether all of these calls succeed.
 fn takes_all(disk: &mut MemoryDisk, steps: &[Step]) -> bool {
     for step in steps {
         if !takes(disk, *step) {
@@ -48,7 +48,7 @@ fn takes_all(disk: &mut MemoryDisk, steps: &[Step]) -> bool {
     true
 }
 
-/// Whether the call succeeds, and leaves these bytes.
+/// Returns whether the call succeeds, and leaves these bytes.
 fn becomes(disk: &mut MemoryDisk, step: Step, seen: &[u8]) -> bool {
     takes(disk, step) && disk.bytes() == seen && disk.len() == Ok(seen.len() as u64)
 }
@@ -79,8 +79,8 @@ fn a_read_fills_its_buffer(rt: HostRuntime) -> Result<(), AllocError> {
     Ok(())
 }
 
-/// Whether a disk that contained `abcdef` has these bytes after these calls, and a crash leaves
-/// those.
+/// Returns whether a disk that contained `abcdef` has these bytes after these calls, and a crash
+/// leaves those.
 fn leaves(alloc: Global, steps: &[Step], seen: &[u8], left: &[u8]) -> Result<bool, AllocError> {
     let mut disk = disk_of(alloc, b"abcdef")?;
     let stands = takes_all(&mut disk, steps) && disk.bytes() == seen;
@@ -116,7 +116,7 @@ fn a_crash_leaves_writes_and_cuts_open_until_a_sync(rt: HostRuntime) -> Result<(
     Ok(())
 }
 
-/// Whether each call of the disk fails, and leaves its bytes and the buffer of a read.
+/// Returns whether each call of the disk fails, and leaves its bytes and the buffer of a read.
 fn stands_still(disk: &mut MemoryDisk) -> bool {
     let mut two = *b"..";
     let fails = disk.sync() == Err(DiskFault::Device)
@@ -127,13 +127,13 @@ fn stands_still(disk: &mut MemoryDisk) -> bool {
     fails && &two == b".." && disk.bytes() == b"Xbcdef".as_slice()
 }
 
-/// Whether a disk that should stop after two calls, one of them a write, does.
+/// Returns whether a disk that should stop after two calls, one of them a write, does.
 fn stops(disk: &mut MemoryDisk) -> bool {
     disk.stop_after(2);
     disk.len() == Ok(6) && write(disk, 0, b"X") && stands_still(disk)
 }
 
-/// Whether what a crash left is another disk, which has not stopped, and can.
+/// Returns whether what a crash left is another disk, which has not stopped, and can.
 fn goes_on(mut disk: MemoryDisk) -> bool {
     let stands = disk.bytes() == b"\xffbcdef".as_slice() && disk.len() == Ok(6);
     disk.stop_after(0);

@@ -34,7 +34,7 @@ fn opened_in(rt: &HostRuntime, path: &str) -> Option<(Stage<BufferedFile<File>>,
     Stage::open_disk(rt.alloc(), disk).ok()
 }
 
-/// How many bytes the file has.
+/// Returns how many bytes the file has.
 fn size_of(rt: &HostRuntime, path: &str) -> io::Result<usize> {
     Ok(fs::read(rt, path)?.len())
 }
@@ -57,7 +57,7 @@ fn leave_two_parts(
     Ok(if done && read { Some(sizes) } else { None })
 }
 
-/// Whether the file opens with this checkpoint, and returns the part that it counts.
+/// Returns whether the file opens with this checkpoint, and returns the part that it counts.
 fn opens_with_one_part(rt: &HostRuntime, path: &str, one: &Checkpoint) -> bool {
     match opened_in(rt, path) {
         Some((mut stage, point)) => point == *one && holds(&mut stage, b"a"),

@@ -143,7 +143,8 @@ pub fn save<D: Disk>(stage: &mut Stage<D>, point: &Checkpoint) -> bool {
     point.staged == stage.weight() && stage.save(point).is_ok()
 }
 
-/// Whether the stage returns these records of 80 bytes, each of one character, and no others.
+/// Returns whether the stage returns these records of 80 bytes, each of one character, and no
+/// others.
 pub fn holds<D: Disk>(stage: &mut Stage<D>, records: &[u8]) -> bool {
     let mut parts = stage.parts();
     for record in records {
@@ -193,7 +194,7 @@ pub fn cut<D: Disk>(disk: &mut D, to: u64) -> bool {
     }
 }
 
-/// Whether the disk returns these bytes from an offset on, at most 12.
+/// Returns whether the disk returns these bytes from an offset on, at most 12.
 pub fn gives<D: Disk>(disk: &mut D, place: u64, bytes: &[u8]) -> bool {
     let mut buf = [0; 12];
     let size = bytes.len().min(12);

@@ -134,7 +134,7 @@ fn record_of(number: u64) -> [u8; 85] {
     [number.to_be_bytes()[7]; 85]
 }
 
-/// Whether the disk returns such a record at its offset.
+/// Returns whether the disk returns such a record at its offset.
 fn gives_record<D: Disk>(disk: &mut D, number: u64) -> bool {
     let mut bytes = [0; 85];
     number < 1_200 && read(disk, number * 85, &mut bytes) && bytes == record_of(number)
@@ -162,8 +162,8 @@ fn small_calls_are_put_together(rt: HostRuntime) {
     assert_eq!(rt; (file.writes, file.reads), (22, 22));
 }
 
-/// Whether the disk has a frame of 20,005 bytes of this number: five bytes are read, and then the
-/// others.
+/// Returns whether the disk has a frame of 20,005 bytes of this number: five bytes are read, and
+/// then the others.
 fn has_frame<D: Disk>(disk: &mut D, number: u64) -> bool {
     let (mut header, mut content) = ([0; 5], [0; 20_000]);
     let place = number.min(4) * 20_005;
@@ -227,7 +227,7 @@ fn behind_a_failed_sync_nothing_is_kept(rt: HostRuntime) -> Result<(), Fail> {
     Ok(())
 }
 
-/// Whether a cut makes the disk, which was empty, drop what it read ahead.
+/// Returns whether a cut makes the disk, which was empty, drop what it read ahead.
 fn forgets<D: Disk>(disk: &mut D) -> bool {
     let ahead = write(disk, 0, b"abcdef") && gives(disk, 0, b"ab");
     ahead && cut(disk, 3) && write(disk, 3, b"XYZ") && gives(disk, 0, b"abcXYZ")
@@ -240,14 +240,14 @@ fn a_cut_forgets_what_was_read_ahead(rt: HostRuntime) {
         return;
     };
     assert!(rt; forgets(&mut disk));
-    // The buffer is written before the cut, which removes its end again.
+    // The buffer is written before the cut, which then removes its end.
     assert!(rt; write(&mut disk, 6, b"gh") && cut(&mut disk, 7));
     let mut two = [0; 2];
     assert!(rt; !read(&mut disk, 6, &mut two));
     assert!(rt; gives(&mut disk, 5, b"Zg"));
 }
 
-/// Whether both disks read the same.
+/// Returns whether both disks read the same.
 fn reads_agree<A: Disk, B: Disk>(one: &mut A, two: &mut B, place: u64, size: usize) -> bool {
     let (mut left, mut right) = ([1; 9_000], [1; 9_000]);
     let size = size.min(9_000);
@@ -255,7 +255,7 @@ fn reads_agree<A: Disk, B: Disk>(one: &mut A, two: &mut B, place: u64, size: usi
     first == read(two, place, &mut right[..size]) && left == right
 }
 
-/// Whether both disks answer the same to a write of this many bytes.
+/// Returns whether both disks answer the same to a write of this many bytes.
 fn writes_agree<A: Disk, B: Disk>(
     one: &mut A,
     two: &mut B,
@@ -270,7 +270,7 @@ fn writes_agree<A: Disk, B: Disk>(
     write(one, place, bytes) == write(two, place, bytes)
 }
 
-/// Whether both disks answer the same to a call encoded by these bytes.
+/// Returns whether both disks answer the same to a call encoded by these bytes.
 fn calls_agree<A: Disk, B: Disk>(one: &mut A, two: &mut B, told: [u8; 8]) -> bool {
     let size = if told[0] < 12 {
         9_000

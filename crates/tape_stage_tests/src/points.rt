@@ -36,7 +36,7 @@ fn answers(rt: &impl Abort, name: &str, rows: &[Row<'_>]) {
     }
 }
 
-/// Whether the checkpoint has this text in version 2, and is read from it.
+/// Returns whether the checkpoint has this text in version 2, and is read from it.
 fn is_text(point: &Checkpoint, text: &[u8; 80]) -> bool {
     write_point(point) == *text && read_point(text) == Ok(*point)
 }
@@ -45,7 +45,7 @@ fn is_text(point: &Checkpoint, text: &[u8; 80]) -> bool {
 const WHOLE_1: &[u8; 80] =
     b"TPCK1ABC00100010000000000D01F0008000PAYROLL          000000000002125            ";
 
-/// Whether the checkpoint is read of both texts.
+/// Returns whether the checkpoint is read of both texts.
 fn is_read(point: &Checkpoint, one: &[u8; 80], two: &[u8; 80]) -> bool {
     read_point(one) == Ok(*point) && is_text(point, two)
 }
@@ -255,7 +255,7 @@ const GOES_ON: &[(&[u8; 80], usize, &str, Option<(u16, u32, u32)>)] = &[
     (WHOLE_2, 38, "S00000", None),
 ];
 
-/// Whether such a text has that position.
+/// Returns whether such a text has that position.
 fn goes_on(
     text: &[u8; 80],
     position: usize,

@@ -11,7 +11,8 @@ use tape_stage::{MemoryDisk, Salvage, StageFault};
 const FOURTEEN_2: &[u8; 80] =
     b"TPCK2ABC00100010001000000000000002R01D0000000PAYROLL          000000000000014   ";
 
-/// Whether the walk returns these parts, each a complete record, and no others; and does so again.
+/// Returns whether the walk returns these parts, each a complete record, and no others; and does so
+/// again.
 fn gives_parts(salvage: &mut Salvage<MemoryDisk>, parts: &[&[u8]]) -> bool {
     for _ in 0..2 {
         salvage.rewind();
@@ -97,7 +98,7 @@ const ROWS: &[Row] = &[
     },
 ];
 
-/// Whether this remains of a stage with these frames, and its bytes are unchanged.
+/// Returns whether this remains of a stage with these frames, and its bytes are unchanged.
 fn remains(alloc: Global, row: &Row) -> Result<bool, AllocError> {
     let bytes = first_slot(alloc, b'O', FOURTEEN_2, row.frames)?;
     let Ok((mut salvage, point)) = Salvage::open_disk(alloc, disk_of(alloc, &bytes)?) else {

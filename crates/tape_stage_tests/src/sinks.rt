@@ -25,14 +25,14 @@ fn with_three(alloc: Global, two: &Checkpoint) -> Option<Stage<MemoryDisk>> {
     if done { Some(stage) } else { None }
 }
 
-/// Whether no part is staged, and the slots have the generations 3 and 2.
+/// Returns whether no part is staged, and the slots have the generations 3 and 2.
 fn has_generations(bytes: &[u8]) -> bool {
     bytes.len() == 256
         && bytes.starts_with(b"O000000000000003")
         && bytes.get(128..144) == Some(b"O000000000000002".as_slice())
 }
 
-/// Whether the sink is cut at once to the first two of its three records.
+/// Returns whether the sink is cut at once to the first two of its three records.
 fn is_cut(stage: &mut Stage<MemoryDisk>, two: &Checkpoint) -> bool {
     stage.weight() == 255
         && cut_to(stage, two)
@@ -40,8 +40,8 @@ fn is_cut(stage: &mut Stage<MemoryDisk>, two: &Checkpoint) -> bool {
         && stage.acknowledged() == *two
 }
 
-/// Whether it is cut below what was saved: the earlier checkpoint is saved as a new generation
-/// first.
+/// Returns whether a cut below the saved weight first saves the earlier checkpoint as a new
+/// generation.
 fn is_cut_to_its_start(stage: &mut Stage<MemoryDisk>) -> bool {
     cut_to(stage, &start()) && holds(stage, b"") && stage.acknowledged() == start()
 }
@@ -61,7 +61,7 @@ fn a_sink_cuts_at_once_down_to_what_was_saved(rt: HostRuntime) {
     assert!(rt; has_generations(stage.into_disk().bytes()));
 }
 
-/// Whether a walk from the first part returns the part `AB` and then, twice, none.
+/// Returns whether a walk from the first part returns the part `AB` and then, twice, none.
 fn walks_one_part(stage: &mut Stage<MemoryDisk>) -> bool {
     stage.rewind();
     let given = matches!(stage.next_part(), Ok(Some(part)) if part.bytes == b"AB".as_slice());

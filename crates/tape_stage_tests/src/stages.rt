@@ -84,7 +84,7 @@ const PARTS: &[(Span, &[u8])] = &[
 
 const FRAMES: &[u8] = b"1\x00\x00\x00\x02AB2\x00\x00\x00\x01C3\x00\x00\x00\x000\x00\x00\x00\x00";
 
-/// Whether the stage accepts the parts.
+/// Returns whether the stage accepts the parts.
 fn takes_parts(stage: &mut Stage<MemoryDisk>) -> bool {
     for (span, bytes) in PARTS {
         let part = Part {

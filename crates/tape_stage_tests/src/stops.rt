@@ -14,7 +14,7 @@ fn stopping(alloc: Global, calls: u64) -> Option<(Stage<MemoryDisk>, Checkpoint)
     Stage::open_disk(alloc, disk).ok()
 }
 
-/// Whether a stage whose disk stops refuses one call for that, and every later one.
+/// Returns whether a stage whose disk stops refuses one call for that, and every later one.
 fn refuses(stage: &mut Stage<MemoryDisk>) -> bool {
     let part = Part {
         span: Span::Whole,
@@ -36,7 +36,7 @@ fn a_failed_stage_refuses_until_it_is_opened_again(rt: HostRuntime) {
     assert!(rt; Stage::open_disk(rt.alloc(), stage.into_disk().crash()).is_ok());
 }
 
-/// Whether a save that its disk refuses is pending, and the stage then returns no part.
+/// Returns whether a save that its disk refuses is pending, and the stage then returns no part.
 fn is_pending(stage: &mut Stage<MemoryDisk>, point: &Checkpoint) -> bool {
     stage.pending().is_none()
         && !save(stage, point)
@@ -121,7 +121,8 @@ fn stopped_after(alloc: Global, calls: u64) -> Option<(MemoryDisk, Saved)> {
     })
 }
 
-/// Whether a disk that a crash left opens with a checkpoint that may be left, and its parts.
+/// Returns whether a disk that a crash left opens with a checkpoint that may be left, and its
+/// parts.
 fn comes_back(alloc: Global, disk: MemoryDisk, saved: &Saved) -> bool {
     let Ok((mut stage, point)) = Stage::open_disk(alloc, disk) else {
         return false;

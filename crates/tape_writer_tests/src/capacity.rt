@@ -119,7 +119,7 @@ const SETS: &[Set<'_>] = &[
     ),
 ];
 
-/// The set is written like this.
+/// Checks that the set is written with these images.
 fn is_written(rt: &impl Abort, alloc: Global, set: &Set<'_>) -> Result<(), Fail> {
     let (name, capacity, count, rows, lengths) = set;
     let images = written(rt, alloc, *capacity, *count, rows)?;

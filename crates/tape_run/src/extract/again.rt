@@ -87,7 +87,7 @@ fn read_rounds<S: PartSink, R: Read + Drop, L: ImageSource<R>, P: Write>(
     }
 }
 
-/// Whether a pass was the last: nothing is missing after it, or the same as before it.
+/// Returns whether a pass was the last: nothing is missing after it, or the same as before it.
 fn is_enough(before: Option<Want>, want: Option<Want>) -> bool
     ensures yes { OnTrue result ((want ≡ None) ⊎ (want ≡ before)) }
     ensures no { OnFalse result ((want ≢ None) × (want ≢ before)) }

@@ -147,7 +147,7 @@ fn awaits_line(want: &Want) -> ReportLine
     line
 }
 
-/// How many parts of a block were delivered, if any.
+/// Returns how many parts of a block were delivered, if any.
 fn put_part(line: &mut ReportLine, part: u32)
     requires room { array_string_len line.old ≤ 129 }
     ensures text { line.new.bytes ≡ line.old.bytes ++ part_text part }

@@ -48,7 +48,7 @@ pub struct OutSink<W> {
     ghost few: { records ≤ weight },
 }
 
-/// How many records have ended after a part.
+/// Returns how many records have ended after a part.
 #[inline(always)]
 fn with_end(span: Span, records: u64) -> u64
     requires { records ≤ most_staged }

@@ -51,8 +51,8 @@ fn shape_of(form: &Known) -> Shape
     }
 }
 
-/// Whether the block begins with a part that continues a record: in format S its indicator is `2`
-/// or `3`.
+/// Returns whether the block begins with a part that continues a record: in format S its indicator
+/// is `2` or `3`.
 fn goes_on_at(format: Format, offset: u8, block: &[u8]) -> bool
     ensures { result ≡ goes_on_at format offset block.now }
 {

@@ -24,7 +24,7 @@ impl<S: PartSink> Session<S> {
     }
 }
 
-/// Whether the same is known of a file.
+/// Returns whether the same is known of a file.
 fn same_form(one: &Known, other: &Known) -> bool
     ensures yes { OnTrue result (one.now ≡ other.now) }
     ensures no { OnFalse result (one.now ≢ other.now) }
@@ -35,7 +35,7 @@ fn same_form(one: &Known, other: &Known) -> bool
         && same_field(&one.file_id, &other.file_id)
 }
 
-/// Whether the same is known of a file, or nothing in both cases.
+/// Returns whether the same is known of a file, or nothing in both cases.
 fn same_known(one: &Option<Known>, other: &Option<Known>) -> bool
     ensures yes { OnTrue result (one.now ≡ other.now) }
     ensures no { OnFalse result (one.now ≢ other.now) }
@@ -47,7 +47,7 @@ fn same_known(one: &Option<Known>, other: &Option<Known>) -> bool
     }
 }
 
-/// Whether two checkpoints are equal.
+/// Returns whether two checkpoints are equal.
 fn same_point(one: &Checkpoint, other: &Checkpoint) -> bool
     ensures yes { OnTrue result (one.now ≡ other.now) }
     ensures no { OnFalse result (one.now ≢ other.now) }

@@ -29,8 +29,8 @@ pub struct FileNote {
 /// What is known of each file.
 pub(crate) type Files = IndexMap<FileKey, FileNote>;
 
-/// Whether header labels with one number belong to different files: by the file identifier, the
-/// creation date and the generation.
+/// Returns whether header labels with one number belong to different files: by the file identifier,
+/// the creation date and the generation.
 fn is_other(first: &Head1, second: &Head1) -> bool
     ensures { result ≡ is_other first.now second.now }
 {
@@ -82,7 +82,7 @@ pub(crate) fn note_met(files: &mut Files, head: Option<Head1>) -> Result<(), Run
     }
 }
 
-/// Whether labels of different files were found for the file at an index.
+/// Returns whether labels of different files were found for the file at an index.
 fn differs_at(files: &Files, place: usize) -> bool
     requires { place < length files.now.entries }
     ensures { any_differs (take (place + 1) files.now.entries)
@@ -94,7 +94,7 @@ fn differs_at(files: &Files, place: usize) -> bool
     note.differs
 }
 
-/// Whether labels of different files were found under the number of any file.
+/// Returns whether labels of different files were found under the number of any file.
 pub(crate) fn any_differs(files: &Files) -> bool
     ensures { result ≡ any_differs files.now.entries }
 {

@@ -33,13 +33,13 @@ pub fn reason_of<R: Runtime>(rt: &R, fault: ToolFault, site: FaultSite<'_>) -> O
     }
 }
 
-/// Why there is nothing at this path.
+/// Returns why there is nothing at this path.
 fn not_there<R: Runtime>(rt: &R, path: &str) -> Option<io::Error> {
     fs::metadata(rt, path).err()
 }
 
-/// Why the file at this path cannot be read. A pipe or a device is not opened, since that might
-/// block.
+/// Returns why the file at this path cannot be read. A pipe or a device is not opened, since that
+/// might block.
 fn unread<R: Runtime>(rt: &R, path: &str) -> Option<io::Error> {
     match fs::metadata(rt, path) {
         Ok(found) if found.is_file() || found.is_dir() => {}

@@ -31,7 +31,7 @@ const AGAIN: &[Step<'_>] = &[
     ),
     Step::HasLength("out.txt", 2000),
     Step::HasLength("a.stage", 2381),
-    // What it yielded is dropped without a stage too.
+    // Its data is discarded without a stage too.
     Step::PutLost("miscounted.tap"),
     Step::PutWorked("counted.tap", 2484),
     Step::Ends(

@@ -173,7 +173,7 @@ fn remove<H: Runtime>(rt: &H, path: &str) -> bool {
     true
 }
 
-/// Whether the file has these bytes.
+/// Returns whether the file has these bytes.
 pub fn holds<H: Runtime + AllocGlobal>(rt: &H, path: &str, bytes: &[u8]) -> Result<bool, Fail> {
     let found = fs::read(rt, path)?;
     Ok(found.as_slice() == bytes)
@@ -184,13 +184,13 @@ fn is_worked<H: Runtime + AllocGlobal>(rt: &H, path: &str) -> Result<bool, Fail>
     holds(rt, path, image.bytes.as_slice())
 }
 
-/// Whether the file has this many bytes.
+/// Returns whether the file has this many bytes.
 fn has_length<H: Runtime + AllocGlobal>(rt: &H, path: &str, length: usize) -> Result<bool, Fail> {
     let found = fs::read(rt, path)?;
     Ok(found.len() == length)
 }
 
-/// Whether the file has this text at this offset.
+/// Returns whether the file has this text at this offset.
 fn has_text<H: Runtime + AllocGlobal>(
     rt: &H,
     path: &str,
@@ -201,7 +201,7 @@ fn has_text<H: Runtime + AllocGlobal>(
     Ok(stands(found.as_slice(), place, text))
 }
 
-/// Whether the text is at this offset.
+/// Returns whether the text is at this offset.
 pub fn stands(bytes: &[u8], place: usize, text: &[u8]) -> bool {
     match bytes.get(place..) {
         Some(rest) => rest.starts_with(text),
@@ -209,7 +209,7 @@ pub fn stands(bytes: &[u8], place: usize, text: &[u8]) -> bool {
     }
 }
 
-/// Whether there is no such file.
+/// Returns whether there is no such file.
 fn is_missing<H: Runtime + AllocGlobal>(rt: &H, path: &str) -> bool {
     fs::read(rt, path).is_err()
 }

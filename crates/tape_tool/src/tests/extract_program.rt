@@ -224,7 +224,7 @@ const WRONG: &[&str] = &[
     "extract --form records ABC001 1 out.txt a.tap",
 ];
 
-/// Whether it is what `extract AB 9999 out.txt a.tap b.tap` asks for.
+/// Returns whether it is what `extract AB 9999 out.txt a.tap b.tap` asks for.
 fn is_order(order: &Extract<'_>) -> bool {
     let task = &order.task;
     task.set_id.bytes() == b"AB    ".as_slice()

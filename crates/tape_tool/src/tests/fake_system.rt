@@ -256,7 +256,7 @@ pub struct Seen {
 }
 
 impl Seen {
-    /// Whether this was the result; what was opened is compared or not.
+    /// Returns whether this was the result; what was opened is compared or not.
     pub fn comes_to(&self, status: u8, out: &str, told: &str, opened: Option<&str>) -> bool {
         let is_opened = match opened {
             Some(paths) => self.opened.as_str() == paths,

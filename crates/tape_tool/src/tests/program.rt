@@ -50,7 +50,7 @@ impl Streams {
         }
     }
 
-    /// Whether exactly this was printed.
+    /// Returns whether exactly this was printed.
     fn has_told(self, text: &str) -> bool {
         self.told.into_inner().as_str() == text
     }

@@ -168,14 +168,14 @@ const DONE: &[Step<'_>] = &[
     Step::HasText(PATH, 178, b"D01F00080"),
 ];
 
-/// Whether the session reads the worked volume and is saved.
+/// Returns whether the session reads the worked volume and is saved.
 fn reads_worked(alloc: Global, session: &mut FileSession) -> Result<bool, AllocError> {
     let image = worked(alloc)?;
     let mut reader = image.bytes.as_slice();
     Ok(session.reel(&mut reader).is_ok() && session.save().is_ok())
 }
 
-/// Whether the session needs nothing, and reads nothing.
+/// Returns whether the session needs nothing, and reads nothing.
 fn reads_nothing(session: &mut FileSession) -> bool {
     let mut reader = b"no image".as_slice();
     session.want().is_none() && session.reel(&mut reader).is_ok() && reader.len() == 8

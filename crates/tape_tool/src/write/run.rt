@@ -55,7 +55,7 @@ fn write_files<R: Host>(
     Ok(say(&mut io::writer(rt), files.len() as u64, ended.as_slice())?)
 }
 
-/// Where and how the set is to be written.
+/// Returns where and how the set is to be written.
 fn plan_of<'a>(order: &WriteOrder<'a>) -> Result<FolderPlan<'a>, ToolFault> {
     Ok(FolderPlan {
         folder: order.folder,

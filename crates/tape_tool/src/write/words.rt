@@ -122,7 +122,7 @@ fn files_of<'a>(alloc: Global, matches: &ArgMatches<'a>) -> Result<Vec<&'a str>,
     Ok(Vec::from_slice(alloc, files)?)
 }
 
-/// Whether each of these arguments has a path.
+/// Returns whether each of these arguments has a path.
 fn have_paths(words: &[&str]) -> bool
     ensures { IsTrue result ↔ HavePaths (map (λ w. w.now) words.now) }
 {
@@ -134,7 +134,7 @@ fn have_paths(words: &[&str]) -> bool
     true
 }
 
-/// Whether the argument has a path, after an equals sign.
+/// Returns whether the argument has a path, after an equals sign.
 fn has_path(word: &str) -> bool
     ensures { IsTrue result ↔ Contains word.now 61 }
 {
