@@ -173,11 +173,11 @@ CHECK_REPORTS = {
     "o": dict.fromkeys((0, 3), IMAGES + r"IMAGE \d+ 0 NOT OPENED\n" + IMAGES + SECTIONS),
     "r": dict.fromkeys((0, 3), IMAGES + r"IMAGE \d+ \d+ FAULT 5 \d+\n" + IMAGES + SECTIONS),
 }
-SIGHTS = r"(\w+\.tap: .*\n)*"
-SETS = r"(Set .*\n(  .*\n)*)*(Nothing lacks.*\n)?"
+SIGHTS = r"(\w+\.tap +.*\n(    .*\n)*)*"
+SETS = r"(Set .*\n(  .*\n)*)*(All files.*\n)?"
 SURVEY_REPORTS = {
-    "o": {3: SIGHTS + r"\w+\.tap: not opened\n" + SIGHTS + SETS},
-    "r": {3: SIGHTS + r"\w+\.tap: .*; image fault 5 at \d+.*\n" + SIGHTS + SETS},
+    "o": {3: SIGHTS + r"\w+\.tap +not opened\n" + SIGHTS + SETS},
+    "r": {3: SIGHTS + r"\w+\.tap +.*\n(    .*\n)*    image fault 5 at byte \d+.*\n" + SIGHTS + SETS},
 }
 # memory, files and stages as above; a fault that a file came at is told by its line too
 UNPACK = {

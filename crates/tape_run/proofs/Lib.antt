@@ -58,13 +58,14 @@ mod PlacedSoFar
 mod PlacedExamples
 mod Reporting
 pub mod SurveyGaps
-mod SurveyJoins
 pub mod SurveyDigest
 pub mod SurveyCompared
 pub mod SurveyCopies
 pub mod SurveyShown
 pub mod SurveyConflicts
 pub mod SurveySound
+mod SurveyProblems
+mod SurveyCounts
 mod SurveyLooks
 mod SurveyTexts
 mod SurveyOrder

@@ -20,6 +20,7 @@ use Rattle.tape_run.specs.declared.passing.Phase.TheVariants as phases
 use Rattle.tape_run.specs.declared.section.ImageStop.{ImageStop}
 use Rattle.tape_run.specs.declared.section.ImageStop.TheVariants.{Marked, Physical, Fault}
 use Rattle.tape_run.specs.declared.section.SectionState.TheVariants.{Good, Bad}
+use Rattle.tape_run.specs.declared.survey.dates.Date.{Date}
 use Rattle.tape_run.specs.declared.survey.glance.First.TheVariants as firsts
 use Rattle.tape_run.specs.declared.survey.course.ExpectedItem.{ExpectedItem}
 use Rattle.tape_run.specs.declared.survey.course.ExpectedItem.TheVariants as wanted
@@ -33,6 +34,7 @@ use Rattle.tape_run.specs.declared.survey.view.ImageSurvey.{ImageSurvey}
 use Rattle.tape_run.specs.CasesOfCatalogues.{met}
 use Rattle.tape_run.specs.CasesOfExtracts.{Known, Readers}
 use Rattle.tape_run.specs.Checked.{Reel}
+use Rattle.tape_run.specs.Dates.{date_of, date_text}
 use Rattle.tape_run.specs.Noted.{noted_all}
 use Rattle.tape_image.specs.Written.{AppendsFront}
 use Rattle.tape_run.specs.Passing.{met_in, Told}
@@ -99,6 +101,10 @@ found whole files = found_with whole (met 1 1 true Good ∷ []) files no_copies
 -- a file with copies of its first section that differ
 abbrev pub in_dispute : Copied
 in_dispute = record { notes = []; conflicts = (file_key (codes "ABC001") 1, 1) ∷ [] }
+
+-- a day of the calendar
+abbrev pub date : ℕ → ℕ → ℕ → Date
+date year month day = record { year = year; month = month; day = day }
 
 -- of images at a glance
 pub record CasesOfGlances : Type 0 where
@@ -187,6 +193,14 @@ pub record CasesOfWholes : Type 0 where
   pub not_good : is_all (found_with true (met 1 1 true Good ∷ met 1 2 true Bad ∷ []) [] no_copies)
       ≡ false
   pub disputed : is_all (found_with true (met 1 1 true Good ∷ []) [] in_dispute) ≡ false
+  -- the date of a label, in years with and without a leap day; none if it is no date
+  pub day : date_of (codes " 85113") ≡ Some (date 1985 4 23)
+  pub last_day : date_of (codes " 85365") ≡ Some (date 1985 12 31)
+  pub leap_day : date_of (codes "000060") ≡ Some (date 2000 2 29)
+  pub no_leap_day : date_of (codes " 00060") ≡ Some (date 1900 3 1)
+  pub no_date : date_text (date_of (codes " 00000")) ≡ codes "          "
+  pub past_the_year : date_of (codes " 85366") ≡ None
+  pub other_century : date_of (codes "185113") ≡ None
   -- spaces at the end are left out, and nothing in a name breaks the line
   pub trimmed : trimmed_text (codes "A B   ") ≡ codes "A B"
   pub all_spaces : trimmed_text (codes "      ") ≡ []

@@ -58,6 +58,8 @@ pub mod SurveyCopies
 pub mod SurveyRead
 pub mod SurveyLine
 pub mod SurveyLocations
+pub mod Dates
+pub mod SurveyProblems
 pub mod SurveySets
 pub mod SurveyRows
 pub mod SurveyCompared

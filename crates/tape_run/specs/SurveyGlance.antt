@@ -1,5 +1,5 @@
 -- What an image is, at a glance over its items.
-use Rattle.std.specs.Prelude.{ℕ, ◌+◌, ◌==◌, ◌&&◌, not, Bool, true, false, if◌then◌else◌}
+use Rattle.std.specs.Prelude.{ℕ, ◌+◌, ◌==◌, ◌&&◌, ◌||◌, is_some, not, Bool, true, false, if◌then◌else◌}
 use Rattle.std.specs.Prelude.{List, [], ◌∷◌, length, Option, Some, None, Result, Ok, Err}
 use Rattle.std.specs.Str.{bytes_eq}
 use Rattle.tape_image.specs.Tape.{TapeItem, block, bad, mark}
@@ -21,7 +21,10 @@ use Rattle.tape_run.specs.declared.survey.course.ExpectedItem.TheVariants as wan
 use Rattle.tape_run.specs.declared.survey.course.LabelOrder.{LabelOrder}
 use Rattle.tape_run.specs.declared.survey.course.LabelOrder.TheVariants.{Follows, Blank, Ended, Leaves}
 use Rattle.tape_run.specs.declared.survey.glance.ImageSummary.{ImageSummary}
-use Rattle.tape_run.specs.Passing.{step}
+use Rattle.tape_run.specs.declared.section.SectionLine.{SectionLine}
+use Rattle.tape_run.specs.Lacks.{line_of}
+use Rattle.tape_run.specs.Noted.{is_good}
+use Rattle.tape_run.specs.Passing.{Told, step, under_way}
 
 -- 80 bytes that begin VOL1 in EBCDIC
 unfoldable pub is_ebcdic : List ℕ → Bool
@@ -172,6 +175,20 @@ abbrev pub one_head : Option Head1 → ℕ
 one_head None = 0
 one_head (Some head) = 1
 
+-- what is known of a section that was found, if one was
+abbrev pub line_in : Option Told → Option SectionLine
+line_in (Some t) = Some (line_of t)
+line_in None = None
+
+-- the same if the section is damaged
+abbrev pub damage_in : Option Told → Option SectionLine
+damage_in (Some t) = if is_good t.1.state then None else Some (line_of t)
+damage_in None = None
+
+-- there are both
+abbrev pub is_second : Option SectionLine → Option SectionLine → Bool
+is_second first second = is_some first && is_some second
+
 -- nothing was looked at
 abbrev pub blank_glance : ImageSummary
 blank_glance = record {
@@ -182,6 +199,9 @@ blank_glance = record {
   files = 0;
   bad = 0;
   unread = None;
+  damage = None;
+  more = false;
+  unfinished = None;
   course = Follows;
 }
 
@@ -195,6 +215,9 @@ look_to g p x next = record {
   files = g.files + one_head (head_in p x);
   bad = g.bad + one_if (is_bad x);
   unread = or_else g.unread (unread_in p x);
+  damage = or_else g.damage (damage_in (step p x).1);
+  more = g.more || is_second g.damage (damage_in (step p x).1);
+  unfinished = line_in (under_way next);
   course = course_with g.course (g.items + 1) p x next;
 }
 

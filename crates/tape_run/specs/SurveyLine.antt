@@ -1,12 +1,15 @@
 -- What a survey says of an image. The text is for people, and may change.
-use Rattle.std.specs.Prelude.{Bool, true, false, ◌||◌, length, take, ◌-◌, ℕ, ◌==◌, ◌&&◌, nat_le}
+use Rattle.std.specs.Prelude.{Bool, true, false, ◌||◌, not, is_some, length, take, ◌-◌, ℕ, ◌==◌, ◌&&◌, nat_le}
 use Rattle.std.specs.Prelude.{nat_lt, map, if◌then◌else◌, List, [], ◌++◌, codes, decimal}
-use Rattle.std.specs.Prelude.{Option, Some, None}
+use Rattle.std.specs.Prelude.{Option, Some, None, replicate}
 use Rattle.tape_image.specs.declared.item.ImageFault.{ImageFault}
 use Rattle.std.specs.List.{suffix_len}
 use Rattle.tape_image.specs.Fault.{number_of}
 use Rattle.tape_label.specs.declared.values.Head1.{Head1}
 use Rattle.tape_run.specs.declared.section.ImageStop.{ImageStop}
+use Rattle.tape_run.specs.declared.section.SectionLine.{SectionLine}
+use Rattle.tape_run.specs.declared.section.SectionState.{SectionState}
+use Rattle.tape_run.specs.declared.section.SectionState.TheVariants.{Good, Bad, Count, Cut}
 use Rattle.tape_run.specs.declared.section.ImageStop.TheVariants.{Marked, Physical, Fault}
 use Rattle.tape_run.specs.declared.survey.glance.First.{First}
 use Rattle.tape_run.specs.declared.survey.glance.First.TheVariants as firsts
@@ -17,6 +20,7 @@ use Rattle.tape_run.specs.declared.survey.course.LabelOrder.TheVariants.{Follows
 use Rattle.tape_run.specs.declared.survey.glance.ImageSummary.{ImageSummary}
 use Rattle.tape_run.specs.declared.survey.view.ImageSurvey.{ImageSurvey}
 use Rattle.tape_run.specs.Identifier.{printed}
+use Rattle.tape_run.specs.SurveyRead.{is_sound, is_ended, is_end}
 
 -- a space
 abbrev pub is_space : ℕ → Bool
@@ -34,8 +38,9 @@ trimmed_text bytes = map printed (take (trimmed_len bytes) bytes)
 abbrev pub first_text : First → List ℕ
 first_text firsts.Nothing = codes "no items"
 first_text (firsts.Volume label) = codes "volume " ++ trimmed_text label.volume
-first_text firsts.Ebcdic = codes "labels in EBCDIC, which are not read"
-first_text (firsts.Block n) = codes "no labels; its first block has " ++ decimal n ++ codes " bytes"
+first_text firsts.Ebcdic = codes "labels in EBCDIC"
+first_text (firsts.Block n) =
+    codes "no labels; its first block has " ++ (decimal n ++ codes " bytes")
 first_text firsts.Bad = codes "does not begin with a label"
 first_text firsts.Mark = codes "begins with a tape mark"
 
@@ -52,42 +57,67 @@ system_text (Some head) = written_text head.implementation
 -- how many sections it has
 abbrev pub files_text : ℕ → List ℕ
 files_text n =
-    if n == 0 then [] else if n == 1 then codes ", 1 file"
-    else codes ", " ++ decimal n ++ codes " files"
+    if n == 0 then [] else if n == 1 then codes ", 1 section"
+    else codes ", " ++ (decimal n ++ codes " sections")
+
+-- Each further fact follows the text between two facts.
 
 -- how many blocks are unreadable
-abbrev pub bad_text : ℕ → List ℕ
-bad_text n =
-    if n == 0 then [] else if n == 1 then codes ", 1 block that cannot be read"
-    else codes ", " ++ decimal n ++ codes " blocks that cannot be read"
+abbrev pub bad_text : List ℕ → ℕ → List ℕ
+bad_text between n =
+    if n == 0 then [] else if n == 1 then between ++ codes "1 unreadable block"
+    else between ++ (decimal n ++ codes " unreadable blocks")
 
 -- if a volume label follows something else
-abbrev pub late_text : Option ℕ → List ℕ
-late_text None = []
-late_text (Some n) = codes "; a VOL1 at item " ++ decimal n
+abbrev pub late_text : List ℕ → Option ℕ → List ℕ
+late_text between None = []
+late_text between (Some n) = between ++ (codes "a VOL1 at item " ++ decimal n)
 
 -- a file whose records cannot be read, if there is one
-abbrev pub unread_text : Option ℕ → List ℕ
-unread_text None = []
-unread_text (Some file) =
-    codes "; file " ++ decimal file ++ codes " has a record format that is not read"
+abbrev pub unread_text : List ℕ → Option ℕ → List ℕ
+unread_text between None = []
+unread_text between (Some file) =
+    between ++ (codes "file " ++ (decimal file ++ codes " has an unsupported record format"))
+
+-- what is wrong with a section in this state
+abbrev pub damage_text : SectionState → List ℕ
+damage_text Good = codes "is good"
+damage_text Bad = codes "has unreadable blocks"
+damage_text Count = codes "has a wrong block count"
+damage_text Cut = codes "is truncated"
+
+-- a damaged section
+abbrev pub damaged_text : List ℕ → Option SectionLine → List ℕ
+damaged_text between None = []
+damaged_text between (Some s) =
+    between ++ (codes "section " ++ (decimal s.sect ++ (codes " of file " ++ (decimal s.file
+    ++ (codes " " ++ (damage_text s.state ++ (codes ", blocks found: " ++ decimal s.blocks)))))))
+
+-- that there are more
+abbrev pub more_text : List ℕ → Bool → List ℕ
+more_text between more = if more then between ++ codes "further sections are damaged" else []
+
+-- the damaged sections, and the one in which the items end
+abbrev pub damages_text : List ℕ → ImageSummary → List ℕ
+damages_text between g = damaged_text between g.damage ++ (more_text between g.more
+    ++ damaged_text between g.unfinished)
 
 -- what an image contains
-abbrev pub glance_text : ImageSummary → List ℕ
-glance_text g =
-    first_text g.first ++ system_text g.head ++ files_text g.files ++ bad_text g.bad
-    ++ late_text g.late ++ unread_text g.unread
+abbrev pub glance_text : List ℕ → ImageSummary → List ℕ
+glance_text between g =
+    first_text g.first ++ (system_text g.head ++ (files_text g.files ++ (bad_text between g.bad
+    ++ (late_text between g.late ++ unread_text between g.unread))))
 
 -- what the item that leaves the order is not
 abbrev pub wanted_text : ExpectedItem → List ℕ
-wanted_text wanted.Volume = []
-wanted_text wanted.Section = codes " is no HDR1: not read further"
-wanted_text wanted.Second = codes " is no HDR2: not read further"
-wanted_text wanted.Mark = codes " is no label and no tape mark: not read further"
-wanted_text wanted.Trailer = codes " is no EOF1 or EOV1 of its section: not read further"
-wanted_text wanted.Next = codes " is no HDR1 and no tape mark: not read further"
-wanted_text wanted.SecondMark = codes " is no second tape mark: not read further"
-wanted_text wanted.End = codes " stands behind the end of the volume: not read further"
+wanted_text wanted.Volume = codes "is not VOL1"
+wanted_text wanted.Section = codes "is not HDR1"
+wanted_text wanted.Second = codes "is not HDR2"
+wanted_text wanted.Mark = codes "is neither a label nor a tape mark"
+wanted_text wanted.Trailer = codes "is not EOF1 or EOV1 of its section"
+wanted_text wanted.Next = codes "is neither HDR1 nor a tape mark"
+wanted_text wanted.SecondMark = codes "is not a second tape mark"
+wanted_text wanted.End = codes "follows the end of the volume"
 
 -- That the items begin with no volume label is said before.
 abbrev pub is_told : ExpectedItem → Bool
@@ -95,21 +125,25 @@ is_told wanted.Volume = false
 is_told _ = true
 
 -- the item that leaves the order
-abbrev pub left_text : ℕ → ExpectedItem → List ℕ
-left_text n w = if is_told w then codes "; item " ++ decimal n ++ wanted_text w else []
+abbrev pub left_text : List ℕ → ℕ → ExpectedItem → List ℕ
+left_text between n w =
+    if is_told w
+    then between ++ (codes "item " ++ (decimal n ++ (codes " " ++ (wanted_text w
+    ++ codes ": the rest is ignored"))))
+    else []
 
 -- the items end before the volume does
-abbrev pub early_text : ImageStop → List ℕ
-early_text (Fault fault) = []
-early_text Marked = codes "; ends before its volume does"
-early_text Physical = codes "; ends before its volume does"
+abbrev pub early_text : List ℕ → ImageStop → List ℕ
+early_text between (Fault fault) = []
+early_text between Marked = between ++ codes "ends before the end of the volume"
+early_text between Physical = between ++ codes "ends before the end of the volume"
 
 -- how far the items follow the order of a volume
-abbrev pub course_text : LabelOrder → ImageStop → List ℕ
-course_text Ended stop = []
-course_text (Leaves n w) stop = left_text n w
-course_text Follows stop = early_text stop
-course_text Blank stop = early_text stop
+abbrev pub course_text : List ℕ → LabelOrder → ImageStop → List ℕ
+course_text between Ended stop = []
+course_text between (Leaves n w) stop = left_text between n w
+course_text between Follows stop = early_text between stop
+course_text between Blank stop = early_text between stop
 
 -- nothing of it reads as an image
 abbrev pub is_no_image : ImageFault → Bool
@@ -118,33 +152,74 @@ is_no_image fault = (fault.place == 0) && nat_le (number_of fault.cause) 3
 -- what it probably is then
 abbrev pub guess_text : ImageFault → List ℕ
 guess_text fault =
-    if is_no_image fault then codes ": no SIMH image, or a compressed one (zcat)" else []
+    if is_no_image fault then codes ": not a SIMH image, or compressed (try zcat)" else []
+
+-- a fault with this number at this offset, and what the image probably is
+abbrev pub fault_at : List ℕ → ℕ → ℕ → List ℕ → List ℕ
+fault_at between number place guess = between ++ (codes "image fault " ++ (decimal number
+    ++ (codes " at byte " ++ (decimal place ++ guess))))
 
 -- a fault, with its offset
-abbrev pub fault_text : ImageFault → List ℕ
-fault_text fault =
-    codes "; image fault " ++ decimal (number_of fault.cause) ++ codes " at " ++ decimal fault.place
-    ++ guess_text fault
+abbrev pub fault_text : List ℕ → ImageFault → List ℕ
+fault_text between fault =
+    fault_at between (number_of fault.cause) fault.place (guess_text fault)
 
 -- the fault with which it ends
-abbrev pub stop_text : ImageStop → List ℕ
-stop_text (Fault fault) = fault_text fault
-stop_text Marked = []
-stop_text Physical = []
+abbrev pub stop_text : List ℕ → ImageStop → List ℕ
+stop_text between (Fault fault) = fault_text between fault
+stop_text between Marked = []
+stop_text between Physical = []
 
 -- what an image is
-abbrev pub seen_text : ImageSurvey → List ℕ
-seen_text s =
-    glance_text s.glance ++ course_text s.glance.course s.stop ++ stop_text s.stop
+abbrev pub seen_text : List ℕ → ImageSurvey → List ℕ
+seen_text between s = glance_text between s.glance
+    ++ (course_text between s.glance.course s.stop ++ (stop_text between s.stop
+    ++ damages_text between s.glance))
 
--- what it is, or that it was not opened
-abbrev pub met_text : Option ImageSurvey → List ℕ
-met_text (Some s) = seen_text s
-met_text None = codes "not opened"
+-- The state of an image: a word, padded to a column.
 
--- the end of an image's line, after its name
-abbrev pub survey_text_of : Option ImageSurvey → List ℕ
-survey_text_of s = codes ": " ++ met_text s ++ codes "\n"
+-- of one that begins with a volume label
+abbrev pub volume_state : ImageSurvey → List ℕ
+volume_state s =
+    if is_sound s
+    then (if s.glance.files == 0 then codes "blank        " else codes "ok           ")
+    else if is_ended s.glance.course && (is_end s.stop && not (is_some s.glance.damage))
+    then codes "unsupported  "
+    else codes "damaged      "
+
+-- of one without items
+abbrev pub empty_state : ImageStop → List ℕ
+empty_state (Fault fault) =
+    if is_no_image fault then codes "not a tape   " else codes "damaged      "
+empty_state Marked = codes "empty        "
+empty_state Physical = codes "empty        "
+
+-- of one that begins with this
+abbrev pub state_by : First → ImageSurvey → List ℕ
+state_by firsts.Nothing s = empty_state s.stop
+state_by (firsts.Volume label) s = volume_state s
+state_by firsts.Bad s = codes "damaged      "
+state_by firsts.Ebcdic s = codes "unsupported  "
+state_by (firsts.Block n) s = codes "unsupported  "
+state_by firsts.Mark s = codes "unsupported  "
+
+-- of any
+abbrev pub state_of : ImageSurvey → List ℕ
+state_of s = state_by s.glance.first s
+
+-- its state and what it is, each fact after the first on a line of its own
+abbrev pub opened_text : ImageSurvey → List ℕ
+opened_text s = state_of s ++ (seen_text (codes "\n    ") s ++ codes "\n")
+
+-- the same, or that it was not opened
+abbrev pub sight_text : Option ImageSurvey → List ℕ
+sight_text (Some s) = opened_text s
+sight_text None = codes "not opened\n"
+
+-- the line of an image after its name, which has this length: the next column is the same for all
+-- names of at most 24 bytes
+abbrev pub line_end : ℕ → Option ImageSurvey → List ℕ
+line_end named sight = replicate (24 - named) 32 ++ (codes "  " ++ sight_text sight)
 
 -- a byte of a name: a question mark replaces one that would break the line
 abbrev pub named : ℕ → ℕ
@@ -156,4 +231,4 @@ name_text name = map named name
 
 -- the line of an image
 abbrev pub image_line : List ℕ → Option ImageSurvey → List ℕ
-image_line name sight = name_text name ++ survey_text_of sight
+image_line name sight = name_text name ++ line_end (length name) sight

@@ -1,6 +1,6 @@
 -- What was read of images for a survey.
-use Rattle.std.specs.Prelude.{◌≡◌, ℕ, ◌+◌, ◌&&◌, Bool, true, false, List, [], ◌∷◌, Option, Some}
-use Rattle.std.specs.Prelude.{None}
+use Rattle.std.specs.Prelude.{◌≡◌, ℕ, ◌+◌, ◌&&◌, not, is_some, Bool, true, false, List, [], ◌∷◌}
+use Rattle.std.specs.Prelude.{Option, Some, None}
 use Rattle.tape_image.specs.Tape.{TapeItem}
 use Rattle.tape_image.specs.Reader.{IfKnown}
 use Rattle.tape_run.specs.declared.section.ImageStop.{ImageStop}
@@ -58,6 +58,10 @@ is_none (Some n) = false
 -- The items are a complete volume in its order, and each second header label can be read.
 abbrev pub is_whole_sight : ImageSurvey → Bool
 is_whole_sight s = is_ended s.glance.course && (is_none s.glance.unread && is_end s.stop)
+
+-- They are such a volume, and none of its sections is damaged.
+abbrev pub is_sound : ImageSurvey → Bool
+is_sound s = is_whole_sight s && not (is_some s.glance.damage)
 
 -- All items that a reader of the image with this number returned were looked at, and the sections
 -- and header labels in them were added, where the sections are, and the good copies. Before the call

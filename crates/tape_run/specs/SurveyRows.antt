@@ -15,8 +15,8 @@ use Rattle.tape_run.specs.CheckLine.{state_text, stop_text}
 use Rattle.tape_run.specs.Passing.{Told}
 use Rattle.tape_run.specs.SurveyCopies.{dispute_at}
 use Rattle.tape_run.specs.SurveyFiles.{note_at, file_key}
-use Rattle.tape_run.specs.SurveyLine.{trimmed_text, name_text, met_text}
-use Rattle.tape_run.specs.SurveyRead.{Found, is_whole_sight}
+use Rattle.tape_run.specs.SurveyLine.{trimmed_text, name_text, seen_text}
+use Rattle.tape_run.specs.SurveyRead.{Found, is_sound}
 use Rattle.tape_run.specs.SurveySets.{standing_of, is_mixed}
 
 -- whether an image was read completely
@@ -42,7 +42,7 @@ count_cells g =
 -- what an image is
 abbrev pub seen_cells : ImageSurvey → List ℕ
 seen_cells s =
-    whole_cell (is_whole_sight s) ++ codes "\t" ++ volume_cell s.glance.first ++ codes "\t"
+    whole_cell (is_sound s) ++ codes "\t" ++ volume_cell s.glance.first ++ codes "\t"
     ++ head_cells s.glance.head ++ codes "\t" ++ count_cells s.glance ++ codes "\t"
     ++ stop_text s.stop
 
@@ -57,7 +57,8 @@ middle_cells sight = codes "\t" ++ sight_cells sight ++ codes "\t"
 
 -- what an image is, in words, at the end of its row
 abbrev pub words_cell : Option ImageSurvey → List ℕ
-words_cell sight = met_text sight ++ codes "\n"
+words_cell (Some s) = seen_text (codes "; ") s ++ codes "\n"
+words_cell None = codes "not opened\n"
 
 -- the row of an image
 abbrev pub image_row : List ℕ → Option ImageSurvey → List ℕ

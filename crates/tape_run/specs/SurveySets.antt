@@ -1,12 +1,13 @@
 -- What a survey says of sets and their files. The text is for people, and may change.
-use Rattle.std.specs.Prelude.{ℕ, ◌-◌, ◌&&◌, not, Bool, true, false, if◌then◌else◌}
-use Rattle.std.specs.Prelude.{List, [], ◌∷◌, ◌++◌, codes, decimal, Option, Some, None}
+use Rattle.std.specs.Prelude.{ℕ, zero, suc, ◌+◌, ◌-◌, ◌&&◌, not, nat_lt, Bool, true, false}
+use Rattle.std.specs.Prelude.{if◌then◌else◌, List, [], ◌∷◌, ◌++◌, codes, decimal}
+use Rattle.std.specs.Prelude.{Option, Some, None, is_some}
 use Rattle.tape_run.specs.declared.section.Entry.{Entry}
 use Rattle.tape_run.specs.declared.survey.files.FileNote.{FileNote}
 use Rattle.tape_run.specs.declared.survey.sets.Standing.{Standing}
 use Rattle.tape_run.specs.declared.survey.sets.Standing.TheVariants.{Complete, Damaged, Behind}
 use Rattle.tape_run.specs.declared.survey.sets.Standing.TheVariants.{Missing}
-use Rattle.tape_run.specs.CheckLine.{state_text}
+use Rattle.tape_run.specs.Dates.{date_of, date_text}
 use Rattle.tape_run.specs.Identifier.{identifier_text}
 use Rattle.tape_run.specs.Lacks.{entry_at, key_at, lack_of, found_all}
 use Rattle.tape_run.specs.Noted.{is_good}
@@ -14,7 +15,9 @@ use Rattle.tape_run.specs.Passing.{Told}
 use Rattle.tape_run.specs.SurveyCopies.{dispute_at, is_agreed}
 use Rattle.tape_run.specs.SurveyLine.{trimmed_text}
 use Rattle.tape_run.specs.SurveyFiles.{note_at, file_key, any_differs}
-use Rattle.tape_run.specs.SurveyRead.{Found}
+use Rattle.tape_run.specs.SurveyGlance.{one_if}
+use Rattle.tape_run.specs.SurveyProblems.{problem_lines}
+use Rattle.tape_run.specs.SurveyRead.{Found, is_none}
 
 -- a missing section, with what is known of the one before it
 abbrev pub behind_by : ℕ → Option Entry → Standing
@@ -40,61 +43,70 @@ standing_by c set_id file (Some sect) = wanted_at c set_id file sect
 abbrev pub standing_of : List Told → List ℕ → ℕ → Standing
 standing_of c set_id file = standing_by c set_id file (lack_of c set_id file)
 
+-- a number in at least four columns
+abbrev pub number_text : ℕ → List ℕ
+number_text n = (if nat_lt n 10 then codes "   " else if nat_lt n 100 then codes "  "
+    else if nat_lt n 1000 then codes " " else []) ++ decimal n
+
 -- what is known of a file by its labels: its identifier, and when it was created
 abbrev pub known_text : Option FileNote → List ℕ
-known_text (Some note) =
-    identifier_text note.head.file_id ++ codes "  " ++ identifier_text note.head.created
-known_text None = codes "(no label was met)"
-
--- a missing section
-abbrev pub wanted_text : ℕ → List ℕ
-wanted_text sect = codes "wants section " ++ decimal sect
-
--- a section of which nothing is known
-abbrev pub missing_text : ℕ → List ℕ
-missing_text sect = wanted_text sect ++ codes ", of which nothing was met"
-
--- a section without a complete copy
-abbrev pub damaged_text : ℕ → Entry → List ℕ
-damaged_text sect entry =
-    codes "section " ++ decimal sect ++ codes " is " ++ state_text entry.state ++ codes " on "
-    ++ trimmed_text entry.volume ++ codes "; damaged copies together may have it: try extract"
-
--- the text for a file
-abbrev pub standing_text : Standing → List ℕ
-standing_text Complete = codes "complete"
-standing_text (Damaged sect entry) = damaged_text sect entry
-standing_text (Behind sect volume) =
-    wanted_text sect ++ codes ", on the volume behind " ++ trimmed_text volume
-standing_text (Missing sect) = missing_text sect
+known_text (Some note) = identifier_text note.head.file_id
+    ++ (codes "  " ++ date_text (date_of note.head.created))
+known_text None = codes "(no label found)"
 
 -- labels of different files were found
 abbrev pub is_mixed : Option FileNote → Bool
 is_mixed (Some note) = note.differs
 is_mixed None = false
 
--- that labels of different files were found under one number
-abbrev pub differs_text : Option FileNote → List ℕ
-differs_text note =
-    if is_mixed note then codes "; labels of different files were met under its number" else []
+-- nothing of the file is missing
+abbrev pub is_whole_file : List Told → List ℕ → ℕ → Bool
+is_whole_file c set_id file = is_none (lack_of c set_id file)
 
--- copies of a section differ, if there is one
-abbrev pub dispute_text : Option ℕ → List ℕ
-dispute_text None = []
-dispute_text (Some sect) = codes "; good copies of section " ++ decimal sect ++ codes " differ"
+-- what a file is, in a word, or why it is in conflict: labels of different files have one number, or
+-- good copies of a section differ
+abbrev pub file_word : Bool → Bool → Bool → List ℕ
+file_word mixed disputed complete =
+    if mixed then codes "conflict: labels of different files have this number"
+    else if disputed then codes "conflict: good copies of a section differ"
+    else if complete then codes "complete" else codes "incomplete"
 
--- the line of a file
-abbrev pub file_line : Found → List ℕ → ℕ → List ℕ
-file_line d set_id file =
+-- the first line of a file, in a conflict and complete as it is
+abbrev pub head_line : ℕ → Option FileNote → Bool → Bool → List ℕ
+head_line file note disputed complete = number_text file ++ (codes " " ++ (known_text note
+    ++ (codes "  " ++ (file_word (is_mixed note) disputed complete ++ codes "\n"))))
+
+-- what is damaged or missing of a file unless it is complete
+abbrev pub rest_lines : Bool → List Told → List ℕ → ℕ → List ℕ
+rest_lines true c set_id file = []
+rest_lines false c set_id file = problem_lines c set_id file
+
+-- the lines of a file: what it is, and then what is damaged or missing unless it is complete
+abbrev pub file_lines : Found → List ℕ → ℕ → List ℕ
+file_lines d set_id file =
+    let complete = is_whole_file d.sections set_id file in
     let key = file_key set_id file in
-    let note = note_at d.files key in
-    codes "  " ++ decimal file ++ codes " " ++ known_text note ++ codes "  "
-    ++ standing_text (standing_of d.sections set_id file) ++ differs_text note
-    ++ dispute_text (dispute_at d.copies key) ++ codes "\n"
+    head_line file (note_at d.files key) (is_some (dispute_at d.copies key)) complete
+    ++ rest_lines complete d.sections set_id file
 
--- the line of a set
-abbrev pub set_line : List ℕ → List ℕ
-set_line set_id = codes "Set " ++ trimmed_text set_id ++ codes "\n"
+-- the file is complete, no label of another file has its number, and no good copies of its sections
+-- differ
+abbrev pub is_sure : Found → List ℕ → ℕ → Bool
+is_sure d set_id file =
+    let key = file_key set_id file in
+    is_whole_file d.sections set_id file && (not (is_mixed (note_at d.files key))
+    && is_none (dispute_at d.copies key))
+
+-- how many of n files of a set, from this one on, are
+abbrev pub sure_files : Found → List ℕ → ℕ → ℕ → ℕ
+sure_files d set_id file zero = 0
+sure_files d set_id file (suc n) =
+    one_if (is_sure d set_id file) + sure_files d set_id (file + 1) n
+
+-- the line of a set of which this many files are complete
+abbrev pub set_line : List ℕ → ℕ → ℕ → List ℕ
+set_line set_id complete files = codes "Set " ++ (trimmed_text set_id ++ (codes ": "
+    ++ (decimal complete ++ (codes " of " ++ (decimal files ++ codes " files complete\n")))))
 
 -- each of these sections is good
 abbrev pub all_good : List Told → Bool
@@ -111,4 +123,4 @@ is_all d = d.whole && (found_all d.sections && (all_good d.sections
 -- the last line
 abbrev pub last_text : Bool → List ℕ
 last_text all =
-    if all then codes "Nothing lacks, and nothing on the images is left over.\n" else []
+    if all then codes "All files are complete, and every image was read to its end.\n" else []

@@ -11,7 +11,7 @@ use Rattle.tape_run.specs.SurveyGaps.{is_found, gap_first, gap_text}
 use Rattle.tape_run.specs.SurveyLine.{image_line}
 use Rattle.tape_run.specs.SurveyRead.{Found}
 use Rattle.tape_run.specs.SurveyRows.{image_row, section_row, file_row}
-use Rattle.tape_run.specs.SurveySets.{file_line, set_line, is_all, last_text}
+use Rattle.tape_run.specs.SurveySets.{file_lines, set_line, sure_files, is_all, last_text}
 
 -- what is said of an image
 abbrev pub image_text : Wording → List ℕ → Option ImageSurvey → List ℕ
@@ -20,7 +20,7 @@ image_text Rows name sight = image_row name sight
 
 -- what is said of a file of which a label was found
 abbrev pub found_text : Wording → Found → List ℕ → ℕ → List ℕ
-found_text Words d set_id file = file_line d set_id file
+found_text Words d set_id file = file_lines d set_id file
 found_text Rows d set_id file = file_row d set_id file
 
 -- the text for a file, preceded by that for the numbers since the last file that was found; nothing
@@ -38,13 +38,13 @@ file_texts y d set_id file (suc n) =
     file_text y d set_id file ++ file_texts y d set_id (file + 1) n
 
 -- the heading of a set
-abbrev pub set_front : Wording → List ℕ → List ℕ
-set_front Words set_id = set_line set_id
-set_front Rows set_id = []
+abbrev pub set_front : Wording → Found → SetFiles → List ℕ
+set_front Words d x = set_line x.0 (sure_files d x.0 1 x.1) x.1
+set_front Rows d x = []
 
 -- a set, and its files up to the greatest number of one
 abbrev pub set_text : Wording → Found → SetFiles → List ℕ
-set_text y d x = set_front y x.0 ++ file_texts y d x.0 1 x.1
+set_text y d x = set_front y d x ++ file_texts y d x.0 1 x.1
 
 -- sets
 abbrev pub set_texts : Wording → Found → List SetFiles → List ℕ

@@ -32,7 +32,7 @@ pub struct Report {
 pub(crate) type Sets = IndexMap<Field<6>, u16>;
 
 /// Returns a section's line.
-fn line_of(key: &SectionKey, entry: &Entry) -> SectionLine
+pub(crate) fn line_of(key: &SectionKey, entry: &Entry) -> SectionLine
     ensures { result ≡ line_of (key.now, entry.now) }
 {
     SectionLine {

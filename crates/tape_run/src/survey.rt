@@ -14,12 +14,16 @@ ghost use Rattle.tape_run.specs.Survey.{SurveysInPart};
 mod compared;
 pub(crate) mod copies;
 mod course;
+mod damages;
+mod dates;
 mod digest;
+mod facts;
 pub(crate) mod files;
 pub(crate) mod gaps;
 mod glance;
 mod line;
 pub(crate) mod locations;
+mod problems;
 mod rows;
 mod sets;
 mod texts;
@@ -28,9 +32,10 @@ pub(crate) mod view;
 use crate::check::pass_on;
 use crate::extract::images::ImageSource;
 use crate::fault::{EngineFault, NO_MEMORY};
+use crate::text::append;
 use compared::copies_text;
-use line::survey_text_of;
-use rows::{middle_cells, words_cell};
+use line::{LineEnd, WordsCell};
+use rows::middle_cells;
 use sets::is_all;
 use std::alloc::{AllocError, Global};
 use std::io::{Read, Write};
@@ -154,8 +159,7 @@ fn image_row(alloc: Global, name: &str, sight: &Option<ImageSurvey>) -> Result<V
     row.extend_from_slice(name.as_slice())?;
     let cells = middle_cells(sight);
     row.extend_from_slice(&cells)?;
-    let words = words_cell(sight);
-    row.extend_from_slice(&words)?;
+    append(alloc, &mut row, WordsCell(sight))?;
     Ok(row)
 }
 
@@ -164,8 +168,7 @@ fn image_line(alloc: Global, name: &str, sight: &Option<ImageSurvey>) -> Result<
     ensures { IfOk result (λ line. line.items ≡ image_line name.now sight.now) }
 {
     let mut line = name_text(alloc, name)?;
-    let behind = survey_text_of(sight);
-    line.extend_from_slice(&behind)?;
+    append(alloc, &mut line, LineEnd(name.len(), sight))?;
     Ok(line)
 }
 
@@ -252,7 +255,7 @@ fn last_text(all: bool) -> &'static [u8]
     ensures { result.now ≡ last_text all }
 {
     if all {
-        b"Nothing lacks, and nothing on the images is left over.\n"
+        b"All files are complete, and every image was read to its end.\n"
     } else {
         b""
     }

@@ -1,6 +1,7 @@
 //! Texts of limited length, built without allocating, and their output.
 
 ghost use Rattle.std.specs.Prelude.{◌≡◌, ◌≤◌, ◌+◌, ◌++◌, length, decimal, OnOk, OnErr, IfSome};
+ghost use Rattle.std.specs.Prelude.{Some};
 ghost use Rattle.std.specs.Io.KnownBytes.{Appends, Keeps};
 ghost use Rattle.arrayvec.specs.ArrayString.{array_string_len};
 ghost use Rattle.arrayvec.specs.ArrayVec.{array_vec_len};
@@ -10,8 +11,10 @@ ghost use Rattle.tape_image.specs.Written.{AppendsFront};
 
 use crate::fault::WriteFailed;
 use arrayvec::{ArrayString, ArrayVec};
-use std::fmt::{Display, Write as _};
+use std::alloc::{AllocError, Global};
+use std::fmt::{self, Display, Write as _};
 use std::io::Write;
+use std::str;
 use tape_label::Field;
 
 /// Room for the longest text of `survey`, and for each of `unpack`.
@@ -94,6 +97,56 @@ pub(crate) fn put_trimmed<const W: usize, const N: usize>(
     for byte in &bytes[..trimmed_len(bytes)] {
         text.push(printed(*byte));
     }
+}
+
+/// An identifier in its full width, with a question mark for each byte that can't be printed.
+#[derive(Clone, Copy)]
+pub(crate) struct Identifier<'a, const W: usize>(pub(crate) &'a Field<W>);
+
+impl<const W: usize> Display for Identifier<'_, W> {
+    ghost output = { λ text. Some (identifier_text text.0.now) };
+
+    fn fmt<F: fmt::Write>(&self, f: &mut fmt::Formatter<F>) -> fmt::Result {
+        // No field of a label is longer.
+        if W > 80 {
+            return Err(fmt::Error);
+        }
+        let mut text = ArrayVec::<u8, 80>::new();
+        put_identifier(&mut text, self.0);
+        f.write_str(str::from_utf8(&text).map_err(|_| fmt::Error)?)
+    }
+}
+
+/// An identifier without the spaces at its end, with a question mark for each byte that can't be
+/// printed.
+#[derive(Clone, Copy)]
+pub(crate) struct Trimmed<'a, const W: usize>(pub(crate) &'a Field<W>);
+
+impl<const W: usize> Display for Trimmed<'_, W> {
+    ghost output = { λ text. Some (trimmed_text text.0.now) };
+
+    fn fmt<F: fmt::Write>(&self, f: &mut fmt::Formatter<F>) -> fmt::Result {
+        // No field of a label is longer.
+        if W > 80 {
+            return Err(fmt::Error);
+        }
+        let mut text = ArrayVec::<u8, 80>::new();
+        put_trimmed(&mut text, self.0);
+        f.write_str(str::from_utf8(&text).map_err(|_| fmt::Error)?)
+    }
+}
+
+/// Appends a text.
+pub(crate) fn append<D: Display + Drop>(
+    alloc: Global,
+    texts: &mut Vec<u8>,
+    text: D,
+) -> Result<(), AllocError>
+    ensures { OnOk result (IfSome (D.output text) (λ bytes.
+        texts.new.items ≡ texts.old.items ++ bytes)) }
+{
+    let text = text.to_string(alloc)?;
+    texts.extend_from_slice(text.as_bytes())
 }
 
 /// Writes all of the text.

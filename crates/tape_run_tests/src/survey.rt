@@ -1,6 +1,6 @@
 //! Surveys of images: the lines for each.
 use crate::image::{HDR1, HDR2, Image, VOL1, blank, five_blocks, payroll};
-use crate::sections::{first_of_two, one_section, second_of_two};
+use crate::sections::{first_of_two, numbered, one_section, second_of_two};
 use crate::volumes::{EOF_FOUR, EOF_ONE, cut, with_items_behind};
 use std::alloc::{AllocError, Global};
 use std::process::Abort;
@@ -98,21 +98,23 @@ fn undefined(alloc: Global) -> Result<Image, AllocError> {
     Ok(image)
 }
 
-const BOTH: &str = "2.tap: volume ABC002, 1 file
-1?.tap: volume ABC001, 1 file
-Set ABC001
-  1 PAYROLL             00000  complete
-Nothing lacks, and nothing on the images is left over.
+const BOTH: &str = "2.tap                     ok           volume ABC002, 1 section
+1?.tap                    ok           volume ABC001, 1 section
+Set ABC001: 1 of 1 files complete
+   1 PAYROLL                        complete
+All files are complete, and every image was read to its end.
 ";
 
-const FIRST: &str = "one.tap: volume ABC001, 1 file
-Set ABC001
-  1 PAYROLL             00000  wants section 2, on the volume behind ABC001
+const FIRST: &str = "one.tap                   ok           volume ABC001, 1 section
+Set ABC001: 0 of 1 files complete
+   1 PAYROLL                        incomplete
+        section 2 missing, after volume ABC001
 ";
 
-const SECOND: &str = "one.tap: volume ABC002, 1 file
-Set ABC001
-  1 PAYROLL             00000  wants section 1, of which nothing was met
+const SECOND: &str = "one.tap                   ok           volume ABC002, 1 section
+Set ABC001: 0 of 1 files complete
+   1 PAYROLL                        incomplete
+        section 1 not found
 ";
 
 #[test]
@@ -130,22 +132,29 @@ fn whole_reels(rt: HostRuntime) -> Result<(), Fail> {
     one(&rt, &second, SECOND)
 }
 
-const SHORT: &str = "one.tap: no labels; its first block has 300 bytes\n";
+const BLANK: &str = "one.tap                   blank        volume ABC001\n";
 
-const EBCDIC: &str = "one.tap: labels in EBCDIC, which are not read\n";
+const SHORT: &str = "one.tap                   unsupported  no labels; its first block has 300 \
+         bytes\n";
 
-const NOISE: &str = "one.tap: does not begin with a label, 1 block that cannot be read; a VOL1 at \
-         item 2\n";
+const EBCDIC: &str = "one.tap                   unsupported  labels in EBCDIC\n";
 
-const NONE: &str = "empty.tap: no items; ends before its volume does
-lost.tap: not opened
-text.tap: no items; image fault 3 at 0: no SIMH image, or a compressed one (zcat)
+const NOISE: &str = "one.tap                   damaged      does not begin with a label
+    1 unreadable block
+    a VOL1 at item 2
+";
+
+const NONE: &str = "empty.tap                 empty        no items
+    ends before the end of the volume
+lost.tap                  not opened
+text.tap                  not a tape   no items
+    image fault 3 at byte 0: not a SIMH image, or compressed (try zcat)
 ";
 
 #[test]
 fn no_labelled_volumes(rt: HostRuntime) -> Result<(), Fail> {
     let alloc = rt.alloc();
-    one(&rt, &blank(alloc)?, "one.tap: volume ABC001\n")?;
+    one(&rt, &blank(alloc)?, BLANK)?;
     one(&rt, &begun(alloc, &[7u8; 300])?, SHORT)?;
     let mut ebcdic = [0x40u8; 80];
     ebcdic[..4].copy_from_slice(b"\xE5\xD6\xD3\xF1");
@@ -160,28 +169,33 @@ fn no_labelled_volumes(rt: HostRuntime) -> Result<(), Fail> {
     )
 }
 
-const NO_SECOND: &str = "one.tap: volume ABC001, 1 file; item 3 is no HDR2: not read further\n";
-
-const UNREAD: &str = "one.tap: volume ABC001, 1 file, 1 block that cannot be read; item 9 is no \
-         HDR1 and no tape mark: not read further
-Set ABC001
-  1 PAYROLL             00000  complete
+const NO_SECOND: &str = "one.tap                   damaged      volume ABC001, 1 section
+    item 3 is not HDR2: the rest is ignored
 ";
 
-const BEHIND: &str = "one.tap: volume ABC001, 1 file; item 13 stands behind the end of the volume: \
-         not read further
-Set ABC001
-  1 PAYROLL             00000  complete
+const UNREAD: &str = "one.tap                   damaged      volume ABC001, 1 section
+    1 unreadable block
+    item 9 is neither HDR1 nor a tape mark: the rest is ignored
+Set ABC001: 1 of 1 files complete
+   1 PAYROLL                        complete
 ";
 
-const CUT: &str = "one.tap: volume ABC001, 1 file; ends before its volume does
-Set ABC001
-  1 PAYROLL             00000  complete
+const BEHIND: &str = "one.tap                   damaged      volume ABC001, 1 section
+    item 13 follows the end of the volume: the rest is ignored
+Set ABC001: 1 of 1 files complete
+   1 PAYROLL                        complete
 ";
 
-const UNDEFINED: &str = "one.tap: volume ABC001, 1 file; file 1 has a record format that is not read
-Set ABC001
-  1 PAYROLL             00000  complete
+const CUT: &str = "one.tap                   damaged      volume ABC001, 1 section
+    ends before the end of the volume
+Set ABC001: 1 of 1 files complete
+   1 PAYROLL                        complete
+";
+
+const UNDEFINED: &str = "one.tap                   unsupported  volume ABC001, 1 section
+    file 1 has an unsupported record format
+Set ABC001: 1 of 1 files complete
+   1 PAYROLL                        complete
 ";
 
 #[test]
@@ -194,23 +208,26 @@ fn left_over(rt: HostRuntime) -> Result<(), Fail> {
     one(&rt, &undefined(alloc)?, UNDEFINED)
 }
 
-const COUNT: &str = "one.tap: volume ABC001, 1 file, 1 block that cannot be read
-Set ABC001
-  1 PAYROLL             00000  section 1 is COUNT on ABC001; damaged copies together may have \
-         it: try extract
+const COUNT: &str = "one.tap                   damaged      volume ABC001, 1 section
+    1 unreadable block
+    section 1 of file 1 has a wrong block count, blocks found: 5
+Set ABC001: 0 of 1 files complete
+   1 PAYROLL                        incomplete
+        section 1 has a wrong block count on ABC001: no good copy
 ";
 
-const BROKEN_OFF: &str = "one.tap: volume ABC001, 1 file; image fault 1 at 1884
-Set ABC001
-  1 PAYROLL             00000  section 1 is CUT on ABC001; damaged copies together may have it: \
-         try extract
+const BROKEN_OFF: &str = "one.tap                   damaged      volume ABC001, 1 section
+    image fault 1 at byte 1884
+    section 1 of file 1 is truncated, blocks found: 2
+Set ABC001: 0 of 1 files complete
+   1 PAYROLL                        incomplete
+        section 1 is truncated on ABC001: no good copy
 ";
 
-const MIXED: &str = "one.tap: volume ABC001, 1 file
-two.tap: volume ABC001, 1 file
-Set ABC001
-  1 PAYROLL             00000  complete; labels of different files were met under its number; \
-         good copies of section 1 differ
+const MIXED: &str = "one.tap                   ok           volume ABC001, 1 section
+two.tap                   ok           volume ABC001, 1 section
+Set ABC001: 0 of 1 files complete
+   1 PAYROLL                        conflict: labels of different files have this number
 ABC001 file 1 section 1: CONFLICT, one.tap and two.tap differ ('tape compare' shows where)
 ";
 
@@ -233,10 +250,61 @@ fn damaged_and_mixed(rt: HostRuntime) -> Result<(), Fail> {
     )
 }
 
+const PROBLEMS: &str = "two.tap                   damaged      volume ABC001, 1 section
+    item 7 is not EOF1 or EOV1 of its section: the rest is ignored
+    section 2 of file 1 is truncated, blocks found: 1
+five.tap                  ok           volume ABC001, 1 section
+Set ABC001: 0 of 1 files complete
+   1 PAYROLL                        incomplete
+        section 1 not found
+        section 2 is truncated on ABC001: no good copy
+        sections 3-4 missing, after volume ABC001
+        section 6 missing, after volume ABC001
+";
+
+/// The second section of the worked file.
+const SECOND_OF_IT: &str = "HDR1PAYROLL          ABC00100020001000100 00000 00000 000000";
+
+#[test]
+fn each_section_that_is_damaged_or_missing(rt: HostRuntime) -> Result<(), Fail> {
+    let alloc = rt.alloc();
+    let two = one_section(alloc, SECOND_OF_IT, EOF_ONE)?;
+    let five = numbered(alloc, 5)?;
+    survey(
+        &rt,
+        &[Some(two.bytes.as_slice()), Some(five.bytes.as_slice())],
+        &["two.tap", "five.tap"],
+        false,
+        PROBLEMS,
+    )
+}
+
+const DATED: &str = "one.tap                   ok           volume ABC001, 1 section
+Set ABC001: 1 of 1 files complete
+   1 PAYROLL            1985-04-23  complete
+All files are complete, and every image was read to its end.
+";
+
+#[test]
+fn date_of_a_file(rt: HostRuntime) -> Result<(), Fail> {
+    let dated = one_section(
+        rt.alloc(),
+        "HDR1PAYROLL          ABC00100010001000100 85113 00000 000000",
+        "EOF1PAYROLL          ABC00100010001000100 85113 00000 000001",
+    )?;
+    survey(
+        &rt,
+        &[Some(dated.bytes.as_slice())],
+        &["one.tap"],
+        true,
+        DATED,
+    )
+}
+
 const ROWS: &str = "IMAGE\t1?.tap\tWHOLE\tABC001\tABC001\t\t12\t1\t0\tMARKED\tvolume ABC001, \
-         1 file
-IMAGE\tcut.tap\tPARTIAL\tABC001\tABC001\t\t6\t1\t0\tFAULT 1 1884\tvolume ABC001, 1 file; \
-         image fault 1 at 1884
+         1 section
+IMAGE\tcut.tap\tPARTIAL\tABC001\tABC001\t\t6\t1\t0\tFAULT 1 1884\tvolume ABC001, 1 section; \
+         image fault 1 at byte 1884; section 1 of file 1 is truncated, blocks found: 2
 IMAGE\tlost.tap\tNOT OPENED\t\t\t\t\t\t\t\tnot opened
 SECTION\tABC001\t1\t1\tABC001\t3\tGOOD\tEOF
 FILE\tABC001\t1\tPAYROLL\t 00000\tCOMPLETE\t\t\t
@@ -255,8 +323,9 @@ fn rows(rt: HostRuntime) -> Result<(), Fail> {
     told(&rt, &images, &names, Wording::Rows, false, ROWS)
 }
 
-const ROWS_OF_COUNT: &str = "IMAGE\tone.tap\tWHOLE\tABC001\tABC001\t\t14\t1\t1\tMARKED\tvolume \
-         ABC001, 1 file, 1 block that cannot be read
+const ROWS_OF_COUNT: &str = "IMAGE\tone.tap\tPARTIAL\tABC001\tABC001\t\t14\t1\t1\tMARKED\tvolume \
+         ABC001, 1 section; 1 unreadable block; section 1 of file 1 has a wrong block \
+         count, blocks found: 5
 SECTION\tABC001\t1\t1\tABC001\t5\tCOUNT\tEOF
 FILE\tABC001\t1\tPAYROLL\t 00000\tCOUNT\t1\tABC001\t
 ";
@@ -274,25 +343,25 @@ fn rows_of_a_wrong_count(rt: HostRuntime) -> Result<(), Fail> {
     )
 }
 
-const AGREED: &str = "one.tap: volume ABC001, 1 file
-two.tap: volume ABC001, 1 file
-Set ABC001
-  1 PAYROLL             00000  complete
+const AGREED: &str = "one.tap                   ok           volume ABC001, 1 section
+two.tap                   ok           volume ABC001, 1 section
+Set ABC001: 1 of 1 files complete
+   1 PAYROLL                        complete
 ABC001 file 1 section 1: good, 2 copies agree
-Nothing lacks, and nothing on the images is left over.
+All files are complete, and every image was read to its end.
 ";
 
-const DISPUTED: &str = "one.tap: volume ABC001, 1 file
-two.tap: volume ABC001, 1 file
-Set ABC001
-  1 PAYROLL             00000  complete; good copies of section 1 differ
+const DISPUTED: &str = "one.tap                   ok           volume ABC001, 1 section
+two.tap                   ok           volume ABC001, 1 section
+Set ABC001: 0 of 1 files complete
+   1 PAYROLL                        conflict: good copies of a section differ
 ABC001 file 1 section 1: CONFLICT, one.tap and two.tap differ ('tape compare' shows where)
 ";
 
 const ROWS_OF_THREE: &str = "IMAGE\t1.tap\tWHOLE\tABC001\tABC001\t\t12\t1\t0\tMARKED\tvolume ABC001, \
-         1 file
-IMAGE\t2.tap\tWHOLE\tABC001\tABC001\t\t12\t1\t0\tMARKED\tvolume ABC001, 1 file
-IMAGE\t3.tap\tWHOLE\tABC001\tABC001\t\t12\t1\t0\tMARKED\tvolume ABC001, 1 file
+         1 section
+IMAGE\t2.tap\tWHOLE\tABC001\tABC001\t\t12\t1\t0\tMARKED\tvolume ABC001, 1 section
+IMAGE\t3.tap\tWHOLE\tABC001\tABC001\t\t12\t1\t0\tMARKED\tvolume ABC001, 1 section
 SECTION\tABC001\t1\t1\tABC001\t3\tGOOD\tEOF
 FILE\tABC001\t1\tPAYROLL\t 00000\tCOMPLETE\t\t\tCONFLICT
 COPIES\tABC001\t1\t1\t2\t1.tap\t2.tap\tCONFLICT

@@ -6,12 +6,16 @@ ghost use Rattle.tape_run.specs.SurveyGlance.{blank_glance, is_ebcdic, first_of,
 ghost use Rattle.tape_run.specs.SurveyGlance.{first_other, first_block, is_vol1, is_kind_vol1};
 ghost use Rattle.tape_run.specs.SurveyGlance.{late_with, head_in, head_at, head_of, unread_in};
 ghost use Rattle.tape_run.specs.SurveyGlance.{unread_at, unread_by, unread_with, is_bad, one_if};
-ghost use Rattle.tape_run.specs.SurveyGlance.{one_head, or_else, look_to};
+ghost use Rattle.tape_run.specs.SurveyGlance.{one_head, or_else, line_in, damage_in, is_second};
+ghost use Rattle.tape_run.specs.SurveyGlance.{look_to};
 ghost use Rattle.tape_label.specs.Kinds.{kind_at};
 ghost use Rattle.tape_label.specs.Reading.{head2_at};
 
 use super::course::{LabelOrder, course_with};
-use crate::passing::Phase;
+use crate::met::Told;
+use crate::passing::{Phase, told_in};
+use crate::report::line_of;
+use crate::section::SectionLine;
 use tape_image::Item;
 use tape_label::{Head1, Kind, Vol1, kind, read_head1, read_head2, read_vol1};
 
@@ -49,6 +53,12 @@ pub struct ImageSummary {
     pub bad: u32,
     /// The number of the first file whose `HDR2` is not one that is read.
     pub unread: Option<u16>,
+    /// The first section on it that was read to its end and is damaged.
+    pub damage: Option<SectionLine>,
+    /// Whether there are more.
+    pub more: bool,
+    /// The section whose data or trailer label the items end in.
+    pub unfinished: Option<SectionLine>,
     /// How far it follows the order of a volume.
     pub course: LabelOrder,
 }
@@ -65,6 +75,9 @@ pub(crate) fn blank_glance() -> ImageSummary
         files: 0,
         bad: 0,
         unread: None,
+        damage: None,
+        more: false,
+        unfinished: None,
         course: LabelOrder::Follows,
     }
 }
@@ -219,7 +232,7 @@ fn is_bad(item: Item<'_>) -> bool
 }
 
 /// One, if this is so.
-fn one_if(so: bool) -> u32
+pub(crate) fn one_if(so: bool) -> u32
     ensures exact { result ≡ one_if so }
     ensures most { result ≤ 1 }
 {
@@ -247,6 +260,33 @@ pub(crate) fn or_else<T: Copy>(first: Option<T>, second: Option<T>) -> Option<T>
     }
 }
 
+/// What is known of a section that was found, if one was.
+fn line_in(told: &Option<Told>) -> Option<SectionLine>
+    ensures { result ≡ line_in told.now }
+{
+    match told {
+        Some((key, entry)) => Some(line_of(key, entry)),
+        None => None,
+    }
+}
+
+/// The same if the section is damaged.
+fn damage_in(told: &Option<Told>) -> Option<SectionLine>
+    ensures { result ≡ damage_in told.now }
+{
+    match told {
+        Some((_, entry)) if entry.state.is_good() => None,
+        _ => line_in(told),
+    }
+}
+
+/// Whether there are both.
+fn is_second(first: &Option<SectionLine>, second: &Option<SectionLine>) -> bool
+    ensures { result ≡ is_second first.now second.now }
+{
+    first.is_some() && second.is_some()
+}
+
 /// The glance after one more item, with the phases before and after it.
 pub(crate) fn look(
     glance: &ImageSummary,
@@ -263,6 +303,7 @@ pub(crate) fn look(
 {
     let number = glance.items + 1;
     let head = head_in(phase, item);
+    let damage = damage_in(&told_in(phase, item));
     ImageSummary {
         items: number,
         first: first_with(&glance.first, number, item),
@@ -271,6 +312,9 @@ pub(crate) fn look(
         files: glance.files + one_head(&head),
         bad: glance.bad + one_if(is_bad(item)),
         unread: or_else(glance.unread, unread_in(phase, item)),
+        damage: or_else(glance.damage, damage),
+        more: glance.more || is_second(&glance.damage, &damage),
+        unfinished: line_in(&next.under_way()),
         course: course_with(glance.course, number, *phase, item, *next),
     }
 }

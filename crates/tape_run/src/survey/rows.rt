@@ -2,13 +2,12 @@
 ghost use Rattle.std.specs.Prelude.{◌≡◌, ◌≤◌, ◌+◌, ◌++◌, length, decimal, codes, option_map};
 ghost use Rattle.arrayvec.specs.ArrayVec.{array_vec_len};
 ghost use Rattle.tape_run.specs.SurveyRows.{whole_cell, volume_cell, head_cells, count_cells};
-ghost use Rattle.tape_run.specs.SurveyRows.{seen_cells, middle_cells, sight_cells, words_cell};
+ghost use Rattle.tape_run.specs.SurveyRows.{seen_cells, middle_cells, sight_cells};
 ghost use Rattle.tape_run.specs.SurveyRows.{key_cells, eof_cell, section_row, known_cells};
 ghost use Rattle.tape_run.specs.SurveyRows.{wanted_cells, standing_cells, conflict_cell, file_row};
 
 use super::files::{FileKey, FileNote};
 use super::glance::{First, ImageSummary};
-use super::line::put_met;
 use super::sets::{Standing, is_mixed, standing_of};
 use super::view::{Findings, ImageSurvey};
 use crate::check_line::{state_text, stop_text};
@@ -63,7 +62,7 @@ fn put_seen(text: &mut Text, sight: &ImageSurvey)
     ensures items { text.new.items ≡ text.old.items ++ seen_cells sight.now }
     ensures len { array_vec_len text.new ≤ 900 }
 {
-    put(text, whole_cell(sight.is_whole()));
+    put(text, whole_cell(sight.is_sound()));
     put_tab(text);
     put_volume(text, &sight.glance.first);
     put_tab(text);
@@ -121,16 +120,6 @@ fn put_counts(text: &mut Text, glance: &ImageSummary)
     put_count(text, glance.files);
     put_tab(text);
     put_count(text, glance.bad);
-}
-
-/// What an image is, in words, at the end of its row.
-pub(crate) fn words_cell(sight: &Option<ImageSurvey>) -> Text
-    ensures { result.items ≡ words_cell sight.now }
-{
-    let mut text = Text::new();
-    put_met(&mut text, sight);
-    put(&mut text, b"\n");
-    text
 }
 
 /// The row of a section.

@@ -1,22 +1,27 @@
 //! What a survey says of sets and their files.
-ghost use Rattle.std.specs.Prelude.{◌≡◌, ◌≤◌, ◌<◌, ◌+◌, ◌++◌, ◌&&◌, length, take, IfOk, option_map};
-ghost use Rattle.arrayvec.specs.ArrayVec.{array_vec_len};
+ghost use Rattle.std.specs.Prelude.{◌≡◌, ◌<◌, ◌+◌, ◌++◌, ◌&&◌, length, take};
+ghost use Rattle.std.specs.Prelude.{IfOk, OnOk, Some, is_some, option_map};
 ghost use Rattle.tape_run.specs.Lacks.{entry_at, found_all};
-ghost use Rattle.tape_run.specs.SurveySets.{wanted_at, standing_of, known_text, standing_text};
-ghost use Rattle.tape_run.specs.SurveySets.{wanted_text, damaged_text, differs_text, file_line};
-ghost use Rattle.tape_run.specs.SurveySets.{set_line, is_all, behind_by, is_mixed, missing_text};
-ghost use Rattle.tape_run.specs.SurveySets.{dispute_text, all_good};
+ghost use Rattle.tape_run.specs.SurveyCopies.{dispute_at};
+ghost use Rattle.tape_run.specs.SurveyFiles.{note_at, file_key};
+ghost use Rattle.tape_run.specs.SurveySets.{wanted_at, standing_of, known_text, number_text};
+ghost use Rattle.tape_run.specs.SurveySets.{file_word, head_line, file_lines, set_line, is_all};
+ghost use Rattle.tape_run.specs.SurveySets.{is_sure, sure_files, is_whole_file, rest_lines};
+ghost use Rattle.tape_run.specs.SurveySets.{behind_by, is_mixed, all_good};
 
+use super::dates::DateText;
 use super::files::{FileKey, FileNote, any_differs};
+use super::glance::one_if;
+use super::problems::add_problems;
 use super::view::Findings;
 use crate::check::is_found;
-use crate::check_line::state_text;
 use crate::lacks::lack_of;
 use crate::report::report_of;
 use crate::section::{Entry, SectionKey};
 use crate::sections::Sections;
-use crate::text::{Text, put, put_decimal, put_identifier, put_trimmed};
+use crate::text::{Identifier, Trimmed, append};
 use std::alloc::{AllocError, Global};
+use std::fmt;
 use tape_label::Field;
 
 /// What is reported of a file.
@@ -68,88 +73,75 @@ pub(crate) fn standing_of(sections: &Sections, set_id: Field<6>, file: u16) -> S
     }
 }
 
+/// A number in at least four columns.
+#[derive(Clone, Copy)]
+struct Number(u16);
+
+impl fmt::Display for Number {
+    ghost output = { λ number. Some (number_text number.0) };
+
+    fn fmt<W: fmt::Write>(&self, f: &mut fmt::Formatter<W>) -> fmt::Result {
+        let number = self.0;
+        match number {
+            0..10 => write!(f, "   {number}"),
+            10..100 => write!(f, "  {number}"),
+            100..1000 => write!(f, " {number}"),
+            _ => write!(f, "{number}"),
+        }
+    }
+}
+
 /// What is known of a file by its labels.
-fn put_known(text: &mut Text, note: Option<&FileNote>)
-    requires room { array_vec_len text.old ≤ 60 }
-    ensures items { text.new.items
-        ≡ text.old.items ++ known_text (option_map (λ n. n.now) note.entry) }
-    ensures len { array_vec_len text.new ≤ 100 }
-{
-    match note {
-        Some(note) => {
-            put_identifier(text, &note.head.file_id);
-            put(text, b"  ");
-            put_identifier(text, &note.head.created);
+#[derive(Clone, Copy)]
+struct Known(Option<FileNote>);
+
+impl fmt::Display for Known {
+    ghost output = { λ known. Some (known_text known.0) };
+
+    fn fmt<W: fmt::Write>(&self, f: &mut fmt::Formatter<W>) -> fmt::Result {
+        match self.0 {
+            Some(note) => {
+                let name = Identifier(&note.head.file_id);
+                let created = DateText(&note.head.created);
+                write!(f, "{name}  {created}")
+            }
+            None => write!(f, "(no label found)"),
         }
-        None => put(text, b"(no label was met)"),
     }
 }
 
-/// The text for a file.
-fn put_standing(text: &mut Text, standing: &Standing)
-    requires room { array_vec_len text.old ≤ 110 }
-    ensures items { text.new.items ≡ text.old.items ++ standing_text standing.now }
-    ensures len { array_vec_len text.new ≤ 300 }
+/// What a file is, in a word, or why it is in conflict.
+fn file_word(mixed: bool, disputed: bool, complete: bool) -> &'static str
+    ensures { result.now ≡ file_word mixed disputed complete }
 {
-    match standing {
-        Standing::Complete => put(text, b"complete"),
-        Standing::Damaged(sect, entry) => put_damaged(text, *sect, entry),
-        Standing::Behind(sect, volume) => {
-            put_wanted(text, *sect);
-            put(text, b", on the volume behind ");
-            put_trimmed(text, volume);
-        }
-        Standing::Missing(sect) => put_missing(text, *sect),
+    if mixed {
+        "conflict: labels of different files have this number"
+    } else if disputed {
+        "conflict: good copies of a section differ"
+    } else if complete {
+        "complete"
+    } else {
+        "incomplete"
     }
 }
 
-/// A section of which nothing is known.
-fn put_missing(text: &mut Text, sect: u16)
-    requires room { array_vec_len text.old ≤ 110 }
-    ensures items { text.new.items ≡ text.old.items ++ missing_text sect }
-    ensures len { array_vec_len text.new ≤ 300 }
-{
-    put_wanted(text, sect);
-    put(text, b", of which nothing was met");
+/// The first line of a file.
+#[derive(Clone, Copy)]
+struct HeadLine {
+    file: u16,
+    note: Option<FileNote>,
+    disputed: bool,
+    complete: bool,
 }
 
-/// A missing section.
-fn put_wanted(text: &mut Text, sect: u16)
-    requires room { array_vec_len text.old ≤ 110 }
-    ensures items { text.new.items ≡ text.old.items ++ wanted_text sect }
-    ensures len { array_vec_len text.new ≤ 180 }
-{
-    put(text, b"wants section ");
-    put_decimal(text, u64::from(sect));
-}
+impl fmt::Display for HeadLine {
+    ghost output = { λ line. Some (head_line line.file line.note line.disputed line.complete) };
 
-/// A section without a complete copy.
-fn put_damaged(text: &mut Text, sect: u16, entry: &Entry)
-    requires room { array_vec_len text.old ≤ 110 }
-    ensures items { text.new.items ≡ text.old.items ++ damaged_text sect entry.now }
-    ensures len { array_vec_len text.new ≤ 300 }
-{
-    put(text, b"section ");
-    put_decimal(text, u64::from(sect));
-    put(text, b" is ");
-    put(text, state_text(entry.state));
-    put(text, b" on ");
-    put_trimmed(text, &entry.volume);
-    put(text, b"; damaged copies together may have it: try extract");
-}
-
-/// That header labels of different files were found.
-fn put_differs(text: &mut Text, note: Option<&FileNote>)
-    requires room { array_vec_len text.old ≤ 300 }
-    ensures items { text.new.items
-        ≡ text.old.items ++ differs_text (option_map (λ n. n.now) note.entry) }
-    ensures len { array_vec_len text.new ≤ 400 }
-{
-    if is_mixed(note) {
-        put(
-            text,
-            b"; labels of different files were met under its number",
-        );
+    fn fmt<W: fmt::Write>(&self, f: &mut fmt::Formatter<W>) -> fmt::Result {
+        let file = Number(self.file);
+        let known = Known(self.note);
+        let word = file_word(is_mixed(self.note.as_ref()), self.disputed, self.complete);
+        write!(f, "{file} {known}  {word}\n")
     }
 }
 
@@ -163,47 +155,128 @@ pub(crate) fn is_mixed(note: Option<&FileNote>) -> bool
     }
 }
 
-/// That complete copies of a section differ.
-fn put_dispute(text: &mut Text, dispute: Option<u16>)
-    requires room { array_vec_len text.old ≤ 400 }
-    ensures items { text.new.items ≡ text.old.items ++ dispute_text dispute }
-    ensures len { array_vec_len text.new ≤ 500 }
+/// Appends the lines of a file: what it is, and then what is damaged or missing unless it is
+/// complete.
+pub(crate) fn add_lines(
+    texts: &mut Vec<u8>,
+    findings: &Findings,
+    set_id: Field<6>,
+    file: u16,
+) -> Result<(), AllocError>
+    ensures { OnOk result (texts.new.items
+        ≡ texts.old.items ++ file_lines findings.now set_id file) }
 {
-    if let Some(sect) = dispute {
-        put(text, b"; good copies of section ");
-        put_decimal(text, u64::from(sect));
-        put(text, b" differ");
+    let complete = is_whole_file(&findings.sections, set_id, file);
+    add_head(texts, findings, set_id, file, complete)?;
+    add_rest(texts, findings, set_id, file, complete)
+}
+
+/// Appends the first line of a file.
+fn add_head(
+    texts: &mut Vec<u8>,
+    findings: &Findings,
+    set_id: Field<6>,
+    file: u16,
+    complete: bool,
+) -> Result<(), AllocError>
+    ensures { OnOk result (texts.new.items ≡ texts.old.items
+        ++ head_line file (note_at findings.now.files (file_key set_id file))
+        (is_some (dispute_at findings.now.copies (file_key set_id file))) complete) }
+{
+    let key = FileKey { set_id, file };
+    let line = HeadLine {
+        file,
+        note: findings.files.get(&key).copied(),
+        disputed: findings.copies.dispute(&key).is_some(),
+        complete,
+    };
+    append(findings.alloc, texts, line)
+}
+
+/// Appends what is damaged or missing of a file unless it is complete.
+fn add_rest(
+    texts: &mut Vec<u8>,
+    findings: &Findings,
+    set_id: Field<6>,
+    file: u16,
+    complete: bool,
+) -> Result<(), AllocError>
+    ensures { OnOk result (texts.new.items
+        ≡ texts.old.items ++ rest_lines complete findings.now.sections set_id file) }
+{
+    if complete {
+        return Ok(());
+    }
+    add_problems(findings.alloc, texts, &findings.sections, set_id, file)
+}
+
+/// Whether nothing of a file is missing.
+fn is_whole_file(sections: &Sections, set_id: Field<6>, file: u16) -> bool
+    ensures { result ≡ is_whole_file sections.now.entries set_id file }
+{
+    match lack_of(sections, set_id, file) {
+        Some(_) => false,
+        None => true,
     }
 }
 
-/// The line of a file.
-pub(crate) fn file_line(findings: &Findings, set_id: Field<6>, file: u16) -> Text
-    ensures { result.items ≡ file_line findings.now set_id file }
+/// Whether a file is complete, no label of another file has its number, and no good copies of its
+/// sections differ.
+fn is_sure(findings: &Findings, set_id: Field<6>, file: u16) -> bool
+    ensures { result ≡ is_sure findings.now set_id file }
 {
-    let mut text = Text::new();
     let key = FileKey { set_id, file };
-    let note = findings.files.get(&key);
-    put(&mut text, b"  ");
-    put_decimal(&mut text, u64::from(file));
-    put(&mut text, b" ");
-    put_known(&mut text, note);
-    put(&mut text, b"  ");
-    put_standing(&mut text, &standing_of(&findings.sections, set_id, file));
-    put_differs(&mut text, note);
-    put_dispute(&mut text, findings.copies.dispute(&key));
-    put(&mut text, b"\n");
-    text
+    is_whole_file(&findings.sections, set_id, file)
+        && !is_mixed(findings.files.get(&key))
+        && findings.copies.dispute(&key).is_none()
+}
+
+/// How many files of a set, up to the greatest number of one, are.
+fn sure_files(findings: &Findings, set_id: Field<6>, greatest: u16) -> u32
+    ensures { result ≡ sure_files findings.now set_id 1 greatest }
+{
+    let mut sure = 0;
+    for before in 0..greatest {
+        sure += one_if(is_sure(findings, set_id, before + 1));
+    }
+    sure
 }
 
 /// The line of a set.
-pub(crate) fn set_line(set_id: Field<6>) -> Text
-    ensures { result.items ≡ set_line set_id }
+#[derive(Clone, Copy)]
+struct SetLine {
+    set_id: Field<6>,
+    complete: u32,
+    files: u16,
+}
+
+impl fmt::Display for SetLine {
+    ghost output = { λ line. Some (set_line line.set_id line.complete line.files) };
+
+    fn fmt<W: fmt::Write>(&self, f: &mut fmt::Formatter<W>) -> fmt::Result {
+        let (complete, files) = (self.complete, self.files);
+        let set_id = Trimmed(&self.set_id);
+        write!(f, "Set {set_id}: {complete} of {files} files complete\n")
+    }
+}
+
+/// Appends the line of a set with this greatest number of a file.
+pub(crate) fn add_set_line(
+    texts: &mut Vec<u8>,
+    findings: &Findings,
+    set_id: Field<6>,
+    files: u16,
+) -> Result<(), AllocError>
+    ensures { OnOk result (texts.new.items ≡ texts.old.items
+        ++ set_line set_id (sure_files findings.now set_id 1 files) files) }
 {
-    let mut text = Text::new();
-    put(&mut text, b"Set ");
-    put_trimmed(&mut text, &set_id);
-    put(&mut text, b"\n");
-    text
+    let complete = sure_files(findings, set_id, files);
+    let line = SetLine {
+        set_id,
+        complete,
+        files,
+    };
+    append(findings.alloc, texts, line)
 }
 
 /// Whether something was found, and nothing is missing.

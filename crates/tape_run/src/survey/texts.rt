@@ -10,32 +10,48 @@ ghost use Rattle.tape_run.specs.SurveyRows.{section_row};
 use super::Wording;
 use super::gaps::{gap_first, gap_text, is_found};
 use super::rows::{file_row, section_row};
-use super::sets::{file_line, set_line};
+use super::sets::{add_lines, add_set_line};
 use super::view::Findings;
 use crate::report::{Sets, sets_of};
 use crate::section::{Entry, SectionKey};
 use crate::sections::Sections;
-use crate::text::Text;
 use std::alloc::{AllocError, Global};
 use tape_label::Field;
 
-/// Returns the text for a file of which a label was found.
-fn found_text(findings: &Findings, wording: Wording, set_id: Field<6>, file: u16) -> Text
-    ensures { result.items ≡ found_text wording findings.now set_id file }
+/// Appends the text for a file of which a label was found.
+fn add_known(
+    texts: &mut Vec<u8>,
+    findings: &Findings,
+    wording: Wording,
+    set_id: Field<6>,
+    file: u16,
+) -> Result<(), AllocError>
+    ensures { OnOk result (texts.new.items
+        ≡ texts.old.items ++ found_text wording findings.now set_id file) }
 {
     match wording {
-        Wording::Words => file_line(findings, set_id, file),
-        Wording::Rows => file_row(findings, set_id, file),
+        Wording::Words => add_lines(texts, findings, set_id, file),
+        Wording::Rows => {
+            let row = file_row(findings, set_id, file);
+            texts.extend_from_slice(&row)
+        }
     }
 }
 
-/// The heading of a set.
-fn set_front(wording: Wording, set_id: Field<6>) -> Text
-    ensures { result.items ≡ set_front wording set_id }
+/// Appends the heading of a set with this greatest number of a file.
+fn add_front(
+    texts: &mut Vec<u8>,
+    findings: &Findings,
+    wording: Wording,
+    set_id: Field<6>,
+    greatest: u16,
+) -> Result<(), AllocError>
+    ensures { OnOk result (texts.new.items
+        ≡ texts.old.items ++ set_front wording findings.now (set_id, greatest)) }
 {
     match wording {
-        Wording::Words => set_line(set_id),
-        Wording::Rows => Text::new(),
+        Wording::Words => add_set_line(texts, findings, set_id, greatest),
+        Wording::Rows => Ok(()),
     }
 }
 
@@ -74,8 +90,7 @@ fn add_found(
     let first = gap_first(findings, set_id, file);
     let gap = gap_text(wording, set_id, first, file);
     texts.extend_from_slice(&gap)?;
-    let text = found_text(findings, wording, set_id, file);
-    texts.extend_from_slice(&text)
+    add_known(texts, findings, wording, set_id, file)
 }
 
 /// Appends the texts for the files of a set, up to the greatest number of a file.
@@ -106,8 +121,7 @@ fn add_set(
     ensures { OnOk result (texts.new.items
         ≡ texts.old.items ++ set_text wording findings.now (set_id, greatest)) }
 {
-    let front = set_front(wording, set_id);
-    texts.extend_from_slice(&front)?;
+    add_front(texts, findings, wording, set_id, greatest)?;
     add_files(texts, findings, wording, set_id, greatest)?;
     Ok(())
 }

@@ -6,7 +6,7 @@ ghost use Rattle.tape_set.specs.Lawful.{most_blocks};
 ghost use Rattle.tape_run.specs.Noted.{noted_all};
 ghost use Rattle.tape_run.specs.Passing.{step, in_list, under_way, blocks_of};
 ghost use Rattle.tape_run.specs.declared.fault.RunFault.TheVariants as faults;
-ghost use Rattle.tape_run.specs.SurveyRead.{ViewsItems, IsViewed, is_whole_sight};
+ghost use Rattle.tape_run.specs.SurveyRead.{ViewsItems, IsViewed, is_whole_sight, is_sound};
 ghost use Rattle.tape_run.specs.SurveyRead.{nothing_found, is_ended, is_none, is_end};
 
 use super::copies::Copies;
@@ -66,7 +66,7 @@ impl Model for Findings {
 }
 
 /// Whether the volume ended.
-fn is_ended(course: LabelOrder) -> bool
+pub(crate) fn is_ended(course: LabelOrder) -> bool
     ensures { result ≡ is_ended course }
 {
     match course {
@@ -86,7 +86,7 @@ fn is_none(file: Option<u16>) -> bool
 }
 
 /// Whether the image does not stop by a fault.
-fn is_end(stop: ImageStop) -> bool
+pub(crate) fn is_end(stop: ImageStop) -> bool
     ensures { result ≡ is_end stop }
 {
     match stop {
@@ -101,6 +101,13 @@ impl ImageSurvey {
         ensures { result ≡ is_whole_sight self.now }
     {
         is_ended(self.glance.course) && is_none(self.glance.unread) && is_end(self.stop)
+    }
+
+    /// Whether they are such a volume, and none of its sections is damaged.
+    pub(crate) fn is_sound(&self) -> bool
+        ensures { result ≡ is_sound self.now }
+    {
+        self.is_whole() && self.glance.damage.is_none()
     }
 }
 

@@ -11,24 +11,31 @@ pub const SHELF: &str = "SIMH .tap images, in any order (at most 256; see --file
 pub const ROWS: &str = "Print tab-separated values, for scripts";
 
 /// Help after the arguments of `survey`.
-pub const AFTER_SURVEY: &str = "One line per image, as soon as it is read: its name, and what it is.
-  one.tap: volume ABC001, written by DECFILE11A, 2 files
-  two.tap: volume ABC002, 1 file, 1 block that cannot be read
-  cut.tap: volume ABC001, 1 file; image fault 1 at 1884
-  hdr.tap: volume ABC003, 1 file; item 11 is no HDR1 and no tape mark:
-           not read further
-  fmt.tap: volume VMS001, 1 file; file 1 has a record format that is not read
-  raw.tap: no labels; its first block has 10240 bytes
-  ibm.tap: labels in EBCDIC, which are not read
-  zip.tap: no items; image fault 3 at 0: no SIMH image, or a compressed one
-           (zcat)
-Then each set with its files: number, identifier, creation date, and whether
-all sections were found.
-  Set ABC001
-    1 PAYROLL             85113  complete
-    2 LEDGER              85113  wants section 2, on the volume behind ABC002
-    3 TAXES               85113  section 1 is BAD on ABC002; damaged copies
-                                 together may have it: try extract
+pub const AFTER_SURVEY: &str =
+    "Each image as soon as it is read: its name, its state in a word, and what was
+found on it.
+  one.tap                   ok           volume ABC001, 2 sections
+  two.tap                   damaged      volume ABC002, 1 section
+      2 unreadable blocks
+      image fault 1 at byte 1884
+      section 1 of file 2 is truncated, blocks found: 26
+  hdr.tap                   damaged      volume ABC003, 1 section
+      item 11 is neither HDR1 nor a tape mark: the rest is ignored
+  fmt.tap                   unsupported  volume VMS001, 1 section
+      file 1 has an unsupported record format
+  new.tap                   blank        volume NEW001
+  raw.tap                   unsupported  no labels; its first block has 10240
+                                         bytes
+  zip.tap                   not a tape   no items
+      image fault 3 at byte 0: not a SIMH image, or compressed (try zcat)
+Then each set with its files: number, identifier, creation date if there is
+one, and whether all sections were found. Below an incomplete file, each of its
+sections that is damaged or missing:
+  Set ABC001: 1 of 2 files complete
+     1 PAYROLL            1985-04-23  complete
+     2 LEDGER             1985-04-23  incomplete
+          section 1 is truncated on ABC002: no good copy
+          section 3 missing, after volume ABC003
 If labels of different files have the same number, two sets share one
 identifier. tape cannot separate them: keep the images of each set in a
 directory of its own.

@@ -61,8 +61,10 @@ const ROWS: &[Row<'_>] = &[
     (
         "survey lost.tap seen1.tap",
         3,
-        "lost.tap: not opened\nseen1.tap: volume ABC001, 1 file\nSet ABC001\n  \
-            1 PAYROLL             00000  wants section 2, on the volume behind ABC001\n",
+        "lost.tap                  not opened\n\
+         seen1.tap                 ok           volume ABC001, 1 section\nSet ABC001: 0 of 1 files complete\n   \
+            1 PAYROLL                        incomplete\n        \
+            section 2 missing, after volume ABC001\n",
         "",
         Some("lost.tap? seen1.tap "),
     ),
@@ -187,7 +189,11 @@ fn whole_calls(rt: HostRuntime) -> Result<(), Fail> {
 /// that do not exist.
 const READERS: &[(&str, &str, &str)] = &[
     ("check", "many.names ", "\nIMAGE 300 0 NOT OPENED\n"),
-    ("survey", "many.names ", "\nlost.tap: not opened\n"),
+    (
+        "survey",
+        "many.names ",
+        "\nlost.tap                  not opened\n",
+    ),
     (
         "extract ABC001 1 many.txt",
         "many.names .tape-1.part ",

@@ -1,0 +1,128 @@
+//! The dates of labels.
+ghost use Rattle.std.specs.Prelude.{◌≡◌, ◌≤◌, IfSome, Some};
+ghost use Rattle.tape_run.specs.Dates.{century, is_leap, february, in_months, in_year, in_century};
+ghost use Rattle.tape_run.specs.Dates.{date_of, date_text, two_digits};
+
+use std::fmt;
+use tape_label::{Field, digits_value};
+
+/// A day of the calendar.
+#[derive(Clone, Copy)]
+pub(crate) struct Date {
+    year: u16,
+    month: u16,
+    day: u16,
+}
+
+/// The first year of the century that a character of a label means.
+fn century(byte: u8) -> Option<u16>
+    ensures value { result ≡ century byte }
+    ensures small { IfSome result (λ year. year ≤ 2000) }
+{
+    match byte {
+        b' ' => Some(1900),
+        b'0' => Some(2000),
+        _ => None,
+    }
+}
+
+/// Whether a year has 366 days.
+fn is_leap(year: u16) -> bool
+    ensures { result ≡ is_leap year }
+{
+    year % 4 == 0 && (year % 100 != 0 || year % 400 == 0)
+}
+
+/// How many days February has.
+fn february(year: u16) -> u16
+    ensures { result ≡ february year }
+{
+    if is_leap(year) { 29 } else { 28 }
+}
+
+/// The date of a day, counted from the first one of the last months of a year, which have these
+/// numbers of days.
+fn in_months(lengths: &[u16], year: u16, day: u16) -> Option<Date>
+    ensures { result ≡ in_months lengths.now year day }
+{
+    match lengths {
+        [] => None,
+        [length, rest @ ..] => {
+            if day <= *length {
+                let month = 12usize.saturating_sub(rest.len()) as u16;
+                return Some(Date { year, month, day });
+            }
+            in_months(rest, year, day - *length)
+        }
+    }
+}
+
+/// The date of a day of a year, counted from 1.
+fn in_year(year: u16, day: u16) -> Option<Date>
+    ensures { result ≡ in_year year day }
+{
+    if day == 0 {
+        return None;
+    }
+    let lengths = [31, february(year), 31, 30, 31, 30, 31, 31, 30, 31, 30, 31];
+    in_months(&lengths, year, day)
+}
+
+/// The date whose year in its century and day of the year are these five digits.
+fn in_century(first: Option<u16>, digits: u64) -> Option<Date>
+    requires few { digits ≤ 99999 }
+    requires small { IfSome first (λ year. year ≤ 2000) }
+    ensures { result ≡ in_century first digits }
+{
+    match first {
+        Some(first) => in_year(first + (digits / 1000) as u16, (digits % 1000) as u16),
+        None => None,
+    }
+}
+
+/// The date that the six characters of a label are, if they are one.
+fn date_of(field: &Field<6>) -> Option<Date>
+    ensures { result ≡ date_of field.now }
+{
+    match field.bytes() {
+        [] => None,
+        [first, rest @ ..] => match digits_value(rest) {
+            Some(digits) => in_century(century(*first), digits),
+            None => None,
+        },
+    }
+}
+
+/// The date of a label, as in 1985-04-23; spaces if it has none.
+#[derive(Clone, Copy)]
+pub(crate) struct DateText<'a>(pub(crate) &'a Field<6>);
+
+impl fmt::Display for DateText<'_> {
+    ghost output = { λ text. Some (date_text (date_of text.0.now)) };
+
+    fn fmt<W: fmt::Write>(&self, f: &mut fmt::Formatter<W>) -> fmt::Result {
+        match date_of(self.0) {
+            Some(date) => {
+                let year = date.year;
+                let month = TwoDigits(date.month);
+                let day = TwoDigits(date.day);
+                write!(f, "{year}-{month}-{day}")
+            }
+            None => write!(f, "          "),
+        }
+    }
+}
+
+/// A number in at least two digits.
+#[derive(Clone, Copy)]
+struct TwoDigits(u16);
+
+impl fmt::Display for TwoDigits {
+    ghost output = { λ number. Some (two_digits number.0) };
+
+    fn fmt<W: fmt::Write>(&self, f: &mut fmt::Formatter<W>) -> fmt::Result {
+        let number = self.0;
+        let zero = if number < 10 { "0" } else { "" };
+        write!(f, "{zero}{number}")
+    }
+}

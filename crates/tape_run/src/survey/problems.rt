@@ -1,0 +1,266 @@
+//! The sections of a file that are damaged or missing.
+ghost use Rattle.std.specs.Prelude.{◌≡◌, ◌≤◌, ◌<◌, ◌+◌, ◌-◌, ◌++◌, OnOk, IfOk, Some};
+ghost use Rattle.tape_run.specs.Lacks.{entry_at, key_at};
+ghost use Rattle.tape_run.specs.SurveyGaps.{numbers_text};
+ghost use Rattle.tape_run.specs.SurveyProblems.{damage_line, found_line, where_text};
+ghost use Rattle.tape_run.specs.SurveyProblems.{missing_line, missing_text, known_text, is_cut};
+ghost use Rattle.tape_run.specs.SurveyProblems.{first_after, ends, next_text, sections_from};
+ghost use Rattle.tape_run.specs.SurveyProblems.{problem_lines};
+
+use super::damages::damage_text;
+use crate::section::{Entry, SectionKey, SectionState};
+use crate::sections::Sections;
+use crate::text::{Trimmed, append};
+use std::alloc::{AllocError, Global};
+use std::fmt;
+use tape_label::Field;
+
+/// The greatest number of a section.
+const MOST: u16 = 9_999;
+
+/// The line of a damaged section.
+#[derive(Clone, Copy)]
+struct DamageLine {
+    sect: u16,
+    entry: Entry,
+}
+
+impl fmt::Display for DamageLine {
+    ghost output = { λ line. Some (damage_line line.sect line.entry) };
+
+    fn fmt<W: fmt::Write>(&self, f: &mut fmt::Formatter<W>) -> fmt::Result {
+        let sect = self.sect;
+        let damage = damage_text(self.entry.state);
+        let volume = Trimmed(&self.entry.volume);
+        write!(
+            f,
+            "        section {sect} {damage} on {volume}: no good copy\n"
+        )
+    }
+}
+
+/// The numbers from the first one up to the one before the next.
+#[derive(Clone, Copy)]
+struct Numbers {
+    first: u16,
+    next: u16,
+}
+
+impl fmt::Display for Numbers {
+    ghost output = { λ numbers. Some (numbers_text numbers.first numbers.next) };
+
+    fn fmt<W: fmt::Write>(&self, f: &mut fmt::Formatter<W>) -> fmt::Result {
+        let first = self.first;
+        let last = self.next.saturating_sub(1);
+        if first < last {
+            write!(f, "{first}-{last}")
+        } else {
+            write!(f, "{first}")
+        }
+    }
+}
+
+/// Where to look for missing sections, if this is known of the one before them.
+#[derive(Clone, Copy)]
+struct Where(Option<Entry>);
+
+impl fmt::Display for Where {
+    ghost output = { λ text. Some (where_text text.0) };
+
+    fn fmt<W: fmt::Write>(&self, f: &mut fmt::Formatter<W>) -> fmt::Result {
+        match self.0 {
+            Some(before) => {
+                let volume = Trimmed(&before.volume);
+                write!(f, " missing, after volume {volume}")
+            }
+            None => write!(f, " not found"),
+        }
+    }
+}
+
+/// The line of missing sections, from the first one up to the one before the next.
+#[derive(Clone, Copy)]
+struct MissingLine {
+    numbers: Numbers,
+    before: Option<Entry>,
+}
+
+impl fmt::Display for MissingLine {
+    ghost output = { λ line. Some (missing_line line.numbers.first line.numbers.next line.before) };
+
+    fn fmt<W: fmt::Write>(&self, f: &mut fmt::Formatter<W>) -> fmt::Result {
+        let numbers = self.numbers;
+        let many = numbers.first < numbers.next.saturating_sub(1);
+        let plural = if many { "s" } else { "" };
+        let place = Where(self.before);
+        write!(f, "        section{plural} {numbers}{place}\n")
+    }
+}
+
+/// Appends the line of the missing sections from this one up to the one before the next, if any.
+fn add_missing(
+    alloc: Global,
+    texts: &mut Vec<u8>,
+    sections: &Sections,
+    first: &SectionKey,
+    next: u16,
+) -> Result<(), AllocError>
+    ensures { OnOk result (texts.new.items ≡ texts.old.items ++ missing_text sections.now.entries
+        first.now.set_id first.now.file first.now.sect next) }
+{
+    if first.sect >= next {
+        return Ok(());
+    }
+    let numbers = Numbers {
+        first: first.sect,
+        next,
+    };
+    let before = before_of(sections, first);
+    append(alloc, texts, MissingLine { numbers, before })
+}
+
+/// What is known of the section before this one.
+fn before_of(sections: &Sections, key: &SectionKey) -> Option<Entry>
+    ensures { result ≡ entry_at sections.now.entries
+        (key_at key.now.set_id key.now.file (key.now.sect - 1)) }
+{
+    let before = SectionKey {
+        set_id: key.set_id,
+        file: key.file,
+        sect: key.sect.saturating_sub(1),
+    };
+    sections.get(&before).copied()
+}
+
+/// Appends the line of a section that was found, if it is damaged.
+fn add_found(alloc: Global, texts: &mut Vec<u8>, sect: u16, entry: Entry) -> Result<(), AllocError>
+    ensures { OnOk result (texts.new.items ≡ texts.old.items ++ found_line sect entry) }
+{
+    if entry.state.is_good() {
+        return Ok(());
+    }
+    append(alloc, texts, DamageLine { sect, entry })
+}
+
+/// Appends the lines of a section, if it was found, after those of the missing ones before it, of
+/// which this one is the first. Returns the first one that may be missing after it.
+fn add_section(
+    alloc: Global,
+    texts: &mut Vec<u8>,
+    sections: &Sections,
+    first: &SectionKey,
+    sect: u16,
+) -> Result<u16, AllocError>
+    requires first { first.now.sect ≤ sect }
+    requires small { sect < 65535 }
+    ensures few { IfOk result (λ next. next ≤ sect + 1) }
+    ensures next { IfOk result (λ next. next ≡ first_after first.now.sect sect
+        (entry_at sections.now.entries (key_at first.now.set_id first.now.file sect))) }
+    ensures text { IfOk result (λ _. texts.new.items ≡ texts.old.items
+        ++ known_text sections.now.entries first.now.set_id first.now.file first.now.sect sect
+        (entry_at sections.now.entries (key_at first.now.set_id first.now.file sect))) }
+{
+    let key = SectionKey {
+        set_id: first.set_id,
+        file: first.file,
+        sect,
+    };
+    match sections.get(&key) {
+        Some(entry) => {
+            add_missing(alloc, texts, sections, first, sect)?;
+            add_found(alloc, texts, sect, *entry)?;
+            Ok(sect + 1)
+        }
+        None => Ok(first.sect),
+    }
+}
+
+/// Whether no trailer label of a section was found.
+fn is_cut(state: SectionState) -> bool
+    ensures { result ≡ is_cut state }
+{
+    match state {
+        SectionState::Cut => true,
+        SectionState::Good | SectionState::Bad | SectionState::Count => false,
+    }
+}
+
+/// Whether no section is known to follow the one before this one.
+fn ends(sections: &Sections, first: &SectionKey) -> bool
+    ensures { result ≡ ends (entry_at sections.now.entries
+        (key_at first.now.set_id first.now.file (first.now.sect - 1))) }
+{
+    match before_of(sections, first) {
+        Some(entry) => entry.eof || is_cut(entry.state),
+        None => false,
+    }
+}
+
+/// Appends the line of the section after the last one that was found, if one follows.
+fn add_next(
+    alloc: Global,
+    texts: &mut Vec<u8>,
+    sections: &Sections,
+    first: &SectionKey,
+) -> Result<(), AllocError>
+    requires { first.now.sect < 65535 }
+    ensures { OnOk result (texts.new.items ≡ texts.old.items ++ next_text first.now.sect
+        (entry_at sections.now.entries
+        (key_at first.now.set_id first.now.file (first.now.sect - 1)))) }
+{
+    if ends(sections, first) {
+        return Ok(());
+    }
+    let numbers = Numbers {
+        first: first.sect,
+        next: first.sect + 1,
+    };
+    let before = before_of(sections, first);
+    append(alloc, texts, MissingLine { numbers, before })
+}
+
+/// The same for this many sections.
+fn add_sections(
+    alloc: Global,
+    texts: &mut Vec<u8>,
+    sections: &Sections,
+    set_id: Field<6>,
+    file: u16,
+    most: u16,
+) -> Result<(), AllocError>
+    requires { most ≤ 9999 }
+    ensures { OnOk result (texts.new.items
+        ≡ texts.old.items ++ sections_from sections.now.entries set_id file 1 1 most) }
+{
+    let mut first = 1;
+    for before in 0..most {
+        let missing = SectionKey {
+            set_id,
+            file,
+            sect: first,
+        };
+        first = add_section(alloc, texts, sections, &missing, before + 1)?;
+    }
+    let missing = SectionKey {
+        set_id,
+        file,
+        sect: first,
+    };
+    add_next(alloc, texts, sections, &missing)
+}
+
+/// Appends a line for each damaged section of a file, and for those that are missing before or
+/// after it.
+#[tactic(auto, unfolding(crate::specs::SurveyProblems::problem_lines))]
+pub(crate) fn add_problems(
+    alloc: Global,
+    texts: &mut Vec<u8>,
+    sections: &Sections,
+    set_id: Field<6>,
+    file: u16,
+) -> Result<(), AllocError>
+    ensures { OnOk result (texts.new.items
+        ≡ texts.old.items ++ problem_lines sections.now.entries set_id file) }
+{
+    add_sections(alloc, texts, sections, set_id, file, MOST)
+}
