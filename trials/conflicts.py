@@ -248,7 +248,7 @@ def try_case(trial, case, folder, number):
     copies = [line for line in lines if " section " in line and (": good, " in line or ": CONFLICT, " in line)]
     trial.is_so(copies == list(case.lines(rows)), f"{number}: lines {done.stdout}")
     trial.is_so(done.returncode == (0 if sound else 3), f"{number}: survey, status {done.returncode}")
-    trial.is_so(lines[-1].startswith("Nothing lacks") == sound, f"{number}: the last line {lines[-1]!r}")
+    trial.is_so(lines[-1].startswith("All files are complete") == sound, f"{number}: the last line {lines[-1]!r}")
 
     out = folder / "out"
     out.mkdir()
