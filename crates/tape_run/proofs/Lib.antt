@@ -67,9 +67,11 @@ mod SurveyVolumes
 mod ExamplesOfSurveys
 mod ExamplesOfUnpacking
 mod UnpackedFiles
+mod UnpackedFits
 mod UnpackedNames
 mod WholeReports
 mod Streams
+mod QuotedNames
 pub mod RecordFronts
 mod Turns
 mod TurnSteps
