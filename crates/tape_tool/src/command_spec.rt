@@ -106,6 +106,7 @@ fn word_argument<'a>(arg: Arg<'a>, kind: Kind) -> Arg<'a> {
 /// The parser's argument for an option with a value.
 fn option_argument<'a>(long: Arg<'a>, kind: Kind) -> Arg<'a> {
     long.value_name(value_name_of(kind))
+        .hide_possible_values(true)
         .value_parser(parser_of(kind))
         .default_values(defaults_of(kind))
 }
@@ -152,6 +153,16 @@ pub fn mistake(alloc: Global, command_spec: &CommandSpec, text: &str) -> Error
     match told(alloc, command_spec, text) {
         Ok(error) => error,
         Err(error) => Error::from(error),
+    }
+}
+
+/// The same for a value that is not accepted, which the message names before the text.
+pub fn wrong_value(alloc: Global, command_spec: &CommandSpec, value: &str, text: &str) -> Error
+    ensures { RefusedFor ⊤ result }
+{
+    match format!(in alloc; "invalid value {value:?}: {text}") {
+        Ok(text) => mistake(alloc, command_spec, text.as_str()),
+        Err(_) => Error::from(AllocError),
     }
 }
 

@@ -11,13 +11,17 @@ pub const TOO_MANY_TO_SURVEY: &str =
   find . -name '*.tap' -print0 | tape survey --files-from - --null";
 
 /// What LIST is.
-pub const FROM: &str = "Read more names from LIST, one per line ('-': standard input)";
+pub const FROM: &str = "More names, one per line ('-': standard input)";
 
 /// What `--null` says.
-pub const NULL: &str = "Names in LIST end with NUL, as 'find -print0' writes them";
+pub const NULL: &str = "Names in LIST end with NUL, as of 'find -print0'";
 
 /// No image is named, and the list is empty.
 pub const NO_IMAGE: &str = "the list contains no image names";
+
+/// Standard input is named twice.
+pub const INPUT_TWICE: &str = "standard input can be read only once: '-' is named twice.
+A file of this name is './-'";
 
 /// A line of a list contains a NUL, which no file name does.
 pub const NUL_IN_LINES: &str = "the names in the list end with NUL: add --null";

@@ -7,8 +7,8 @@ pub const ABOUT_SALVAGE: &str = "Recover what is readable of a file that no imag
 pub const OUT_OF_SALVAGE: &str = "New file for the recovered records (never an existing one)";
 
 /// What the form is.
-pub const FORM_OF_SALVAGED: &str =
-    "lines: end each record with a line feed; raw: do not; blocks: copy whole blocks";
+pub const FORM_OF_SALVAGED: &str = "lines: end each record with a line feed;
+raw: do not; blocks: copy whole blocks";
 
 /// Too many images.
 pub const TOO_MANY_TO_SALVAGE: &str =
@@ -21,10 +21,10 @@ pub const AFTER_SALVAGE: &str = "Examples:
   tape salvage ABC001 2 ../out/dump.bin old.tap --form blocks
 
 Try 'tape extract --again' first: it writes a file only if nothing is missing.
-'tape salvage' writes all records whose blocks are readable, in order, and prints
-a line for each gap. A record with a missing part is left out. With --form blocks
-it copies each readable block unchanged, even if tape does not read the record
-format or the volume has no HDR2.
+'tape salvage' writes all records whose blocks are readable, in order, and
+prints a line for each gap. A record with a missing part is left out. With
+--form blocks it copies each readable block unchanged, even if tape does not
+read the record format or the volume has no HDR2.
 
 The lines give a section (counted from 1), its blocks (from 0) and the number
 of records written so far:
