@@ -13,7 +13,7 @@ pub use extract::{
     OUT_IS_LIST, OUT_IS_STAGE, REELS, SET, STAGE, TOO_MANY_IMAGES, WRONG_SET,
 };
 pub use lists::{
-    FROM, INPUT_TWICE, NO_IMAGE, NO_TEXT_IN_LIST, NUL_IN_LINES, NULL, ODD_LINES, TOO_MANY_TO_CHECK,
+    FROM, NO_IMAGE, NO_TEXT_IN_LIST, NUL_IN_LINES, NULL, ODD_LINES, TOO_MANY_TO_CHECK,
     TOO_MANY_TO_SURVEY,
 };
 pub use merge::{
@@ -42,14 +42,13 @@ pub const NO_COMMAND: &str = "name a command, for example 'tape list'";
 pub const ABOUT: &str = "Read and write ANSI-labelled tape volumes (ECMA-13) as SIMH .tap images";
 
 /// What `--explain` does.
-pub const EXPLAIN: &str = "Explain errors, and what is missing";
+pub const EXPLAIN: &str = "Explain errors, and say what to do next";
 
 /// Help after the list of commands.
 pub const AFTER: &str =
     "An error is one line on standard error: 'tape: KIND fault NUMBER', followed for
 images by the byte offset ('tape: image fault 1 at 1884'). With --explain, or if
-the environment variable TAPE_EXPLAIN is not empty, an explanation follows, also
-if something is missing (exit status 3).
+the environment variable TAPE_EXPLAIN is not empty, an explanation follows.
 
 Image faults:
   1  the image ends inside a block     copy it again from its source
@@ -137,8 +136,7 @@ Examples:
 pub const ABOUT_CHECK: &str = "Report which file sections are on the images and what is missing";
 
 /// What the IMAGEs of `check` are.
-pub const IMAGES: &str = "SIMH .tap images, in any order (at most 256; see
---files-from); '-' is standard input";
+pub const IMAGES: &str = "SIMH .tap images, in any order (at most 256; see --files-from)";
 
 /// Help after the arguments of `check`.
 pub const AFTER_CHECK: &str =
