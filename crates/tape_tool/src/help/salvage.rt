@@ -8,7 +8,7 @@ pub const OUT_OF_SALVAGE: &str = "New file for the recovered records (never an e
 
 /// What the form is.
 pub const FORM_OF_SALVAGED: &str = "lines: end each record with a line feed;
-raw: do not; blocks: copy whole blocks";
+raw: do not; blocks: whole blocks";
 
 /// Too many images.
 pub const TOO_MANY_TO_SALVAGE: &str =
