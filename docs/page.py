@@ -92,7 +92,7 @@ def strip(items):
 def reel(row):
     """The part of an image, by its row in the survey."""
     path, (state, words) = row["path"], (row["state"], row["words"])
-    items = [item for line in told("list", "--offsets", path) if (item := item_of(line))]
+    items = [item for line in told("list", "--offsets", "--", path) if (item := item_of(line))]
     head = f'<h2>{html.escape(row["name"])}</h2>\n'
     about = f'<p><span class="{state.split()[0]}">{state.lower()}</span>{html.escape(words)}</p>\n'
     return head + about + (strip(items) if items and state != "NOT OPENED" else "")

@@ -1,0 +1,409 @@
+#!/usr/bin/env python3
+"""Runs the built program under strace, and judges what it does to files, in which order, and what its
+options and exit statuses say. Run manually before a release; CI does not run it. Needs strace and root.
+
+    ./order.py [--program PATH] [NAME]..
+
+Each check is named after what a wrong program would do. Prints each wrong result, and the counts. Exit
+status 1 if something was wrong.
+"""
+
+import argparse
+import os
+import re
+import subprocess
+import sys
+import tempfile
+from pathlib import Path
+
+sys.dont_write_bytecode = True
+from fail import CRATE, LINES, ONE, TWO, stage_of, volume
+from make_worked_image import block, first_label, mark, second_label, volume_label, word
+
+CALLS = "openat,write,fsync,fdatasync,rename,renameat,renameat2,link,linkat,unlink,unlinkat,flock,close,ftruncate,fchmod,fchown"
+CALL = re.compile(r"(\w+)\((.*)\) += (-?\d+)(.*)$")
+PATH = re.compile(r'"((?:[^"\\]|\\.)*)"')
+REELS = {"one.tap": ONE, "two.tap": TWO}
+EXTRACT = ["extract", "ABC001", "1", "OUT"]
+CUT = ONE[:20000]
+BLANK = volume_label("ABC001") + mark() + mark() + word(0xFFFFFFFF)
+CHECKS = []
+
+
+def check(function):
+    CHECKS.append(function)
+    return function
+
+
+class Run:
+    """One call of the program in a folder of its own: its result, and the calls that it made."""
+
+    def __init__(self, program, words, files, inject=(), before=None, out=subprocess.PIPE, watch=True, stdin=b"", env=None):
+        with tempfile.TemporaryDirectory(prefix="tape-order-") as folder:
+            self.root = Path(folder)
+            os.chmod(folder, 0o777)
+            (self.root / "d").mkdir()
+            for name, content in files.items():
+                (self.root / name).write_bytes(content)
+            if before:
+                before(self.root)
+            log = self.root.with_suffix(".log")
+            strace = ["strace", "-y", "-s", "64", "-o", str(log), "-e", f"trace={CALLS}"]
+            for rule in inject:
+                strace += ["-e", f"inject={rule}"]
+            done = subprocess.run(
+                [*(strace if watch or inject else []), program, *words], cwd=folder, stdout=out, stderr=subprocess.PIPE,
+                input=stdin, check=False, timeout=120, env={**os.environ, **(env or {})},
+            )
+            self.status, self.err = done.returncode, done.stderr.decode("utf-8", "replace")
+            self.out = (done.stdout or b"").decode("utf-8", "replace")
+            self.files = {str(p.relative_to(self.root)): p.read_bytes() for p in self.root.rglob("*") if p.is_file() and not p.is_symlink()}
+            self.links = [str(p.relative_to(self.root)) for p in self.root.rglob("*") if p.is_symlink()]
+            self.modes = {name: (self.root / name).stat().st_mode & 0o7777 for name in self.files}
+            self.events = self.read(log) if log.exists() else []
+            log.unlink(missing_ok=True)
+
+    def read(self, log):
+        """What the log has: the name of each call, the path that it is about, and the rest."""
+        events = []
+        for line in log.read_text(errors="replace").splitlines():
+            found = CALL.match(line)
+            if not found or found[3].startswith("-"):
+                continue
+            name, rest = found[1], found[2]
+            held = re.match(r"\d+<([^>]*)>", rest)
+            paths = PATH.findall(rest)
+            path = held[1] if held else (paths[0] if paths else "")
+            if name == "openat":
+                path = re.search(r"<([^>]*)>", found[4])[1] if "<" in found[4] else path
+            events.append((name, self.short(path), rest if name != "linkat" else self.short(paths[-1])))
+        return events
+
+    def short(self, path):
+        prefix = str(self.root) + "/"
+        return "." if path == str(self.root) else path.removeprefix(prefix).removeprefix("./")
+
+    def last(self, test, start=0):
+        found = [k for k, event in enumerate(self.events) if k >= start and test(*event)]
+        return found[-1] if found else None
+
+    def first(self, test, start=0):
+        return next((k for k, event in enumerate(self.events) if k >= start and test(*event)), None)
+
+    def printed(self, text):
+        """Where this text is written to standard output."""
+        return self.first(lambda name, path, rest: name == "write" and rest.startswith("1<") and text in rest)
+
+    def drafts(self):
+        return [name for name in self.files if ".tape-" in name]
+
+
+def in_order(*places):
+    return all(place is not None for place in places) and list(places) == sorted(places)
+
+
+def is_sync(path):
+    return lambda name, at, rest: name in ("fsync", "fdatasync") and at == path
+
+
+def is_write(path):
+    return lambda name, at, rest: name == "write" and at == path
+
+
+# ---- syncs and names, in their order ----
+
+
+@check
+def image_is_synced(t):
+    for files in ({}, {"ABC001.tap": BLANK}):
+        run = t(["write", ".", "ABC", "200000", "A=lines"], {"lines": LINES} | files)
+        yield in_order(run.last(is_write("ABC001.tap")), run.last(is_sync("ABC001.tap")), run.printed("VOLUME")), "the image is synced, then printed"
+        if not files:
+            yield in_order(run.first(is_write("ABC001.tap")), run.last(is_sync(".")), run.printed("FILES")), "the directory of a new image is synced"
+
+
+@check
+def init_is_synced(t):
+    run = t(["init", ".", "ABC", "2"], {})
+    for name in ("ABC001.tap", "ABC002.tap"):
+        yield in_order(run.last(is_write(name)), run.last(is_sync(name)), run.printed("INIT")), f"{name} is synced"
+
+
+@check
+def name_after_sync(t):
+    for words, files in (([*EXTRACT, "one.tap", "two.tap"], REELS), ([*EXTRACT, "two.tap", "one.tap", "--again"], REELS | {"OUT": b"old\n"}),
+            ([*EXTRACT, "one.tap", "two.tap", "--stage", "s"], REELS), (["unpack", "d", "one.tap", "two.tap"], REELS)):
+        run = t(words, files)
+        taken = run.last(lambda name, at, rest: name.startswith(("link", "rename")))
+        draft = next((path for name, path, rest in run.events if name == "openat" and ".tape-" in path and "O_EXCL" in rest), None)
+        folder = "d" if words[0] == "unpack" else "."
+        yield draft is not None, "a new file is opened under a name of its own"
+        yield in_order(run.last(is_write(draft)), run.first(is_sync(draft)), taken), "it is synced before it is named"
+        yield in_order(taken, run.first(is_sync(folder), taken or 0), run.printed("COMPLETE 900")), "the directory is synced before COMPLETE"
+        yield run.drafts() == [], "the draft has gone"
+
+
+@check
+def stage_is_synced(t):
+    run = t([*EXTRACT, "one.tap", "--stage", "s"], REELS)
+    yield in_order(run.first(is_write("s")), run.first(is_sync("s")), run.printed("AWAITS")), "a new stage is synced"
+    yield in_order(run.first(lambda name, at, rest: name == "openat" and at == "s"), run.first(is_sync(".")), run.printed("REEL")), "so is its directory"
+    yield any(name == "flock" and at == "s" and "LOCK_EX" in rest for name, at, rest in run.events), "it is locked for this run alone"
+
+
+@check
+def a_shared_lock_excludes(t):
+    def lock(root):
+        held.append(subprocess.Popen(["flock", "-s", str(root / "s"), "sleep", "30"]))
+        subprocess.run(["sh", "-c", f"while flock -n -x {root}/s true; do sleep .01; done"], check=False)
+    held = []
+    run = t([*EXTRACT, "two.tap", "--stage", "s"], REELS | {"s": t.stage}, before=lock)
+    held[0].terminate()
+    yield run.status == 1 and run.err == "tape: stage fault 7\n" and run.files["s"] == t.stage, f"a shared lock: {run.err}"
+
+
+@check
+def refused_folder_sync(t):
+    for words, files in (([*EXTRACT, "one.tap", "two.tap"], REELS), (["unpack", "d", "one.tap", "two.tap"], REELS),
+            (["write", ".", "ABC", "200000", "A=lines"], {"lines": LINES})):
+        count = sum(name == "fsync" for name, _, _ in t(words, files).events)
+        for number in range(1, count + 1):
+            run = t(words, files, inject=[f"fsync:error=EIO:when={number}"])
+            yield run.status == 1 and "COMPLETE 900" not in run.out and "FILES" not in run.out, f"{words[0]}, sync {number} refused: {run.status} {run.out!r}"
+
+
+@check
+def input_is_closed(t):
+    run = t(["write", ".", "ABC", "200000", "A=a", "B=b"], {"a": LINES, "b": LINES})
+    read = [k for k, (name, at, rest) in enumerate(run.events) if name == "openat" and at in "ab"]
+    closed = run.last(lambda name, at, rest: name == "close" and at == "a")
+    yield in_order(read[-2], closed, read[-1]), "one input is closed before the next is opened"
+
+
+# ---- what stays, and what is removed ----
+
+
+@check
+def drafts_are_removed(t):
+    full = lambda root: (root / "OUT").symlink_to("/dev/full")
+    for words, files in (([*EXTRACT, "one.tap"], REELS), ([*EXTRACT, "one.tap", "--again"], REELS), ([*EXTRACT, "one.tap", "--stage", "s"], REELS),
+            (["unpack", "d", "one.tap"], REELS), (["merge", "OUT", "one.tap", "two.tap"], REELS), (["salvage", "ABC001", "1", "OUT", "one.tap"], REELS),
+            (["stage", "s", "OUT"], {"s": t.stage})):
+        run = t(words, files)
+        yield run.status == 3 and run.drafts() == [], f"{words}: {run.status} {run.drafts()}"
+        # the name is refused in the end
+        run = t([*words, "two.tap"] if words[0] in ("extract", "unpack") else words, files, inject=["rename,link,linkat,renameat,renameat2:error=EIO"])
+        yield run.drafts() == [], f"{words}, no new name: {run.drafts()}"
+    for number in range(1, 5):
+        run = t([*EXTRACT, "one.tap", "two.tap"], REELS, inject=[f"write:error=ENOSPC:when={number}"])
+        yield run.status == 1 and run.drafts() == [], f"write {number} refused: {run.status} {run.drafts()}"
+
+
+@check
+def names_that_are_taken(t):
+    def take(root):
+        for number in range(1, 12):
+            (root / f".tape-{number}.part").mkdir()
+    run = t([*EXTRACT, "one.tap", "two.tap"], REELS, before=take)
+    yield run.status == 0 and run.files.get("OUT") == t.records, f"eleven names are taken: {run.status} {run.err!r}"
+
+
+@check
+def modes_are_kept(t):
+    for mode, wanted in ((0o600, 0o600), (0o640, 0o640), (0o4755, 0o755), (0o2711, 0o711)):
+        run = t([*EXTRACT, "one.tap", "two.tap"], REELS | {"OUT": b"old\n"}, before=lambda root: (root / "OUT").chmod(mode))
+        yield run.status == 0 and run.modes["OUT"] == wanted, f"{mode:o} became {run.modes['OUT']:o}"
+
+
+@check
+def links_are_left_alone(t):
+    run = t(["unpack", "d", "one.tap", "two.tap"], REELS, before=lambda root: (root / "d/ABC001.1.PAYROLL").symlink_to("lost"))
+    yield run.links == ["d/ABC001.1.PAYROLL"] and "EXISTS" in run.out and "d/lost" not in run.files, f"a link that leads nowhere: {run.out!r} {run.links}"
+    run = t(["unpack", "d", "one.tap"], REELS, before=lambda root: (root / "d/ABC001.1.PAYROLL.stage").symlink_to("../victim"))
+    yield run.links == ["d/ABC001.1.PAYROLL.stage"] and "victim" not in run.files, f"a stage that is a link: {run.out!r}"
+    run = t([*EXTRACT, "one.tap", "two.tap"], REELS | {"real": b"old\n"}, before=lambda root: (root / "OUT").symlink_to("real"))
+    yield run.links == ["OUT"] and run.files["real"] == t.records, "OUT that is a link is written through"
+
+
+@check
+def a_stage_by_another_path(t):
+    for stage, out in (("d/../x", "x"), ("x", "d/../x"), ("./x", "x")):
+        run = t(["extract", "ABC001", "1", out, "one.tap", "--stage", stage], REELS)
+        yield run.status == 2 and "x" not in run.files, f"OUT {out}, stage {stage}: {run.status}"
+
+
+@check
+def files_on_two_systems(t):
+    with tempfile.TemporaryDirectory() as top:
+        a, b = Path(top, "a"), Path(top, "b")
+        for folder in (a, b):
+            folder.mkdir()
+            subprocess.run(["mount", "-t", "tmpfs", "x", str(folder)], check=True)
+        try:
+            (a / "one.tap").write_bytes(ONE)
+            (a / "two.tap").write_bytes(TWO)
+            (b / "OUT").write_bytes(b"old\n")
+            same = (a / "one.tap").stat().st_ino == (b / "OUT").stat().st_ino
+            run = t(["extract", "ABC001", "1", f"{b}/OUT", f"{a}/one.tap", f"{a}/two.tap"], {})
+            yield same and run.status == 0, f"one number on two file systems ({same}): {run.status} {run.err}"
+        finally:
+            for folder in (a, b):
+                subprocess.run(["umount", str(folder)], check=True)
+
+
+@check
+def inputs_are_tried_first(t):
+    run = Run("setpriv", ["--reuid=65534", "--clear-groups", t.program, "write", "d", "ABC", "100000", "A=a", "B=b"], {"a": LINES, "b": LINES},
+        before=lambda root: ((root / "b").chmod(0), (root / "d").chmod(0o777)), watch=False)
+    yield run.status == 1 and not any(name.endswith(".tap") for name in run.files), f"an input that cannot be read: {run.status}, {list(run.files)}"
+
+
+# ---- options and statuses ----
+
+
+@check
+def options_do_something(t):
+    run = t(["survey", "one.tap", "--tsv"], REELS)
+    yield run.out.startswith("IMAGE\tone.tap\t"), f"survey --tsv: {run.out!r}"
+    yield not t(["survey", "one.tap"], REELS).out.startswith("IMAGE"), "survey"
+    broken = t.stage[:-300]
+    yield t(["stage", "s"], {"s": broken}).err == "tape: stage fault 2\n", "a damaged stage"
+    run = t(["stage", "s", "--damaged"], {"s": broken})
+    yield run.status == 3 and run.out.startswith("STAGE ABC001 1 ") and "TRUNCATED AT" in run.out, f"stage --damaged: {run.out!r}"
+    for words, env in ((["--explain"], {}), ([], {"TAPE_EXPLAIN": "1"})):
+        for call in (["list", "lost.tap"], ["check", "--files-from", "lost"], [*EXTRACT, "lost.tap", "--stage", "lost/s"]):
+            run = t([*call, *words], REELS, env=env)
+            yield run.status == 1 and "No such file or directory" in run.err, f"{call}: {run.err!r}"
+        run = t([*EXTRACT, "one.tap", *words], REELS, env=env)
+        yield run.status == 3 and "AWAITS 1 2 0" in run.err and "No image has section 2" in run.err, f"extract: {run.err!r}"
+    yield t(["list", "lost.tap"], {}).err == "tape: file fault 2\n", "nothing is explained unless it is asked for"
+
+
+@check
+def statuses_of_unpack(t):
+    other = ONE.replace(b"PAYROLL", b"LEDGERS")
+    second = TWO.replace(b"ABC00100020001", b"ABC00100010002")
+    for name, files, status, line in (
+        ("complete", REELS, 0, "COMPLETE 900"),
+        ("incomplete", {"one.tap": ONE}, 3, "AWAITS 1 2 0"),
+        ("two sets of one identifier", {"one.tap": ONE, "other.tap": other, "two.tap": TWO}, 3, "CONFLICT"),
+        ("a file not found", {"two.tap": second}, 3, "NOT FOUND"),
+        ("blank volumes", {"blank.tap": BLANK}, 3, ""),
+        ("an image that is not there", REELS | {"lost.tap": None}, 3, "INCOMPLETE IMAGES"),
+    ):
+        run = t(["unpack", "d", *files], {name: content for name, content in files.items() if content})
+        yield run.status == status and line in run.out, f"unpack, {name}: {run.status} {run.out!r}"
+    with open("/dev/full", "wb") as full:
+        run = t(["unpack", "d", "one.tap", "two.tap", "lost.tap"], REELS, out=full)
+    yield run.status == 1 and run.err == "tape: file fault 4\n", f"unpack to a full device: {run.status} {run.err!r}"
+    yield t(["unpack", "lost", "one.tap"], REELS).status == 1, "no directory"
+
+
+@check
+def images_of_one_set(t):
+    other = ONE.replace(b"ABC001", b"XYZ001")
+    run = t(["unpack", "d", "one.tap", "other.tap"], {"one.tap": ONE, "other.tap": other})
+    opened = [at for name, at, rest in run.events if name == "openat" and at.endswith(".tap")]
+    first = run.first(lambda name, at, rest: name == "openat" and at == "d/ABC001.1.PAYROLL.stage") or len(run.events)
+    ended = run.first(lambda name, at, rest: name == "openat" and at == "d/XYZ001.1.PAYROLL.stage") or len(run.events)
+    between = {at for name, at, rest in run.events[first:ended] if name == "openat" and at.endswith(".tap")}
+    yield between == {"one.tap"}, f"for ABC001 {between} were opened ({opened})"
+
+
+@check
+def lines_one_by_one(t):
+    names = ["a.tap", "b.tap", "c.tap"]
+    for command in (["check"], ["survey"], ["survey", "--tsv"]):
+        run = t([*command, *names], dict.fromkeys(names, CUT))
+        opened = [run.first(lambda name, at, rest, image=image: name == "openat" and at == image) for image in names]
+        lines = [k for k, (name, at, rest) in enumerate(run.events) if name == "write" and rest.startswith("1<")]
+        yield all(any(one < line < next_one for line in lines) for one, next_one in zip(opened, opened[1:])), f"{command}: a line for each image, before the next is opened"
+
+
+@check
+def full_output(t):
+    calls = (["check", "one.tap"], ["survey", "one.tap"], ["list", "one.tap"], ["init", "d", "ABC", "1"], ["compare", "one.tap", "one.tap"])
+    for words in calls:
+        with open("/dev/full", "wb") as full:
+            run = t([*words, "--explain"], REELS, out=full)
+        yield run.status == 1 and run.err.startswith("tape: file fault 4\n  Output: standard output\n"), f"{words}: {run.err!r}"
+    for words, files in (([*EXTRACT[:3], "/dev/full", "one.tap", "two.tap"], REELS), (["stage", "s", "/dev/full"], {"s": t.stage})):
+        run = t([*words, "--explain"], files)
+        yield run.status == 1 and run.err.startswith("tape: file fault 4\n  OUT: /dev/full\n"), f"{words}: {run.err!r}"
+    run = t(["extract", "ABC001", "1", "OUT", "one.tap", "--stage", "s", "--explain"], REELS | {"s": b"no stage"})
+    yield run.err.startswith("tape: stage fault 1\n  Stage: s\n"), f"a stage: {run.err!r}"
+    run = t(["extract", "ABC001", "2", "OUT", "one.tap", "--stage", "s", "--explain"], REELS | {"s": t.stage})
+    yield run.err.startswith("tape: run fault 5\n  Stage: s\n") and run.files["s"] == t.stage, f"a stage of another file: {run.err!r}"
+
+
+@check
+def each_refused_write(t):
+    """More bytes than are buffered: a write of records fails while reels are read."""
+    run = t([*EXTRACT, "one.tap", "two.tap"], REELS)
+    writes = [k for k, (name, at, rest) in enumerate(run.events) if name == "write"]
+    for number in range(1, len(writes) + 1):
+        run = t([*EXTRACT, "one.tap", "two.tap"], REELS, inject=[f"write:error=ENOSPC:when={number}"])
+        yield run.status == 1 and run.err == "tape: file fault 4\n" and "COMPLETE" not in run.out.replace("REEL 2 COMPLETE", ""), f"write {number}: {run.err!r}"
+    for number in (1, 2):
+        run = t(["init", "d", "ABC", "2"], {}, inject=[f"write:error=ENOSPC:when={number}"])
+        yield run.status == 1, f"init, write {number}: {run.status} {run.out!r}"
+
+
+@check
+def long_numbers(t):
+    labels = volume_label("ABC001") + first_label("HDR1", 0) + second_label("HDR2").replace(b"F0080000080", b"F0002000020") + mark()
+    image = labels + block(b"x" * 20) * 100_000
+    run = t(["unpack", "d", "one.tap"], {"one.tap": image + b"\0\0"}, watch=False)
+    yield "AWAITS 1 1 100000 d/" in run.out, f"a long last line: {run.out!r}"
+    run = t(["write", ".", "ABC", "100000000", "A=a"], {"a": b"x\n" * 1_000_001}, watch=False)
+    yield run.status == 0, f"a million records: {run.err!r}"
+    image = run.files.get("ABC001.tap", b"")
+    run = t(["extract", "ABC001", "1", "OUT", "a.tap"], {"a.tap": image}, watch=False)
+    yield run.out.endswith("COMPLETE 1000001\n"), f"a million records: {run.out!r} {run.err!r}"
+
+
+@check
+def lines_of_lists(t):
+    names = b"".join(b"%d.tap\n" % number for number in range(1, 11)) + b"M\xfcller.tap\n12.tap\n"
+    run = t(["check", "--files-from", "names"], {"names": names})
+    yield run.status == 2 and "line 11 of the list" in run.err, f"a line that is not text: {run.err!r}"
+
+
+@check
+def standard_input(t):
+    for command in ("check", "survey"):
+        run = t([command, "-", "two.tap"], REELS, stdin=ONE)
+        named = t([command, "one.tap", "two.tap"], REELS)
+        yield run.status == 0 and run.out.replace("-: ", "one.tap: ", 1) == named.out, f"{command} -: {run.status} {run.out!r}"
+        for words in (["-", "-"], ["-", "--files-from", "-"]):
+            run = t([command, *words], REELS, stdin=ONE)
+            yield run.status == 2 and "only once" in run.err, f"{command} {words}: {run.status} {run.err!r}"
+        yield "-" in t([command, "./-"], {"-": ONE}).out or command == "check", "./- is a file"
+
+
+def main():
+    parser = argparse.ArgumentParser(description=__doc__.split("\n\n")[0])
+    parser.add_argument("--program", type=Path, default=CRATE / "out" / "tape_tool", help="the built `tape`")
+    parser.add_argument("names", nargs="*", help="the checks to run [default: all]")
+    options = parser.parse_args()
+    program = str(options.program.resolve())
+
+    def call(words, files, **how):
+        return Run(program, words, files, **how)
+
+    call.program, call.stage, call.records = program, stage_of(program), LINES
+    count = wrong = 0
+    for one in CHECKS:
+        if options.names and one.__name__ not in options.names:
+            continue
+        for is_right, what in one(call):
+            count += 1
+            if not is_right:
+                wrong += 1
+                print(f"{one.__name__}: {what}")
+    print(f"{count} results, {wrong} wrong")
+    return wrong != 0
+
+
+if __name__ == "__main__":
+    sys.exit(main())
