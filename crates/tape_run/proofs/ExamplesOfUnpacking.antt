@@ -1,6 +1,6 @@
 -- The cases of unpacking.
-use Rattle.std.proofs.Common.{refl, ap, map}
-use Rattle.std.specs.Prelude.{if◌then◌else◌, option_map}
+use Rattle.std.proofs.Common.{refl, ap, map, true, false}
+use Rattle.std.specs.Prelude.{if◌then◌else◌, option_map, ◌||◌}
 use Rattle.std.specs.Fmt.{digits}
 use Rattle.tape_run.specs.declared.unpack.Heading.TheVariants.{Differs, Named}
 use Rattle.tape_run.specs.declared.unpack.SetFile.{SetFile}
@@ -10,8 +10,9 @@ use Rattle.tape_run.specs.Unpacking.{file_by}
 pub cases_of_unpacking : CasesOfUnpacking
 unfolding digits
 cases_of_unpacking = record {
-  one_file = λ n e. ap (λ b. if b then Differs else Named n.head.file_id) e;
-  two_files = λ n e. ap (λ b. if b then Differs else Named n.head.file_id) e;
+  one_file = λ n e. ap (λ b. if b || false then Differs else Named n.head.file_id) e;
+  two_files = λ n d e. ap (λ b. if b || d then Differs else Named n.head.file_id) e;
+  disputed = λ n e. ap (λ b. if b || true then Differs else Named n.head.file_id) e;
   files = λ d. refl;
   no_label = λ d set_id file e. ap (file_by d set_id file) e;
   own_labels = λ d set_id file n e.

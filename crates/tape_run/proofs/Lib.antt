@@ -59,12 +59,19 @@ mod PlacedExamples
 mod Reporting
 pub mod SurveyGaps
 mod SurveyJoins
+pub mod SurveyDigest
+pub mod SurveyCompared
+pub mod SurveyCopies
+pub mod SurveyShown
+pub mod SurveyConflicts
+pub mod SurveySound
 mod SurveyLooks
 mod SurveyTexts
 mod SurveyOrder
 mod SurveyStands
 mod SurveyVolumes
 mod ExamplesOfSurveys
+mod ExamplesOfCompared
 mod ExamplesOfUnpacking
 mod UnpackedFiles
 mod UnpackedNames

@@ -94,7 +94,7 @@ begins_more items v more b = record {
 }
 
 -- what is shown stays shown when items follow
-pub shown_more : (items : List TapeItem) (key : SectionKey) (entry : Entry) (more : List TapeItem)
+unfoldable pub shown_more : (items : List TapeItem) (key : SectionKey) (entry : Entry) (more : List TapeItem)
     → Shown items key entry → Shown (items ++ more) key entry
 shown_more items key entry more s = record {
   volume = begins_more items entry.volume more s.volume;
@@ -172,7 +172,7 @@ pub map_push : (xs : List (List ℕ)) (b : List ℕ)
 map_push [] b = refl
 map_push (x ∷ xs) b = ap (λ (r : List TapeItem). block x ∷ r) (map_push xs b)
 
-long_map : (xs : List (List ℕ)) → length (map block xs) ≡ length xs
+pub long_map : (xs : List (List ℕ)) → length (map block xs) ≡ length xs
 long_map [] = refl
 long_map (x ∷ xs) = ap suc (long_map xs)
 
@@ -195,25 +195,25 @@ labelled_more items met b h = record {
 }
 
 -- lists put together again
-regroup_first : (before a : List TapeItem)
+pub regroup_first : (before a : List TapeItem)
     → (before ++ a) ++ mark ∷ [] ≡ before ++ a ++ mark ∷ [] ++ []
 regroup_first before a = simp (append_assoc, append-nil)
 
-regroup_data : (before a middle : List TapeItem) (x : TapeItem)
+pub regroup_data : (before a middle : List TapeItem) (x : TapeItem)
     → (before ++ a ++ mark ∷ middle ++ []) ++ x ∷ [] ≡ before ++ a ++ mark ∷ (middle
     ++ x ∷ []) ++ []
 regroup_data before a middle x = simp (append_assoc, append-nil)
 
-regroup_close : (before a middle : List TapeItem)
+pub regroup_close : (before a middle : List TapeItem)
     → (before ++ a ++ mark ∷ middle ++ []) ++ mark ∷ [] ≡ before ++ a ++ mark ∷ middle ++ mark ∷ []
 regroup_close before a middle = simp (append_assoc, append-nil)
 
-regroup_end : (before a middle : List TapeItem) (x : TapeItem)
+pub regroup_end : (before a middle : List TapeItem) (x : TapeItem)
     → (before ++ a ++ mark ∷ middle ++ mark ∷ []) ++ x ∷ []
     ≡ before ++ a ++ mark ∷ middle ++ mark ∷ x ∷ []
 regroup_end before a middle x = simp (append_assoc, append-nil)
 
-pub filled_first : (items : List TapeItem) (met : Met) → Labelled items met
+unfoldable pub filled_first : (items : List TapeItem) (met : Met) → Labelled items met
     → Filled (items ++ mark ∷ []) met []
 filled_first items met h = record {
   volume = begins_more items met.volume (mark ∷ []) h.volume;
@@ -230,7 +230,7 @@ filled_first items met h = record {
   whole = λ _. ([], refl);
 }
 
-pub filled_more : (items : List TapeItem) (met : Met) (x : TapeItem) (is_bad : Bool)
+unfoldable pub filled_more : (items : List TapeItem) (met : Met) (x : TapeItem) (is_bad : Bool)
     → ((met.bad || is_bad) ≡ false → (b : List ℕ) × (x ≡ block b))
     → Filled items met [] → Filled (items ++ x ∷ []) (with_block met is_bad) []
 filled_more items met x is_bad is h = record {
@@ -258,7 +258,7 @@ filled_more items met x is_bad is h = record {
     or_left true q e = e
     or_left false q e = refl
 
-pub filled_closed : (items : List TapeItem) (met : Met) → Filled items met []
+unfoldable pub filled_closed : (items : List TapeItem) (met : Met) → Filled items met []
     → Filled (items ++ mark ∷ []) met (mark ∷ [])
 filled_closed items met h = record {
   volume = begins_more items met.volume (mark ∷ []) h.volume;
@@ -276,7 +276,7 @@ filled_closed items met h = record {
 }
 
 -- a section that is reported as good has the right count, and no block of it is bad
-state_good : (met : Met) (trail : Trail1) (same is_bad : Bool)
+pub state_good : (met : Met) (trail : Trail1) (same is_bad : Bool)
     → (trail.blocks == label_count met.blocks) ≡ same → met.bad ≡ is_bad
     → (if not same then Count else if is_bad then Bad else Good) ≡ Good
     → (trail.blocks ≡ label_count met.blocks) × (met.bad ≡ false)
@@ -284,12 +284,12 @@ state_good met trail true false a b e = (grind (arith, nat_tests, a), b)
 state_good met trail true true a b e = absurd (cc e)
 state_good met trail false is_bad a b e = absurd (cc e)
 
-pub shown : (items : List TapeItem) (met : Met) (b : List ℕ) (trail : Trail1)
-    → trail1_at b ≡ Ok trail → closes met trail ≡ true → Filled items met (mark ∷ [])
-    → state_by met trail.blocks ≡ Good → Shown (items ++ block b ∷ []) met.key (told met trail).1
-shown items met b trail e c h good =
-    let (count, fine) = state_good met trail _ _ refl refl good in
-    let (blocks, are) = h.whole fine in
+-- the same, of a section with the right count and these data blocks
+unfoldable pub shown_as : (items : List TapeItem) (met : Met) (b : List ℕ) (trail : Trail1)
+    (blocks : List (List ℕ)) → trail1_at b ≡ Ok trail → closes met trail ≡ true
+    → (h : Filled items met (mark ∷ [])) → trail.blocks ≡ label_count met.blocks
+    → h.content ≡ map block blocks → Shown (items ++ block b ∷ []) met.key (told met trail).1
+shown_as items met b trail blocks e c h count are =
     let long : length h.content ≡ length blocks = ap length are ∙ long_map blocks in
     record {
       volume = begins_more items met.volume (block b ∷ []) h.volume;
@@ -316,3 +316,11 @@ shown items met b trail e c h good =
       };
       blocks = h.many ∙ long;
     }
+
+pub shown : (items : List TapeItem) (met : Met) (b : List ℕ) (trail : Trail1)
+    → trail1_at b ≡ Ok trail → closes met trail ≡ true → Filled items met (mark ∷ [])
+    → state_by met trail.blocks ≡ Good → Shown (items ++ block b ∷ []) met.key (told met trail).1
+shown items met b trail e c h good =
+    let (count, fine) = state_good met trail _ _ refl refl good in
+    let (blocks, are) = h.whole fine in
+    shown_as items met b trail blocks e c h count are

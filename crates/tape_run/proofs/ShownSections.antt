@@ -46,7 +46,7 @@ told_stands items met b (Ok trail) e h = trailed items met b trail (closes met t
 told_stands items met b (Err _) e h = (tt, λ good. absurd (cc good))
 
 -- one item more
-stands_on : (p : Phase) (items : List TapeItem) (x : TapeItem) → Stood p items
+pub stands_on : (p : Phase) (items : List TapeItem) (x : TapeItem) → Stood p items
     → Stood (step p x).0 (items ++ x ∷ []) × ShownIfGood (items ++ x ∷ []) (step p x).1
 stands_on Volume items (block b) h = (
   subst (λ (r : List TapeItem). Stood (volume_with (vol1_at b)) (r ++ block b ∷ [])) (sym h)

@@ -15,11 +15,13 @@ use Rattle.tape_run.specs.declared.survey.view.ImageSurvey.{ImageSurvey}
 use Rattle.tape_run.specs.Added.{StopsBehind, stop_at}
 use Rattle.tape_run.specs.Noted.{noted_all}
 use Rattle.tape_run.specs.Passing.{Told, step, in_list, phase_after, told_from, under_way}
+use Rattle.tape_run.specs.SurveyCopies.{Copied, with_told, digest_in}
 use Rattle.tape_run.specs.SurveyFiles.{Filed, with_met, with_all, filed_in}
 use Rattle.tape_run.specs.SurveyGlance.{blank_glance, head_in, look_to, look_all, glance_of}
 use Rattle.tape_run.specs.SurveyLocations.{Located, with_location, locate_all, located_in}
 use Rattle.tape_run.specs.SurveyRead.{ViewsItems}
 use Rattle.tape_run.proofs.KeepingPlaces.{noted_all-append}
+use Rattle.tape_run.proofs.SurveyCopies.{CopiedSoFar, copied_none, copied_more}
 use Rattle.tape_run.proofs.NotedSoFar.{SoFar, starts, one_more, by_ending, all_noted}
 
 -- one more item was looked at
@@ -55,41 +57,49 @@ locate_all-append image sections located p (y ∷ ys) x =
 
 -- Of the bytes `all` the items up to a place were looked at, and what they tell was noted.
 pub record LookedSoFar (all left : Option (List ℕ)) (place image : ℕ) (sections : List Told)
-    (files : List Filed) (located : List Located) (phase : Phase) (g : ImageSummary) (told : List Told)
-    (filed : List Filed) (locations : List Located) : Type 0 where
+    (files : List Filed) (located : List Located) (known : Copied) (phase : Phase) (g : ImageSummary)
+    (digest : ℕ) (told : List Told) (filed : List Filed) (locations : List Located) (copies : Copied)
+    : Type 0 where
   pub count : ℕ
   pub so_far : SoFar all left place count sections phase told
   pub counted : g.items ≡ count
   pub glance : g ≡ glance_of so_far.items
   pub named : filed ≡ filed_in files so_far.items
   pub places : locations ≡ located_in image sections located so_far.items
+  pub copied : CopiedSoFar so_far.items image known digest copies
 
 pub looks_start : (all left : Option (List ℕ)) (place image : ℕ) (sections : List Told)
-    (files : List Filed) (located : List Located) (g : ImageSummary) → place ≡ 0 → left ≡ all
-    → g ≡ blank_glance
-    → LookedSoFar all left place image sections files located Volume g sections files located
-looks_start all left place image sections files located g first same none = record {
+    (files : List Filed) (located : List Located) (known : Copied) (g : ImageSummary) → place ≡ 0
+    → left ≡ all → g ≡ blank_glance
+    → LookedSoFar all left place image sections files located known Volume g 0 sections files located
+    known
+looks_start all left place image sections files located known g first same none = record {
   count = 0;
   so_far = starts all left place sections first same;
   counted = ap (λ (h : ImageSummary). h.items) none;
   glance = none;
   named = refl;
   places = refl;
+  copied = copied_none image known;
 }
 
 pub looks_more : (all left next : Option (List ℕ)) (p q image : ℕ) (item : TapeItem)
-    (sections : List Told) (files : List Filed) (located : List Located) (phase after : Phase)
-    (g h : ImageSummary) (mid told : List Told) (named filed : List Filed)
-    (there locations : List Located)
-    → LookedSoFar all left p image sections files located phase g mid named there
+    (sections : List Told) (files : List Filed) (located : List Located) (known : Copied)
+    (phase after : Phase) (g h : ImageSummary) (digest then : ℕ) (mid told : List Told)
+    (named filed : List Filed) (there locations : List Located) (found copies : Copied)
+    (here : Option Told)
+    → LookedSoFar all left p image sections files located known phase g digest mid named there found
     → IfKnown left next (TakesItem p item q) → after ≡ (step phase item).0
     → told ≡ noted_all mid (in_list (step phase item).1)
     → filed ≡ with_met named (head_in phase item)
     → locations ≡ with_location mid there image (head_in phase item)
-    → h ≡ look_to g phase item after
-    → LookedSoFar all next q image sections files located after h told filed locations
-looks_more all left next p q image item sections files located phase after g h mid told named filed
-    there locations s takes goes notes names places looks =
+    → here ≡ (step phase item).1 → copies ≡ with_told found image here digest
+    → then ≡ digest_in digest phase item → h ≡ look_to g phase item after
+    → LookedSoFar all next q image sections files located known after h then told filed locations
+    copies
+looks_more all left next p q image item sections files located known phase after g h digest then mid
+    told named filed there locations found copies here s takes goes notes names places is adds digests
+    looks =
     let items = s.so_far.items in
     let stands : phase ≡ phase_after Volume items = s.so_far.stands in
     let behind = phase_after Volume items in
@@ -111,17 +121,21 @@ looks_more all left next p q image item sections files located phase after g h m
           ∙ ap (λ (r : List Located). with_location (noted_all sections (told_from Volume items)) r
           image (head_in behind item)) s.places
           ∙ sym (locate_all-append image sections located Volume items item);
+      copied = copied_more items image known digest found phase item here then copies s.copied stands
+          is adds digests;
     }
 
 pub viewed_end : (all left next : Option (List ℕ)) (p q image : ℕ) (ending : Ending)
-    (sections : List Told) (files : List Filed) (located : List Located) (phase : Phase)
-    (sight : ImageSurvey) (mid told : List Told) (filed : List Filed) (locations : List Located)
-    → LookedSoFar all left p image sections files located phase sight.glance mid filed locations
+    (sections : List Told) (files : List Filed) (located : List Located) (known : Copied)
+    (phase : Phase) (sight : ImageSurvey) (digest : ℕ) (mid told : List Told) (filed : List Filed)
+    (locations : List Located) (copies : Copied)
+    → LookedSoFar all left p image sections files located known phase sight.glance digest mid filed
+    locations copies
     → IfKnown left next (TakesEnd p [] ending q)
     → told ≡ noted_all mid (in_list (under_way phase)) → sight.stop ≡ stop_at ending
-    → ViewsItems all next image sections files located sight told filed locations
-viewed_end all left next p q image ending sections files located phase sight mid told filed
-    locations s takes notes stop =
+    → ViewsItems all next image sections files located known sight told filed locations copies
+viewed_end all left next p q image ending sections files located known phase sight digest mid told
+    filed locations copies s takes notes stop =
     let items = s.so_far.items in
     record {
       items = items;
@@ -133,17 +147,20 @@ viewed_end all left next p q image ending sections files located phase sight mid
       noted = all_noted all left p s.count sections phase mid told s.so_far notes;
       named = s.named;
       places = s.places;
+      copied = s.copied.copied;
     }
 
 pub viewed_fault : (all left next : Option (List ℕ)) (p image : ℕ) (fault : ImageFault)
-    (sections : List Told) (files : List Filed) (located : List Located) (phase : Phase)
-    (sight : ImageSurvey) (mid told : List Told) (filed : List Filed) (locations : List Located)
-    → LookedSoFar all left p image sections files located phase sight.glance mid filed locations
+    (sections : List Told) (files : List Filed) (located : List Located) (known : Copied)
+    (phase : Phase) (sight : ImageSurvey) (digest : ℕ) (mid told : List Told) (filed : List Filed)
+    (locations : List Located) (copies : Copied)
+    → LookedSoFar all left p image sections files located known phase sight.glance digest mid filed
+    locations copies
     → IfKnown left next (TakesFault p [] fault)
     → told ≡ noted_all mid (in_list (under_way phase)) → sight.stop ≡ Fault fault
-    → ViewsItems all next image sections files located sight told filed locations
-viewed_fault all left next p image fault sections files located phase sight mid told filed
-    locations s takes notes stop =
+    → ViewsItems all next image sections files located known sight told filed locations copies
+viewed_fault all left next p image fault sections files located known phase sight digest mid told
+    filed locations copies s takes notes stop =
     let items = s.so_far.items in
     record {
       items = items;
@@ -153,4 +170,5 @@ viewed_fault all left next p image fault sections files located phase sight mid 
       noted = all_noted all left p s.count sections phase mid told s.so_far notes;
       named = s.named;
       places = s.places;
+      copied = s.copied.copied;
     }

@@ -3,7 +3,7 @@ use Rattle.std.proofs.Common.{◌≡◌, inl, inr, ℕ, zero, suc, ◌+◌, ◌-
 use Rattle.std.proofs.Common.{List, [], ◌∷◌, ◌++◌, length, take, get_or, slice_get, Option, Some}
 use Rattle.std.proofs.Common.{refl, sym, ap, subst, ◌∙◌, arith, append_assoc, append-nil}
 use Rattle.std.proofs.Common.{length-append, map}
-use Rattle.std.specs.Prelude.{◌==◌, ◌||◌}
+use Rattle.std.specs.Prelude.{◌==◌, ◌&&◌, ◌||◌}
 use Rattle.std.proofs.lemmas.List.{get_or-map}
 use Rattle.std.specs.List.{flat_map}
 use Rattle.std.specs.Io.KnownBytes.{Appends}
@@ -21,9 +21,13 @@ use Rattle.tape_run.specs.SurveyFiles.{Filed, any_differs}
 use Rattle.tape_run.specs.SurveyWording.{image_text, file_text, file_texts, set_text, set_texts}
 use Rattle.tape_run.specs.SurveyWording.{summary}
 use Rattle.tape_run.specs.SurveyRead.{Found, nothing_found, IsViewed, AreViewed}
-use Rattle.tape_run.specs.SurveySets.{is_all}
+use Rattle.tape_run.specs.Noted.{is_good}
+use Rattle.tape_run.specs.Passing.{Told}
+use Rattle.tape_run.specs.SurveySets.{is_all, all_good}
 use Rattle.tape_run.proofs.Listing.{take_get}
 use Rattle.tape_run.proofs.Reporting.{front_then}
+use Rattle.tape_run.proofs.SurveyConflicts.{conflicts_are_real}
+use Rattle.tape_run.proofs.SurveySound.{all_is_sound}
 
 -- ---- files and sets
 
@@ -91,6 +95,26 @@ any_push (x ∷ fs) f = ap (λ (b : Bool). x.1.differs || b) (any_push fs f)
 pub any_more : (fs : List Filed) (i : ℕ) (f : Filed) → Some f ≡ slice_get fs i
     → any_differs (take (i + 1) fs) ≡ (any_differs (take i fs) || f.1.differs)
 any_more fs i f at = ap any_differs (take_get fs i f at) ∙ any_push (take i fs) f
+
+-- whether each section up to a place is good
+and_true : (b : Bool) → (b && true) ≡ b
+and_true true = refl
+and_true false = refl
+
+and_assoc : (a b c : Bool) → (a && (b && c)) ≡ ((a && b) && c)
+and_assoc true b c = refl
+and_assoc false b c = refl
+
+all_push : (ts : List Told) (t : Told)
+    → all_good (ts ++ t ∷ []) ≡ (all_good ts && is_good t.1.state)
+all_push [] t = and_true (is_good t.1.state)
+all_push (x ∷ ts) t = ap (λ (b : Bool). is_good x.1.state && b) (all_push ts t)
+    ∙ and_assoc (is_good x.1.state) (all_good ts) (is_good t.1.state)
+
+pub all_more : (ts : List Told) (i : ℕ) (t : Told) (good : Bool) → Some t ≡ slice_get ts i
+    → good ≡ is_good t.1.state → all_good (take (i + 1) ts) ≡ (all_good (take i ts) && good)
+all_more ts i t good at is = ap all_good (take_get ts i t at) ∙ all_push (take i ts) t
+    ∙ ap (λ b. all_good (take i ts) && b) (sym is)
 
 -- ---- images
 
@@ -207,7 +231,7 @@ in_part : {L R : Type 0} (y : Wording) (gives : Mounting L R)
     → Appends old w a → AppendsFront w new b → image_texts y names sights ≡ a ++ b
     → SurveysInPart y gives remaining names shelf old new
 in_part y gives remaining names shelf left sights d old w new a b few viewed wrote part is =
-    let more = summary_at y (length sights == length names) d in
+    let more = summary_at y names (length sights == length names) d in
     record {
       sights = sights;
       few = few;
@@ -282,21 +306,23 @@ pub surveyed : {L R : Type 0} (y : Wording) (gives : Mounting L R)
     (remaining : R → Option (List ℕ))
     (names : List (List ℕ)) (shelf left : L) (d : Found) (old w new : Option (List ℕ)) (all : Bool)
     → TellsSights y gives remaining names shelf left d old w → all ≡ is_all d
-    → Appends w new (summary y d) → Surveys y gives remaining names shelf left old new all
+    → Appends w new (summary y names d) → Surveys y gives remaining names shelf left old new all
 surveyed y gives remaining names shelf left d old w new all s is wrote = record {
   sights = s.sights;
   found = d;
   each = s.each;
   viewed = s.viewed;
-  wrote = Appends-trans old w new (image_texts y names s.sights) (summary y d) s.wrote wrote;
+  wrote = Appends-trans old w new (image_texts y names s.sights) (summary y names d) s.wrote wrote;
   is_so = is;
+  sound = λ e. all_is_sound gives remaining shelf left s.sights d s.viewed (sym is ∙ e);
+  conflicts = conflicts_are_real gives remaining shelf left s.sights d s.viewed;
 }
 
 -- a front of that was written
 pub surveyed_in_part : {L R : Type 0} (y : Wording) (gives : Mounting L R)
     (remaining : R → Option (List ℕ))
     (names : List (List ℕ)) (shelf left : L) (d : Found) (old w new : Option (List ℕ))
-    → TellsSights y gives remaining names shelf left d old w → AppendsFront w new (summary y d)
+    → TellsSights y gives remaining names shelf left d old w → AppendsFront w new (summary y names d)
     → SurveysInPart y gives remaining names shelf old new
 surveyed_in_part y gives remaining names shelf left d old w new s part = record {
   sights = s.sights;
@@ -304,11 +330,11 @@ surveyed_in_part y gives remaining names shelf left d old w new s part = record 
   found = d;
   left = left;
   viewed = s.viewed;
-  wrote = front_then old w new (image_texts y names s.sights) (summary y d) []
-      (image_texts y names s.sights ++ summary_at y (length s.sights == length names) d) s.wrote
+  wrote = front_then old w new (image_texts y names s.sights) (summary y names d) []
+      (image_texts y names s.sights ++ summary_at y names (length s.sights == length names) d) s.wrote
       part
-      (ap (λ b. image_texts y names s.sights ++ summary_at y b d) (same (length s.sights)
-      (length names) s.each) ∙ sym (append-nil (image_texts y names s.sights ++ summary y d)));
+      (ap (λ b. image_texts y names s.sights ++ summary_at y names b d) (same (length s.sights)
+      (length names) s.each) ∙ sym (append-nil (image_texts y names s.sights ++ summary y names d)));
 }
   where
     same : (a b : ℕ) → a ≡ b → (a == b) ≡ true

@@ -37,6 +37,7 @@ use Rattle.tape_run.specs.Noted.{noted_all}
 use Rattle.tape_image.specs.Written.{AppendsFront}
 use Rattle.tape_run.specs.Passing.{met_in, Told}
 use Rattle.tape_run.specs.Reeling.{Took}
+use Rattle.tape_run.specs.SurveyCopies.{Copied, no_copies, copied_in}
 use Rattle.tape_run.specs.SurveyFiles.{filed_in, Filed, is_other, with_head, note_at, file_key}
 use Rattle.tape_run.specs.SurveyGlance.{glance_of, blank_glance, first_of, is_ebcdic, course_with}
 use Rattle.tape_run.specs.SurveyGlance.{late_with, unread_with, unread_by, or_else, is_kind_vol1}
@@ -47,7 +48,7 @@ use Rattle.tape_run.specs.SurveyWording.{found_text, file_text}
 use Rattle.tape_run.specs.SurveyWording.{image_text, summary, sections_text, end_text}
 use Rattle.tape_run.specs.SurveyLine.{trimmed_text, named}
 use Rattle.tape_run.specs.SurveyRows.{section_row, sight_cells, eof_cell, standing_cells}
-use Rattle.tape_run.specs.SurveyRows.{mixed_cell}
+use Rattle.tape_run.specs.SurveyRows.{conflict_cell}
 use Rattle.tape_run.specs.Lacks.{good_end, entry_at, key_at}
 use Rattle.tape_run.specs.SurveyLocations.{Located, with_location, located_in, next_image}
 use Rattle.tape_image.specs.Reader.{IfKnown}
@@ -80,16 +81,24 @@ label file_id created generation = record {
 abbrev pub first_week : Head1
 first_week = label (codes "WEEKLY.BCK       ") (codes " 85100") (codes "0001")
 
--- what was found if all images are complete and this was found
+-- what was found: sections, files and copies, on images that are all complete or not
+abbrev pub found_with : Bool → List Told → List Filed → Copied → Found
+found_with whole sections files copies = record {
+  sections = sections;
+  files = files;
+  whole = whole;
+  locations = [];
+  copies = copies;
+  images = 1;
+}
+
+-- one good section, and these files
 abbrev pub found : Bool → List Filed → Found
-found whole files =
-    record {
-      sections = met 1 1 true Good ∷ [];
-      files = files;
-      whole = whole;
-      locations = [];
-      images = 1;
-    }
+found whole files = found_with whole (met 1 1 true Good ∷ []) files no_copies
+
+-- a file with copies of its first section that differ
+abbrev pub in_dispute : Copied
+in_dispute = record { notes = []; conflicts = (file_key (codes "ABC001") 1, 1) ∷ [] }
 
 -- of images at a glance
 pub record CasesOfGlances : Type 0 where
@@ -168,12 +177,16 @@ pub record CasesOfWholes : Type 0 where
   pub behind : standing_of (met 1 1 false Good ∷ []) (codes "ABC001") 1
       ≡ Behind 2 (codes "ABC001")
   pub missing : standing_of (met 2 1 true Good ∷ []) (codes "ABC001") 1 ≡ Missing 1
-  -- nothing is missing only if images are complete, something was found, and labels do not differ
+  -- nothing is missing only if images are complete, something was found, each section has a good
+  -- copy, and neither labels nor good copies differ
   pub all : is_all (found true []) ≡ true
   pub not_whole : is_all (found false []) ≡ false
   pub nothing_met : is_all nothing_found ≡ false
   pub mixed : is_all (found true
       ((file_key (codes "ABC001") 1, record { head = first_week; differs = true }) ∷ [])) ≡ false
+  pub not_good : is_all (found_with true (met 1 1 true Good ∷ met 1 2 true Bad ∷ []) [] no_copies)
+      ≡ false
+  pub disputed : is_all (found_with true (met 1 1 true Good ∷ []) [] in_dispute) ≡ false
   -- spaces at the end are left out, and nothing in a name breaks the line
   pub trimmed : trimmed_text (codes "A B   ") ≡ codes "A B"
   pub all_spaces : trimmed_text (codes "      ") ≡ []
@@ -209,6 +222,7 @@ pub record CasesOfSurveys : Type 0 where
       × (d.sections ≡ noted_all c.sections (met_in v.1.items))
       × (d.files ≡ filed_in c.files v.1.items)
       × (d.locations ≡ located_in c.images c.sections c.locations v.1.items)
+      × (d.copies ≡ copied_in c.images c.copies v.1.items)
       × (d.whole ≡ (c.whole && is_whole_sight s)) × (d.images ≡ next_image c.images)
   -- numbers that were not found are reported before the next file that was
   pub gap_of_one : gap_text Words (codes "ABC001") 1 2 ≡ codes "  file 1: not found\n"
@@ -242,8 +256,10 @@ pub record CasesOfSurveys : Type 0 where
       (old new : Option (List ℕ)) (t : TellsSight y reel name c d old new) → IsViewed reel t.0 c d
       × Appends old new (image_text y name t.0)
   -- what follows the images is printed if none is left
-  pub summary_last : (y : Wording) (d : Found) → summary_at y true d ≡ summary y d
-  pub no_summary_before : (y : Wording) (d : Found) → summary_at y false d ≡ []
+  pub summary_last : (y : Wording) (names : List (List ℕ)) (d : Found)
+      → summary_at y names true d ≡ summary y names d
+  pub no_summary_before : (y : Wording) (names : List (List ℕ)) (d : Found)
+      → summary_at y names false d ≡ []
   -- rows have each section, and no last line; a tab separates their columns
   pub sections_in_rows : (t : Told) → sections_text Rows (t ∷ []) ≡ section_row t ++ []
   pub no_end_in_rows : end_text Rows true ≡ []
@@ -253,13 +269,13 @@ pub record CasesOfSurveys : Type 0 where
   pub wanted : (n : ℕ) → standing_cells (Behind n (codes "ABC001"))
       ≡ codes "MISSING\t" ++ decimal n ++ codes "\t" ++ codes "ABC001"
   pub nothing_wanted : standing_cells Complete ≡ codes "COMPLETE\t\t"
-  pub not_mixed : mixed_cell None ≡ codes "\t\n"
+  pub no_conflict : conflict_cell false ≡ codes "\t\n"
   -- the survey that is written is that of the images read, each of them in its place
   pub surveyed : (y : Wording) (names : List (List ℕ)) (shelf left : Readers) (old new : Known)
       (all : Bool) (s : Surveys y Took (λ r. r) names shelf left old new all)
       → (length s.sights ≡ length names)
       × AreViewed Took (λ r. r) shelf 0 s.sights nothing_found left s.found
-      × Appends old new (image_texts y names s.sights ++ summary y s.found)
+      × Appends old new (image_texts y names s.sights ++ summary y names s.found)
       × (all ≡ is_all s.found)
   -- after a fault a prefix of it is, of the first images, with the summary after the last one
   pub surveyed_in_part : (y : Wording) (names : List (List ℕ)) (shelf : Readers) (old new : Known)
@@ -267,7 +283,7 @@ pub record CasesOfSurveys : Type 0 where
       → (length s.sights ≤ length names)
       × AreViewed Took (λ r. r) shelf 0 s.sights nothing_found s.left s.found
       × AppendsFront old new
-      (image_texts y names s.sights ++ summary_at y (length s.sights == length names) s.found)
+      (image_texts y names s.sights ++ summary_at y names (length s.sights == length names) s.found)
   -- what a caller can conclude from the laws of a glance
   pub left_there : LeavesThere → (items : List TapeItem) (n : ℕ) (w : ExpectedItem)
       → course_of items ≡ Leaves n w → IsFirstAstray items n

@@ -1,5 +1,6 @@
 -- Examples for the definitions of unpacking. They are the contract of the call `laws::cases`.
-use Rattle.std.specs.Prelude.{◌≡◌, ◌≢◌, ℕ, ◌<◌, ◌^◌, List, [], ◌∷◌, ◌++◌, length, true, false}
+use Rattle.std.specs.Prelude.{◌≡◌, ◌≢◌, ℕ, ◌<◌, ◌^◌, List, [], ◌∷◌, ◌++◌, length, Bool}
+use Rattle.std.specs.Prelude.{true, false, is_some}
 use Rattle.std.specs.Prelude.{Some, None}
 use Rattle.std.specs.Prelude.{codes, map}
 use Rattle.tape_label.specs.declared.values.Head1.{Head1}
@@ -11,6 +12,7 @@ use Rattle.tape_run.specs.declared.unpack.FoundFiles.{FoundFiles}
 use Rattle.tape_run.specs.declared.unpack.line.UnpackOutcome.TheVariants as outcomes
 use Rattle.tape_run.specs.CasesOfExtracts.{Readers}
 use Rattle.tape_run.specs.Reeling.{Took}
+use Rattle.tape_run.specs.SurveyCopies.{dispute_at}
 use Rattle.tape_run.specs.SurveyFiles.{note_at, file_key}
 use Rattle.tape_run.specs.SurveyRead.{Found, nothing_found, AreViewed}
 use Rattle.tape_run.specs.Unpacking.{heading_of, file_at, set_files, files_of, file_name, FilesOn}
@@ -21,8 +23,9 @@ use Rattle.tape_run.specs.UnpackLaws.{NamesDiffer, NamesStay, AreBytes, IsNameOf
 -- what unpacking says of files, names and lines
 pub record CasesOfUnpacking : Type 0 where
   -- what header labels say
-  pub one_file : (n : FileNote) → n.differs ≡ false → heading_of n ≡ Named n.head.file_id
-  pub two_files : (n : FileNote) → n.differs ≡ true → heading_of n ≡ Differs
+  pub one_file : (n : FileNote) → n.differs ≡ false → heading_of n false ≡ Named n.head.file_id
+  pub two_files : (n : FileNote) (b : Bool) → n.differs ≡ true → heading_of n b ≡ Differs
+  pub disputed : (n : FileNote) → n.differs ≡ false → heading_of n true ≡ Differs
   -- each set has its files from 1 on, up to the greatest, and a file is described by its own
   -- labels; a number without a label is not a file
   pub files : (d : Found) → set_files d ((codes "ABC001", 2) ∷ (codes "DEF001", 1) ∷ [])
@@ -32,7 +35,8 @@ pub record CasesOfUnpacking : Type 0 where
       → note_at d.files (file_key set_id file) ≡ None → file_at d set_id file ≡ []
   pub own_labels : (d : Found) (set_id : List ℕ) (file : ℕ) (n : FileNote)
       → note_at d.files (file_key set_id file) ≡ Some n
-      → map (λ (f : SetFile). f.heading) (file_at d set_id file) ≡ heading_of n ∷ []
+      → map (λ (f : SetFile). f.heading) (file_at d set_id file)
+      ≡ heading_of n (is_some (dispute_at d.copies (file_key set_id file))) ∷ []
   pub no_files : files_of nothing_found ≡ []
   -- names
   pub name : file_name (codes "ABC001") 1 (codes "PAYROLL          ") ≡ codes "ABC001.1.PAYROLL"

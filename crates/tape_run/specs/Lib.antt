@@ -53,12 +53,17 @@ pub mod CheckExamples
 pub mod SurveyGaps
 pub mod SurveyGlance
 pub mod SurveyFiles
+pub mod SurveyDigest
+pub mod SurveyCopies
 pub mod SurveyRead
 pub mod SurveyLine
 pub mod SurveyLocations
 pub mod SurveySets
 pub mod SurveyRows
+pub mod SurveyCompared
 pub mod SurveyWording
+pub mod SurveyConflicts
+pub mod SurveySound
 pub mod Survey
 pub mod SurveyLaws
 -- Files unpacked: definitions to believe, in this order.
@@ -113,4 +118,5 @@ pub mod CasesOfSeen
 pub mod CasesOfRounds
 pub mod CasesOfLaws
 pub mod CasesOfSurveys
+pub mod CasesOfCompared
 pub mod CasesOfUnpacking

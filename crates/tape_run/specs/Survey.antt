@@ -1,13 +1,18 @@
 -- What `survey` prints of images.
 use Rattle.std.specs.Prelude.{◌≡◌, ◌⊎◌, ◌≤◌, ◌==◌, ℕ, Bool, true, false, List, [], ◌∷◌, ◌++◌}
-use Rattle.std.specs.Prelude.{length, Option}
+use Rattle.std.specs.Prelude.{length, Option, Some}
 use Rattle.std.specs.Io.KnownBytes.{Appends}
+use Rattle.tape_run.specs.declared.section.SectionKey.{SectionKey}
+use Rattle.tape_run.specs.declared.survey.copies.CopyNote.{CopyNote}
 use Rattle.tape_run.specs.declared.survey.Wording.{Wording}
 use Rattle.tape_run.specs.declared.survey.view.ImageSurvey.{ImageSurvey}
 use Rattle.tape_run.specs.Checked.{Reel}
 use Rattle.tape_image.specs.Written.{AppendsFront}
 use Rattle.tape_run.specs.Reeling.{Mounting}
 use Rattle.tape_run.specs.SurveyWording.{image_text, summary}
+use Rattle.tape_run.specs.SurveyConflicts.{IsIn, CopiesDiffer, all_placed}
+use Rattle.tape_run.specs.SurveyCopies.{Noted}
+use Rattle.tape_run.specs.SurveySound.{IsSound}
 use Rattle.tape_run.specs.SurveyRead.{Found, nothing_found, IsViewed, AreViewed}
 use Rattle.tape_run.specs.SurveySets.{is_all}
 
@@ -41,7 +46,7 @@ pub record TellsSights {L R : Type 0} (y : Wording) (gives : Mounting L R)
   pub wrote : Appends old new (image_texts y names sights)
 
 -- The survey of the images with these names, one after another, was written, and the result says
--- whether nothing is missing and every image was read completely. After the images this was found.
+-- whether all is well. After the images this was found.
 pub record Surveys {L R : Type 0} (y : Wording) (gives : Mounting L R)
     (remaining : R → Option (List ℕ))
     (names : List (List ℕ)) (shelf left : L) (old new : Option (List ℕ)) (all : Bool)
@@ -50,13 +55,19 @@ pub record Surveys {L R : Type 0} (y : Wording) (gives : Mounting L R)
   pub found : Found
   pub each : length sights ≡ length names
   pub viewed : AreViewed gives remaining shelf 0 sights nothing_found left found
-  pub wrote : Appends old new (image_texts y names sights ++ summary y found)
+  pub wrote : Appends old new (image_texts y names sights ++ summary y names found)
   pub is_so : all ≡ is_all found
+  -- if all is well, the images are sound; and copies that are reported to differ do
+  pub sound : all ≡ true → IsSound gives remaining shelf left sights found viewed
+  pub conflicts : (key : SectionKey) (n : CopyNote) (other : ℕ)
+      → IsIn {X = Noted} found.copies.notes (key, n) → n.other ≡ Some other
+      → CopiesDiffer (all_placed gives remaining shelf 0 sights nothing_found left found viewed) key
+      n.image other
 
 -- the summary follows if there are that many
-abbrev pub summary_at : Wording → Bool → Found → List ℕ
-summary_at y true d = summary y d
-summary_at y false d = []
+abbrev pub summary_at : Wording → List (List ℕ) → Bool → Found → List ℕ
+summary_at y names true d = summary y names d
+summary_at y names false d = []
 
 -- The first images were read, and a prefix of their survey was written; its summary follows the
 -- line of the last.
@@ -69,4 +80,4 @@ pub record SurveysInPart {L R : Type 0} (y : Wording) (gives : Mounting L R)
   pub left : L
   pub viewed : AreViewed gives remaining shelf 0 sights nothing_found left found
   pub wrote : AppendsFront old new (image_texts y names sights
-      ++ summary_at y (length sights == length names) found)
+      ++ summary_at y names (length sights == length names) found)

@@ -13,23 +13,31 @@ use Rattle.tape_run.specs.Checked.{Reel}
 use Rattle.tape_run.specs.Noted.{noted_all}
 use Rattle.tape_run.specs.Passing.{Told, met_in}
 use Rattle.tape_run.specs.Reeling.{Mounting}
+use Rattle.tape_run.specs.SurveyCopies.{Copied, no_copies, copied_in}
 use Rattle.tape_run.specs.SurveyFiles.{Filed, filed_in}
 use Rattle.tape_run.specs.SurveyGlance.{glance_of}
 use Rattle.tape_run.specs.SurveyLocations.{Located, located_in, next_image}
 
 -- what is known of sections and of files, whether every image was read completely, on which image
--- each section is, and how many images there were
+-- each section is, its good copies, and how many images there were
 pub record Found : Type 0 where
   pub sections : List Told
   pub files : List Filed
   pub whole : Bool
   pub locations : List Located
+  pub copies : Copied
   pub images : ℕ
 
 -- nothing was found
 abbrev pub nothing_found : Found
-nothing_found =
-    record { sections = []; files = []; whole = true; locations = []; images = 0 }
+nothing_found = record {
+  sections = [];
+  files = [];
+  whole = true;
+  locations = [];
+  copies = no_copies;
+  images = 0;
+}
 
 -- the image does not end with a fault
 abbrev pub is_end : ImageStop → Bool
@@ -52,24 +60,26 @@ abbrev pub is_whole_sight : ImageSurvey → Bool
 is_whole_sight s = is_ended s.glance.course && (is_none s.glance.unread && is_end s.stop)
 
 -- All items that a reader of the image with this number returned were looked at, and the sections
--- and header labels in them were added, and where the sections are. Before the call the reader had
--- the bytes `before`, and then the bytes `after`.
+-- and header labels in them were added, where the sections are, and the good copies. Before the call
+-- the reader had the bytes `before`, and then the bytes `after`.
 pub record ViewsItems (before after : Option (List ℕ)) (image : ℕ) (sections : List Told)
-    (files : List Filed) (located : List Located) (sight : ImageSurvey) (told : List Told)
-    (filed : List Filed) (locations : List Located) : Type 0 where
-  pub items : List TapeItem
-  pub stop : IfKnown before after (StopsBehind items sight.stop)
-  pub glance : sight.glance ≡ glance_of items
-  pub noted : told ≡ noted_all sections (met_in items)
-  pub named : filed ≡ filed_in files items
-  pub places : locations ≡ located_in image sections located items
+    (files : List Filed) (located : List Located) (known : Copied) (sight : ImageSurvey)
+    (told : List Told) (filed : List Filed) (locations : List Located) (copies : Copied) : Type 0
+  where
+    pub items : List TapeItem
+    pub stop : IfKnown before after (StopsBehind items sight.stop)
+    pub glance : sight.glance ≡ glance_of items
+    pub noted : told ≡ noted_all sections (met_in items)
+    pub named : filed ≡ filed_in files items
+    pub places : locations ≡ located_in image sections located items
+    pub copied : copies ≡ copied_in image known items
 
 -- An image was read, completely if it is a whole volume; or it was not opened.
 abbrev pub IsViewed : Reel → Option ImageSurvey → Found → Found → Type 0
 IsViewed None None c d = d ≡ record c { whole = false; images = next_image c.images }
 IsViewed (Some before) (Some sight) c d = (after : Option (List ℕ))
-    × ViewsItems before after c.images c.sections c.files c.locations sight d.sections d.files
-    d.locations
+    × ViewsItems before after c.images c.sections c.files c.locations c.copies sight d.sections
+    d.files d.locations d.copies
     × (d.whole ≡ (c.whole && is_whole_sight sight)) × (d.images ≡ next_image c.images)
 IsViewed _ _ c d = ⊥
 

@@ -1,7 +1,7 @@
 -- The rows of a survey, for scripts. A tab separates the columns, and none contains one: each byte
 -- of a name or an identifier that is not printable is replaced by a question mark.
 use Rattle.std.specs.Prelude.{ℕ, Bool, if◌then◌else◌, List, [], ◌++◌, codes, decimal}
-use Rattle.std.specs.Prelude.{Option, Some, None}
+use Rattle.std.specs.Prelude.{Option, Some, None, is_some, ◌||◌}
 use Rattle.tape_label.specs.declared.values.Head1.{Head1}
 use Rattle.tape_run.specs.declared.survey.files.FileNote.{FileNote}
 use Rattle.tape_run.specs.declared.survey.glance.First.{First}
@@ -13,6 +13,7 @@ use Rattle.tape_run.specs.declared.survey.sets.Standing.TheVariants.{Missing}
 use Rattle.tape_run.specs.declared.survey.view.ImageSurvey.{ImageSurvey}
 use Rattle.tape_run.specs.CheckLine.{state_text, stop_text}
 use Rattle.tape_run.specs.Passing.{Told}
+use Rattle.tape_run.specs.SurveyCopies.{dispute_at}
 use Rattle.tape_run.specs.SurveyFiles.{note_at, file_key}
 use Rattle.tape_run.specs.SurveyLine.{trimmed_text, name_text, met_text}
 use Rattle.tape_run.specs.SurveyRead.{Found, is_whole_sight}
@@ -97,14 +98,15 @@ standing_cells (Damaged sect entry) = wanted_cells (state_text entry.state) sect
 standing_cells (Behind sect volume) = wanted_cells (codes "MISSING") sect volume
 standing_cells (Missing sect) = wanted_cells (codes "MISSING") sect []
 
--- labels of different files were found under its number
-abbrev pub mixed_cell : Option FileNote → List ℕ
-mixed_cell note = if is_mixed note then codes "\tCONFLICT\n" else codes "\t\n"
+-- labels of different files were found under its number, or good copies of a section differ
+abbrev pub conflict_cell : Bool → List ℕ
+conflict_cell differs = if differs then codes "\tCONFLICT\n" else codes "\t\n"
 
 -- the row of a file
 abbrev pub file_row : Found → List ℕ → ℕ → List ℕ
 file_row d set_id file =
-    let note = note_at d.files (file_key set_id file) in
+    let key = file_key set_id file in
+    let note = note_at d.files key in
     codes "FILE\t" ++ trimmed_text set_id ++ codes "\t" ++ decimal file ++ codes "\t"
     ++ known_cells note ++ codes "\t" ++ standing_cells (standing_of d.sections set_id file)
-    ++ mixed_cell note
+    ++ conflict_cell (is_mixed note || is_some (dispute_at d.copies key))

@@ -1,6 +1,6 @@
 -- What a survey says of sets and their files. The text is for people, and may change.
-use Rattle.std.specs.Prelude.{ℕ, ◌-◌, ◌&&◌, not, Bool, false, if◌then◌else◌}
-use Rattle.std.specs.Prelude.{List, [], ◌++◌, codes, decimal, Option, Some, None}
+use Rattle.std.specs.Prelude.{ℕ, ◌-◌, ◌&&◌, not, Bool, true, false, if◌then◌else◌}
+use Rattle.std.specs.Prelude.{List, [], ◌∷◌, ◌++◌, codes, decimal, Option, Some, None}
 use Rattle.tape_run.specs.declared.section.Entry.{Entry}
 use Rattle.tape_run.specs.declared.survey.files.FileNote.{FileNote}
 use Rattle.tape_run.specs.declared.survey.sets.Standing.{Standing}
@@ -9,7 +9,9 @@ use Rattle.tape_run.specs.declared.survey.sets.Standing.TheVariants.{Missing}
 use Rattle.tape_run.specs.CheckLine.{state_text}
 use Rattle.tape_run.specs.Identifier.{identifier_text}
 use Rattle.tape_run.specs.Lacks.{entry_at, key_at, lack_of, found_all}
+use Rattle.tape_run.specs.Noted.{is_good}
 use Rattle.tape_run.specs.Passing.{Told}
+use Rattle.tape_run.specs.SurveyCopies.{dispute_at, is_agreed}
 use Rattle.tape_run.specs.SurveyLine.{trimmed_text}
 use Rattle.tape_run.specs.SurveyFiles.{note_at, file_key, any_differs}
 use Rattle.tape_run.specs.SurveyRead.{Found}
@@ -76,21 +78,35 @@ abbrev pub differs_text : Option FileNote → List ℕ
 differs_text note =
     if is_mixed note then codes "; labels of different files were met under its number" else []
 
+-- copies of a section differ, if there is one
+abbrev pub dispute_text : Option ℕ → List ℕ
+dispute_text None = []
+dispute_text (Some sect) = codes "; good copies of section " ++ decimal sect ++ codes " differ"
+
 -- the line of a file
 abbrev pub file_line : Found → List ℕ → ℕ → List ℕ
 file_line d set_id file =
-    let note = note_at d.files (file_key set_id file) in
+    let key = file_key set_id file in
+    let note = note_at d.files key in
     codes "  " ++ decimal file ++ codes " " ++ known_text note ++ codes "  "
-    ++ standing_text (standing_of d.sections set_id file) ++ differs_text note ++ codes "\n"
+    ++ standing_text (standing_of d.sections set_id file) ++ differs_text note
+    ++ dispute_text (dispute_at d.copies key) ++ codes "\n"
 
 -- the line of a set
 abbrev pub set_line : List ℕ → List ℕ
 set_line set_id = codes "Set " ++ trimmed_text set_id ++ codes "\n"
 
+-- each of these sections is good
+abbrev pub all_good : List Told → Bool
+all_good [] = true
+all_good (t ∷ ts) = is_good t.1.state && all_good ts
+
 -- Nothing is missing, and all was read completely: all images are complete, each file that was
--- found is complete, and no two files were found under one number.
+-- found is complete, each section has a good copy, no two files were found under one number, and no
+-- good copies differ.
 abbrev pub is_all : Found → Bool
-is_all d = d.whole && (found_all d.sections && not (any_differs d.files))
+is_all d = d.whole && (found_all d.sections && (all_good d.sections
+    && (not (any_differs d.files) && is_agreed d.copies.conflicts)))
 
 -- the last line
 abbrev pub last_text : Bool → List ℕ

@@ -6,6 +6,7 @@ use Rattle.tape_run.specs.declared.survey.Wording.TheVariants.{Words, Rows}
 use Rattle.tape_run.specs.declared.survey.view.ImageSurvey.{ImageSurvey}
 use Rattle.tape_run.specs.Lacks.{SetFiles, sets_from}
 use Rattle.tape_run.specs.Passing.{Told}
+use Rattle.tape_run.specs.SurveyCompared.{copies_text}
 use Rattle.tape_run.specs.SurveyGaps.{is_found, gap_first, gap_text}
 use Rattle.tape_run.specs.SurveyLine.{image_line}
 use Rattle.tape_run.specs.SurveyRead.{Found}
@@ -63,6 +64,7 @@ abbrev pub end_text : Wording → Bool → List ℕ
 end_text Words all = last_text all
 end_text Rows all = []
 
--- what follows the images
-abbrev pub summary : Wording → Found → List ℕ
-summary y d = sections_text y d.sections ++ (sets_text y d ++ end_text y (is_all d))
+-- what follows the images with these names
+abbrev pub summary : Wording → List (List ℕ) → Found → List ℕ
+summary y names d = sections_text y d.sections
+    ++ (sets_text y d ++ (copies_text y names d.copies.notes ++ end_text y (is_all d)))

@@ -11,13 +11,16 @@ use Rattle.tape_run.specs.declared.unpack.SetFile.{SetFile}
 use Rattle.tape_run.specs.declared.unpack.FoundFiles.{FoundFiles}
 use Rattle.tape_run.specs.Lacks.{SetFiles, sets_from, lack_of}
 use Rattle.tape_run.specs.Reeling.{Mounting}
+use Rattle.tape_run.specs.SurveyCopies.{dispute_at}
 use Rattle.tape_run.specs.SurveyFiles.{note_at, file_key}
 use Rattle.tape_run.specs.SurveyLine.{trimmed_len}
 use Rattle.tape_run.specs.SurveyRead.{Found, nothing_found, AreViewed}
 
--- what the header labels of a file say, given what is known of it
-abbrev pub heading_of : FileNote → Heading
-heading_of note = if note.differs then Differs else Named note.head.file_id
+-- what the header labels of a file and its good copies say, given what is known of the file: they are
+-- those of different files if the labels differ, or good copies of a section do
+abbrev pub heading_of : FileNote → Bool → Heading
+heading_of note disputed =
+    if note.differs || disputed then Differs else Named note.head.file_id
 
 -- a file, if this is known of its labels; without a label there is no file
 abbrev pub file_by : Found → List ℕ → ℕ → Option FileNote → List SetFile
@@ -25,7 +28,7 @@ file_by d set_id file None = []
 file_by d set_id file (Some note) = record {
   set_id = set_id;
   file = file;
-  heading = heading_of note;
+  heading = heading_of note (is_some (dispute_at d.copies (file_key set_id file)));
   lacks = is_some (lack_of d.sections set_id file);
 } ∷ []
 

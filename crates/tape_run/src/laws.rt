@@ -16,6 +16,7 @@ ghost use Rattle.tape_run.specs.CasesOfRuns.{CasesOfStops};
 ghost use Rattle.tape_run.specs.CasesOfRounds.{CasesOfRounds};
 ghost use Rattle.tape_run.specs.CasesOfLaws.{CasesOfRunLaws, CasesOfCatalogueLaws};
 ghost use Rattle.tape_run.specs.CasesOfSurveys.{CasesOfGlances, CasesOfWholes, CasesOfSurveys};
+ghost use Rattle.tape_run.specs.CasesOfCompared.{CasesOfCompared};
 ghost use Rattle.tape_run.specs.CasesOfUnpacking.{CasesOfUnpacking};
 ghost use Rattle.tape_run.specs.Fronts.{FrontsAreMounts, GivenIsHistory};
 ghost use Rattle.tape_run.specs.Lead.{ItemsAreThere};
@@ -93,6 +94,7 @@ pub fn cases()
     ensures glances { CasesOfGlances }
     ensures wholes { CasesOfWholes }
     ensures surveys { CasesOfSurveys }
+    ensures compared { CasesOfCompared }
     ensures unpacking { CasesOfUnpacking }
     ensures turns { CasesOfTurns }
     ensures outputs { CasesOfOutputs }

@@ -11,7 +11,10 @@ ghost use Rattle.tape_run.specs.SurveySets.{is_all, last_text};
 ghost use Rattle.tape_run.specs.Survey.{TellsSight, TellsSights, StopsAtSight, Surveys};
 ghost use Rattle.tape_run.specs.Survey.{SurveysInPart};
 
+mod compared;
+pub(crate) mod copies;
 mod course;
+mod digest;
 pub(crate) mod files;
 pub(crate) mod gaps;
 mod glance;
@@ -25,6 +28,7 @@ pub(crate) mod view;
 use crate::check::pass_on;
 use crate::extract::images::ImageSource;
 use crate::fault::{EngineFault, NO_MEMORY};
+use compared::copies_text;
 use line::survey_text_of;
 use rows::{middle_cells, words_cell};
 use sets::is_all;
@@ -43,9 +47,11 @@ pub enum Wording {
 }
 
 /// Describes images, by their names: a line for each, as soon as it was read; then each set that
-/// was found, with its files, and a last line if nothing is missing and every image was read
-/// completely. In rows, each section precedes the files, and there is no last line. Returns whether
-/// nothing is missing and every image was read completely.
+/// was found, with its files; then each section with more than one complete copy; and a last line
+/// if all is well. In rows, each section precedes the files, and there is no last line. Returns
+/// whether all is well: nothing is missing, each section that was found has a complete copy, no
+/// complete copies differ, no number has labels of different files, and every image was read
+/// completely.
 ///
 /// Images are opened in the order of their names, each read to its end or to a fault, and then
 /// closed. Allocates for the reader of one image and for a line, and otherwise only for the
@@ -61,8 +67,7 @@ pub fn survey_to<R: Read + Drop, L: ImageSource<R>, P: Write>(
     wording: Wording,
     report: &mut P,
 ) -> Result<bool, EngineFault>
-    // On success the whole survey was written, and the result says whether nothing is missing and
-    // every image was read completely.
+    // On success the whole survey was written, and the result says whether all is well.
     ensures ok { IfOk result (Surveys wording L.gives R.remaining (map (λ n. n.now) names.now)
         images.old images.new (P.contents report.old) (P.contents report.new)) }
     // On any error a prefix of a survey of the images that were read was written.
@@ -72,7 +77,7 @@ pub fn survey_to<R: Read + Drop, L: ImageSource<R>, P: Write>(
 {
     let mut findings = Findings::new(alloc);
     survey_images(alloc, &mut findings, images, names, wording, report)?;
-    sum_up(alloc, &findings, wording, report)
+    sum_up(alloc, &findings, names, wording, report)
 }
 
 /// Reads the images with these names, and writes a line for each.
@@ -186,24 +191,25 @@ fn named(byte: u8) -> u8
     }
 }
 
-/// Writes what follows the lines of the images, and returns whether nothing is missing and every
-/// image was read completely.
+/// Writes what follows the lines of the images, and returns whether all is well.
 fn sum_up<P: Write>(
     alloc: Global,
     findings: &Findings,
+    names: &[&str],
     wording: Wording,
     report: &mut P,
 ) -> Result<bool, EngineFault>
     ensures ok { IfOk result (λ all. (all ≡ is_all findings.now)
-        × Appends (P.contents report.old) (P.contents report.new) (summary wording findings.now)) }
+        × Appends (P.contents report.old) (P.contents report.new)
+        (summary wording (map (λ n. n.now) names.now) findings.now)) }
     ensures front { OnErr result (AppendsFront (P.contents report.old) (P.contents report.new)
-        (summary wording findings.now)) }
+        (summary wording (map (λ n. n.now) names.now) findings.now)) }
     ensures fault { IfErr result IsCheckFault }
 {
     let Ok(all) = is_all(alloc, findings) else {
         return Err(NO_MEMORY);
     };
-    let Ok(text) = summary(alloc, findings, wording, all) else {
+    let Ok(text) = summary(alloc, findings, names, wording, all) else {
         return Err(NO_MEMORY);
     };
     pass_on(report, text.as_slice())?;
@@ -214,15 +220,19 @@ fn sum_up<P: Write>(
 fn summary(
     alloc: Global,
     findings: &Findings,
+    names: &[&str],
     wording: Wording,
     all: bool,
 ) -> Result<Vec<u8>, AllocError>
     requires { all ≡ is_all findings.now }
-    ensures { IfOk result (λ text. text.items ≡ summary wording findings.now) }
+    ensures { IfOk result (λ text. text.items
+        ≡ summary wording (map (λ n. n.now) names.now) findings.now) }
 {
     let mut text = sections_text(alloc, wording, &findings.sections)?;
     let sets = sets_text(alloc, findings, wording)?;
     text.extend_from_slice(sets.as_slice())?;
+    let copies = copies_text(alloc, wording, names, &findings.copies.notes)?;
+    text.extend_from_slice(copies.as_slice())?;
     text.extend_from_slice(end_text(wording, all))?;
     Ok(text)
 }

@@ -1,5 +1,7 @@
 //! Laws of what `survey` says of images, as contracts of calls that do nothing.
 
+ghost use Rattle.tape_run.specs.SurveyConflicts.{CopiesAreShown};
+ghost use Rattle.tape_run.specs.SurveyDigest.{TellsWordsApart};
 ghost use Rattle.tape_run.specs.SurveyLaws.{LeavesThere, EndedIsVolume};
 
 /// If an item is reported to leave the order of a volume, those before it follow the order, and
@@ -12,4 +14,15 @@ pub fn leaves_there()
 /// their order, and the marks of its end, with nothing after them.
 pub fn ended_is_volume()
     ensures { EndedIsVolume }
+{}
+
+/// Digests of data blocks that differ in one word are different. (A lost or a doubled block changes
+/// the number of blocks, which is compared too.)
+pub fn one_word_changes_the_digest()
+    ensures { TellsWordsApart }
+{}
+
+/// Each complete copy that is compared is one that the items show, with all its data blocks.
+pub fn copies_are_shown()
+    ensures { CopiesAreShown }
 {}

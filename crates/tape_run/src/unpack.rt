@@ -22,10 +22,10 @@ use std::io::Read;
 use tape_label::Field;
 use tape_set::Sequence;
 
-/// What the header labels of a file's number say.
+/// What the header labels of a file's number and the complete copies of its sections say.
 #[derive(Clone, Copy)]
 pub enum Heading {
-    /// They are of different files.
+    /// They are of different files: the labels differ, or complete copies of a section do.
     Differs,
     /// They are of one file, with this file identifier.
     Named(Field<17>),
@@ -122,11 +122,12 @@ fn set_of(sight: Option<ImageSurvey>) -> Option<Field<6>>
     }
 }
 
-/// Returns what the header labels of a file say, given what is known of it.
-fn heading_of(note: &FileNote) -> Heading
-    ensures { result ≡ heading_of note.now }
+/// Returns what the header labels of a file say, given what is known of it and whether complete
+/// copies of a section differ.
+fn heading_of(note: &FileNote, disputed: bool) -> Heading
+    ensures { result ≡ heading_of note.now disputed }
 {
-    if note.differs {
+    if note.differs || disputed {
         return Heading::Differs;
     }
     Heading::Named(note.head.file_id)
@@ -146,7 +147,7 @@ fn add_file(
     let Some(note) = findings.files.get(&key) else {
         return Ok(());
     };
-    let heading = heading_of(note);
+    let heading = heading_of(note, findings.copies.dispute(&key).is_some());
     let lacks = lack_of(&findings.sections, set_id, file).is_some();
     let added = files.push(SetFile {
         set_id,

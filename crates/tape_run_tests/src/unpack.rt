@@ -1,5 +1,5 @@
 //! The files that are on the images of a shelf, by their names.
-use crate::image::{Image, payroll};
+use crate::image::{HDR1, Image, payroll};
 use crate::sections::{first_of_two, one_section, second_of_two};
 use crate::volumes::EOF_ONE;
 use std::alloc::{AllocError, Global};
@@ -73,5 +73,8 @@ fn files_of_shelves(rt: HostRuntime) -> Result<(), Fail> {
     found(&rt, &[second, first], true, payroll)?;
     found(&rt, &[whole, None], false, payroll)?;
     found(&rt, &[third], true, thirds)?;
-    found(&rt, &[whole, other], true, mixed)
+    found(&rt, &[whole, other], true, mixed)?;
+    let shorter = one_section(alloc, HDR1, EOF_ONE)?;
+    found(&rt, &[whole, Some(shorter.bytes.as_slice())], true, mixed)?;
+    found(&rt, &[whole, whole], true, payroll)
 }

@@ -238,7 +238,7 @@ fn one_head(head: &Option<Head1>) -> u32
 }
 
 /// The first of two that exists.
-fn or_else<T: Copy>(first: Option<T>, second: Option<T>) -> Option<T>
+pub(crate) fn or_else<T: Copy>(first: Option<T>, second: Option<T>) -> Option<T>
     ensures { result ≡ or_else first second }
 {
     match first {

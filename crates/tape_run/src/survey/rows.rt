@@ -4,7 +4,7 @@ ghost use Rattle.arrayvec.specs.ArrayVec.{array_vec_len};
 ghost use Rattle.tape_run.specs.SurveyRows.{whole_cell, volume_cell, head_cells, count_cells};
 ghost use Rattle.tape_run.specs.SurveyRows.{seen_cells, middle_cells, sight_cells, words_cell};
 ghost use Rattle.tape_run.specs.SurveyRows.{key_cells, eof_cell, section_row, known_cells};
-ghost use Rattle.tape_run.specs.SurveyRows.{wanted_cells, standing_cells, mixed_cell, file_row};
+ghost use Rattle.tape_run.specs.SurveyRows.{wanted_cells, standing_cells, conflict_cell, file_row};
 
 use super::files::{FileKey, FileNote};
 use super::glance::{First, ImageSummary};
@@ -189,7 +189,8 @@ pub(crate) fn file_row(findings: &Findings, set_id: Field<6>, file: u16) -> Text
     put_known(&mut text, note);
     put_tab(&mut text);
     put_standing(&mut text, &standing_of(&findings.sections, set_id, file));
-    put(&mut text, mixed_cell(note));
+    let differs = is_mixed(note) || findings.copies.dispute(&key).is_some();
+    put(&mut text, conflict_cell(differs));
     text
 }
 
@@ -240,14 +241,10 @@ fn put_wanted(text: &mut Text, state: &[u8], sect: u16, volume: &Field<6>)
     put_trimmed(text, volume);
 }
 
-/// Whether labels of different files were found under its number.
-fn mixed_cell(note: Option<&FileNote>) -> &'static [u8]
-    ensures text { result.now ≡ mixed_cell (option_map (λ n. n.now) note.entry) }
+/// Whether labels of different files were found under its number, or copies differ.
+fn conflict_cell(differs: bool) -> &'static [u8]
+    ensures text { result.now ≡ conflict_cell differs }
     ensures short { length result.now ≤ 10 }
 {
-    if is_mixed(note) {
-        b"\tCONFLICT\n"
-    } else {
-        b"\t\n"
-    }
+    if differs { b"\tCONFLICT\n" } else { b"\t\n" }
 }

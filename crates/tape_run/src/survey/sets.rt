@@ -1,10 +1,11 @@
 //! What a survey says of sets and their files.
-ghost use Rattle.std.specs.Prelude.{◌≡◌, ◌≤◌, ◌++◌, length, IfOk, option_map};
+ghost use Rattle.std.specs.Prelude.{◌≡◌, ◌≤◌, ◌<◌, ◌+◌, ◌++◌, ◌&&◌, length, take, IfOk, option_map};
 ghost use Rattle.arrayvec.specs.ArrayVec.{array_vec_len};
 ghost use Rattle.tape_run.specs.Lacks.{entry_at, found_all};
 ghost use Rattle.tape_run.specs.SurveySets.{wanted_at, standing_of, known_text, standing_text};
 ghost use Rattle.tape_run.specs.SurveySets.{wanted_text, damaged_text, differs_text, file_line};
 ghost use Rattle.tape_run.specs.SurveySets.{set_line, is_all, behind_by, is_mixed, missing_text};
+ghost use Rattle.tape_run.specs.SurveySets.{dispute_text, all_good};
 
 use super::files::{FileKey, FileNote, any_differs};
 use super::view::Findings;
@@ -162,6 +163,19 @@ pub(crate) fn is_mixed(note: Option<&FileNote>) -> bool
     }
 }
 
+/// That complete copies of a section differ.
+fn put_dispute(text: &mut Text, dispute: Option<u16>)
+    requires room { array_vec_len text.old ≤ 400 }
+    ensures items { text.new.items ≡ text.old.items ++ dispute_text dispute }
+    ensures len { array_vec_len text.new ≤ 500 }
+{
+    if let Some(sect) = dispute {
+        put(text, b"; good copies of section ");
+        put_decimal(text, u64::from(sect));
+        put(text, b" differ");
+    }
+}
+
 /// The line of a file.
 pub(crate) fn file_line(findings: &Findings, set_id: Field<6>, file: u16) -> Text
     ensures { result.items ≡ file_line findings.now set_id file }
@@ -176,6 +190,7 @@ pub(crate) fn file_line(findings: &Findings, set_id: Field<6>, file: u16) -> Tex
     put(&mut text, b"  ");
     put_standing(&mut text, &standing_of(&findings.sections, set_id, file));
     put_differs(&mut text, note);
+    put_dispute(&mut text, findings.copies.dispute(&key));
     put(&mut text, b"\n");
     text
 }
@@ -201,10 +216,36 @@ fn is_complete(alloc: Global, sections: &Sections) -> Result<bool, AllocError>
     Ok(found)
 }
 
-/// Whether nothing is missing, and every image was read completely.
+/// Whether the section at an index is complete.
+fn good_at(sections: &Sections, place: usize) -> bool
+    requires { place < length sections.now.entries }
+    ensures { all_good (take (place + 1) sections.now.entries)
+        ≡ (all_good (take place sections.now.entries) && result) }
+{
+    let Some((_, entry)) = sections.get_index(place) else {
+        unreachable!()
+    };
+    entry.state.is_good()
+}
+
+/// Whether each section that was found has a complete copy.
+fn all_good(sections: &Sections) -> bool
+    ensures { result ≡ all_good sections.now.entries }
+{
+    let mut all = true;
+    for place in 0..sections.len() {
+        let good = good_at(sections, place);
+        all = all && good;
+    }
+    all
+}
+
+/// Whether nothing is missing and no complete copies differ, and every image was read completely.
 pub(crate) fn is_all(alloc: Global, findings: &Findings) -> Result<bool, AllocError>
     ensures { IfOk result (λ all. all ≡ is_all findings.now) }
 {
     let found = is_complete(alloc, &findings.sections)?;
-    Ok(findings.whole && found && !any_differs(&findings.files))
+    let good = all_good(&findings.sections);
+    let one_file = !any_differs(&findings.files);
+    Ok(findings.whole && found && good && one_file && findings.copies.is_agreed())
 }

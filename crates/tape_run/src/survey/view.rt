@@ -9,13 +9,15 @@ ghost use Rattle.tape_run.specs.declared.fault.RunFault.TheVariants as faults;
 ghost use Rattle.tape_run.specs.SurveyRead.{ViewsItems, IsViewed, is_whole_sight};
 ghost use Rattle.tape_run.specs.SurveyRead.{nothing_found, is_ended, is_none, is_end};
 
+use super::copies::Copies;
 use super::course::LabelOrder;
+use super::digest::digest_in;
 use super::files::{Files, note_met};
 use super::glance::{ImageSummary, blank_glance, head_in, look};
 use super::locations::{Locations, note_location};
 use crate::catalogue::stop_at;
 use crate::fault::RunFault;
-use crate::passing::Phase;
+use crate::passing::{Phase, step};
 use crate::section::ImageStop;
 use crate::sections::{Sections, close, take};
 use std::alloc::Global;
@@ -40,12 +42,14 @@ pub(crate) struct Findings {
     pub(crate) whole: bool,
     /// The image on which each section is.
     pub(crate) locations: Locations,
+    /// The complete copies of each section.
+    pub(crate) copies: Copies,
     /// How many images there were.
     images: usize,
 }
 
 // Contracts see findings as what is known of sections and files, whether all images were read
-// completely, where the sections are, and how many images there were.
+// completely, where the sections are, their complete copies, and how many images there were.
 impl Model for Findings {
     ghost use Rattle.tape_run.specs.SurveyRead.{Found};
 
@@ -56,6 +60,7 @@ impl Model for Findings {
       files = f.files.entries;
       whole = f.whole;
       locations = f.locations.entries;
+      copies = f.copies;
       images = f.images;
     } };
 }
@@ -110,6 +115,7 @@ impl Findings {
             files: Files::new(alloc),
             whole: true,
             locations: Locations::new(alloc),
+            copies: Copies::new(alloc),
             images: 0,
         }
     }
@@ -140,7 +146,8 @@ impl Findings {
         ensures fault { IsOkUnless result faults.OutOfMemory }
         ensures ok { IfOk result (λ sight. ViewsItems (R.remaining reader.old)
             (R.remaining reader.new) self.old.images self.old.sections self.old.files
-            self.old.locations sight self.new.sections self.new.files self.new.locations) }
+            self.old.locations self.old.copies sight self.new.sections self.new.files
+            self.new.locations self.new.copies) }
         ensures same { OnOk result (self.new.whole ≡ self.old.whole) }
         ensures count { OnOk result (self.new.images ≡ self.old.images) }
     {
@@ -151,6 +158,7 @@ impl Findings {
             &mut self.sections,
             &mut self.files,
             &mut self.locations,
+            &mut self.copies,
             self.images,
             &mut image,
         );
@@ -165,6 +173,7 @@ fn view_items<R: Read>(
     sections: &mut Sections,
     files: &mut Files,
     locations: &mut Locations,
+    copies: &mut Copies,
     number: usize,
     image: &mut ImageReader<'_, R>,
 ) -> Result<ImageSurvey, RunFault>
@@ -173,17 +182,21 @@ fn view_items<R: Read>(
     ensures same_device { image.new.device ≡ image.old.device }
     ensures fault { IsOkUnless result faults.OutOfMemory }
     ensures ok { IfOk result (λ sight. ViewsItems image.old.left image.new.left number
-        sections.old.entries files.old.entries locations.old.entries sight sections.new.entries
-        files.new.entries locations.new.entries) }
+        sections.old.entries files.old.entries locations.old.entries copies.old sight
+        sections.new.entries files.new.entries locations.new.entries copies.new) }
 {
     let mut phase = Phase::Volume;
     let mut glance = blank_glance();
+    let mut digest = 0;
     'items: loop {
         match image.next() {
             Ok(Some(item)) => {
                 note_met(files, head_in(&phase, item))?;
                 note_location(locations, sections, number, head_in(&phase, item))?;
+                let (_, told) = step(phase, item);
+                copies.note(number, told, digest)?;
                 let behind = take_behind(sections, &phase, item)?;
+                digest = digest_in(digest, &phase, item);
                 glance = look(&glance, &phase, item, &behind);
                 phase = behind;
             }

@@ -32,12 +32,17 @@ all sections were found.
 If labels of different files have the same number, two sets share one
 identifier. tape cannot separate them: keep the images of each set in a
 directory of its own.
+Then each section with more than one good copy. Copies are compared by the
+number of their data blocks and a digest of their contents:
+  ABC001 file 1 section 1: good, 2 copies agree
+  ABC001 file 2 section 1: CONFLICT, 1.tap and 2.tap differ ('tape compare'
+                           shows where)
 
-The last line appears only if nothing is missing, each image is a volume from
-its label to its end in formats that tape reads, and no number has labels of
-different files. Contents are not compared: 'tape compare' does that. No label
-says whether more files follow the last one found. The wording may change; the
-exit status and the columns of --tsv will not.
+The last line appears only if nothing is missing, each section found has a good
+copy, each image is a volume from its label to its end in formats that tape
+reads, no number has labels of different files, and no good copies differ. No
+label says whether more files follow the last one found. The wording may change;
+the exit status and the columns of --tsv will not.
 
 With --tsv these rows; a column whose value is not known is empty:
   IMAGE name state volume set system items files bad end words
@@ -47,6 +52,10 @@ With --tsv these rows; a column whose value is not known is empty:
   FILE set file identifier created state section volume CONFLICT
            state: COMPLETE, BAD, COUNT or CUT, or MISSING: the section was not
            found, and the one before it is on that volume
+  COPIES set file section copies name other AGREE
+           for a section with several good copies: how many agree with the
+           first one, on the image NAME. If one differs, its image is OTHER, and
+           the last column is CONFLICT, as in the row of the file
 
 Exit status: 0 everything complete, 1 error, 2 usage error, 3 something is
 missing, damaged or in conflict, or an image was not read to its end

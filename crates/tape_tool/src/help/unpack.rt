@@ -34,7 +34,8 @@ One line per file:
   FILE ABC001 3 EXISTS ../out/ABC001.3.TAXES
            a file of this name exists; it was not changed
   FILE ABC001 4 CONFLICT
-           labels of different files have this number: nothing was written. Keep
+           labels of different files have this number, or good copies of a
+           section differ: nothing was written. 'tape survey' says which. Keep
            the images of each set in a directory of its own
   FILE ABC001 5 NOT FOUND
            no label of this file was found, only of a later one of its set

@@ -7,6 +7,7 @@ use Rattle.tape_run.proofs.ExamplesOfCatalogues.{cases_of_copies, cases_of_repor
 use Rattle.tape_run.proofs.ExamplesOfSections.{cases_of_sections}
 use Rattle.tape_run.proofs.ExamplesOfUnpacking.{cases_of_unpacking}
 use Rattle.tape_run.proofs.ExamplesOfSurveys.{cases_of_glances, cases_of_wholes, cases_of_surveys}
+use Rattle.tape_run.proofs.ExamplesOfCompared.{cases_of_compared}
 use Rattle.tape_run.proofs.ExamplesOfExtracts.{cases_of_turns, cases_of_outputs, cases_of_causes}
 use Rattle.tape_run.proofs.ExamplesOfSaves.{cases_of_saved}
 use Rattle.tape_run.proofs.ExamplesOfSeen.{cases_of_seen}
@@ -67,6 +68,9 @@ returns-clause-glances c = cases_of_glances
 
 pub returns-clause-wholes : goal.returns-clause-wholes
 returns-clause-wholes c = cases_of_wholes
+
+pub returns-clause-compared : goal.returns-clause-compared
+returns-clause-compared c = cases_of_compared
 
 pub returns-clause-unpacking : goal.returns-clause-unpacking
 returns-clause-unpacking c = cases_of_unpacking

@@ -2,9 +2,10 @@ use Rattle.std.proofs.Common.{◌≡◌, ◌+◌, Ok, ap, ◌∙◌, arith, refl
 use Rattle.tape_image.specs.Reader.{tape_item, ending_of}
 use Rattle.tape_image.proofs.Callers.{gave, met_end, met_fault, same_some}
 use Rattle.tape_label.specs.declared.values.Head1.{Head1}
+use Rattle.tape_run.specs.declared.passing.Phase.{Phase}
 use Rattle.tape_run.specs.declared.survey.glance.ImageSummary.{ImageSummary}
 use Rattle.tape_run.specs.Added.{stop_at}
-use Rattle.tape_run.specs.Passing.{blocks_of}
+use Rattle.tape_run.specs.Passing.{Told, blocks_of}
 use Rattle.tape_run.specs.SurveyFiles.{with_met}
 use Rattle.tape_run.specs.SurveyLocations.{with_location}
 use Rattle.tape_run.proofs.NotedSoFar.{one_block}
@@ -23,7 +24,7 @@ items-init g c =
       bad = omega (arith, ap (λ (h : ImageSummary). h.bad) e);
       blocks = omega arith;
       same_device = refl;
-      looked = looks_start _ _ _ _ _ _ _ _ c.requires.first refl e;
+      looked = looks_start _ _ _ _ _ _ _ _ _ c.requires.first refl e;
     }
 
 pub items-preserved : goal.items-preserved
@@ -51,13 +52,16 @@ items-preserved g c =
       );
       same_device = c.next.follows.holds-at-none.same_device ∙ c.items.invariant.same_device;
       looked = looks_more _ c.items.image.left next.left c.items.image.place next.place _ item _ _ _
-          c.items.phase _ c.items.glance _ _ _ _ _ _ _ c.items.invariant.looked step.takes phase
+          _ c.items.phase _ c.items.glance _ c.items.digest _ _ _ _ _ _ _ c.items.copies _ _
+          c.items.invariant.looked step.takes phase
           c.in_ok-behind-in-Ok-Some.ensures.ok
           (c.in_ok-note_met-in-Ok-Some.ensures.ok
           ∙ ap (λ (h : Option Head1). with_met c.items.files.entries h) c.head_in.ensures)
           (c.in_ok-note_location-in-Ok-Some.ensures.ok
           ∙ ap (λ (h : Option Head1). with_location c.items.sections.entries
-          c.items.locations.entries c.args.number h) c.head_in-in-Ok-Some.ensures) looks;
+          c.items.locations.entries c.args.number h) c.head_in-in-Ok-Some.ensures)
+          (ap (λ (r : Phase × Option Told). r.1) c.step.ensures)
+          c.in_ok-note-in-Ok-Some.ensures.ok c.digest_in-digest.ensures looks;
     }
 
 pub returns-in-Ok-None-clause-ok : goal.returns-in-Ok-None-clause-ok
@@ -68,7 +72,7 @@ returns-in-Ok-None-clause-ok g c =
     let ending = same_some c.in-Some.ending met.ending c.ending.result c.in-Some.is
     (c.ending.ensures ∙ ap ending_of met.ended) in
     viewed_end _ c.items.image.left next.left c.items.image.place next.place _ met.ending _ _ _
-    c.items.phase _ _ _ _ _ c.items.invariant.looked met.takes
+    _ c.items.phase _ _ _ _ _ _ _ c.items.invariant.looked met.takes
     c.in_ok-close_behind-in-Ok-None.ensures.ok (c.stop_at-stop.ensures ∙ ap stop_at ending)
 
 pub returns-in-Err-clause-ok : goal.returns-in-Err-clause-ok
@@ -77,5 +81,5 @@ returns-in-Err-clause-ok g c =
     let met = met_fault c.items.image _ next c.in-Err.fault c.next.follows.holds-at-none
     c.items.invariant.on c.in-Err.is in
     viewed_fault _ c.items.image.left next.left c.items.image.place _ c.in-Err.fault _ _ _
-    c.items.phase _ _ _ _ _ c.items.invariant.looked met.takes
+    _ c.items.phase _ _ _ _ _ _ _ c.items.invariant.looked met.takes
     c.in_ok-close_behind-in-Err.ensures.ok refl

@@ -1,0 +1,78 @@
+-- What a survey says of sections with more than one good copy. The lines are for people, and may
+-- change.
+use Rattle.std.specs.Prelude.{ℕ, ◌==◌, ◌&&◌, not, Bool, if◌then◌else◌, List, [], ◌++◌, codes, decimal}
+use Rattle.std.specs.Prelude.{Option, Some, None, is_some, get_or}
+use Rattle.std.specs.List.{flat_map}
+use Rattle.tape_run.specs.declared.section.SectionKey.{SectionKey}
+use Rattle.tape_run.specs.declared.survey.copies.CopyNote.{CopyNote}
+use Rattle.tape_run.specs.declared.survey.Wording.{Wording}
+use Rattle.tape_run.specs.declared.survey.Wording.TheVariants.{Words, Rows}
+use Rattle.tape_run.specs.SurveyCopies.{Noted}
+use Rattle.tape_run.specs.SurveyLine.{trimmed_text, name_text}
+use Rattle.tape_run.specs.SurveyRows.{key_cells}
+
+-- the name of the image with this number, if there is one
+abbrev pub name_at : List (List ℕ) → ℕ → List ℕ
+name_at names image = name_text (get_or names image [])
+
+-- the section of a line
+abbrev pub section_front : SectionKey → List ℕ
+section_front key = trimmed_text key.set_id ++ codes " file " ++ decimal key.file
+    ++ codes " section " ++ decimal key.sect ++ codes ": "
+
+-- how many copies agree
+abbrev pub agreed_text : ℕ → List ℕ
+agreed_text copies = codes "good, " ++ decimal copies ++ codes " copies agree\n"
+
+-- the copies on two images differ
+abbrev pub conflict_text : List (List ℕ) → ℕ → ℕ → List ℕ
+conflict_text names first other = codes "CONFLICT, " ++ name_at names first ++ codes " and "
+    ++ name_at names other ++ codes " differ ('tape compare' shows where)\n"
+
+-- what is reported of the copies of a section
+abbrev pub verdict_by : List (List ℕ) → CopyNote → Option ℕ → List ℕ
+verdict_by names note None = agreed_text note.copies
+verdict_by names note (Some other) = conflict_text names note.image other
+
+abbrev pub verdict_text : List (List ℕ) → CopyNote → List ℕ
+verdict_text names note = verdict_by names note note.other
+
+-- the line of a section
+abbrev pub copy_line : List (List ℕ) → Noted → List ℕ
+copy_line names x = section_front x.0 ++ verdict_text names x.1
+
+-- the first columns of a section's row
+abbrev pub row_front : SectionKey → ℕ → List ℕ
+row_front key copies = codes "COPIES\t" ++ key_cells key.set_id key.file key.sect ++ codes "\t"
+    ++ decimal copies ++ codes "\t"
+
+-- the name of the image with a copy that differs, if there is one
+abbrev pub other_name : List (List ℕ) → Option ℕ → List ℕ
+other_name names None = []
+other_name names (Some other) = name_at names other
+
+-- the last column
+abbrev pub verdict_cell : Bool → List ℕ
+verdict_cell differs = if differs then codes "\tCONFLICT\n" else codes "\tAGREE\n"
+
+-- the row of a section
+abbrev pub copy_row : List (List ℕ) → Noted → List ℕ
+copy_row names x = row_front x.0 x.1.copies ++ name_at names x.1.image ++ codes "\t"
+    ++ other_name names x.1.other ++ verdict_cell (is_some x.1.other)
+
+-- the section has only one good copy
+abbrev pub is_alone : CopyNote → Bool
+is_alone note = (note.copies == 1) && not (is_some note.other)
+
+-- the text for a section with more
+abbrev pub copy_by : Wording → List (List ℕ) → Noted → List ℕ
+copy_by Words names x = copy_line names x
+copy_by Rows names x = copy_row names x
+
+-- the text for a section
+abbrev pub copy_text : Wording → List (List ℕ) → Noted → List ℕ
+copy_text y names x = if is_alone x.1 then [] else copy_by y names x
+
+-- the texts for sections
+abbrev pub copies_text : Wording → List (List ℕ) → List Noted → List ℕ
+copies_text y names notes = flat_map (copy_text y names) notes

@@ -1,0 +1,149 @@
+-- The good copies of sections, compared by their data blocks.
+use Rattle.std.specs.Prelude.{ℕ, ◌+◌, ◌==◌, ◌&&◌, min, Bool, true, false, if◌then◌else◌, List, []}
+use Rattle.std.specs.Prelude.{◌∷◌, ◌++◌, Option, Some, None, is_some}
+use Rattle.std.specs.Map.{lookup}
+use Rattle.indexmap.specs.IndexMap.{insert_entry}
+use Rattle.tape_image.specs.Tape.{TapeItem, block, bad, mark}
+use Rattle.tape_run.specs.declared.passing.Phase.{Phase}
+use Rattle.tape_run.specs.declared.passing.Phase.TheVariants.{Volume, Headers, Data}
+use Rattle.tape_run.specs.declared.section.SectionKey.{SectionKey}
+use Rattle.tape_run.specs.declared.survey.copies.CopyNote.{CopyNote}
+use Rattle.tape_run.specs.declared.survey.files.FileKey.{FileKey}
+use Rattle.tape_run.specs.Noted.{same_key, is_good}
+use Rattle.tape_run.specs.Passing.{Told, step}
+use Rattle.tape_run.specs.SurveyDigest.{digest_of, digest_with}
+use Rattle.tape_run.specs.SurveyFiles.{same_file, file_key}
+use Rattle.tape_run.specs.SurveyGlance.{or_else}
+
+-- ---- the good copies on an image
+
+-- a good copy of a section: what is known of it, and its data blocks
+abbrev pub Copy : Type 0
+Copy = Told × List (List ℕ)
+
+-- the data blocks of the section that is being read, after one more item
+abbrev pub blocks_with : List (List ℕ) → Phase → TapeItem → List (List ℕ)
+blocks_with blocks (Headers met) mark = []
+blocks_with blocks (Data met) (block b) = blocks ++ b ∷ []
+blocks_with blocks p x = blocks
+
+-- the section that was completed with these blocks, if it is good
+abbrev pub good_told : Option Told → List (List ℕ) → List Copy
+good_told None blocks = []
+good_told (Some t) blocks = if is_good t.1.state then (t, blocks) ∷ [] else []
+
+-- the good copies that these items complete, from this phase and these blocks on
+abbrev pub copies_from : Phase → List (List ℕ) → List TapeItem → List Copy
+copies_from p blocks [] = []
+copies_from p blocks (x ∷ xs) = good_told (step p x).1 blocks
+    ++ copies_from (step p x).0 (blocks_with blocks p x) xs
+
+-- the good copies of sections on an image
+abbrev pub copies_on : List TapeItem → List Copy
+copies_on items = copies_from Volume [] items
+
+-- ---- what is kept of them
+
+-- a section, and what is known of its good copies
+abbrev pub Noted : Type 0
+Noted = SectionKey × CopyNote
+
+-- a file with copies of a section that differ, and the number of that section
+abbrev pub Disputed : Type 0
+Disputed = FileKey × ℕ
+
+-- the good copies that were found
+pub record Copied : Type 0 where
+  pub notes : List Noted
+  pub conflicts : List Disputed
+
+-- no copy was found
+abbrev pub no_copies : Copied
+no_copies = record { notes = []; conflicts = [] }
+
+-- the number of copies with one more
+abbrev pub one_copy_more : ℕ → ℕ
+one_copy_more n = min (n + 1) 4294967295
+
+-- the note of a section after one more copy, which agrees with the first one
+abbrev pub with_same : CopyNote → CopyNote
+with_same n = record n { copies = one_copy_more n.copies }
+
+-- and after one on this image, which does not
+abbrev pub with_other : CopyNote → ℕ → CopyNote
+with_other n image = record n { other = or_else n.other (Some image) }
+
+-- The note of a section after one more good copy, which is on this image and has this number of
+-- blocks and this digest: it agrees with the first copy if both are the same.
+abbrev pub copy_note : Option CopyNote → ℕ → ℕ → ℕ → CopyNote
+copy_note None image blocks digest =
+    record { image = image; blocks = blocks; digest = digest; copies = 1; other = None }
+copy_note (Some n) image blocks digest =
+    if (n.blocks == blocks) && (n.digest == digest) then with_same n else with_other n image
+
+-- what is known of the good copies of a section
+abbrev pub noted_at : List Noted → SectionKey → Option CopyNote
+noted_at notes key = lookup (same_key key) notes
+
+-- the files in conflict, with that of a section if copies of it differ
+abbrev pub with_conflict : List Disputed → SectionKey → Bool → List Disputed
+with_conflict files key differs =
+    if differs then insert_entry same_file files (file_key key.set_id key.file) key.sect
+    else files
+
+-- after this note of a section
+abbrev pub with_note : Copied → SectionKey → CopyNote → Copied
+with_note c key note = record {
+  notes = insert_entry same_key c.notes key note;
+  conflicts = with_conflict c.conflicts key (is_some note.other);
+}
+
+-- after a good copy on this image, with this number of blocks and this digest
+abbrev pub with_good : Copied → ℕ → SectionKey → ℕ → ℕ → Copied
+with_good c image key blocks digest =
+    with_note c key (copy_note (noted_at c.notes key) image blocks digest)
+
+-- after a section that was completed on this image, if one was, with this digest
+abbrev pub with_told : Copied → ℕ → Option Told → ℕ → Copied
+with_told c image None digest = c
+with_told c image (Some t) digest =
+    if is_good t.1.state then with_good c image t.0 t.1.blocks digest else c
+
+-- after good copies on this image
+abbrev pub with_copies : ℕ → Copied → List Copy → Copied
+with_copies image c [] = c
+with_copies image c (x ∷ xs) =
+    with_copies image (with_good c image x.0.0 x.0.1.blocks (digest_of x.1)) xs
+
+-- after those that the items of this image contain
+abbrev pub copied_in : ℕ → Copied → List TapeItem → Copied
+copied_in image c items = with_copies image c (copies_on items)
+
+-- ---- as they are read
+
+-- the digest of the data blocks of the section that is being read, after a block
+abbrev pub digest_at : ℕ → Phase → List ℕ → ℕ
+digest_at digest (Data met) b = digest_with digest b
+digest_at digest p b = digest
+
+-- and after a tape mark
+abbrev pub digest_past : ℕ → Phase → ℕ
+digest_past digest (Headers met) = 0
+digest_past digest p = digest
+
+-- and after an item
+abbrev pub digest_in : ℕ → Phase → TapeItem → ℕ
+digest_in digest p (block b) = digest_at digest p b
+digest_in digest p bad = digest
+digest_in digest p mark = digest_past digest p
+
+-- ---- what is asked of them
+
+-- a section of a file whose good copies differ, if there is one
+abbrev pub dispute_at : Copied → FileKey → Option ℕ
+dispute_at c key = lookup (same_file key) c.conflicts
+
+-- no file is in conflict
+abbrev pub is_agreed : List Disputed → Bool
+is_agreed [] = true
+is_agreed (_ ∷ _) = false

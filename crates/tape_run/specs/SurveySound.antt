@@ -1,0 +1,35 @@
+-- What is so if a survey reports that nothing is missing, damaged or in conflict.
+use Rattle.std.specs.Prelude.{◌≡◌, ◌≢◌, ℕ, true, false, List, [], Option, Some, None}
+use Rattle.std.specs.List.{AllByRecursion}
+use Rattle.tape_run.specs.declared.section.SectionState.TheVariants.{Good}
+use Rattle.tape_run.specs.declared.survey.view.ImageSurvey.{ImageSurvey}
+use Rattle.tape_run.specs.Lacks.{lacks}
+use Rattle.tape_run.specs.Reeling.{Mounting}
+use Rattle.tape_run.specs.SurveyConflicts.{Placed, all_placed, IsIn}
+use Rattle.tape_run.specs.SurveyDigest.{digest_of}
+use Rattle.tape_run.specs.SurveyRead.{Found, nothing_found, AreViewed, is_whole_sight}
+
+-- an image was opened, and is a volume from its label to its last mark in formats that are read
+abbrev pub IsWhole : Option ImageSurvey → Type 0
+IsWhole None = ⊥
+IsWhole (Some sight) = is_whole_sight sight ≡ true
+
+-- two good copies of one section have the same number of blocks and the same digest
+abbrev pub Agree : Placed → Placed → Type 0
+Agree x y = (x.1.0.1.blocks ≡ y.1.0.1.blocks) × (digest_of x.1.1 ≡ digest_of y.1.1)
+
+-- Of these images, on which this was found: each was opened and read to its end; something was
+-- found; each section that was found has a good copy; nothing is missing of any file; no number has
+-- labels of different files; and no two good copies of a section differ.
+pub record IsSound {L R : Type 0} (gives : Mounting L R) (remaining : R → Option (List ℕ))
+    (shelf last : L) (sights : List (Option ImageSurvey)) (d : Found)
+    (v : AreViewed gives remaining shelf 0 sights nothing_found last d) : Type 0 where
+  pub images : AllByRecursion IsWhole sights
+  pub found : d.sections ≢ []
+  pub sections : AllByRecursion (λ t. t.1.state ≡ Good) d.sections
+  pub missing : lacks d.sections ≡ []
+  pub labels : AllByRecursion (λ f. f.1.differs ≡ false) d.files
+  pub copies : (x y : Placed)
+      → IsIn (all_placed gives remaining shelf 0 sights nothing_found last d v) x
+      → IsIn (all_placed gives remaining shelf 0 sights nothing_found last d v) y
+      → x.1.0.0 ≡ y.1.0.0 → Agree x y

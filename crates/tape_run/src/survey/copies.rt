@@ -1,0 +1,167 @@
+//! The complete copies of sections, compared by their data blocks.
+ghost use Rattle.std.specs.Result.{IsOkUnless};
+ghost use Rattle.std.specs.Prelude.{◌≡◌, OnOk, is_some};
+ghost use Rattle.tape_run.specs.SurveyCopies.{no_copies, copy_note, noted_at, with_conflict};
+ghost use Rattle.tape_run.specs.SurveyCopies.{with_good, with_told, dispute_at};
+ghost use Rattle.tape_run.specs.SurveyCopies.{is_agreed};
+ghost use Rattle.tape_run.specs.SurveyFiles.{same_file, file_key};
+ghost use Rattle.tape_run.specs.declared.fault.RunFault.TheVariants as faults;
+ghost use Rattle.std.specs.Map.{lookup};
+
+use super::files::FileKey;
+use super::glance::or_else;
+use crate::fault::RunFault;
+use crate::met::Told;
+use crate::section::SectionKey;
+use indexmap::IndexMap;
+use std::alloc::Global;
+use std::marker::Model;
+use tape_label::Field;
+
+/// What is known of the complete copies of a section.
+#[derive(Clone, Copy)]
+pub struct CopyNote {
+    /// The number of the image with the copy that was found first.
+    pub image: usize,
+    /// The number of its data blocks.
+    pub blocks: u32,
+    /// The digest of its data blocks.
+    pub digest: u64,
+    /// How many copies agree with it, including itself.
+    pub copies: u32,
+    /// The number of the image with the first copy that differs from it.
+    pub other: Option<usize>,
+}
+
+/// What is known of the complete copies of each section.
+pub(crate) type CopyNotes = IndexMap<SectionKey, CopyNote>;
+
+/// The files with a section whose copies differ, and the number of one such section of each.
+pub(crate) type Conflicts = IndexMap<FileKey, u16>;
+
+/// The complete copies that were found.
+#[derive(Drop)]
+pub(crate) struct Copies {
+    pub(crate) notes: CopyNotes,
+    pub(crate) conflicts: Conflicts,
+}
+
+// Contracts see copies as what is known of each section, and the files in conflict.
+impl Model for Copies {
+    ghost use Rattle.tape_run.specs.SurveyCopies.{Copied};
+
+    ghost Value = { Copied };
+
+    ghost view = { λ c. record {
+      notes = c.notes.entries;
+      conflicts = c.conflicts.entries;
+    } };
+}
+
+impl Copies {
+    /// Returns that no copy was found. Does not allocate.
+    pub(crate) fn new(alloc: Global) -> Copies
+        ensures { result ≡ no_copies }
+    {
+        Copies {
+            notes: CopyNotes::new(alloc),
+            conflicts: Conflicts::new(alloc),
+        }
+    }
+
+    /// Adds a section that was completed on this image, if it is complete there, with the digest of
+    /// its data blocks.
+    pub(crate) fn note(
+        &mut self,
+        image: usize,
+        told: Option<Told>,
+        digest: u64,
+    ) -> Result<(), RunFault>
+        ensures fault { IsOkUnless result faults.OutOfMemory }
+        ensures ok { OnOk result (self.new ≡ with_told self.old image told digest) }
+    {
+        let Some((key, entry)) = told else {
+            return Ok(());
+        };
+        if !entry.state.is_good() {
+            return Ok(());
+        }
+        self.note_good(image, key, entry.blocks, digest)
+    }
+
+    /// Adds a complete copy.
+    fn note_good(
+        &mut self,
+        image: usize,
+        key: SectionKey,
+        blocks: u32,
+        digest: u64,
+    ) -> Result<(), RunFault>
+        ensures fault { IsOkUnless result faults.OutOfMemory }
+        ensures ok { OnOk result (self.new ≡ with_good self.old image key blocks digest) }
+    {
+        let note = self.note_of(image, &key, blocks, digest);
+        self.note_conflict(&key, note.other.is_some())?;
+        match self.notes.insert(key, note) {
+            Ok(_) => Ok(()),
+            Err(_) => Err(RunFault::OutOfMemory),
+        }
+    }
+
+    /// What is known of a section after one more complete copy.
+    fn note_of(&self, image: usize, key: &SectionKey, blocks: u32, digest: u64) -> CopyNote
+        ensures { result ≡ copy_note (noted_at self.now.notes key.now) image blocks digest }
+    {
+        match self.notes.get(key) {
+            Some(note) if note.blocks == blocks && note.digest == digest => CopyNote {
+                copies: note.copies.saturating_add(1),
+                ..*note
+            },
+            Some(note) => CopyNote {
+                other: or_else(note.other, Some(image)),
+                ..*note
+            },
+            None => CopyNote {
+                image,
+                blocks,
+                digest,
+                copies: 1,
+                other: None,
+            },
+        }
+    }
+
+    /// Adds the file of a section, if copies of the section differ.
+    fn note_conflict(&mut self, key: &SectionKey, differs: bool) -> Result<(), RunFault>
+        ensures fault { IsOkUnless result faults.OutOfMemory }
+        ensures notes { self.new.notes ≡ self.old.notes }
+        ensures ok { OnOk result (self.new.conflicts
+            ≡ with_conflict self.old.conflicts key.now differs) }
+    {
+        if !differs {
+            return Ok(());
+        }
+        let file = FileKey {
+            set_id: key.set_id,
+            file: key.file,
+        };
+        match self.conflicts.insert(file, key.sect) {
+            Ok(_) => Ok(()),
+            Err(_) => Err(RunFault::OutOfMemory),
+        }
+    }
+
+    /// A section of this file whose complete copies differ, if there is one.
+    pub(crate) fn dispute(&self, key: &FileKey) -> Option<u16>
+        ensures { result ≡ dispute_at self.now key.now }
+    {
+        self.conflicts.get(key).copied()
+    }
+
+    /// Whether no file is in conflict.
+    pub(crate) fn is_agreed(&self) -> bool
+        ensures { result ≡ is_agreed self.now.conflicts }
+    {
+        self.conflicts.is_empty()
+    }
+}

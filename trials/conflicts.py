@@ -1,0 +1,287 @@
+#!/usr/bin/env python3
+"""Copies of sections that agree or differ, and what `tape survey` and `tape unpack` make of them.
+
+    trials/conflicts.py PROGRAM CASES [SEED]
+
+Each case is a set of one to three files on one to four volumes, made here from docs/FORMATS.md
+alone, with up to three copies of each volume. A copy is equal; or has one changed byte, two changed
+bytes whose sum is the same, two blocks in each other's place, a block lost or doubled (with its
+count in the trailer label, or with the right one), or a block in two parts; or is of another set
+with the same identifiers; or is damaged. One volume in the middle may be missing. The model compares
+the good copies byte by byte. The rows of `survey --tsv`, the lines of `survey`, the answers and the
+files of `unpack` must be those of the model: each conflict is reported with both images, nothing else
+is, and no file in conflict is recovered. Prints each wrong result, and counts; exit status 1 if there
+is one.
+"""
+import random
+import struct
+import subprocess
+import sys
+import tempfile
+from pathlib import Path
+
+RECORD, BLOCK = 80, 800
+
+
+def word(number):
+    return struct.pack("<I", number)
+
+
+def block(data):
+    return word(len(data)) + data + b"\0" * (len(data) % 2) + word(len(data))
+
+
+def bad(data):
+    lead = 0x80000000 | len(data)
+    return word(lead) + data + b"\0" * (len(data) % 2) + word(lead)
+
+
+def label(text):
+    assert len(text) == 80, text
+    return block(text.encode("ascii"))
+
+
+def first_label(name, case, file, sect, blocks):
+    return label(f"{name}{'FILE' + str(file):17}{case.set_id:6}{sect:04}{file:04}000100 00000 00000 "
+                 f"{blocks % 1000000:06}{'':13}{'':7}")
+
+
+def second_label(name):
+    return label(f"{name}F{BLOCK:05}{RECORD:05}{'':35}00{'':28}")
+
+
+class Section:
+    """A section on a volume: its blocks, whether it ends its file, and the count of its trailer."""
+
+    def __init__(self, file, sect, blocks, ends):
+        self.file, self.sect, self.blocks, self.ends = file, sect, blocks, ends
+        self.count, self.damage = len(blocks), None
+
+    def copy(self):
+        other = Section(self.file, self.sect, list(self.blocks), self.ends)
+        return other
+
+    def is_good(self):
+        return self.damage is None and self.count == len(self.blocks)
+
+    def encoded(self, case):
+        data = [bad(b) if at == self.damage else block(b) for at, b in enumerate(self.blocks)]
+        end = "EOF" if self.ends else "EOV"
+        return b"".join([first_label("HDR1", case, self.file, self.sect, 0), second_label("HDR2"), word(0)]
+                        + data + [word(0), first_label(end + "1", case, self.file, self.sect, self.count),
+                                  second_label(end + "2"), word(0)])
+
+
+class Case:
+    """A set, its volumes, and the copies of each."""
+
+    def __init__(self, rnd):
+        self.rnd = rnd
+        self.set_id = rnd.choice(["MUS001", "ONE", "A B"])
+        self.files = [self.content() for _ in range(rnd.randint(1, 3))]
+        self.volumes = self.on_volumes(self.files)
+        self.images = []  # (volume number, sections)
+        missing = rnd.randrange(1, len(self.volumes) - 1) if len(self.volumes) > 2 and rnd.random() < .3 else None
+        for number, sections in enumerate(self.volumes):
+            if number != missing:
+                for copy in range(rnd.choice([1, 1, 2, 2, 3])):
+                    self.images.append((number, [s.copy() for s in sections]))
+        rnd.shuffle(self.images)
+        for image in self.images:
+            if rnd.random() < .4:
+                self.change(image)
+
+    def content(self):
+        records = self.rnd.randint(1, 60)
+        return b"".join(self.rnd.randbytes(RECORD) for _ in range(records))
+
+    def on_volumes(self, files):
+        """Fills volumes of a few blocks each."""
+        room, volumes = self.rnd.choice([3, 4, 8, 100]), [[]]
+        left = room
+        for number, text in enumerate(files, 1):
+            blocks = [text[at:at + BLOCK] for at in range(0, len(text), BLOCK)]
+            sect = 1
+            while True:
+                here, blocks = blocks[:left], blocks[left:]
+                volumes[-1].append(Section(number, sect, here, not blocks))
+                left -= len(here)
+                if not blocks:
+                    break
+                sect += 1
+                volumes.append([])
+                left = room
+            if left == 0 and number < len(files):
+                volumes.append([])
+                left = room
+        return volumes
+
+    def change(self, image):
+        """Changes one section of a copy."""
+        rnd = self.rnd
+        section = rnd.choice(image[1])
+        blocks = section.blocks
+        at = rnd.randrange(len(blocks))
+        data = bytearray(blocks[at])
+        way = rnd.choice(["byte", "byte", "tops", "moved", "lost", "doubled", "cut", "other", "bad", "count"])
+        if way == "byte":
+            data[rnd.randrange(len(data))] ^= 1 << rnd.randrange(8)
+            blocks[at] = bytes(data)
+        elif way == "tops":  # the highest bits of two words: they cancel out in a plain sum
+            one, two = rnd.sample(range(7, len(data), 8), 2)
+            data[one] ^= 128
+            data[two] ^= 128
+            blocks[at] = bytes(data)
+        elif way == "moved" and len(blocks) > 1:
+            other = rnd.randrange(len(blocks))
+            blocks[at], blocks[other] = blocks[other], blocks[at]
+        elif way == "lost" and len(blocks) > 1:
+            del blocks[at]
+            section.count = rnd.choice([len(blocks), section.count])
+        elif way == "doubled":
+            blocks.insert(at, blocks[at])
+            section.count = rnd.choice([len(blocks), section.count])
+        elif way == "cut" and len(data) > RECORD:  # the same bytes in one block more
+            blocks[at:at + 1] = [bytes(data[:RECORD]), bytes(data[RECORD:])]
+            section.count = len(blocks)
+        elif way == "other":
+            for each in image[1]:
+                each.blocks = [rnd.randbytes(len(b)) for b in each.blocks]
+        elif way == "bad":
+            section.damage = at
+        elif way == "count":
+            section.count += 1
+
+    def encoded(self, image):
+        volume = label(f"VOL1{'VOL%03d' % (image[0] + 1):6}{'':69}4")
+        end = rnd_end(self.rnd)
+        return volume + b"".join(s.encoded(self) for s in image[1]) + word(0) + end
+
+    # ---- what must be reported
+
+    def copies(self):
+        """For each section, in the order in which a good copy was found first: its good copies."""
+        found = {}
+        for number, (_, sections) in enumerate(self.images):
+            for section in sections:
+                if section.is_good():
+                    found.setdefault((section.file, section.sect), []).append((number, section))
+        return found
+
+    def rows(self, names):
+        """The rows of copies, and the numbers of files in conflict."""
+        rows, conflicts = [], set()
+        for (file, sect), copies in self.copies().items():
+            first = copies[0][1].blocks
+            same = [number for number, section in copies if section.blocks == first]
+            others = [number for number, section in copies if section.blocks != first]
+            if others:
+                conflicts.add(file)
+            if len(copies) > 1:
+                rows.append(["COPIES", self.set_id, str(file), str(sect), str(len(same)), names[copies[0][0]],
+                             names[others[0]] if others else "", "CONFLICT" if others else "AGREE"])
+        return rows, conflicts
+
+    def lines(self, rows):
+        """The same in words."""
+        for row in rows:
+            said = (f"CONFLICT, {row[5]} and {row[6]} differ ('tape compare' shows where)" if row[6]
+                    else f"good, {row[4]} copies agree")
+            yield f"{row[1]} file {row[2]} section {row[3]}: {said}"
+
+    def text(self, file):
+        """The records of a file whose sections all have a good copy; None if one has none."""
+        copies, text, sect = self.copies(), b"", 1
+        while True:
+            if (file, sect) not in copies:
+                return None
+            section = copies[file, sect][0][1]
+            text += b"".join(section.blocks)
+            if section.ends:
+                return text
+            sect += 1
+
+    def greatest(self):
+        return max((s.file for _, sections in self.images for s in sections), default=0)
+
+    def is_sound(self, conflicts):
+        copies = self.copies()
+        met = {(s.file, s.sect) for _, sections in self.images for s in sections}
+        return (not conflicts and met == set(copies)
+                and all(self.text(file) is not None for file in range(1, self.greatest() + 1)))
+
+
+def rnd_end(rnd):
+    return rnd.choice([word(0xFFFFFFFF), b""])
+
+
+class Trial:
+    def __init__(self, program):
+        self.program, self.wrong, self.seen = program, 0, 0
+
+    def is_so(self, holds, what):
+        self.seen += 1
+        if not holds:
+            self.wrong += 1
+            print(what, flush=True)
+
+    def run(self, folder, *words):
+        return subprocess.run([self.program, *words], cwd=folder, capture_output=True, text=True, check=False)
+
+
+def try_case(trial, case, folder, number):
+    names = [f"{at}.tap" for at in range(len(case.images))]
+    for name, image in zip(names, case.images):
+        (folder / name).write_bytes(case.encoded(image))
+    rows, conflicts = case.rows(names)
+    sound = case.is_sound(conflicts)
+
+    done = trial.run(folder, "survey", "--tsv", *names)
+    told = [line.split("\t") for line in done.stdout.splitlines()]
+    trial.is_so([row for row in told if row[0] == "COPIES"] == rows, f"{number}: rows {done.stdout}\nwanted {rows}")
+    marked = {int(row[2]) for row in told if row[0] == "FILE" and row[8] == "CONFLICT"}
+    trial.is_so(marked == {f for f in conflicts}, f"{number}: files in conflict {marked}, wanted {conflicts}")
+    trial.is_so(done.returncode == (0 if sound else 3), f"{number}: survey --tsv, status {done.returncode}")
+
+    done = trial.run(folder, "survey", *names)
+    lines = done.stdout.splitlines()
+    copies = [line for line in lines if " section " in line and (": good, " in line or ": CONFLICT, " in line)]
+    trial.is_so(copies == list(case.lines(rows)), f"{number}: lines {done.stdout}")
+    trial.is_so(done.returncode == (0 if sound else 3), f"{number}: survey, status {done.returncode}")
+    trial.is_so(lines[-1].startswith("Nothing lacks") == sound, f"{number}: the last line {lines[-1]!r}")
+
+    out = folder / "out"
+    out.mkdir()
+    done = trial.run(folder, "unpack", "out", *names)
+    told = {int(line.split(" ")[-2 if line.endswith("CONFLICT") else 0]) if line.endswith("CONFLICT") else None
+            for line in done.stdout.splitlines()} - {None}
+    trial.is_so(told == conflicts, f"{number}: unpack says {done.stdout}, wanted {conflicts}")
+    made = {path.name: path.read_bytes() for path in out.iterdir()}
+    for file in range(1, case.greatest() + 1):
+        text = case.text(file)
+        name = [n for n in made if n.split(".")[1] == str(file) and not n.endswith(".stage")]
+        if file in conflicts:
+            trial.is_so(not [n for n in made if n.split(".")[1] == str(file)], f"{number}: {file} in conflict, {name}")
+        elif text is not None:
+            trial.is_so([made[n] for n in name] == [text], f"{number}: file {file} is not as it was, {done.stdout}")
+    trial.is_so((done.returncode == 0) == (not conflicts and done.stdout.count("\n")
+                == done.stdout.count(" COMPLETE ")), f"{number}: unpack, status {done.returncode}, {done.stdout}")
+    return len(rows), len(conflicts)
+
+
+def main():
+    program, cases = str(Path(sys.argv[1]).resolve()), int(sys.argv[2])
+    seed = int(sys.argv[3]) if len(sys.argv) > 3 else 1
+    trial, compared, conflicts = Trial(program), 0, 0
+    for number in range(cases):
+        case = Case(random.Random(f"{seed} {number}"))
+        with tempfile.TemporaryDirectory() as folder:
+            some, others = try_case(trial, case, Path(folder), number)
+        compared, conflicts = compared + some, conflicts + others
+    print(f"{cases} cases, {compared} sections with more than one good copy, {conflicts} files in conflict: "
+          f"{trial.seen} seen, {trial.wrong} wrong")
+    sys.exit(trial.wrong > 0)
+
+
+if __name__ == "__main__":
+    main()
