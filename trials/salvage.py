@@ -13,7 +13,8 @@ two parts that do not depend on each other: the lines are made block by block, a
 the records that the set was made of, as those of which every block was read. If `tape extract --again` completes a file
 from the same images, and no volume has two of them, `salvage` must report COMPLETE with the same bytes.
 
---hand: images that `extract` does not read (formats U, V and VBS, no HDR2), made by hand, with --form blocks.
+--hand: images that `extract` does not read (formats U, V and VBS, no HDR2), made by hand, with --form blocks; and labels
+and tape marks that cannot be read, with lines written by hand.
 --times: a reel of 200 MB, `salvage` against `extract`.
 
 Prints each wrong answer, and counts; the exit status is 1 if there is one.
@@ -30,10 +31,11 @@ import time
 from pathlib import Path
 
 sys.dont_write_bytecode = True
-from reels import File, Reel, block, file_of, label, packed, strangers, volumes_of, word
+from reels import File, Item, Reel, block, file_of, label, packed, strangers, volumes_of, word
 
 HERE = Path(__file__).resolve().parent
 MARK, BAD = "mark", "bad"
+UNREADABLE = struct.pack("<I", 1 << 31 | 1) + b"\0\0" + struct.pack("<I", 1 << 31 | 1)
 
 
 # ---- reading an image
@@ -121,16 +123,19 @@ def sections_on(items, image):
                 break
             continue
         is_next = False
-        if item is BAD:
-            marks = marks if marks == 2 else 0
-            continue
         if marks == 2:
+            if item is BAD:
+                continue
             if item[:4] not in (b"EOF1", b"EOV1", b"EOF2", b"EOV2"):
                 break
             marks = 0
             continue
-        marks = 0
         head = first_label(item, (b"HDR1",))
+        if not head and marks == 1:
+            at, section = unnamed_at(items, at - 1, image)
+            found += [section] if section else []
+            is_next = section is not None and at <= len(items) and items[at - 1] is MARK
+        marks = 0
         if not head:
             continue
         section = Section(head, image)
@@ -149,13 +154,33 @@ def sections_on(items, image):
         trailer = first_label(items[end + 1], (b"EOF1", b"EOV1"))
         at = end + 1
         if trailer and (trailer["section"], trailer["file"]) == (head["section"], head["file"]):
-            section.closing = trailer
-            while at < len(items) and is_block(items[at]):
-                at += 1
-            is_next = at < len(items) and items[at] is MARK
-                section.form = section.form or form_in(items[at], (b"EOF2", b"EOV2"))
-            at += 1
+            at = close(section, trailer, items, at)
+            is_next = at <= len(items) and items[at - 1] is MARK
     return found
+
+
+def close(section, trailer, items, at):
+    """Closes a section by the label at this place. Returns the place after the item that ends its labels."""
+    section.closing = trailer
+    while at < len(items) and is_block(items[at]):
+        section.form = section.form or form_in(items[at], (b"EOF2", b"EOV2"))
+        at += 1
+    return at + 1
+
+
+def unnamed_at(items, first, image):
+    """A section whose HDR1 was not read: its data begin here, after a tape mark, and the label after the next mark counts
+    exactly these items. Returns the place where the search goes on, and the section or None."""
+    end = next_mark(items, first)
+    data = items[first:end]
+    if any(first_label(item, (b"HDR1",)) for item in data):
+        return first + 1, None
+    trailer = first_label(items[end + 1], (b"EOF1", b"EOV1")) if end + 1 < len(items) else None
+    if not trailer or trailer["count"] != len(data) % 1_000_000:
+        return end, None
+    section = Section(trailer, image)
+    section.data, section.doubt = data, 0
+    return close(section, trailer, items, end + 1), section
 
 
 # ---- what is recovered
@@ -324,17 +349,27 @@ def damaged_image(rng, reel, way):
     copy = Reel(reel.name, reel.set_id, items)
     if way in ("data", "both"):
         copy.bad |= set(rng.sample(data, min(len(data), rng.choice([1, 1, 2, 3, 6]))))
+    if way == "first":
+        firsts = [at for at, item in enumerate(items) if b"HDR1" in item.spelling[:12]]
+        copy.bad |= set(firsts if rng.random() < 0.3 else rng.sample(firsts, min(len(firsts), 1)))
+        others = data if rng.random() < 0.7 else range(len(items))
+        copy.bad |= set(rng.sample(others, min(len(others), rng.choice([0, 0, 1, 2]))))
     if way in ("any", "both"):
         copy.bad |= set(rng.sample(range(len(items)), min(len(items), rng.choice([1, 1, 2, 3]))))
     if way == "run" and data:
         first = rng.choice(data)
         copy.bad |= {at for at in range(first, min(first + rng.randint(2, 12), len(items))) if at in data}
+    for at in sorted(copy.bad):
+        # A tape mark recorded with an error has no length; a drive that could not tell what was there makes a bad block.
+        if items[at].kind == "mark" and rng.random() < 0.8:
+            items[at] = Item(UNREADABLE, "mark")
+            copy.bad.discard(at)
     if way == "cut":
         copy.cut = rng.randint(0, sum(len(item.spelling) for item in items))
     return copy.image(), miscounts
 
 
-WAYS = ["whole", "whole", "data", "data", "run", "any", "both", "cut", "count"]
+WAYS = ["whole", "whole", "data", "data", "run", "any", "both", "cut", "count", "first", "first"]
 
 
 class Trial:
@@ -472,6 +507,56 @@ def by_hand(trial):
             trial.is_so(extracted.returncode == 3, f"{kind}: extract ends with {extracted.returncode}")
 
 
+def traps(trial):
+    """Labels and marks that cannot be read, with expected lines written by hand."""
+    first, second = File(1, "FIRST", ("F", 160, 80), " 85100"), File(2, "SECOND", ("F", 160, 80), " 85100")
+    vol, mark, bad = label(("VOL1", 4), ("TRAPS1", 6), ("", 69), ("4", 1)), word(0), UNREADABLE
+    a, b, c = (bytes([letter]) * 160 for letter in b"abc")
+
+    def head(file):
+        return [file.first("HDR1", "TRAPS1", 1, 0), file.second("HDR2"), mark]
+
+    def tail(file, count):
+        return [mark, file.first("EOF1", "TRAPS1", 1, count), file.second("EOF2"), mark]
+
+    whole = [*head(first), block(a), block(b), *tail(first, 2)]
+    lost = [bad, *head(first)[1:], block(a), block(b), *tail(first, 2)]
+    rows = [
+        ("all is readable", [vol, *whole, mark], 1, ["SECTION 1 1 2", "COMPLETE 4"], a + b),
+        ("the mark after the data", [vol, *head(first), block(a), block(b), bad, *tail(first, 2)[1:], mark], 1,
+            ["SECTION 1 1 5", "GAP 1 2 - 4", "UNSURE 1 2 4", "SALVAGED 4"], a + b),
+        ("the mark before the data", [vol, *head(first)[:2], bad, block(a), block(b), *tail(first, 2), mark], 1,
+            ["SECTION 1 1 2", "GAP 1 0 - 0", "UNSURE 1 0 1", "SALVAGED 0"], b""),
+        ("an empty section's HDR1", [vol, bad, *head(first)[1:], *tail(first, 0), *head(second), block(c), *tail(second, 1), mark], 2,
+            ["SECTION 1 1 1", "COMPLETE 2"], c),
+        ("an empty section's HDR1: it is not found", [vol, bad, *head(first)[1:], *tail(first, 0), mark], 1,
+            ["GAP 1 - - 0", "SALVAGED 0"], b""),
+        ("an older recording after the end", [vol, *head(second), block(c), *tail(second, 1), mark, *whole, mark], 1,
+            ["GAP 1 - - 0", "SALVAGED 0"], b""),
+        ("HDR1", [vol, *lost, mark], 1, ["SECTION 1 1 2", "COMPLETE 4"], a + b),
+        ("VOL1, HDR1 and HDR2", [bad, bad, bad, mark, block(a), block(b), *tail(first, 2), mark], 1,
+            ["SECTION 1 1 2", "COMPLETE 4"], a + b),
+        ("HDR1 and a block", [vol, *lost[:3], block(a), bad, *tail(first, 2), mark], 1,
+            ["SECTION 1 1 2", "GAP 1 1 1 2", "SALVAGED 2"], a),
+        ("HDR1, and no second mark", [vol, *lost[:5], bad, *lost[6:], mark], 1, ["GAP 1 - - 0", "SALVAGED 0"], b""),
+        ("HDR1 and the mark after it", [vol, bad, *head(first)[1:2], bad, *lost[3:], mark], 1, ["GAP 1 - - 0", "SALVAGED 0"], b""),
+        ("HDR1, the mark after it, and the EOF2 before", [vol, *head(second), block(c), *tail(second, 1)[:2], bad, mark,
+            bad, *head(first)[1:2], bad, *lost[3:], mark], 1, ["GAP 1 - - 0", "SALVAGED 0"], b""),
+        ("HDR1, and the label counts one block more", [vol, *lost[:5], *tail(first, 3), mark], 1, ["GAP 1 - - 0", "SALVAGED 0"], b""),
+        ("HDR1 of the second file", [vol, *whole, bad, *head(second)[1:], block(c), *tail(second, 1), mark], 2,
+            ["SECTION 1 1 1", "COMPLETE 2"], c),
+        ("HDR1 of the first file, for the second", [vol, *lost, *head(second), block(c), *tail(second, 1), mark], 2,
+            ["SECTION 1 1 1", "COMPLETE 2"], c),
+        ("HDR1, EOF2, and HDR1 of the second file", [vol, *lost[:7], bad, mark, bad, *head(second)[1:], block(c), *tail(second, 1), mark], 2,
+            ["SECTION 1 1 1", "COMPLETE 2"], c),
+        ("HDR1, HDR2 and EOF2", [vol, bad, bad, mark, *lost[3:7], bad, mark, mark], 1, ["NO FORM 1 0", "SALVAGED 0"], b""),
+    ]
+    for what, items, file, lines, text in rows:
+        (trial.folder / "trap.tap").write_bytes(b"".join(items))
+        expected, got, status = check_file(trial, "TRAPS1", file, [b"".join(items)], ["trap.tap"], "raw")
+        trial.is_so((expected.lines, got) == (lines, text), f"{what}: the model has {expected.lines}, written are {got and len(got)} bytes")
+
+
 # ---- times
 
 def times(trial):
@@ -513,6 +598,7 @@ def main():
         trial = Trial(options, options.keep or made)
         if options.hand:
             by_hand(trial)
+            traps(trial)
         elif options.times:
             times(trial)
         else:

@@ -11,7 +11,8 @@ use Rattle.tape_run.specs.Noted.{same_key}
 use Rattle.tape_run.specs.declared.salvage.walk.Expected.{Expected}
 use Rattle.tape_run.specs.declared.salvage.walk.Expected.TheVariants.{Outside, Second, Headers}
 use Rattle.tape_run.specs.declared.salvage.walk.Expected.TheVariants.{Data, Trailer, Trailers}
-use Rattle.tape_run.specs.declared.salvage.walk.Expected.TheVariants.{Next, Over}
+use Rattle.tape_run.specs.declared.salvage.walk.Expected.TheVariants.{Next, Over, Skipping}
+use Rattle.tape_run.specs.declared.salvage.walk.Expected.TheVariants.{Unnamed, UnnamedTrailer}
 use Rattle.tape_run.specs.SalvageWalk.{step, expected_after}
 use Rattle.tape_run.specs.SalvageBlocks.{Salvaged}
 use Rattle.tape_run.specs.SalvageImage.{is_in, is_mark, closings, salvaged_from}
@@ -49,6 +50,9 @@ module _ (key : SectionKey) where
   not_in (Trailer u) x may = absurd may
   not_in (Trailers u k) x may = absurd may
   not_in Over x may = absurd may
+  not_in (Unnamed r) x may = absurd may
+  not_in (UnnamedTrailer r) x may = absurd may
+  not_in (Skipping n u) x may = absurd may
 
   quiet : Quiet count
   quiet = record {
@@ -90,6 +94,9 @@ module _ (key : SectionKey) where
   not_open (Trailer u) may = absurd may
   not_open (Trailers u k) may = absurd may
   not_open Over may = absurd may
+  not_open (Unnamed r) may = absurd may
+  not_open (UnnamedTrailer r) may = absurd may
+  not_open (Skipping n u) may = absurd may
 
   record Once (xs : List TapeItem) : Type 0 where
     once : closings key (Outside 0) xs ≡ 1
@@ -127,7 +134,7 @@ recovers_from_reading set_id volumes v ls before r rest form key g items is labe
       | inr (more, splits, ends) ↦
           let z = volume_once key set_id volumes v ls before r rest is labels read other read'
           other' own same in
-          let q = rest_has_nothing key (length r.blocks) (Some form) items more g ends
+          let q = rest_has_nothing key (length r.blocks) (Some form) (Outside 0) items more g ends
           (ap (closings key (Outside 0)) (sym splits) ∙ z.once)
           (ap (λ l. is_in key (expected_after (Outside 0) l)) (sym splits) ∙ z.done) in
           ap (λ (s : Salvaged). s.piece) q.0 ∙ ap from (sym splits) ∙ here

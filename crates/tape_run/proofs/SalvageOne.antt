@@ -11,11 +11,11 @@ use Rattle.tape_run.specs.declared.salvage.ending.SectionEnd.TheVariants.{Unknow
 use Rattle.tape_run.specs.declared.salvage.copies.SectionCopy.{SectionCopy}
 use Rattle.tape_run.specs.declared.salvage.recovery.Recovery.{Recovery}
 use Rattle.tape_run.specs.Reeling.{Mounting}
-use Rattle.tape_run.specs.SalvageCopies.{believed}
+use Rattle.tape_run.specs.SalvageCopies.{believed, start_of}
 use Rattle.tape_run.specs.SalvageLine.{section_line}
 use Rattle.tape_run.specs.SalvageWalk.{expected_after}
 use Rattle.tape_run.specs.SalvageImage.{RecoversSection, read_in, salvaged_from, text_from}
-use Rattle.tape_run.specs.declared.salvage.walk.Expected.TheVariants.{Outside}
+use Rattle.tape_run.specs.declared.salvage.walk.Expected.{Expected}
 use Rattle.tape_run.specs.SalvageBlocks.{Salvaged, Recovers}
 use Rattle.tape_run.specs.SalvageChoice.{firsts, IsBest}
 use Rattle.tape_run.specs.SalvageTaking.{TakesSection, TakesCopy, end_by, image_number, form_for}
@@ -49,33 +49,36 @@ on_ok (Err e) f h = tt
 
 -- a section was recovered from its copy
 pub copy_taken : {W : Type 0} (contents : W → Option (List ℕ)) (before after : Option (List ℕ))
-    (c : SectionCopy) (sect : ℕ) (form : Option FileForm) (most : ℕ) (old mid new : Recovery W)
-    (said one two says : Option (List ℕ)) (end : SectionEnd) (read : ℕ) → most ≡ believed c
+    (c : SectionCopy) (sect : ℕ) (form : Option FileForm) (origin : Expected) (most : ℕ)
+    (old mid new : Recovery W) (said one two says : Option (List ℕ)) (end : SectionEnd) (read : ℕ)
+    → origin ≡ start_of c → most ≡ believed c
     → Appends said one (section_line sect (image_number c.image) c.section.blocks)
-    → RecoversSection contents before after c.section.key most form old mid one two read
+    → RecoversSection contents before after origin c.section.key most form old mid one two read
     → Recovers contents mid new two says (read_again read c) (read_again_text read c)
     → end ≡ end_by c.closed
     → TakesCopy contents before c sect form old new said says end
-copy_taken contents before after c sect form most old mid new said one two says end read
-    same line r e is =
+copy_taken contents before after c sect form origin most old mid new said one two says end read
+    begins same line found e is =
     let key = c.section.key in
+    let r = subst (λ o. RecoversSection contents before after o key most form old mid one two read)
+    begins found in
     record {
       items = r.items;
       after = after;
       is_ended = r.is_ended;
       reads = r.reads;
       recovers = subst (λ m. Recovers contents old new said says
-          (λ g. read_again (read_in key (expected_after (Outside 0) r.items)) c
-          (salvaged_from key m form (Outside 0) g r.items))
+          (λ g. read_again (read_in key (expected_after (start_of c) r.items)) c
+          (salvaged_from key m form (start_of c) g r.items))
           (λ g. section_line sect (image_number c.image) c.section.blocks
-          ++ (text_from key m form (Outside 0) g r.items
-          ++ read_again_text (read_in key (expected_after (Outside 0) r.items)) c
-          (salvaged_from key m form (Outside 0) g r.items)))) same
+          ++ (text_from key m form (start_of c) g r.items
+          ++ read_again_text (read_in key (expected_after (start_of c) r.items)) c
+          (salvaged_from key m form (start_of c) g r.items)))) same
           (λ start g h.
           let a = r.recovers start g h in
           let b = subst (λ n. Recovers contents mid new two says (read_again n c)
           (read_again_text n c)) r.count e start
-          (salvaged_from key most form (Outside 0) g r.items) a.0 in
+          (salvaged_from key most form (start_of c) g r.items) a.0 in
           (b.0, three_texts said one two says _ _ _ line a.1 b.1));
       ends = is;
     }

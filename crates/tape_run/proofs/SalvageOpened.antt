@@ -17,10 +17,11 @@ use Rattle.tape_run.specs.declared.salvage.walk.Closing.{Closing}
 use Rattle.tape_run.specs.declared.salvage.walk.Expected.{Expected}
 use Rattle.tape_run.specs.declared.salvage.walk.Expected.TheVariants.{Outside, Second, Headers}
 use Rattle.tape_run.specs.declared.salvage.walk.Expected.TheVariants.{Data, Trailer, Trailers}
-use Rattle.tape_run.specs.declared.salvage.walk.Expected.TheVariants.{Next, Over}
+use Rattle.tape_run.specs.declared.salvage.walk.Expected.TheVariants.{Next, Over, Skipping}
+use Rattle.tape_run.specs.declared.salvage.walk.Expected.TheVariants.{Unnamed, UnnamedTrailer}
 use Rattle.tape_run.specs.SalvageWalk.{step, section_by, begun_by, with_item, with_unreadable}
 use Rattle.tape_run.specs.SalvageWalk.{doubted, closes, closed_by, second_by, unclosed_by}
-use Rattle.tape_run.specs.SalvageWalk.{with_trailer}
+use Rattle.tape_run.specs.SalvageWalk.{with_trailer, unnamed_after, one_read}
 use Rattle.tape_run.specs.SalvageWhole.{Blocks}
 use Rattle.tape_run.specs.SalvageSections.{Labels, filled_of, MayBegin, after_trailers}
 
@@ -29,7 +30,7 @@ use Rattle.tape_run.specs.SalvageSections.{Labels, filled_of, MayBegin, after_tr
 -- if a section may begin, its first label begins it
 pub may_begin : (s : Expected) (b : List ℕ) (h : Head1) → MayBegin s → head1_at b ≡ Ok h
     → (step s (block b)).0 ≡ Second (section_by h)
-may_begin (Outside n) b h may is = rw may (ap (λ r. begun_by r (Outside 0)) is)
+may_begin (Outside n) b h may is = rw may (ap (λ r. begun_by r (unnamed_after n one_read)) is)
 may_begin Next b h may is = ap (λ r. begun_by r (Outside 0)) is
 may_begin (Second u) b h may is = absurd may
 may_begin (Headers u) b h may is = absurd may
@@ -37,6 +38,9 @@ may_begin (Data u) b h may is = absurd may
 may_begin (Trailer u) b h may is = absurd may
 may_begin (Trailers u k) b h may is = absurd may
 may_begin Over b h may is = absurd may
+may_begin (Unnamed r) b h may is = absurd may
+may_begin (UnnamedTrailer r) b h may is = absurd may
+may_begin (Skipping n u) b h may is = absurd may
 
 -- after its second label
 pub record Heads (u : OpenSection) (s : Expected) : Type 0 where

@@ -8,7 +8,8 @@ use Rattle.tape_run.specs.declared.section.SectionKey.{SectionKey}
 use Rattle.tape_run.specs.declared.salvage.walk.Expected.{Expected}
 use Rattle.tape_run.specs.declared.salvage.walk.Expected.TheVariants.{Outside, Second, Headers}
 use Rattle.tape_run.specs.declared.salvage.walk.Expected.TheVariants.{Data, Trailer, Trailers}
-use Rattle.tape_run.specs.declared.salvage.walk.Expected.TheVariants.{Next, Over}
+use Rattle.tape_run.specs.declared.salvage.walk.Expected.TheVariants.{Next, Over, Skipping}
+use Rattle.tape_run.specs.declared.salvage.walk.Expected.TheVariants.{Unnamed, UnnamedTrailer}
 use Rattle.tape_run.specs.SalvageWalk.{step, expected_after}
 use Rattle.tape_run.specs.SalvageBlocks.{Salvaged, salvaged_at, text_at}
 use Rattle.tape_run.specs.SalvageImage.{is_in, is_mark, number_in, salvaged_from, text_from}
@@ -36,6 +37,9 @@ module _ (key : SectionKey) where
   stays_in (Trailers u k) x h m = absurd (cc h)
   stays_in Next x h m = absurd (cc h)
   stays_in Over x h m = absurd (cc h)
+  stays_in (Unnamed r) x h m = absurd (cc h)
+  stays_in (UnnamedTrailer r) x h m = absurd (cc h)
+  stays_in (Skipping n u) x h m = absurd (cc h)
 
   none_by : (m : Bool) (n : ℕ) → (if true && m then 1 else 0) + n ≡ 0 → m ≡ false
   none_by true n e = absurd (omega (arith, e))
@@ -66,6 +70,9 @@ module _ (key : SectionKey) where
   no_number most (Trailers u k) h = refl
   no_number most Next h = refl
   no_number most Over h = refl
+  no_number most (Unnamed r) h = refl
+  no_number most (UnnamedTrailer r) h = refl
+  no_number most (Skipping n u) h = refl
 
   module _ (most : ℕ) (form : Option FileForm) where
     nothing_by : (b : Bool) (s : Expected) (g : Salvaged) (xs : List TapeItem) → is_in key s ≡ b
@@ -93,10 +100,12 @@ module _ (key : SectionKey) where
   after_mark (Trailers u k) h = absurd (cc h)
   after_mark Next h = absurd (cc h)
   after_mark Over h = absurd (cc h)
+  after_mark (Unnamed r) h = absurd (cc h)
+  after_mark (UnnamedTrailer r) h = absurd (cc h)
+  after_mark (Skipping n u) h = absurd (cc h)
 
 pub rest_has_nothing : RestHasNothing
-rest_has_nothing key most form items rest g (front, is, at) once end =
-    let o = Outside 0 in
+rest_has_nothing key most form o items rest g (front, is, at) once end =
     let s = expected_after o items in
     let all = closings-append key o items rest in
     let first : closings key o items ≡ closings key o front + 1 =

@@ -11,7 +11,8 @@ use Rattle.tape_run.specs.declared.salvage.walk.OpenSection.{OpenSection}
 use Rattle.tape_run.specs.declared.salvage.walk.Expected.{Expected}
 use Rattle.tape_run.specs.declared.salvage.walk.Expected.TheVariants.{Outside, Second, Headers}
 use Rattle.tape_run.specs.declared.salvage.walk.Expected.TheVariants.{Data, Trailer, Trailers}
-use Rattle.tape_run.specs.declared.salvage.walk.Expected.TheVariants.{Next, Over}
+use Rattle.tape_run.specs.declared.salvage.walk.Expected.TheVariants.{Next, Over, Skipping}
+use Rattle.tape_run.specs.declared.salvage.walk.Expected.TheVariants.{Unnamed, UnnamedTrailer}
 use Rattle.tape_run.specs.SalvageWalk.{step, expected_after, with_item, with_unreadable}
 use Rattle.tape_run.specs.SalvageBlocks.{Salvaged, salvaged_at, with_block, without_block}
 use Rattle.tape_run.specs.SalvageImage.{salvaged_from, number_in}
@@ -43,6 +44,9 @@ none_yet key most form (Data u) g x may = absurd may
 none_yet key most form (Trailer u) g x may = absurd may
 none_yet key most form (Trailers u k) g x may = absurd may
 none_yet key most form Over g x may = absurd may
+none_yet key most form (Unnamed r) g x may = absurd may
+none_yet key most form (UnnamedTrailer r) g x may = absurd may
+none_yet key most form (Skipping n u) g x may = absurd may
 
 pub quiet : (key : SectionKey) (most : ℕ) (form : Option FileForm) → Quiet (taken key most form)
 quiet key most form = record {

@@ -19,7 +19,7 @@ use Rattle.tape_set.specs.Lawful.{FileForm}
 use Rattle.tape_run.specs.declared.section.SectionKey.{SectionKey}
 use Rattle.tape_run.specs.declared.salvage.recovery.Recovery.{Recovery}
 use Rattle.tape_run.specs.declared.salvage.walk.Expected.{Expected}
-use Rattle.tape_run.specs.declared.salvage.walk.Expected.TheVariants.{Outside, Data}
+use Rattle.tape_run.specs.declared.salvage.walk.Expected.TheVariants.{Data}
 use Rattle.tape_run.specs.SalvageWalk.{step, expected_after}
 use Rattle.tape_run.specs.SalvageBlocks.{Salvaged, HasSalvaged, Recovers, salvaged_at, text_at}
 use Rattle.tape_run.specs.SalvageImage.{is_in, read_in, number_in, salvaged_from, text_from}
@@ -28,20 +28,20 @@ use Rattle.tape_run.specs.SalvageImage.{RecoversSection}
 -- Of the bytes `all` the items up to a place were read, and `left` is left; the blocks of the
 -- section among them were taken.
 pub record SoFar {W : Type 0} (contents : W → Option (List ℕ)) (all left : Option (List ℕ))
-    (place : ℕ) (key : SectionKey) (most : ℕ) (form : Option FileForm) (expected : Expected)
-    (old new : Recovery W) (said says : Option (List ℕ)) : Type 0 where
+    (place : ℕ) (origin : Expected) (key : SectionKey) (most : ℕ) (form : Option FileForm)
+    (expected : Expected) (old new : Recovery W) (said says : Option (List ℕ)) : Type 0 where
   pub items : List TapeItem
   pub known : IfKnown all left (λ xs ys. Walks 0 xs items place ys)
-  pub expects : expected ≡ expected_after (Outside 0) items
+  pub expects : expected ≡ expected_after origin items
   pub recovers : Recovers contents old new said says
-      (λ g. salvaged_from key most form (Outside 0) g items)
-      (λ g. text_from key most form (Outside 0) g items)
+      (λ g. salvaged_from key most form origin g items)
+      (λ g. text_from key most form origin g items)
 
 pub starts : {W : Type 0} (contents : W → Option (List ℕ)) (all left : Option (List ℕ))
-    (place : ℕ) (key : SectionKey) (most : ℕ) (form : Option FileForm) (recovery : Recovery W)
-    (said : Option (List ℕ)) → place ≡ 0 → left ≡ all
-    → SoFar contents all left place key most form (Outside 0) recovery recovery said said
-starts contents all left place key most form recovery said first same =
+    (place : ℕ) (origin : Expected) (key : SectionKey) (most : ℕ) (form : Option FileForm)
+    (recovery : Recovery W) (said : Option (List ℕ)) → place ≡ 0 → left ≡ all
+    → SoFar contents all left place origin key most form origin recovery recovery said said
+starts contents all left place origin key most form recovery said first same =
     let P : ℕ → Type 0 = λ p. IfKnown all left (λ xs ys. Walks 0 xs [] p ys) in
     record {
       items = [];
@@ -80,54 +80,55 @@ text_from-append key most form s g (x ∷ xs) ys =
     (salvaged_from key most form (step s x).0 (salvaged_at form g n x) xs) ys))
 
 -- one more item was taken
-pub salvaged_more : {W : Type 0} (contents : W → Option (List ℕ)) (key : SectionKey) (most : ℕ)
-    (form : Option FileForm) (expected : Expected) (items : List TapeItem) (item : TapeItem)
+pub salvaged_more : {W : Type 0} (contents : W → Option (List ℕ)) (origin : Expected)
+    (key : SectionKey) (most : ℕ) (form : Option FileForm) (expected : Expected)
+    (items : List TapeItem) (item : TapeItem)
     (old mid new : Recovery W) (said says now : Option (List ℕ))
-    → expected ≡ expected_after (Outside 0) items
-    → Recovers contents old mid said says (λ g. salvaged_from key most form (Outside 0) g items)
-    (λ g. text_from key most form (Outside 0) g items)
+    → expected ≡ expected_after origin items
+    → Recovers contents old mid said says (λ g. salvaged_from key most form origin g items)
+    (λ g. text_from key most form origin g items)
     → Recovers contents mid new says now
     (λ g. salvaged_at form g (number_in key most expected) item)
     (λ g. text_at key.sect form g (number_in key most expected) item)
     → Recovers contents old new said now
-    (λ g. salvaged_from key most form (Outside 0) g (items ++ item ∷ []))
-    (λ g. text_from key most form (Outside 0) g (items ++ item ∷ []))
-salvaged_more contents key most form expected items item old mid new said says now at first next
-    start g h =
+    (λ g. salvaged_from key most form origin g (items ++ item ∷ []))
+    (λ g. text_from key most form origin g (items ++ item ∷ []))
+salvaged_more contents origin key most form expected items item old mid new said says now at first
+    next start g h =
     let one = first start g h in
-    let g' = salvaged_from key most form (Outside 0) g items in
+    let g' = salvaged_from key most form origin g items in
     let two = next start g' one.0 in
     let t = text_at key.sect form g' (number_in key most expected) item in (
       subst (HasSalvaged contents start new)
           (ap (λ s. salvaged_at form g' (number_in key most s) item) at
-          ∙ sym (salvaged_from-append key most form (Outside 0) g items (item ∷ []))) two.0,
+          ∙ sym (salvaged_from-append key most form origin g items (item ∷ []))) two.0,
       subst (Appends said now)
-          (ap (λ (l : List ℕ). text_from key most form (Outside 0) g items ++ l)
+          (ap (λ (l : List ℕ). text_from key most form origin g items ++ l)
           (sym (append-nil t)
           ∙ ap (λ s. text_at key.sect form g' (number_in key most s) item ++ []) at)
-          ∙ sym (text_from-append key most form (Outside 0) g items (item ∷ [])))
+          ∙ sym (text_from-append key most form origin g items (item ∷ [])))
           (Appends-trans said says now _ _ one.1 two.1),
     )
 
 abbrev pub one_more : {W : Type 0} (contents : W → Option (List ℕ))
-    (all left next : Option (List ℕ)) (p q : ℕ) (key : SectionKey) (most : ℕ)
+    (all left next : Option (List ℕ)) (p q : ℕ) (origin : Expected) (key : SectionKey) (most : ℕ)
     (form : Option FileForm) (expected after : Expected)
     (item : TapeItem) (old mid new : Recovery W) (said says now : Option (List ℕ))
-    → SoFar contents all left p key most form expected old mid said says
+    → SoFar contents all left p origin key most form expected old mid said says
     → IfKnown left next (TakesItem p item q) → after ≡ (step expected item).0
     → Recovers contents mid new says now
     (λ g. salvaged_at form g (number_in key most expected) item)
     (λ g. text_at key.sect form g (number_in key most expected) item)
-    → SoFar contents all next q key most form after old new said now
-one_more contents all left next p q key most form expected after item old mid new said says now s
-    takes e taken =
+    → SoFar contents all next q origin key most form after old new said now
+one_more contents all left next p q origin key most form expected after item old mid new said says
+    now s takes e taken =
     record {
       items = s.items ++ item ∷ [];
       known = known_item all left next 0 p q s.items item s.known takes;
       expects = e ∙ (ap (λ z. (step z item).0) s.expects
-          ∙ sym (expected_after-append (Outside 0) s.items (item ∷ [])));
-      recovers = salvaged_more contents key most form expected s.items item old mid new said says
-          now s.expects s.recovers taken;
+          ∙ sym (expected_after-append origin s.items (item ∷ [])));
+      recovers = salvaged_more contents origin key most form expected s.items item old mid new
+          said says now s.expects s.recovers taken;
     }
 
 -- the items were read
@@ -146,19 +147,20 @@ read_at_mark key _ is = absurd (cc)
 
 -- the section's data ended
 pub ends_data : {W : Type 0} (contents : W → Option (List ℕ)) (all left next : Option (List ℕ))
-    (p q : ℕ) (key : SectionKey) (most : ℕ) (form : Option FileForm) (expected : Expected)
-    (item : TapeItem) (old mid new : Recovery W) (said says now : Option (List ℕ))
-    → SoFar contents all left p key most form expected old mid said says
+    (p q : ℕ) (origin : Expected) (key : SectionKey) (most : ℕ) (form : Option FileForm)
+    (expected : Expected) (item : TapeItem) (old mid new : Recovery W)
+    (said says now : Option (List ℕ))
+    → SoFar contents all left p origin key most form expected old mid said says
     → IfKnown left next (TakesItem p item q) → is_in key expected ≡ true → item ≡ mark
     → (n : ℕ) → n ≡ read_in key expected
     → Recovers contents mid new says now
     (λ g. salvaged_at form g (number_in key most expected) item)
     (λ g. text_at key.sect form g (number_in key most expected) item)
-    → RecoversSection contents all next key most form old new said now n
-ends_data contents all left next p q key most form expected item old mid new said says now s takes
-    is e n count taken =
-    let more = one_more contents all left next p q key most form expected (step expected item).0
-    item old mid new said says now s takes refl taken in
+    → RecoversSection contents all next origin key most form old new said now n
+ends_data contents all left next p q origin key most form expected item old mid new said says now s
+    takes is e n count taken =
+    let more = one_more contents all left next p q origin key most form expected
+    (step expected item).0 item old mid new said says now s takes refl taken in
     record {
       items = more.items;
       is_ended = true;
@@ -178,13 +180,14 @@ ends_data contents all left next p q key most form expected item old mid new sai
 
 -- all items were read
 pub at_end : {W : Type 0} (contents : W → Option (List ℕ)) (all left next : Option (List ℕ))
-    (p q : ℕ) (ending : Ending) (key : SectionKey) (most : ℕ) (form : Option FileForm)
-    (expected : Expected) (old new : Recovery W) (said says : Option (List ℕ))
-    → SoFar contents all left p key most form expected old new said says
+    (p q : ℕ) (ending : Ending) (origin : Expected) (key : SectionKey) (most : ℕ)
+    (form : Option FileForm) (expected : Expected) (old new : Recovery W)
+    (said says : Option (List ℕ))
+    → SoFar contents all left p origin key most form expected old new said says
     → IfKnown left next (TakesEnd p [] ending q) → (n : ℕ) → n ≡ read_in key expected
-    → RecoversSection contents all next key most form old new said says n
-at_end contents all left next p q ending key most form expected old new said says s takes n count
-    = record {
+    → RecoversSection contents all next origin key most form old new said says n
+at_end contents all left next p q ending origin key most form expected old new said says s takes n
+    count = record {
       items = s.items;
       is_ended = false;
       reads = record {
@@ -193,7 +196,8 @@ at_end contents all left next p q ending key most form expected old new said say
         all = λ _. (
           stop_at ending,
           IfKnown-map all next (TakesEnd 0 s.items ending q) (StopsBehind s.items (stop_at ending))
-              (by_ending s.items ending q) (known_end all left next 0 p q s.items ending s.known takes),
+              (by_ending s.items ending q)
+              (known_end all left next 0 p q s.items ending s.known takes),
         );
       };
       count = count ∙ ap (read_in key) s.expects;
@@ -201,13 +205,14 @@ at_end contents all left next p q ending key most form expected old new said say
     }
 
 pub at_fault : {W : Type 0} (contents : W → Option (List ℕ)) (all left next : Option (List ℕ))
-    (p : ℕ) (fault : ImageFault) (key : SectionKey) (most : ℕ) (form : Option FileForm)
-    (expected : Expected) (old new : Recovery W) (said says : Option (List ℕ))
-    → SoFar contents all left p key most form expected old new said says
+    (p : ℕ) (fault : ImageFault) (origin : Expected) (key : SectionKey) (most : ℕ)
+    (form : Option FileForm) (expected : Expected) (old new : Recovery W)
+    (said says : Option (List ℕ))
+    → SoFar contents all left p origin key most form expected old new said says
     → IfKnown left next (TakesFault p [] fault) → (n : ℕ) → n ≡ read_in key expected
-    → RecoversSection contents all next key most form old new said says n
-at_fault contents all left next p fault key most form expected old new said says s takes n count
-    = record {
+    → RecoversSection contents all next origin key most form old new said says n
+at_fault contents all left next p fault origin key most form expected old new said says s takes n
+    count = record {
       items = s.items;
       is_ended = false;
       reads = record {

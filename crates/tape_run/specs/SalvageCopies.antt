@@ -1,6 +1,6 @@
 -- The copies of a file's sections on images, and how much of each is certain.
 use Rattle.std.specs.Prelude.{◌≡◌, ℕ, ◌+◌, ◌-◌, ◌==◌, ◌&&◌, Bool, if◌then◌else◌, List, []}
-use Rattle.std.specs.Prelude.{◌∷◌, ◌++◌, Option, Some, None, is_none, is_some}
+use Rattle.std.specs.Prelude.{◌∷◌, ◌++◌, Option, Some, None, option_map, is_none, is_some}
 use Rattle.std.specs.Str.{bytes_eq}
 use Rattle.tape_image.specs.Tape.{TapeItem}
 use Rattle.tape_image.specs.Reader.{IfKnown}
@@ -9,22 +9,44 @@ use Rattle.tape_run.specs.declared.section.ImageStop.{ImageStop}
 use Rattle.tape_run.specs.Added.{StopsBehind}
 use Rattle.tape_run.specs.declared.salvage.copies.SectionCopy.{SectionCopy}
 use Rattle.tape_run.specs.declared.salvage.walk.Closing.{Closing}
-use Rattle.tape_run.specs.SalvageWalk.{FoundSection, sections_in}
+use Rattle.tape_run.specs.declared.salvage.walk.OpenSection.{OpenSection}
+use Rattle.tape_run.specs.declared.salvage.walk.Expected.{Expected}
+use Rattle.tape_run.specs.declared.salvage.walk.Expected.TheVariants.{Outside}
+use Rattle.tape_run.specs.SalvageWalk.{FoundSection, FoundAt, sections_in, skipping}
 
 -- it is a section of this file
 abbrev pub is_of : List ℕ → ℕ → FoundSection → Bool
 is_of set_id file t = bytes_eq t.0.key.set_id set_id && (t.0.key.file == file)
 
+-- how many items of the image precede its data, if its HDR1 was not read; its items end where so
+-- many were read
+abbrev pub skip_of : ℕ → OpenSection → Option ℕ
+skip_of place u = option_map (λ n. place - n - u.blocks) u.after
+
 -- a section found on the image with this number
-abbrev pub copy_of : ℕ → FoundSection → SectionCopy
-copy_of image t = record { image = image; section = t.0; closed = t.1 }
+abbrev pub copy_of : ℕ → FoundAt → SectionCopy
+copy_of image t = record {
+  image = image;
+  section = t.1.0;
+  closed = t.1.1;
+  skip = skip_of t.0 t.1.0;
+}
 
 -- the copies of the file's sections among those found on an image
-abbrev pub of_file : List ℕ → ℕ → ℕ → List FoundSection → List SectionCopy
+abbrev pub of_file : List ℕ → ℕ → ℕ → List FoundAt → List SectionCopy
 of_file set_id file image [] = []
 of_file set_id file image (t ∷ ts) =
-    if is_of set_id file t then copy_of image t ∷ of_file set_id file image ts
+    if is_of set_id file t.1 then copy_of image t ∷ of_file set_id file image ts
     else of_file set_id file image ts
+
+-- What is expected at the first item of a copy's image when the section is read from it. If its
+-- HDR1 was not read, its data are found by their place.
+abbrev pub start_of : SectionCopy → Expected
+start_of c = start_by c.skip c.section
+  where
+    start_by : Option ℕ → OpenSection → Expected
+    start_by None u = Outside 0
+    start_by (Some n) u = skipping n (record u { blocks = 0 })
 
 -- how many of the data items are certainly blocks of the section: all if it closes, otherwise those
 -- before the first item after its HDR1 that could not be read

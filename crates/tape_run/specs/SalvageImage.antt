@@ -11,7 +11,7 @@ use Rattle.tape_run.specs.Added.{StopsBehind}
 use Rattle.tape_run.specs.Noted.{same_key}
 use Rattle.tape_run.specs.declared.salvage.recovery.Recovery.{Recovery}
 use Rattle.tape_run.specs.declared.salvage.walk.Expected.{Expected}
-use Rattle.tape_run.specs.declared.salvage.walk.Expected.TheVariants.{Outside, Data, Trailer}
+use Rattle.tape_run.specs.declared.salvage.walk.Expected.TheVariants.{Data, Trailer}
 use Rattle.tape_run.specs.SalvageWalk.{step, expected_after}
 use Rattle.tape_run.specs.SalvageBlocks.{Salvaged, Recovers, salvaged_at, text_at}
 
@@ -49,30 +49,31 @@ text_from key most form s g (x ∷ xs) =
     ++ text_from key most form (step s x).0 (salvaged_at form g (number_in key most s) x) xs
 
 -- the last of the items is the mark after the data of this section
-abbrev pub EndsData : SectionKey → List TapeItem → Type 0
-EndsData key items = (front : List TapeItem) × (items ≡ front ++ mark ∷ [])
-    × (is_in key (expected_after (Outside 0) front) ≡ true)
+abbrev pub EndsData : Expected → SectionKey → List TapeItem → Type 0
+EndsData start key items = (front : List TapeItem) × (items ≡ front ++ mark ∷ [])
+    × (is_in key (expected_after start front) ≡ true)
 
 -- These items of an image were read: up to the mark after the section's data if it was found,
 -- otherwise all of them.
-pub record ReadsSection (before after : Option (List ℕ)) (key : SectionKey) (items : List TapeItem)
-    (is_ended : Bool) : Type 0 where
+pub record ReadsSection (before after : Option (List ℕ)) (start : Expected) (key : SectionKey)
+    (items : List TapeItem) (is_ended : Bool) : Type 0 where
   pub walked : IfSome before (λ xs. (place : ℕ) × (ys : List ℕ) × Walks 0 xs items place ys)
-  pub at_mark : is_ended ≡ true → EndsData key items
+  pub at_mark : is_ended ≡ true → EndsData start key items
   pub all : is_ended ≡ false → (stop : ImageStop) × IfKnown before after (StopsBehind items stop)
 
 -- Items of the image were read, so many of them data items of the section, and its blocks were
 -- taken.
 pub record RecoversSection {W : Type 0} (contents : W → Option (List ℕ))
-    (before after : Option (List ℕ)) (key : SectionKey) (most : ℕ) (form : Option FileForm)
-    (old new : Recovery W) (said says : Option (List ℕ)) (read : ℕ) : Type 0 where
+    (before after : Option (List ℕ)) (start : Expected) (key : SectionKey) (most : ℕ)
+    (form : Option FileForm) (old new : Recovery W) (said says : Option (List ℕ)) (read : ℕ)
+    : Type 0 where
   pub items : List TapeItem
   pub is_ended : Bool
-  pub reads : ReadsSection before after key items is_ended
-  pub count : read ≡ read_in key (expected_after (Outside 0) items)
+  pub reads : ReadsSection before after start key items is_ended
+  pub count : read ≡ read_in key (expected_after start items)
   pub recovers : Recovers contents old new said says
-      (λ g. salvaged_from key most form (Outside 0) g items)
-      (λ g. text_from key most form (Outside 0) g items)
+      (λ g. salvaged_from key most form start g items)
+      (λ g. text_from key most form start g items)
 
 -- ---- the rest of the image
 
@@ -89,10 +90,11 @@ closings key s (x ∷ xs) =
 -- If the data of the section end once on the image, and are not open at its end, then nothing more
 -- is recovered from the items after the mark that ends them.
 abbrev pub RestHasNothing : Type 0
-RestHasNothing = (key : SectionKey) (most : ℕ) (form : Option FileForm) (items rest : List TapeItem)
-    (g : Salvaged) → EndsData key items → closings key (Outside 0) (items ++ rest) ≡ 1
-    → is_in key (expected_after (Outside 0) (items ++ rest)) ≡ false
-    → (salvaged_from key most form (Outside 0) g items
-    ≡ salvaged_from key most form (Outside 0) g (items ++ rest))
-    × (text_from key most form (Outside 0) g items
-    ≡ text_from key most form (Outside 0) g (items ++ rest))
+RestHasNothing = (key : SectionKey) (most : ℕ) (form : Option FileForm) (start : Expected)
+    (items rest : List TapeItem) (g : Salvaged) → EndsData start key items
+    → closings key start (items ++ rest) ≡ 1
+    → is_in key (expected_after start (items ++ rest)) ≡ false
+    → (salvaged_from key most form start g items
+    ≡ salvaged_from key most form start g (items ++ rest))
+    × (text_from key most form start g items
+    ≡ text_from key most form start g (items ++ rest))

@@ -123,10 +123,10 @@ PassesSection = (set_id : List ℕ) (volumes : ℕ) (r : SectionRead) (form : Fi
 
 -- Such a section is found to close, with all of its data items counted.
 abbrev pub FindsSection : Type 0
-FindsSection = (set_id : List ℕ) (volumes : ℕ) (r : SectionRead) (s : Expected)
+FindsSection = (set_id : List ℕ) (volumes : ℕ) (r : SectionRead) (s : Expected) (before : ℕ)
     → IsRead set_id volumes r → MayBegin s
-    → (u : OpenSection) × (closed : Closing)
-    × (found_from s (read_section r) ≡ (u, Some closed) ∷ [])
+    → (u : OpenSection) × (closed : Closing) × (place : ℕ)
+    × (found_from s before (read_section r) ≡ (place, (u, Some closed)) ∷ [])
     × (u.key ≡ key_of set_id r) × (u.blocks ≡ length r.blocks)
     × (closed.count ≡ label_count (length r.blocks))
 
@@ -165,8 +165,8 @@ RecoversFromVolume = (set_id : List ℕ) (volumes : ℕ) (v : Volume) (ls : Labe
 
 -- the items of a reading that ends at the mark after the section's data, or is the whole volume
 abbrev pub IsReadTo : SectionKey → List TapeItem → List TapeItem → Type 0
-IsReadTo key all items =
-    (items ≡ all) ⊎ ((rest : List TapeItem) × (all ≡ items ++ rest) × EndsData key items)
+IsReadTo key all items = (items ≡ all)
+    ⊎ ((rest : List TapeItem) × (all ≡ items ++ rest) × EndsData (Outside 0) key items)
 
 -- From such a reading exactly the records of the section's blocks that were read are recovered.
 abbrev pub RecoversFromReading : Type 0

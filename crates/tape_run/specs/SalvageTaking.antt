@@ -4,7 +4,6 @@ use Rattle.std.specs.Prelude.{List, [], ◌∷◌, ◌++◌, length, Option, Som
 use Rattle.std.specs.List.{AllByRecursion}
 use Rattle.tape_image.specs.Tape.{TapeItem}
 use Rattle.tape_set.specs.Lawful.{FileForm}
-use Rattle.tape_run.specs.declared.section.SectionKey.{SectionKey}
 use Rattle.tape_run.specs.declared.salvage.Content.{Content}
 use Rattle.tape_run.specs.declared.salvage.Content.TheVariants.{Records, Blocks}
 use Rattle.tape_run.specs.declared.salvage.ending.SectionEnd.{SectionEnd}
@@ -13,9 +12,8 @@ use Rattle.tape_run.specs.declared.salvage.ending.SectionEnd.TheVariants.{Unknow
 use Rattle.tape_run.specs.declared.salvage.copies.SectionCopy.{SectionCopy}
 use Rattle.tape_run.specs.declared.salvage.recovery.Recovery.{Recovery}
 use Rattle.tape_run.specs.declared.salvage.walk.Closing.{Closing}
-use Rattle.tape_run.specs.declared.salvage.walk.Expected.TheVariants.{Outside}
 use Rattle.tape_run.specs.Reeling.{Mounting}
-use Rattle.tape_run.specs.SalvageCopies.{believed}
+use Rattle.tape_run.specs.SalvageCopies.{believed, start_of}
 use Rattle.tape_run.specs.SalvageLine.{section_line}
 use Rattle.tape_run.specs.SalvageBlocks.{Salvaged, Recovers}
 use Rattle.tape_run.specs.SalvageWalk.{expected_after}
@@ -49,16 +47,16 @@ image_number n = min (n + 1) 18446744073709551615
 abbrev pub after_copy : SectionCopy → Option FileForm → Option (List TapeItem) → Salvaged → Salvaged
 after_copy c form None g = without_rest g
 after_copy c form (Some items) g =
-    read_again (read_in c.section.key (expected_after (Outside 0) items)) c
-    (salvaged_from c.section.key (believed c) form (Outside 0) g items)
+    read_again (read_in c.section.key (expected_after (start_of c) items)) c
+    (salvaged_from c.section.key (believed c) form (start_of c) g items)
 
 abbrev pub copy_text : ℕ → SectionCopy → Option FileForm → Option (List TapeItem) → Salvaged
     → List ℕ
 copy_text sect c form None g = no_section_text sect g
 copy_text sect c form (Some items) g = section_line sect (image_number c.image) c.section.blocks
-    ++ (text_from c.section.key (believed c) form (Outside 0) g items
-    ++ read_again_text (read_in c.section.key (expected_after (Outside 0) items)) c
-    (salvaged_from c.section.key (believed c) form (Outside 0) g items))
+    ++ (text_from c.section.key (believed c) form (start_of c) g items
+    ++ read_again_text (read_in c.section.key (expected_after (start_of c) items)) c
+    (salvaged_from c.section.key (believed c) form (start_of c) g items))
 
 -- after a section
 abbrev pub after_taken : Content → Option FileForm → Option SectionCopy → Option (List TapeItem)
@@ -89,18 +87,18 @@ end_of_taken content known (Some c) (Some items) =
     if has_form content (form_for content c.section.form known) then end_by c.closed else Unknown
 
 -- the items that were read of an image that was mounted; of one that is not there none are
-abbrev pub IsReadOf : {R : Type 0} → (R → Option (List ℕ)) → SectionKey → Option R
+abbrev pub IsReadOf : {R : Type 0} → (R → Option (List ℕ)) → SectionCopy → Option R
     → Option (List TapeItem) → Type 0
-IsReadOf remaining key None items = items ≡ None
-IsReadOf remaining key (Some device) None = ⊥
-IsReadOf remaining key (Some device) (Some items) = (after : Option (List ℕ)) × (is_ended : Bool)
-    × ReadsSection (remaining device) after key items is_ended
+IsReadOf remaining c None items = items ≡ None
+IsReadOf remaining c (Some device) None = ⊥
+IsReadOf remaining c (Some device) (Some items) = (after : Option (List ℕ)) × (is_ended : Bool)
+    × ReadsSection (remaining device) after (start_of c) c.section.key items is_ended
 
 -- the image of the copy was mounted and read
 abbrev pub MountsCopy : {L R : Type 0} → Mounting L R → (R → Option (List ℕ)) → SectionCopy → L → L
     → Option (List TapeItem) → Type 0
 MountsCopy gives remaining c shelf left items = (image : Option _)
-    × gives shelf c.image image left × IsReadOf remaining c.section.key image items
+    × gives shelf c.image image left × IsReadOf remaining c image items
 
 -- it was, or no image was mounted
 abbrev pub MountsIf : {L R : Type 0} → Bool → Mounting L R → (R → Option (List ℕ)) → SectionCopy
@@ -123,7 +121,7 @@ pub record TakesCopy {W : Type 0} (contents : W → Option (List ℕ)) (before :
   pub items : List TapeItem
   pub after : Option (List ℕ)
   pub is_ended : Bool
-  pub reads : ReadsSection before after c.section.key items is_ended
+  pub reads : ReadsSection before after (start_of c) c.section.key items is_ended
   pub recovers : Recovers contents old new said says (after_copy c form (Some items))
       (copy_text sect c form (Some items))
   pub ends : end ≡ end_by c.closed

@@ -3,9 +3,10 @@
 -- A section extends from its first label to its trailer label. When no section is open, a block
 -- that reads as HDR1 begins one. It closes if its data and a tape mark are followed by a trailer
 -- label with its numbers; then the marks before and after its data were read, and all items between
--- them are its data.
-use Rattle.std.specs.Prelude.{ℕ, ◌+◌, min, ◌==◌, ◌&&◌, nat_lt, Bool, if◌then◌else◌, List, [], ◌∷◌}
-use Rattle.std.specs.Prelude.{◌++◌, Option, Some, None, Result, Ok, Err}
+-- them are its data. If HDR1 was not read, the items between two tape marks are the data of the
+-- section whose trailer label follows, provided that it counts as many blocks.
+use Rattle.std.specs.Prelude.{ℕ, ◌+◌, ◌-◌, min, ◌==◌, ◌&&◌, nat_lt, Bool, if◌then◌else◌, List, []}
+use Rattle.std.specs.Prelude.{◌∷◌, ◌++◌, Option, Some, None, option_map, Result, Ok, Err}
 use Rattle.tape_image.specs.Tape.{TapeItem, block, bad, mark}
 use Rattle.tape_label.specs.declared.label.LabelFault.{LabelFault}
 use Rattle.tape_label.specs.declared.values.Kind.{Kind}
@@ -15,15 +16,18 @@ use Rattle.tape_label.specs.declared.values.Head2.{Head2}
 use Rattle.tape_label.specs.declared.values.Trail1.{Trail1}
 use Rattle.tape_label.specs.Kinds.{kind_at}
 use Rattle.tape_label.specs.Reading.{head1_at, head2_at, trail1_at}
-use Rattle.tape_set.specs.Lawful.{FileForm, binding_len}
+use Rattle.tape_set.specs.Lawful.{FileForm, binding_len, label_count}
 use Rattle.tape_core.specs.Known.{known_of}
 use Rattle.tape_core.specs.Range.{form_in_range}
 use Rattle.tape_run.specs.declared.salvage.walk.OpenSection.{OpenSection}
 use Rattle.tape_run.specs.declared.salvage.walk.Closing.{Closing}
+use Rattle.tape_run.specs.declared.salvage.walk.UnnamedItems.{UnnamedItems}
 use Rattle.tape_run.specs.declared.salvage.walk.Expected.{Expected}
 use Rattle.tape_run.specs.declared.salvage.walk.Expected.TheVariants.{Outside, Second, Headers}
 use Rattle.tape_run.specs.declared.salvage.walk.Expected.TheVariants.{Data, Trailer, Trailers}
 use Rattle.tape_run.specs.declared.salvage.walk.Expected.TheVariants.{Next, Over}
+use Rattle.tape_run.specs.declared.salvage.walk.Expected.TheVariants.{Unnamed, UnnamedTrailer}
+use Rattle.tape_run.specs.declared.salvage.walk.Expected.TheVariants.{Skipping}
 
 -- a section that ended, and how, if a trailer label with its numbers was read
 abbrev pub FoundSection : Type 0
@@ -59,6 +63,7 @@ section_by h = record {
   blocks = 0;
   certain = None;
   unreadable = 0;
+  after = None;
 }
 
 -- after a block at which a section may begin
@@ -91,7 +96,10 @@ form_or (Some form) other = Some form
 
 -- a label after the trailer label: EOF2 and EOV2 record the form too
 abbrev pub with_trailer : OpenSection → Result Head2 LabelFault → OpenSection
-with_trailer u g = record u { form = form_or u.form (form_by u.file_id g) }
+with_trailer u g = record u {
+  form = form_or u.form (form_by u.file_id g);
+  after = option_map (λ n. min (n + 1) 4294967295) u.after;
+}
 
 -- after a block at which a trailer label is expected
 abbrev pub closed_by : OpenSection → Result Trail1 LabelFault → Result Head1 LabelFault
@@ -101,6 +109,48 @@ closed_by u (Ok t) h =
     then (Trailers u (record { eof = t.eof; count = t.blocks }), None)
     else unclosed_by u h
 closed_by u (Err _) h = unclosed_by u h
+
+-- ---- outside of sections
+
+-- one item, which was read or not
+abbrev pub one_read : UnnamedItems
+one_read = record { items = 1; unreadable = 0 }
+
+abbrev pub one_unreadable : UnnamedItems
+one_unreadable = record { items = 1; unreadable = 1 }
+
+-- one more item
+abbrev pub and_read : UnnamedItems → UnnamedItems
+and_read r = record r { items = min (r.items + 1) 4294967295 }
+
+abbrev pub and_unreadable : UnnamedItems → UnnamedItems
+and_unreadable r = record {
+  items = min (r.items + 1) 4294967295;
+  unreadable = min (r.unreadable + 1) 4294967295;
+}
+
+-- the section with this trailer label, whose data these items are; the label and a tape mark follow
+-- them
+abbrev pub named_by : UnnamedItems → Trail1 → OpenSection
+named_by r t = record (section_by t.head) {
+  blocks = r.items;
+  certain = Some 0;
+  unreadable = r.unreadable;
+  after = Some 2;
+}
+
+-- after a block at which the trailer label of these items is expected; it counts them
+abbrev pub unnamed_by : UnnamedItems → Result Trail1 LabelFault → Result Head1 LabelFault → Expected
+unnamed_by r (Ok t) h =
+    if t.blocks == label_count r.items
+    then Trailers (named_by r t) (record { eof = t.eof; count = t.blocks })
+    else begun_by h (Unnamed one_read)
+unnamed_by r (Err _) h = begun_by h (Unnamed one_read)
+
+-- after one item outside of sections that begins none; only a tape mark before it may be the one
+-- before a section's data
+abbrev pub unnamed_after : ℕ → UnnamedItems → Expected
+unnamed_after marks r = if marks == 1 then Unnamed r else Outside 0
 
 -- after two tape marks: a trailer label shows that the volume did not end there
 abbrev pub goes_on_by : Option Kind → Expected
@@ -112,7 +162,8 @@ goes_on_by _ = Over
 
 -- after a block outside of sections
 abbrev pub outside_by : ℕ → Option Kind → Result Head1 LabelFault → Expected
-outside_by marks k h = if nat_lt marks 2 then begun_by h (Outside 0) else goes_on_by k
+outside_by marks k h =
+    if nat_lt marks 2 then begun_by h (unnamed_after marks one_read) else goes_on_by k
 
 -- after one more tape mark outside of sections
 abbrev pub outside_mark : ℕ → Expected
@@ -121,7 +172,12 @@ outside_mark marks =
 
 -- after an item outside of sections that could not be read
 abbrev pub outside_bad : ℕ → Expected
-outside_bad marks = if nat_lt marks 2 then Outside 0 else Outside marks
+outside_bad marks =
+    if nat_lt marks 2 then unnamed_after marks one_unreadable else Outside marks
+
+-- after one item less, the data of a section
+abbrev pub skipping : ℕ → OpenSection → Expected
+skipping n u = if n == 0 then Data u else Skipping n u
 
 -- what is expected after an item, and the section that ended there, if one did
 abbrev pub step : Expected → TapeItem → Expected × Option FoundSection
@@ -147,6 +203,13 @@ step Next (block b) = (begun_by (head1_at b) (Outside 0), None)
 step Next bad = (Outside 0, None)
 step Next mark = (Over, None)
 step Over _ = (Over, None)
+step (Unnamed r) (block b) = (begun_by (head1_at b) (Unnamed (and_read r)), None)
+step (Unnamed r) bad = (Unnamed (and_unreadable r), None)
+step (Unnamed r) mark = (UnnamedTrailer r, None)
+step (UnnamedTrailer r) (block b) = (unnamed_by r (trail1_at b) (head1_at b), None)
+step (UnnamedTrailer r) bad = (Unnamed one_unreadable, None)
+step (UnnamedTrailer r) mark = (Outside 2, None)
+step (Skipping n u) _ = (skipping (n - 1) u, None)
 
 -- the section that is under way, if the items end here
 abbrev pub open_section : Expected → Option FoundSection
@@ -161,17 +224,30 @@ abbrev pub expected_after : Expected → List TapeItem → Expected
 expected_after s [] = s
 expected_after s (x ∷ xs) = expected_after (step s x).0 xs
 
--- a section that ended, as a list
-abbrev pub in_list : Option FoundSection → List FoundSection
-in_list None = []
-in_list (Some t) = t ∷ []
+-- A section that ended, and how many items of the image were read before the one that ended it.
+abbrev pub FoundAt : Type 0
+FoundAt = ℕ × FoundSection
 
--- the sections that end in these items, in order
-abbrev pub found_from : Expected → List TapeItem → List FoundSection
-found_from s [] = []
-found_from s (x ∷ xs) = in_list (step s x).1 ++ found_from (step s x).0 xs
+-- one more item was read; the count stops at the greatest number of 64 bits
+abbrev pub one_further : ℕ → ℕ
+one_further n = min (n + 1) 18446744073709551615
+
+-- so many items after these
+abbrev pub read_after : ℕ → List TapeItem → ℕ
+read_after n [] = n
+read_after n (x ∷ xs) = read_after (one_further n) xs
+
+-- a section that ended, as a list
+abbrev pub in_list : ℕ → Option FoundSection → List FoundAt
+in_list n None = []
+in_list n (Some t) = (n, t) ∷ []
+
+-- the sections that end in these items, in order; so many items were read before
+abbrev pub found_from : Expected → ℕ → List TapeItem → List FoundAt
+found_from s n [] = []
+found_from s n (x ∷ xs) = in_list n (step s x).1 ++ found_from (step s x).0 (one_further n) xs
 
 -- the sections on an image with these items
-abbrev pub sections_in : List TapeItem → List FoundSection
-sections_in items = found_from (Outside 0) items
-    ++ in_list (open_section (expected_after (Outside 0) items))
+abbrev pub sections_in : List TapeItem → List FoundAt
+sections_in items = found_from (Outside 0) 0 items
+    ++ in_list (read_after 0 items) (open_section (expected_after (Outside 0) items))

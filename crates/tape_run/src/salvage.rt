@@ -11,6 +11,7 @@ mod ending;
 mod image;
 mod line;
 mod mender;
+mod outside;
 mod recovery;
 mod sections;
 mod walk;

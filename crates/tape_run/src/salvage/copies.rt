@@ -5,13 +5,13 @@ ghost use Rattle.tape_image.specs.Reader.{going};
 ghost use Rattle.tape_run.specs.Checked.{IsCheckFault};
 ghost use Rattle.tape_run.specs.SalvageWalk.{in_list};
 ghost use Rattle.tape_run.specs.SalvageCopies.{FindsCopies, believed, of_file, is_of};
-ghost use Rattle.tape_run.specs.SalvageCopies.{wrong_count, rank};
+ghost use Rattle.tape_run.specs.SalvageCopies.{wrong_count, rank, start_of, skip_of};
 ghost use Rattle.tape_run.specs.SalvageChoice.{IsBest, IsChoice, firsts, is_considered};
 ghost use Rattle.tape_run.specs.SalvageChoice.{last_section, form_of_file};
 ghost use Rattle.tape_run.specs.declared.salvage.copies.SectionCopy.{SectionCopy};
 
 use crate::fault::{EngineFault, NO_MEMORY};
-use crate::salvage::walk::{Closing, Expected, FoundSection, OpenSection, step};
+use crate::salvage::walk::{Closing, Expected, FoundSection, OpenSection, skipping, step};
 use std::alloc::Global;
 use std::io::Read;
 use tape_core::Known;
@@ -27,6 +27,8 @@ pub struct SectionCopy {
     pub section: OpenSection,
     /// How it ended. With `None` it did not close, and may have other data than were found.
     pub closed: Option<Closing>,
+    /// If its HDR1 was not read: how many items of the image precede its data.
+    pub skip: Option<u64>,
 }
 
 impl SectionCopy {
@@ -38,6 +40,23 @@ impl SectionCopy {
         match self.closed {
             Some(_) => self.section.blocks,
             None => self.section.certain.unwrap_or(self.section.blocks),
+        }
+    }
+
+    /// Returns what is expected at the first item of the image when the section is read from it. If
+    /// its HDR1 was not read, its data are found by their place.
+    pub fn start(&self) -> Expected
+        ensures { result ≡ start_of self.now }
+    {
+        match self.skip {
+            None => Expected::Outside(0),
+            Some(items) => skipping(
+                items,
+                OpenSection {
+                    blocks: 0,
+                    ..self.section
+                },
+            ),
         }
     }
 
@@ -115,15 +134,19 @@ fn copies_in_items<R: Read>(
     ensures fault { IfErr result IsCheckFault }
 {
     let mut expected = Expected::Outside(0);
+    let mut read = 0u64;
     'items: loop {
         match image.next() {
             Ok(Some(item)) => {
                 let (next, found) = step(expected, item);
-                add_copy(copies, set_id, file, number, found)?;
+                add_copy(copies, set_id, file, number, read, found)?;
                 expected = next;
+                read = read.saturating_add(1);
             }
-            Ok(None) => return add_copy(copies, set_id, file, number, expected.open_section()),
-            Err(_) => return add_copy(copies, set_id, file, number, expected.open_section()),
+            Ok(None) => {
+                return add_copy(copies, set_id, file, number, read, expected.open_section());
+            }
+            Err(_) => return add_copy(copies, set_id, file, number, read, expected.open_section()),
         }
     }
 }
@@ -135,16 +158,32 @@ fn is_of(set_id: &Field<6>, file: u16, section: &OpenSection, closed: &Option<Cl
     section.key.set_id.bytes() == set_id.bytes() && section.key.file == file
 }
 
-/// Adds a section, if one was found and it belongs to the file.
+/// How many items of an image precede the section's data, if its HDR1 was not read; `read` items
+/// were read before the one that ended it.
+fn skip_of(read: u64, section: &OpenSection) -> Option<u64>
+    ensures { result ≡ skip_of read section.now }
+{
+    match section.after {
+        None => None,
+        Some(after) => {
+            let ended = read.saturating_sub(u64::from(after));
+            Some(ended.saturating_sub(u64::from(section.blocks)))
+        }
+    }
+}
+
+/// Adds a section, if one was found and it belongs to the file; `read` items of the image were read
+/// before the one that ended it.
 fn add_copy(
     copies: &mut Vec<SectionCopy>,
     set_id: &Field<6>,
     file: u16,
     image: usize,
+    read: u64,
     found: Option<FoundSection>,
 ) -> Result<(), EngineFault>
     ensures ok { OnOk result (copies.new.items
-        ≡ copies.old.items ++ of_file set_id.now file image (in_list found)) }
+        ≡ copies.old.items ++ of_file set_id.now file image (in_list read found)) }
     ensures fault { IfErr result IsCheckFault }
 {
     let Some((section, closed)) = found else {
@@ -157,6 +196,7 @@ fn add_copy(
         image,
         section,
         closed,
+        skip: skip_of(read, &section),
     };
     match copies.push(copy) {
         Ok(()) => Ok(()),

@@ -62,15 +62,17 @@ fn number_in(key: &SectionKey, most: u32, expected: &Expected) -> Option<u32>
 }
 
 /// Recovers the blocks of a section from an image of which nothing was read yet: the first `most`
-/// of the first section with this key on it. Returns how many data items of the section were read;
-/// nothing after the tape mark that ends them is read. The end of the medium, a fault of the image
-/// or a reader that fails may end the reading before.
+/// of the first section with this key on it. `start` is what is expected at the first item. Returns
+/// how many data items of the section were read; nothing after the tape mark that ends them is
+/// read. The end of the medium, a fault of the image or a reader that fails may end the reading
+/// before.
 ///
 /// # Errors
 ///
 /// `Run(OutOfMemory)`; `WriteFailed` if a record or the report can't be written.
 pub fn recover_section<R: Read, W: Write, P: Write>(
     image: &mut ImageReader<'_, R>,
+    start: Expected,
     key: &SectionKey,
     most: u32,
     form: &Option<Known>,
@@ -81,11 +83,11 @@ pub fn recover_section<R: Read, W: Write, P: Write>(
     requires first { image.old.place ≡ 0 }
     ensures same_device { image.new.device ≡ image.old.device }
     ensures ok { IfOk result (λ read. RecoversSection W.contents image.old.left image.new.left
-        key.now most form.now recovery.old recovery.new (P.contents report.old)
+        start key.now most form.now recovery.old recovery.new (P.contents report.old)
         (P.contents report.new) read) }
     ensures fault { IfErr result IsCheckFault }
 {
-    let mut expected = Expected::Outside(0);
+    let mut expected = start;
     'items: loop {
         match image.next() {
             Ok(Some(item)) => {

@@ -134,6 +134,14 @@ fn recover_copy<W: Write, R: Read, P: Write>(
     let line = section_line(sect, copy.image.saturating_add(1), copy.section.blocks);
     write_text(report, &line)?;
     let key = copy.section.key;
-    let read = recover_section(image, &key, copy.believed(), form, recovery, report)?;
+    let read = recover_section(
+        image,
+        copy.start(),
+        &key,
+        copy.believed(),
+        form,
+        recovery,
+        report,
+    )?;
     recovery.end_section(copy, read, report)
 }

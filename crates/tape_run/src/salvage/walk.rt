@@ -6,6 +6,7 @@ ghost use Rattle.tape_image.specs.Reader.{tape_item};
 ghost use Rattle.tape_image.specs.Tape.{block, bad, mark};
 ghost use Rattle.tape_run.specs.SalvageWalk as Walk;
 
+use crate::salvage::outside::{begun_by, outside_by, unnamed_after};
 use crate::section::SectionKey;
 use tape_core::Known;
 use tape_image::Item;
@@ -29,6 +30,18 @@ pub struct OpenSection {
     pub certain: Option<u32>,
     /// How many of its data items could not be read.
     pub unreadable: u32,
+    /// If its HDR1 was not read: how many items follow its data so far.
+    pub after: Option<u32>,
+}
+
+/// Items after a tape mark outside of sections, which may be the data of a section whose first
+/// label was not read.
+#[derive(Clone, Copy)]
+pub struct UnnamedItems {
+    /// How many.
+    pub items: u32,
+    /// How many of them could not be read.
+    pub unreadable: u32,
 }
 
 /// What is expected next.
@@ -51,6 +64,13 @@ pub enum Expected {
     Next,
     /// Nothing: the volume has ended.
     Over,
+    /// More items outside of sections, up to a tape mark, or a section's first label.
+    Unnamed(UnnamedItems),
+    /// The trailer label of a section of which these are the data, or what follows a tape mark
+    /// outside of sections.
+    UnnamedTrailer(UnnamedItems),
+    /// So many items, and then the data of this section.
+    Skipping(u64, OpenSection),
 }
 
 /// How a section ended.
@@ -105,10 +125,12 @@ impl OpenSection {
     fn with_trailer(self, read: Result<Head2, LabelFault>) -> OpenSection
         ensures { result ≡ Walk.with_trailer self read }
     {
+        let after = self.after.map(|count| count.saturating_add(1));
         match self.form {
-            Some(_) => self,
+            Some(_) => OpenSection { after, ..self },
             None => OpenSection {
                 form: form_by(self.file_id, read),
+                after,
                 ..self
             },
         }
@@ -119,27 +141,6 @@ impl OpenSection {
         ensures { result ≡ Walk.closes self.now trail.now }
     {
         trail.head.sect == self.key.sect && trail.head.sequence == self.key.file
-    }
-}
-
-/// After a block at which a section may begin; `other` if it does not.
-fn begun_by(read: Result<Head1, LabelFault>, other: Expected) -> Expected
-    ensures { result ≡ Walk.begun_by read other }
-{
-    match read {
-        Ok(head) => Expected::Second(OpenSection {
-            key: SectionKey {
-                set_id: head.set_id,
-                file: head.sequence,
-                sect: head.sect,
-            },
-            file_id: head.file_id,
-            form: None,
-            blocks: 0,
-            certain: None,
-            unreadable: 0,
-        }),
-        Err(_) => other,
     }
 }
 
@@ -202,17 +203,14 @@ fn closed_by(
     }
 }
 
-/// After a block outside of sections, with so many tape marks before it.
-fn outside_by(marks: u8, kind: Option<Kind>, head: Result<Head1, LabelFault>) -> Expected
-    ensures { result ≡ Walk.outside_by marks kind head }
+/// Returns what is expected before so many items and then the data of this section.
+pub fn skipping(items: u64, section: OpenSection) -> Expected
+    ensures { result ≡ Walk.skipping items section }
 {
-    if marks < 2 {
-        return begun_by(head, Expected::Outside(0));
+    if items == 0 {
+        return Expected::Data(section);
     }
-    match kind {
-        Some(Kind::Eof1 | Kind::Eov1 | Kind::Eof2 | Kind::Eov2) => Expected::Outside(0),
-        _ => Expected::Over,
-    }
+    Expected::Skipping(items, section)
 }
 
 /// After a block, with the section that ended there.
@@ -231,6 +229,14 @@ fn block_step(expected: Expected, bytes: &[u8]) -> (Expected, Option<FoundSectio
         }
         Expected::Next => (begun_by(read_head1(bytes), Expected::Outside(0)), None),
         Expected::Over => (Expected::Over, None),
+        Expected::Unnamed(items) => {
+            let other = Expected::Unnamed(items.and_read());
+            (begun_by(read_head1(bytes), other), None)
+        }
+        Expected::UnnamedTrailer(items) => {
+            (items.named_by(read_trail1(bytes), read_head1(bytes)), None)
+        }
+        Expected::Skipping(items, section) => (skipping(items.saturating_sub(1), section), None),
     }
 }
 
@@ -247,6 +253,9 @@ fn mark_step(expected: Expected) -> (Expected, Option<FoundSection>)
         Expected::Trailer(section) => (Expected::Outside(1), Some((section, None))),
         Expected::Trailers(section, closed) => (Expected::Next, Some((section, Some(closed)))),
         Expected::Next | Expected::Over => (Expected::Over, None),
+        Expected::Unnamed(items) => (Expected::UnnamedTrailer(items), None),
+        Expected::UnnamedTrailer(_) => (Expected::Outside(2), None),
+        Expected::Skipping(items, section) => (skipping(items.saturating_sub(1), section), None),
     }
 }
 
@@ -255,7 +264,7 @@ fn bad_step(expected: Expected) -> (Expected, Option<FoundSection>)
     ensures { result ≡ Walk.step expected bad }
 {
     match expected {
-        Expected::Outside(marks) if marks < 2 => (Expected::Outside(0), None),
+        Expected::Outside(marks) if marks < 2 => (unnamed_after(marks, false), None),
         Expected::Outside(marks) => (Expected::Outside(marks), None),
         Expected::Over => (Expected::Over, None),
         Expected::Second(section) | Expected::Headers(section) => (
@@ -268,6 +277,9 @@ fn bad_step(expected: Expected) -> (Expected, Option<FoundSection>)
             (Expected::Outside(0), Some((section, Some(closed))))
         }
         Expected::Next => (Expected::Outside(0), None),
+        Expected::Unnamed(items) => (Expected::Unnamed(items.and_unreadable()), None),
+        Expected::UnnamedTrailer(_) => (unnamed_after(1, false), None),
+        Expected::Skipping(items, section) => (skipping(items.saturating_sub(1), section), None),
     }
 }
 

@@ -32,12 +32,13 @@ items-preserved g c =
       same_device = c.next.follows.holds-at-none.same_device ∙ c.items.invariant.same_device;
       so_far = one_more c.args.set_id.now c.args.file c.args.number c.args.image.now.left
           c.items.image.left next.left c.items.image.place next.place c.items.expected
-          c.step-next.result.0 item c.args.copies.now.items c.items.copies.items
-          c.add_copy.new.copies.items c.items.invariant.so_far step.takes
-          (ap (λ r. r.0) c.step-next.ensures)
+          c.step-next.result.0 c.items.read c.saturating_add-read.result item
+          c.args.copies.now.items c.items.copies.items c.add_copy.new.copies.items
+          c.items.invariant.so_far step.takes
+          (ap (λ r. r.0) c.step-next.ensures) c.saturating_add-read.ensures
           (c.in_ok-add_copy-in-Ok-Some.ensures.ok
           ∙ ap (λ r. c.items.copies.items ++ of_file c.args.set_id.now c.args.file c.args.number
-          (in_list r.1)) c.step-next.ensures);
+          (in_list c.items.read r.1)) c.step-next.ensures);
     }
 
 pub returns-in-Ok-None-clause-ok : goal.returns-in-Ok-None-clause-ok
@@ -47,11 +48,11 @@ returns-in-Ok-None-clause-ok g c =
     (c.in-Ok-None.is ∙ ap Ok c.in-Ok-None.field-0-is) in
     on_ok c.add_copy-in-Ok-None.result (λ noted. at_end c.args.set_id.now c.args.file c.args.number
     c.args.image.now.left c.items.image.left next.left c.items.image.place next.place met.ending
-    c.items.expected c.args.copies.now.items c.items.copies.items
+    c.items.expected c.items.read c.args.copies.now.items c.items.copies.items
     c.add_copy-in-Ok-None.new.copies.items
     c.items.invariant.so_far met.takes (noted ∙ ap (λ o. c.items.copies.items
-    ++ of_file c.args.set_id.now c.args.file c.args.number (in_list o)) c.open_section.ensures))
-    c.add_copy-in-Ok-None.ensures.ok
+    ++ of_file c.args.set_id.now c.args.file c.args.number (in_list c.items.read o))
+    c.open_section.ensures)) c.add_copy-in-Ok-None.ensures.ok
 
 pub returns-in-Err-clause-ok : goal.returns-in-Err-clause-ok
 returns-in-Err-clause-ok g c =
@@ -60,7 +61,8 @@ returns-in-Err-clause-ok g c =
     c.items.invariant.on c.in-Err.is in
     on_ok c.add_copy-in-Err.result (λ noted. at_fault c.args.set_id.now c.args.file c.args.number
     c.args.image.now.left c.items.image.left next.left c.items.image.place c.in-Err.field-0
-    c.items.expected c.args.copies.now.items c.items.copies.items c.add_copy-in-Err.new.copies.items
-    c.items.invariant.so_far met.takes (noted ∙ ap (λ o. c.items.copies.items
-    ++ of_file c.args.set_id.now c.args.file c.args.number (in_list o))
+    c.items.expected c.items.read c.args.copies.now.items c.items.copies.items
+    c.add_copy-in-Err.new.copies.items c.items.invariant.so_far met.takes
+    (noted ∙ ap (λ o. c.items.copies.items
+    ++ of_file c.args.set_id.now c.args.file c.args.number (in_list c.items.read o))
     c.open_section-in-Err.ensures)) c.add_copy-in-Err.ensures.ok

@@ -10,7 +10,7 @@ invariant-items g l = record {
   limit : l.image.place ≤ image_limit;
   same_device : l.image.device ≡ l.fn.image.device;
   so_far : SoFar l.set_id l.file l.number l.fn.image.left l.image.left l.image.place l.expected
-      l.fn.copies.items l.copies.items;
+      l.read l.fn.copies.items l.copies.items;
 }
 
 abbrev pub decreases-items : goal.decreases-items

@@ -10,7 +10,7 @@ items-init g c = record {
   limit = omega (arith, c.requires.first);
   same_device = refl;
   so_far = starts _ c.args.image.now.left c.args.image.now.left c.args.image.now.place
-      c.args.key.now c.args.most c.args.form.now c.args.recovery.now
+      c.args.start c.args.key.now c.args.most c.args.form.now c.args.recovery.now
       (g.P.Write.contents c.args.report.now) c.requires.first refl;
 }
 
@@ -27,8 +27,9 @@ returns-then-is_mark-clause-ok g c =
     (g.P.Write.contents c.take_item.new.report) c.number_in-number.ensures
     c.in_ok-take_item-in-Ok-Some.ensures.ok in
     ends_data g.W.Write.contents c.args.image.now.left c.items.image.left next.left
-    c.items.image.place next.place c.args.key.now c.args.most c.args.form.now c.items.expected item
-    c.args.recovery.now c.items.recovery c.take_item.new.self (g.P.Write.contents c.args.report.now)
+    c.items.image.place next.place c.args.start c.args.key.now c.args.most c.args.form.now
+    c.items.expected item c.args.recovery.now c.items.recovery c.take_item.new.self
+    (g.P.Write.contents c.args.report.now)
     (g.P.Write.contents c.items.report) (g.P.Write.contents c.take_item.new.report)
     c.items.invariant.so_far step.takes
     (sym c.is_in.ensures ∙ c.if-is_in.true)
@@ -51,8 +52,9 @@ items-preserved g c =
       limit = step.within;
       same_device = c.next.follows.holds-at-none.same_device ∙ c.items.invariant.same_device;
       so_far = one_more g.W.Write.contents c.args.image.now.left c.items.image.left next.left
-          c.items.image.place next.place c.args.key.now c.args.most c.args.form.now c.items.expected
-          c.step-expected.result.0 item c.args.recovery.now c.items.recovery c.take_item.new.self
+          c.items.image.place next.place c.args.start c.args.key.now c.args.most
+          c.args.form.now c.items.expected c.step-expected.result.0 item c.args.recovery.now
+          c.items.recovery c.take_item.new.self
           (g.P.Write.contents c.args.report.now) (g.P.Write.contents c.items.report)
           (g.P.Write.contents c.take_item.new.report) c.items.invariant.so_far step.takes
           (ap (λ r. r.0) c.step-expected.ensures) given;
@@ -64,10 +66,10 @@ returns-in-Ok-None-clause-ok g c =
     let met = met_end c.items.image _ next c.next.follows.holds-at-none c.items.invariant.on
     (c.in-Ok-None.is ∙ ap Ok c.in-Ok-None.field-0-is) in
     at_end g.W.Write.contents c.args.image.now.left c.items.image.left next.left
-    c.items.image.place next.place met.ending c.args.key.now c.args.most c.args.form.now
-    c.items.expected c.args.recovery.now c.items.recovery (g.P.Write.contents c.args.report.now)
-    (g.P.Write.contents c.items.report) c.items.invariant.so_far met.takes c.read_in-in-Ok-None.result
-    c.read_in-in-Ok-None.ensures
+    c.items.image.place next.place met.ending c.args.start c.args.key.now c.args.most
+    c.args.form.now c.items.expected c.args.recovery.now c.items.recovery (g.P.Write.contents c.args.report.now)
+    (g.P.Write.contents c.items.report) c.items.invariant.so_far met.takes
+    c.read_in-in-Ok-None.result c.read_in-in-Ok-None.ensures
 
 pub returns-in-Err-clause-ok : goal.returns-in-Err-clause-ok
 returns-in-Err-clause-ok g c =
@@ -75,7 +77,7 @@ returns-in-Err-clause-ok g c =
     let met = met_fault c.items.image _ next c.in-Err.field-0 c.next.follows.holds-at-none
     c.items.invariant.on c.in-Err.is in
     at_fault g.W.Write.contents c.args.image.now.left c.items.image.left next.left
-    c.items.image.place c.in-Err.field-0 c.args.key.now c.args.most c.args.form.now
+    c.items.image.place c.in-Err.field-0 c.args.start c.args.key.now c.args.most c.args.form.now
     c.items.expected c.args.recovery.now c.items.recovery (g.P.Write.contents c.args.report.now)
     (g.P.Write.contents c.items.report) c.items.invariant.so_far met.takes c.read_in-in-Err.result
     c.read_in-in-Err.ensures

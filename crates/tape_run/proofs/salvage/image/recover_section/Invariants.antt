@@ -9,8 +9,8 @@ invariant-items g l = record {
   on : l.image.status ≡ going;
   limit : l.image.place ≤ image_limit;
   same_device : l.image.device ≡ l.fn.image.device;
-  so_far : SoFar g.W.Write.contents l.fn.image.left l.image.left l.image.place l.key l.most l.form
-      l.expected l.fn.recovery l.recovery (g.P.Write.contents l.fn.report)
+  so_far : SoFar g.W.Write.contents l.fn.image.left l.image.left l.image.place l.fn.start l.key
+      l.most l.form l.expected l.fn.recovery l.recovery (g.P.Write.contents l.fn.report)
       (g.P.Write.contents l.report);
 }
 

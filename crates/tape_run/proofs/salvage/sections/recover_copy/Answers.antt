@@ -13,7 +13,8 @@ returns-clause-ok g c =
     ∙ ap (λ n. section_line c.args.sect n k.section.blocks) c.saturating_add.ensures in
     if_ok c.end_section.result _ _
     (λ end e. copy_taken g.W.Write.contents _ _ k c.args.sect c.args.form.now
-    c.believed.result _ _ _ _ _ _ _ end c.in_ok-read.read c.believed.ensures
+    c.start.result c.believed.result _ _ _ _ _ _ _ end c.in_ok-read.read c.start.ensures
+    c.believed.ensures
     (subst (Appends (g.P.Write.contents c.args.report.now)
     (g.P.Write.contents c.write_text.new.writer)) line c.in_ok-write_text.ensures.ok)
     c.in_ok-read.ensures.ok e.1 e.0)
