@@ -1,7 +1,8 @@
 -- Answers that the contracts of disks exclude: each is what a wrong body would give.
-use Rattle.std.proofs.Common.{◌≡◌, ◌+◌, [], ◌∷◌, ◌++◌, length, take, drop, get_or}
-use Rattle.std.proofs.Common.{true, inl, inr, sym, ap, ◌∙◌, subst, arith}
+use Rattle.std.proofs.Common.{◌≡◌, ℕ, Option, ◌+◌, [], ◌∷◌, ◌++◌, length, take, drop, get_or}
+use Rattle.std.proofs.Common.{true, refl, inl, inr, sym, ap, ◌∙◌, subst, arith}
 use Rattle.std.specs.Prelude.{max, replicate, slice_range, Some, Ok, Err, IfSome}
+use Rattle.tape_stage.specs.Disk.{CountsDown}
 use Rattle.tape_core.specs.Weight.{Rose}
 use Rattle.tape_stage.specs.Calls.{worst_by}
 use Rattle.tape_stage.specs.declared.disk.Disk.{Ghosts}
@@ -14,6 +15,7 @@ use Rattle.tape_stage.proofs.disk.file.FileDisk.fail.Reads as fail
 use Rattle.tape_stage.proofs.disk.file.FileDisk.new.Reads as new
 use Rattle.tape_stage.proofs.disk.file.FileDiskDisk.write_at.Reads as write_at
 use Rattle.tape_stage.proofs.disk.memory.MemoryDisk.crash.Reads as crash
+use Rattle.tape_stage.proofs.disk.memory_disk.MemoryDiskDisk.sync.Reads as memory_sync
 use Rattle.tape_stage.proofs.disk.read_ahead.ReadAhead.give.Reads as give
 use Rattle.tape_stage.proofs.disk.read_ahead.ReadAhead.look.Reads as look
 use Rattle.tape_stage.proofs.disk.write_behind.WriteBehind.continues.Reads as continues
@@ -35,6 +37,14 @@ crash_leaves_what_is_read κs a z s two l first calls is w =
     let worst : worst_by (1 ∷ []) (1 ∷ []) (Write 0 two ∷ []) ≡ 255 ∷ []
     = ap (λ t. take 0 (1 ∷ []) ++ replicate (length t) 255 ++ drop (0 + length t) (1 ∷ [])) is in
     absurd (let n : 2 ≡ 255 = ap (λ t. get_or t 0 0) (sym w ∙ e ∙ worst) in omega arith)
+
+none_left : (ok : Type 0) (n after : Option ℕ) → CountsDown ok n after → n ≡ Some 0 → ok → ⊥
+none_left ok n after counts none made = (subst (λ m. CountsDown ok m after) none counts).0 made
+
+-- sync_of_a_stopped_disk: no call is left, and a sync succeeds
+sync_of_a_stopped_disk : (κs : _) (a : _) (s : _) → memory_sync.Learnt-named κs a (Ok tt) s
+    → a.0.now.left ≡ Some 0 → ⊥
+sync_of_a_stopped_disk κs a s l none = none_left _ _ _ l.stop none refl
 
 none_rose : Rose 3 3 → ⊥
 none_rose (inl e) = absurd (omega (arith, e))
