@@ -252,7 +252,7 @@ def try_case(trial, case, folder, number):
 
     out = folder / "out"
     out.mkdir()
-    done = trial.run(folder, "unpack", "out", *names)
+    done = trial.run(folder, "unpack", "--form", "raw", "out", *names)
     told = {int(line.split(" ")[-2 if line.endswith("CONFLICT") else 0]) if line.endswith("CONFLICT") else None
             for line in done.stdout.splitlines()} - {None}
     trial.is_so(told == conflicts, f"{number}: unpack says {done.stdout}, wanted {conflicts}")

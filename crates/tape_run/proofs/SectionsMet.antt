@@ -284,7 +284,12 @@ state_good met trail true false a b e = (grind (arith, nat_tests, a), b)
 state_good met trail true true a b e = absurd (cc e)
 state_good met trail false is_bad a b e = absurd (cc e)
 
--- the same, of a section with the right count and these data blocks
+-- a trailer label that closes a section has its numbers
+pub closed : (met : Met) (trail : Trail1) → closes met trail ≡ true
+    → (trail.head.sequence ≡ met.key.file) × (trail.head.sect ≡ met.key.sect)
+closed met trail c = (grind (arith, nat_tests, c), grind (arith, nat_tests, c))
+
+-- a section with the right count and these data blocks is shown
 unfoldable pub shown_as : (items : List TapeItem) (met : Met) (b : List ℕ) (trail : Trail1)
     (blocks : List (List ℕ)) → trail1_at b ≡ Ok trail → closes met trail ≡ true
     → (h : Filled items met (mark ∷ [])) → trail.blocks ≡ label_count met.blocks
@@ -309,8 +314,8 @@ shown_as items met b trail blocks e c h count are =
       ends = record {
         label = trail;
         is = trail1_found b trail e;
-        file = grind (arith, nat_tests, c);
-        sect = grind (arith, nat_tests, c);
+        file = (closed met trail c).0;
+        sect = (closed met trail c).1;
         count = count ∙ ap label_count (h.many ∙ long);
         kind = refl;
       };

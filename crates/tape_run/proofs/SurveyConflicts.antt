@@ -1,5 +1,5 @@
 -- Copies that are reported to differ do.
-use Rattle.std.proofs.Common.{◌≡◌, ◌≢◌, ℕ, ◌+◌, Bool, true, false, List, [], ◌∷◌, ◌++◌, length}
+use Rattle.std.proofs.Common.{◌≡◌, ℕ, ◌+◌, Bool, true, false, List, [], ◌∷◌, ◌++◌, length}
 use Rattle.std.proofs.Common.{Option, Some, None, refl, sym, ap, subst, ◌∙◌, arith, append_assoc}
 use Rattle.std.proofs.Common.{append-nil, map}
 use Rattle.std.specs.Prelude.{◌==◌, ◌&&◌, if◌then◌else◌, option_map, cond}
@@ -13,7 +13,7 @@ use Rattle.tape_run.specs.declared.survey.view.ImageSurvey.{ImageSurvey}
 use Rattle.tape_run.specs.Checked.{Reel}
 use Rattle.tape_run.specs.Noted.{same_key}
 use Rattle.tape_run.specs.Reeling.{Mounting}
-use Rattle.tape_run.specs.SurveyConflicts.{ShownAs, Placed, placed_on, placed_in, all_placed, IsIn}
+use Rattle.tape_run.specs.SurveyConflicts.{Placed, placed_on, placed_in, all_placed, IsIn}
 use Rattle.tape_run.specs.SurveyConflicts.{CopiesDiffer}
 use Rattle.tape_run.specs.SurveyCopies.{Copy, copies_on, Noted, Copied, with_same, with_other}
 use Rattle.tape_run.specs.SurveyCopies.{copy_note}

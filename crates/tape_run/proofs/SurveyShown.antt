@@ -1,6 +1,6 @@
 -- The good copies that are compared are shown by the items, with their data blocks.
 use Rattle.std.proofs.Common.{◌≡◌, ℕ, Bool, true, false, List, [], ◌∷◌, ◌++◌, Option, Some, None}
-use Rattle.std.proofs.Common.{Result, Ok, Err, refl, sym, ap, subst, ◌∙◌, append_assoc}
+use Rattle.std.proofs.Common.{Result, Ok, Err, refl, ap, subst, ◌∙◌, append_assoc}
 use Rattle.std.specs.Prelude.{⊤, map, ◌||◌, if◌then◌else◌}
 use Rattle.std.specs.List.{AllByRecursion}
 use Rattle.tape_image.specs.Tape.{TapeItem, block, bad, mark}
@@ -20,11 +20,11 @@ use Rattle.tape_run.specs.declared.passing.Phase.{Phase}
 use Rattle.tape_run.specs.declared.passing.Phase.TheVariants.{Volume, Labels, Second, Headers, Data}
 use Rattle.tape_run.specs.declared.passing.Phase.TheVariants.{Trailer, Trailers, Next, Over}
 use Rattle.tape_run.specs.Noted.{is_good}
-use Rattle.tape_run.specs.Passing.{Told, cut, closes, told, told_with, volume_with, header_with}
+use Rattle.tape_run.specs.Passing.{Told, closes, told_with, volume_with, header_with}
 use Rattle.tape_run.specs.Passing.{second_with, step}
-use Rattle.tape_run.specs.SurveyCopies.{Copy, blocks_with, good_told, copies_from, copies_on}
+use Rattle.tape_run.specs.SurveyCopies.{Copy, blocks_with, good_told, copies_from}
 use Rattle.tape_run.specs.SurveyConflicts.{ShownAs, CopiesAreShown}
-use Rattle.tape_run.proofs.SectionsMet.{Filled, Stood, begins_more, shown_more, filled_first}
+use Rattle.tape_run.proofs.SectionsMet.{Stood, begins_more, shown_more, filled_first}
 use Rattle.tape_run.proofs.SectionsMet.{filled_more, filled_closed, state_good, shown_as, map_push}
 use Rattle.tape_run.proofs.ShownSections.{stands_on, told_if}
 

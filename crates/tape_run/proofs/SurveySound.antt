@@ -17,7 +17,7 @@ use Rattle.tape_run.specs.Lacks.{lacks, is_none_lacking, found_all}
 use Rattle.tape_run.specs.Noted.{same_key, is_good}
 use Rattle.tape_run.specs.Passing.{Told}
 use Rattle.tape_run.specs.Reeling.{Mounting}
-use Rattle.tape_run.specs.SurveyConflicts.{Placed, placed_on, placed_in, all_placed, IsIn}
+use Rattle.tape_run.specs.SurveyConflicts.{Placed, placed_on, placed_in, all_placed}
 use Rattle.tape_run.specs.SurveyCopies.{Copy, copies_on, Noted, Disputed, Copied, with_same}
 use Rattle.tape_run.specs.SurveyCopies.{with_other}
 use Rattle.tape_run.specs.SurveyCopies.{copy_note, noted_at, with_conflict, with_good, with_copies}

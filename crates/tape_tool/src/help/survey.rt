@@ -55,7 +55,7 @@ With --tsv these rows; a column whose value is not known is empty:
   COPIES set file section copies name other AGREE
            for a section with several good copies: how many agree with the
            first one, on the image NAME. If one differs, its image is OTHER, and
-           the last column is CONFLICT, as in the row of the file
+           the last column of this row and of the file is CONFLICT
 
 Exit status: 0 everything complete, 1 error, 2 usage error, 3 something is
 missing, damaged or in conflict, or an image was not read to its end
