@@ -358,7 +358,8 @@ Set ABC001: 0 of 1 files complete
 ABC001 file 1 section 1: CONFLICT, one.tap and two.tap differ ('tape compare' shows where)
 ";
 
-const ROWS_OF_THREE: &str = "IMAGE\t1.tap\tWHOLE\tABC001\tABC001\t\t12\t1\t0\tMARKED\tvolume ABC001, \
+const ROWS_OF_THREE: &str =
+    "IMAGE\t1.tap\tWHOLE\tABC001\tABC001\t\t12\t1\t0\tMARKED\tvolume ABC001, \
          1 section
 IMAGE\t2.tap\tWHOLE\tABC001\tABC001\t\t12\t1\t0\tMARKED\tvolume ABC001, 1 section
 IMAGE\t3.tap\tWHOLE\tABC001\tABC001\t\t12\t1\t0\tMARKED\tvolume ABC001, 1 section
@@ -383,9 +384,9 @@ fn copies(rt: HostRuntime) -> Result<(), Fail> {
     let alloc = rt.alloc();
     let (whole, changed) = (payroll(alloc)?, changed(alloc)?);
     let shorter = one_section(alloc, HDR1, EOF_ONE)?;
-    let [whole, changed, shorter] = [&whole, &changed, &shorter].map(
-        |image| Some(image.bytes.as_slice()),
-    );
+    let [whole, changed, shorter] = [&whole, &changed, &shorter].map(|image| Some(
+        image.bytes.as_slice(),
+    ));
     let names = ["one.tap", "two.tap"];
     survey(&rt, &[whole, whole], &names, true, AGREED)?;
     survey(&rt, &[whole, changed], &names, false, DISPUTED)?;
