@@ -3,8 +3,8 @@ ghost use Rattle.std.specs.Prelude.{◌≡◌, Some};
 ghost use Rattle.tape_run.specs.SurveyLine.{first_text, written_text, system_text, files_text};
 ghost use Rattle.tape_run.specs.SurveyLine.{bad_text, late_text, unread_text, wanted_text, is_told};
 ghost use Rattle.tape_run.specs.SurveyLine.{left_text, early_text, course_text, is_no_image};
-ghost use Rattle.tape_run.specs.SurveyLine.{guess_text, fault_at, fault_text, stop_text, glance_text};
-ghost use Rattle.tape_run.specs.SurveyLine.{seen_text};
+ghost use Rattle.tape_run.specs.SurveyLine.{guess_text, fault_at, fault_text, stop_text};
+ghost use Rattle.tape_run.specs.SurveyLine.{glance_text, seen_text};
 
 use super::course::{ExpectedItem, LabelOrder};
 use super::damages::DamagesText;

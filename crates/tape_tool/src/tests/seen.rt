@@ -62,7 +62,8 @@ const ROWS: &[Row<'_>] = &[
         "survey lost.tap seen1.tap",
         3,
         "lost.tap                  not opened\n\
-         seen1.tap                 ok           volume ABC001, 1 section\nSet ABC001: 0 of 1 files complete\n   \
+         seen1.tap                 ok           volume ABC001, 1 section\n\
+         Set ABC001: 0 of 1 files complete\n   \
             1 PAYROLL                        incomplete\n        \
             section 2 missing, after volume ABC001\n",
         "",
