@@ -120,6 +120,8 @@ mod MistakesOfSaves
 mod MistakesOfCauses
 mod MergeReadings
 mod MergePlaces
+mod MergeTaken
+mod MergeVerdicts
 mod MergeAsking
 mod MergeNext
 mod MergeRounds
@@ -132,6 +134,7 @@ mod MergeGiven
 mod MergeBytes
 mod MergeOpening
 mod MergeNow
+mod MergeReports
 mod MergedBetter
 mod MergedCopies
 mod MergedOrders
