@@ -130,6 +130,8 @@ mod MistakesOfSaves
 mod MistakesOfCauses
 mod MergeReadings
 mod MergePlaces
+mod MergeTaken
+mod MergeVerdicts
 mod MergeAsking
 mod MergeNext
 mod MergeRounds
@@ -142,6 +144,7 @@ mod MergeGiven
 mod MergeBytes
 mod MergeOpening
 mod MergeNow
+mod MergeReports
 mod MergedBetter
 mod MergedCopies
 mod MergedOrders

@@ -1,116 +1,85 @@
--- Readers that are asked for one item, one after another: what they have returned then, and the
--- best item.
-use Rattle.std.proofs.Common.{◌≡◌, ◌≢◌, ◌⊎◌, inl, inr, ℕ, ◌+◌, List, [], ◌∷◌, ◌++◌}
-use Rattle.std.proofs.Common.{length, Option, Some, None, Bool, true, false, refl}
-use Rattle.std.proofs.Common.{sym, ap, subst}
-use Rattle.std.proofs.Common.{◌∙◌, length-append}
-use Rattle.std.specs.Prelude.{◌&&◌}
-use Rattle.tape_image.specs.declared.item.ImageFault.{ImageFault}
+-- Readings that are asked for one item, one after another: what they have taken then, and the best
+-- item.
+use Rattle.std.proofs.Common.{◌≡◌, ◌≢◌, ◌⊎◌, inl, inr, ℕ, ◌+◌, ◌<◌, ◌≤◌, List, [], ◌∷◌, ◌++◌}
+use Rattle.std.proofs.Common.{length, take, Option, Some, None, refl, sym, ap, subst, map}
+use Rattle.std.proofs.Common.{◌∙◌, length-append, arith}
+use Rattle.std.specs.Prelude.{slice_get}
 use Rattle.tape_image.specs.Tape.{TapeItem}
-use Rattle.tape_image.specs.Reader.{Reader, going}
-use Rattle.tape_image.specs.Step.{GivesItem, MeetsEnd, MeetsFault}
-use Rattle.tape_image.specs.Calls.{Gave}
+use Rattle.tape_image.specs.Reader.{going}
+use Rattle.tape_run.specs.declared.merge.reading.Reading.{Reading}
 use Rattle.tape_run.specs.Merging.{IsReadFrom, AreReadFrom}
-use Rattle.tape_run.specs.MergeSteps.{joined, best_items, Stopped, Asked, gives, stops}
-use Rattle.tape_run.specs.MergeSteps.{AskedAll, HasRead, HaveRead, AllStopped}
+use Rattle.tape_run.specs.MergeSteps.{joined, best_items, Asked, gives, stops, AskedAll}
+use Rattle.tape_run.specs.MergeSteps.{is_good_one, one_if, HasTaken, HaveTaken, AllStopped}
+use Rattle.tape_run.specs.MergeSteps.{AreUpTo, Judges, AreJudged, StopsAs, Compares, Takes}
+use Rattle.tape_run.specs.MergeCalls.{witnesses_at, has_first, firsts_in}
 use Rattle.tape_run.proofs.MergeReadings.{reads_self, reads_front, reads_trans, are_better}
 use Rattle.tape_run.proofs.MergePlaces.{best_better, reads_best, best_least, best_differs}
+use Rattle.tape_run.proofs.MergeTaken.{has_given, has_stopped, stopped_off, good_at, good_past}
+use Rattle.tape_run.proofs.MergeTaken.{good_last, take_past, take_last}
+use Rattle.tape_run.proofs.MergeVerdicts.{IsOther, none_yet, Keeps, judges, judges_stop}
+use Rattle.tape_run.proofs.MergeVerdicts.{agreed_alone, second_alone, all_keep, later_other}
+use Rattle.tape_run.proofs.MergeVerdicts.{counts_first, stops_none, next_other}
 
--- ---- one reader
+-- ---- readings at a place of a tape
 
-gave_more : (items : List TapeItem) (a b c : Reader) (x : TapeItem) → Gave a items b
-    → GivesItem b x c → Gave a (items ++ x ∷ []) c
-gave_more [] a b c x same given =
-    (c, subst (λ (r : Reader). GivesItem r x c) same given, refl)
-gave_more (y ∷ items) a b c x (mid, first, then) given =
-    (mid, first, gave_more items mid b c x then given)
-
-goes_on_at : (behind o : Reader) → o.status ≡ going
-    → (o ≡ behind) ⊎ (MeetsEnd behind o ⊎ ((fault : ImageFault) × MeetsFault behind fault o))
-    → o ≡ behind
-goes_on_at behind o on (inl e) = e
-goes_on_at behind o on (inr (inl met)) = absurd (cc (on, met.ended))
-goes_on_at behind o on (inr (inr (fault, met))) = absurd (cc (on, met.failed))
-
--- a reader that has not stopped is after the items that it returned
-stands_at : (f o : Reader) (r : List TapeItem) → (h : HasRead f o r) → o.status ≡ going
-    → o ≡ h.behind
-stands_at f o r h on = goes_on_at h.behind o on h.stands
-
-gave_at : (f o : Reader) (r : List TapeItem) → HasRead f o r → o.status ≡ going → Gave f r o
-gave_at f o r h on = subst (λ (b : Reader). Gave f r b) (sym (stands_at f o r h on)) h.gave
-
-pub has_given : (f o n : Reader) (r : List TapeItem) (x : TapeItem) → HasRead f o r
-    → o.status ≡ going → GivesItem o x n → HasRead f n (r ++ x ∷ [])
-has_given f o n r x h on given = record {
-  behind = n;
-  gave = gave_more r f o n x (gave_at f o r h on) given;
-  stands = inl refl;
-}
-
-pub has_stopped : (f o n : Reader) (r : List TapeItem) → HasRead f o r → Stopped o n
-    → HasRead f n r
-has_stopped f o n r h (inl (on, met)) =
-    record { behind = o; gave = gave_at f o r h on; stands = inr met }
-has_stopped f o n r h (inr (off, same)) =
-    subst (λ (s : Reader). HasRead f s r) (sym same) h
-
-pub stopped_off : (o n : Reader) → Stopped o n → n.status ≢ going
-stopped_off o n (inl (on, inl met)) = λ e. cc (e, met.ended)
-stopped_off o n (inl (on, inr (fault, met))) = λ e. cc (e, met.failed)
-stopped_off o n (inr (off, same)) = λ e. off (sym (ap (λ (s : Reader). s.status) same) ∙ e)
-
--- ---- readers at a place of a tape
-
--- each reader that has not stopped has returned so many items
-abbrev pub AtPlace : List Reader → List (List TapeItem) → ℕ → Type 0
-AtPlace [] rs m = Unit {0}
-AtPlace (n ∷ nows) [] m = Unit {0}
-AtPlace (n ∷ nows) (r ∷ rs) m = (n.status ≡ going → length r ≡ m) × AtPlace nows rs m
-
--- what is known of readers that were asked for the item after these: the best item now, of which
--- tapes that makes a reading if other readings are of these tapes too, and that there is none only
--- if every reader has stopped
-pub record HaveCandidate (firsts nows : List Reader) (m : List TapeItem)
-    (best now : Option TapeItem) (others : List TapeItem → Type 0) : Type 0 where
+-- What is known of readings that were asked for the item after these, and agreed: the best item
+-- now, of which tapes that makes a reading if other readings are of these tapes too, how many have
+-- it, and that there is none only if every reader has stopped.
+pub record HaveCandidate {R : Type 0} (firsts nows : List (Reading R)) (rs : List (List TapeItem))
+    (m : List TapeItem) (best now beside : Option TapeItem) (others : List TapeItem → Type 0)
+    : Type 0 where
   pub readings : List (List TapeItem)
-  pub have : HaveRead firsts nows readings
-  pub at : AtPlace nows readings (length m + 1)
+  pub have : HaveTaken firsts nows readings
+  pub at : AreUpTo (length m + 1) nows readings
   pub better : IsReadFrom (m ++ best_items best) (m ++ best_items now)
   pub all : AreReadFrom readings (m ++ best_items now)
   pub least : (tape : List TapeItem) → others tape → AreReadFrom readings tape
       → IsReadFrom (m ++ best_items now) tape
   pub kept : best ≢ None → now ≢ None
   pub none : now ≡ None → AllStopped nows
+  pub before : (j : ℕ) → j < length m → witnesses_at j readings ≡ witnesses_at j rs
+  pub here : witnesses_at (length m) readings ≡ firsts_in nows
 
--- one reader was asked, and agreed
-record HasCandidate (f n : Reader) (m : List TapeItem) (best now : Option TapeItem)
-    (others : List TapeItem → Type 0) : Type 0 where
+-- one reading was asked, and agreed
+record HasCandidate {R : Type 0} (f n : Reading R) (r m : List TapeItem)
+    (best now : Option TapeItem) (others : List TapeItem → Type 0) : Type 0 where
   pub reading : List TapeItem
-  pub has : HasRead f n reading
-  pub at : n.status ≡ going → length reading ≡ length m + 1
+  pub has : HasTaken f n reading
+  pub at : n.image.status ≡ going → length reading ≡ length m + 1
+  pub within : length reading ≤ length m + 1
   pub better : IsReadFrom (m ++ best_items best) (m ++ best_items now)
   pub reads : IsReadFrom reading (m ++ best_items now)
   pub least : (tape : List TapeItem) → others tape → IsReadFrom reading tape
       → IsReadFrom (m ++ best_items now) tape
   pub kept : best ≢ None → now ≢ None
-  pub none : now ≡ None → n.status ≢ going
+  pub none : now ≡ None → StopsAs n.verdict n.image.status
+  pub before : (j : ℕ) → j < length m
+      → one_if (is_good_one (slice_get reading j)) ≡ one_if (is_good_one (slice_get r j))
+  pub here : one_if (is_good_one (slice_get reading (length m))) ≡ has_first n.verdict
+  pub front : take (length m) reading ≡ r
+  pub judged : (end beside : Option TapeItem) → Keeps now end None beside
+      → Judges n.verdict n.image.status reading end beside
 
-one_best : (f o n : Reader) (r m : List TapeItem) (best now : Option TapeItem)
-    (others : List TapeItem → Type 0) → HasRead f o r → (o.status ≡ going → length r ≡ length m)
+one_best : {R : Type 0} (f o n : Reading R) (r m : List TapeItem) (best now : Option TapeItem)
+    (others : List TapeItem → Type 0) → HasTaken f o r
+    → (o.image.status ≡ going → length r ≡ length m) → length r ≤ length m
     → IsReadFrom r (m ++ best_items best)
     → ((tape : List TapeItem) → others tape → IsReadFrom r tape
     → IsReadFrom (m ++ best_items best) tape)
-    → Asked o n best true now → HasCandidate f n m best now others
-one_best f o n r m best now others h at reads least (gives x on given (a, is)) =
+    → Asked o n best now None None → HasCandidate f n r m best now others
+one_best f o n r m best now others h at within reads least (gives x on given compares counts) =
+    let (a, is) = agreed_alone n.verdict x best now compares in
     let e : length r ≡ length m = at on in
+    let long : length (r ++ x ∷ []) ≡ length m + 1 =
+    length-append r (x ∷ []) ∙ ap (λ k. k + 1) e in
     let shown : m ++ best_items now ≡ m ++ joined best x ∷ [] =
     ap (λ (t : Option TapeItem). m ++ best_items t) is in
     let some : now ≢ None = λ none. cc (is, none) in
     record {
       reading = r ++ x ∷ [];
-      has = has_given f o n r x h on given;
-      at = λ _. length-append r (x ∷ []) ∙ ap (λ k. k + 1) e;
+      has = has_given f o n r x h on given counts;
+      at = λ _. long;
+      within = omega (arith, long);
       better = subst (λ l. IsReadFrom (m ++ best_items best) l) (sym shown) (best_better m best x);
       reads = subst (λ l. IsReadFrom (r ++ x ∷ []) l) (sym shown)
           (reads_best m r best x a e reads);
@@ -118,43 +87,46 @@ one_best f o n r m best now others h at reads least (gives x on given (a, is)) =
           (best_least m r tape best x e (least tape o (reads_front r (x ∷ []) tape k)) k);
       kept = λ _. some;
       none = λ none. absurd (some none);
+      before = λ j lt. good_at r x j (omega (arith, e, lt));
+      here = good_last r x (length m) e ∙ counts_first n.verdict x best now compares;
+      front = take_last r x (length m) e;
+      judged = λ end beside keeps. judges n.verdict n.image.status r x best now None None end
+          beside given.goes_on compares none_yet keeps;
     }
-one_best f o n r m best now others h at reads least (stops off all_agreed same) =
+one_best f o n r m best now others h at within reads least (stops off how counts same left) =
     let shown : m ++ best_items now ≡ m ++ best_items best =
     ap (λ (t : Option TapeItem). m ++ best_items t) same in
     record {
       reading = r;
-      has = has_stopped f o n r h off;
-      at = λ on. absurd (stopped_off o n off on);
+      has = has_stopped f o n r h off counts;
+      at = λ on. absurd (stopped_off o.image n.image off on);
+      within = omega (arith, within);
       better = subst (λ l. IsReadFrom (m ++ best_items best) l) (sym shown)
           (reads_self (m ++ best_items best));
       reads = subst (λ l. IsReadFrom r l) (sym shown) reads;
       least = λ tape o k. subst (λ l. IsReadFrom l tape) (sym shown) (least tape o k);
       kept = λ some none. some (sym same ∙ none);
-      none = λ _. stopped_off o n off;
+      none = λ _. how;
+      before = λ j lt. refl;
+      here = good_past r (length m) within ∙ sym (stops_none n.verdict n.image.status how);
+      front = take_past r (length m) within;
+      judged = λ end beside keeps. judges_stop n.verdict n.image.status r end beside how;
     }
-
-pub and_left : (a b : Bool) → (a && b) ≡ true → a ≡ true
-and_left true b h = refl
-and_left false b h = h
-
-pub and_right : (a b : Bool) → (a && b) ≡ true → b ≡ true
-and_right true b h = h
-and_right false b h = absurd (cc h)
 
 none_before : (mid now : Option TapeItem) → (mid ≢ None → now ≢ None) → now ≡ None → mid ≡ None
 none_before None now kept none = refl
 none_before (Some x) now kept none = absurd (kept (λ e. cc e) none)
 
 -- all were asked, and agreed
-pub all_best : (firsts olds nows : List Reader) (rs : List (List TapeItem)) (m : List TapeItem)
-    (best now : Option TapeItem) (all : Bool) (others : List TapeItem → Type 0)
-    → HaveRead firsts olds rs → AtPlace olds rs (length m)
+pub all_best : {R : Type 0} (firsts olds nows : List (Reading R)) (rs : List (List TapeItem))
+    (m : List TapeItem) (best now beside : Option TapeItem) (others : List TapeItem → Type 0)
+    → HaveTaken firsts olds rs → AreUpTo (length m) olds rs
     → AreReadFrom rs (m ++ best_items best)
     → ((tape : List TapeItem) → others tape → AreReadFrom rs tape
     → IsReadFrom (m ++ best_items best) tape)
-    → AskedAll olds nows best now all → all ≡ true → HaveCandidate firsts nows m best now others
-all_best [] [] [] [] m best now all others h at reads least (same, _) so =
+    → AskedAll olds nows best now None beside → beside ≡ None
+    → HaveCandidate firsts nows rs m best now beside others
+all_best [] [] [] [] m best now beside others h at reads least (same, _) so =
     let shown : m ++ best_items now ≡ m ++ best_items best =
     ap (λ (t : Option TapeItem). m ++ best_items t) same in
     record {
@@ -167,25 +139,26 @@ all_best [] [] [] [] m best now all others h at reads least (same, _) so =
       least = λ tape o k. subst (λ l. IsReadFrom l tape) (sym shown) (least tape o tt);
       kept = λ some none. some (sym same ∙ none);
       none = λ _. tt;
+      before = λ j lt. refl;
+      here = refl;
     }
-all_best [] [] (n ∷ nows) [] m best now all others h at reads least asked agreed = absurd asked
-all_best (f ∷ firsts) (o ∷ olds) [] (r ∷ rs) m best now all others h at reads least asked agreed =
+all_best [] [] (n ∷ nows) [] m best now beside others h at reads least asked so = absurd asked
+all_best (f ∷ firsts) (o ∷ olds) [] (r ∷ rs) m best now beside others h at reads least asked so =
     absurd asked
-all_best (f ∷ firsts) (o ∷ olds) (n ∷ nows) (r ∷ rs) m best now all others h at reads least
-    (mid, this, those, one, rest, is) agreed =
-    let both : (this && those) ≡ true = sym is ∙ agreed in
-    let one_agreed : Asked o n best true mid =
-    subst (λ (b : Bool). Asked o n best b mid) (and_left this those both) one in
+all_best (f ∷ firsts) (o ∷ olds) (n ∷ nows) (r ∷ rs) m best now beside others h at reads least
+    (mid, Some y, one, rest) so = absurd (later_other o n best mid y olds nows now beside one rest so)
+all_best (f ∷ firsts) (o ∷ olds) (n ∷ nows) (r ∷ rs) m best now beside others h at reads least
+    (mid, None, one, rest) so =
     let first = one_best f o n r m best mid (λ tape. others tape × AreReadFrom rs tape) h.0 at.0
-    reads.0 (λ tape k reads. least tape k.0 (reads, k.1)) one_agreed in
-    let more = all_best firsts olds nows rs m mid now those
-    (λ tape. others tape × IsReadFrom first.reading tape) h.1 at.1
+    at.1 reads.0 (λ tape k reads. least tape k.0 (reads, k.1)) one in
+    let more = all_best firsts olds nows rs m mid now beside
+    (λ tape. others tape × IsReadFrom first.reading tape) h.1 at.2
     (are_better rs (m ++ best_items best) (m ++ best_items mid) first.better reads.1)
-    (λ tape k read. first.least tape (k.0, read) k.1) rest (and_right this those both) in
+    (λ tape k read. first.least tape (k.0, read) k.1) rest so in
     record {
       readings = first.reading ∷ more.readings;
       have = (first.has, more.have);
-      at = (first.at, more.at);
+      at = (first.at, first.within, more.at);
       better = reads_trans (m ++ best_items best) (m ++ best_items mid) (m ++ best_items now)
           first.better more.better;
       all = (
@@ -196,114 +169,176 @@ all_best (f ∷ firsts) (o ∷ olds) (n ∷ nows) (r ∷ rs) m best now all othe
       least = λ tape k reads. more.least tape (k, reads.0) reads.1;
       kept = λ some. more.kept (first.kept some);
       none = λ none. (first.none (none_before mid now more.kept none), more.none none);
+      before = λ j lt. omega (arith, first.before j lt, more.before j lt);
+      here = omega (arith, first.here, more.here);
     }
-all_best _ _ _ _ m best now all others h at reads least asked agreed = absurd h
+all_best _ _ _ _ m best now beside others h at reads least asked so = absurd h
 
--- ---- readers of which one does not agree
+-- ---- readings of which one does not agree
 
--- a reader that was asked has returned the same items, or one more
-has_more : (f o n : Reader) (r : List TapeItem) (best now : Option TapeItem) (b : Bool)
-    → HasRead f o r → Asked o n best b now
-    → (s : List TapeItem) × HasRead f n s
-    × ((t : List TapeItem) → IsReadFrom s t → IsReadFrom r t)
-has_more f o n r best now b h (gives x on given takes) =
-    (r ++ x ∷ [], has_given f o n r x h on given, λ t k. reads_front r (x ∷ []) t k)
-has_more f o n r best now b h (stops off all_agreed same) =
-    (r, has_stopped f o n r h off, λ t k. k)
+-- a reading that was asked has taken the same items, or one more
+record HasMore {R : Type 0} (f n : Reading R) (r : List TapeItem) (k : ℕ)
+    (now other : Option TapeItem) : Type 0 where
+  pub reading : List TapeItem
+  pub has : HasTaken f n reading
+  pub at : n.image.status ≡ going → length reading ≡ k + 1
+  pub within : length reading ≤ k + 1
+  pub of_all : (t : List TapeItem) → IsReadFrom reading t → IsReadFrom r t
+  pub front : take k reading ≡ r
+  pub judged : (end beside : Option TapeItem) → Keeps now end other beside
+      → Judges n.verdict n.image.status reading end beside
 
--- so have readers
-record HaveMore (firsts nows : List Reader) (rs : List (List TapeItem)) : Type 0 where
-  pub readings : List (List TapeItem)
-  pub have : HaveRead firsts nows readings
-  pub fronts : (tape : List TapeItem) → AreReadFrom readings tape → AreReadFrom rs tape
-
-have_more : (firsts olds nows : List Reader) (rs : List (List TapeItem))
-    (best now : Option TapeItem) (all : Bool) → HaveRead firsts olds rs
-    → AskedAll olds nows best now all → HaveMore firsts nows rs
-have_more [] [] [] [] best now all h asked =
-    record { readings = []; have = tt; fronts = λ tape k. tt }
-have_more [] [] (n ∷ nows) [] best now all h asked = absurd asked
-have_more (f ∷ firsts) (o ∷ olds) [] (r ∷ rs) best now all h asked = absurd asked
-have_more (f ∷ firsts) (o ∷ olds) (n ∷ nows) (r ∷ rs) best now all h
-    (mid, this, those, one, rest, is) =
-    let (s, has, front) = has_more f o n r best mid this h.0 one in
-    let more = have_more firsts olds nows rs mid now those h.1 rest in
+has_more : {R : Type 0} (f o n : Reading R) (r : List TapeItem) (k : ℕ)
+    (best now other beside : Option TapeItem) → HasTaken f o r
+    → (o.image.status ≡ going → length r ≡ k) → length r ≤ k → IsOther other
+    → Asked o n best now other beside → HasMore f n r k now beside
+has_more f o n r k best now other beside h at within is_other
+    (gives x on given compares counts) =
+    let e : length r ≡ k = at on in
+    let long : length (r ++ x ∷ []) ≡ k + 1 = length-append r (x ∷ []) ∙ ap (λ k. k + 1) e in
     record {
-      readings = s ∷ more.readings;
-      have = (has, more.have);
-      fronts = λ tape k. (front tape k.0, more.fronts tape k.1);
+      reading = r ++ x ∷ [];
+      has = has_given f o n r x h on given counts;
+      at = λ _. long;
+      within = omega (arith, long);
+      of_all = λ t reads. reads_front r (x ∷ []) t reads;
+      front = take_last r x k e;
+      judged = λ end last keeps. judges n.verdict n.image.status r x best now other beside end
+          last given.goes_on compares is_other keeps;
     }
-have_more _ _ _ _ best now all h asked = absurd h
-
--- what is known where one did not agree
-pub record HaveDiffered (firsts nows : List Reader) (others : List TapeItem → Type 0) : Type 0 where
-  pub readings : List (List TapeItem)
-  pub have : HaveRead firsts nows readings
-  pub differ : (tape : List TapeItem) → others tape → AreReadFrom readings tape → ⊥
-
-one_differs : (f o n : Reader) (firsts olds nows : List Reader) (r : List TapeItem)
-    (rs : List (List TapeItem)) (m : List TapeItem) (best mid now : Option TapeItem) (all : Bool)
-    (others : List TapeItem → Type 0) → HasRead f o r → HaveRead firsts olds rs
-    → (o.status ≡ going → length r ≡ length m)
-    → ((tape : List TapeItem) → others tape → AreReadFrom (r ∷ rs) tape
-    → IsReadFrom (m ++ best_items best) tape)
-    → Asked o n best false mid → AskedAll olds nows mid now all
-    → HaveDiffered (f ∷ firsts) (n ∷ nows) others
-one_differs f o n firsts olds nows r rs m best mid now all others h hs at least
-    (gives x on given (never, same)) rest =
-    let more = have_more firsts olds nows rs mid now all hs rest in
+has_more f o n r k best now other beside h at within is_other (stops off how counts same left) =
     record {
-      readings = (r ++ x ∷ []) ∷ more.readings;
-      have = (has_given f o n r x h on given, more.have);
-      differ = λ tape k reads. best_differs m r tape best x never (at on)
-          (least tape k (reads_front r (x ∷ []) tape reads.0, more.fronts tape reads.1)) reads.0;
+      reading = r;
+      has = has_stopped f o n r h off counts;
+      at = λ on. absurd (stopped_off o.image n.image off on);
+      within = omega (arith, within);
+      of_all = λ t reads. reads;
+      front = take_past r k within;
+      judged = λ end last keeps. judges_stop n.verdict n.image.status r end last how;
     }
-one_differs f o n firsts olds nows r rs m best mid now all others h hs at least
-    (stops off all_agreed same) rest = absurd (cc all_agreed)
 
-pick : {P : Type 0} (b : Bool) → (b ≡ true → P) → (b ≡ false → P) → P
-pick true f g = f refl
-pick false f g = g refl
+-- so have readings
+record HaveMore {R : Type 0} (firsts nows : List (Reading R)) (rs : List (List TapeItem)) (k : ℕ)
+    (end last : Option TapeItem) : Type 0 where
+  pub readings : List (List TapeItem)
+  pub have : HaveTaken firsts nows readings
+  pub at : AreUpTo (k + 1) nows readings
+  pub of_all : (tape : List TapeItem) → AreReadFrom readings tape → AreReadFrom rs tape
+  pub front : map (take k) readings ≡ rs
+  pub judged : AreJudged nows readings end last
 
--- the first agreed, and one after it did not
-differs_later : (firsts nows : List Reader) (f n : Reader) (rs : List (List TapeItem))
-    (m : List TapeItem) (best mid : Option TapeItem) (others : List TapeItem → Type 0)
-    → HasCandidate f n m best mid (λ tape. others tape × AreReadFrom rs tape)
-    → ((first : HasCandidate f n m best mid (λ tape. others tape × AreReadFrom rs tape))
-    → HaveDiffered firsts nows (λ tape. others tape × IsReadFrom first.reading tape))
-    → HaveDiffered (f ∷ firsts) (n ∷ nows) others
-differs_later firsts nows f n rs m best mid others first rest =
-    let more = rest first in
+have_more : {R : Type 0} (firsts olds nows : List (Reading R)) (rs : List (List TapeItem)) (k : ℕ)
+    (best now other beside : Option TapeItem) → HaveTaken firsts olds rs → AreUpTo k olds rs
+    → IsOther other → AskedAll olds nows best now other beside
+    → HaveMore firsts nows rs k now beside
+have_more [] [] [] [] k best now other beside h at is_other asked = record {
+  readings = [];
+  have = tt;
+  at = tt;
+  of_all = λ tape k. tt;
+  front = refl;
+  judged = tt;
+}
+have_more [] [] (n ∷ nows) [] k best now other beside h at is_other asked = absurd asked
+have_more (f ∷ firsts) (o ∷ olds) [] (r ∷ rs) k best now other beside h at is_other asked =
+    absurd asked
+have_more (f ∷ firsts) (o ∷ olds) (n ∷ nows) (r ∷ rs) k best now other beside h at is_other
+    (mid, between, one, rest) =
+    let first = has_more f o n r k best mid other between h.0 at.0 at.1 is_other one in
+    let more = have_more firsts olds nows rs k mid now between beside h.1 at.2
+    (next_other o n best mid other between is_other one) rest in
     record {
       readings = first.reading ∷ more.readings;
       have = (first.has, more.have);
-      differ = λ tape k reads. more.differ tape (k, reads.0) reads.1;
+      at = (first.at, first.within, more.at);
+      of_all = λ tape k. (first.of_all tape k.0, more.of_all tape k.1);
+      front = cc (first.front, more.front);
+      judged = (
+        first.judged now beside (all_keep olds nows mid now between beside rest),
+        more.judged,
+      );
     }
+have_more _ _ _ _ k best now other beside h at is_other asked = absurd h
+
+-- what is known if one did not agree
+pub record HaveDiffered {R : Type 0} (firsts nows : List (Reading R)) (rs : List (List TapeItem))
+    (k : ℕ) (end last : Option TapeItem) (others : List TapeItem → Type 0) : Type 0 where
+  pub readings : List (List TapeItem)
+  pub have : HaveTaken firsts nows readings
+  pub at : AreUpTo (k + 1) nows readings
+  pub front : map (take k) readings ≡ rs
+  pub judged : AreJudged nows readings end last
+  pub differ : (tape : List TapeItem) → others tape → AreReadFrom readings tape → ⊥
+
+one_differs : {R : Type 0} (f o n : Reading R) (firsts olds nows : List (Reading R))
+    (r : List TapeItem) (rs : List (List TapeItem)) (m : List TapeItem)
+    (best mid now : Option TapeItem) (y : TapeItem) (beside : Option TapeItem)
+    (others : List TapeItem → Type 0) → HasTaken f o r → HaveTaken firsts olds rs
+    → (o.image.status ≡ going → length r ≡ length m) → length r ≤ length m
+    → AreUpTo (length m) olds rs
+    → ((tape : List TapeItem) → others tape → AreReadFrom (r ∷ rs) tape
+    → IsReadFrom (m ++ best_items best) tape)
+    → Asked o n best mid None (Some y) → AskedAll olds nows mid now (Some y) beside
+    → HaveDiffered (f ∷ firsts) (n ∷ nows) (r ∷ rs) (length m) now beside others
+one_differs f o n firsts olds nows r rs m best mid now y beside others h hs at within up least
+    (gives x on given compares counts) rest =
+    let more = have_more firsts olds nows rs (length m) mid now (Some y) beside hs up
+    (next_other o n best mid None (Some y) none_yet (gives x on given compares counts)) rest in
+    let e : length r ≡ length m = at on in
+    let long : length (r ++ x ∷ []) ≡ length m + 1 =
+    length-append r (x ∷ []) ∙ ap (λ k. k + 1) e in
+    record {
+      readings = (r ++ x ∷ []) ∷ more.readings;
+      have = (has_given f o n r x h on given counts, more.have);
+      at = (λ _. long, omega (arith, long), more.at);
+      front = cc (take_last r x (length m) e, more.front);
+      judged = (
+        judges n.verdict n.image.status r x best mid None (Some y) now beside given.goes_on
+            compares none_yet (all_keep olds nows mid now (Some y) beside rest),
+        more.judged,
+      );
+      differ = λ tape k reads. best_differs m r tape best x
+          (second_alone n.verdict x best mid y compares) e
+          (least tape k (reads_front r (x ∷ []) tape reads.0, more.of_all tape reads.1)) reads.0;
+    }
+one_differs f o n firsts olds nows r rs m best mid now y beside others h hs at within up least
+    (stops off how counts same left) rest = absurd (cc left)
 
 -- not all agreed
-pub all_differ : (firsts olds nows : List Reader) (rs : List (List TapeItem))
-    (m : List TapeItem) (best now : Option TapeItem) (all : Bool)
-    (others : List TapeItem → Type 0) → HaveRead firsts olds rs → AtPlace olds rs (length m)
+pub all_differ : {R : Type 0} (firsts olds nows : List (Reading R)) (rs : List (List TapeItem))
+    (m : List TapeItem) (best now beside : Option TapeItem) (others : List TapeItem → Type 0)
+    → HaveTaken firsts olds rs → AreUpTo (length m) olds rs
     → AreReadFrom rs (m ++ best_items best)
     → ((tape : List TapeItem) → others tape → AreReadFrom rs tape
     → IsReadFrom (m ++ best_items best) tape)
-    → AskedAll olds nows best now all → all ≡ false → HaveDiffered firsts nows others
-all_differ [] [] [] [] m best now all others h at reads least (same, is) not_so =
-    absurd (cc (is, not_so))
-all_differ [] [] (n ∷ nows) [] m best now all others h at reads least asked not_so = absurd asked
-all_differ (f ∷ firsts) (o ∷ olds) [] (r ∷ rs) m best now all others h at reads least asked not_so =
+    → AskedAll olds nows best now None beside → beside ≢ None
+    → HaveDiffered firsts nows rs (length m) now beside others
+all_differ [] [] [] [] m best now beside others h at reads least (same, is) not_so =
+    absurd (not_so is)
+all_differ [] [] (n ∷ nows) [] m best now beside others h at reads least asked not_so =
     absurd asked
-all_differ (f ∷ firsts) (o ∷ olds) (n ∷ nows) (r ∷ rs) m best now all others h at reads least
-    (mid, this, those, one, rest, is) not_so = pick this
-    (λ e. differs_later firsts nows f n rs m best mid others
-    (one_best f o n r m best mid (λ tape. others tape × AreReadFrom rs tape) h.0 at.0 reads.0
-    (λ tape k reads. least tape k.0 (reads, k.1))
-    (subst (λ (b : Bool). Asked o n best b mid) e one))
-    (λ first. all_differ firsts olds nows rs m mid now those
-    (λ tape. others tape × IsReadFrom first.reading tape) h.1 at.1
+all_differ (f ∷ firsts) (o ∷ olds) [] (r ∷ rs) m best now beside others h at reads least asked
+    not_so = absurd asked
+all_differ (f ∷ firsts) (o ∷ olds) (n ∷ nows) (r ∷ rs) m best now beside others h at reads least
+    (mid, Some y, one, rest) not_so = one_differs f o n firsts olds nows r rs m best mid now y
+    beside others h.0 h.1 at.0 at.1 at.2 least one rest
+all_differ (f ∷ firsts) (o ∷ olds) (n ∷ nows) (r ∷ rs) m best now beside others h at reads least
+    (mid, None, one, rest) not_so =
+    let first = one_best f o n r m best mid (λ tape. others tape × AreReadFrom rs tape) h.0 at.0
+    at.1 reads.0 (λ tape k reads. least tape k.0 (reads, k.1)) one in
+    let more = all_differ firsts olds nows rs m mid now beside
+    (λ tape. others tape × IsReadFrom first.reading tape) h.1 at.2
     (are_better rs (m ++ best_items best) (m ++ best_items mid) first.better reads.1)
-    (λ tape k read. first.least tape (k.0, read) k.1) rest
-    (sym (ap (λ (b : Bool). b && those) e) ∙ sym is ∙ not_so)))
-    (λ e. one_differs f o n firsts olds nows r rs m best mid now those others h.0 h.1 at.0 least
-    (subst (λ (b : Bool). Asked o n best b mid) e one) rest)
-all_differ _ _ _ _ m best now all others h at reads least asked not_so = absurd h
+    (λ tape k read. first.least tape (k.0, read) k.1) rest not_so in
+    record {
+      readings = first.reading ∷ more.readings;
+      have = (first.has, more.have);
+      at = (first.at, first.within, more.at);
+      front = cc (first.front, more.front);
+      judged = (
+        first.judged now beside (all_keep olds nows mid now None beside rest),
+        more.judged,
+      );
+      differ = λ tape k reads. more.differ tape (k, reads.0) reads.1;
+    }
+all_differ _ _ _ _ m best now beside others h at reads least asked not_so = absurd h

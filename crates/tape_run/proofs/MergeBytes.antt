@@ -1,60 +1,115 @@
 -- What readers gave of images with known bytes.
-use Rattle.std.proofs.Common.{◌≡◌, ◌⊎◌, inl, inr, ℕ, ◌≤◌, List, [], ◌∷◌, ◌++◌, map}
+use Rattle.std.proofs.Common.{◌≡◌, ℕ, ◌+◌, ◌*◌, ◌≤◌, List, [], ◌∷◌, ◌++◌, length, map}
 use Rattle.std.specs.Prelude.{IfOk, IfErr}
-use Rattle.tape_run.specs.declared.merge.Merged.{Merged}
-use Rattle.std.proofs.Common.{Option, Some, Result, Ok, Err, sym, ap, subst, arith}
-use Rattle.tape_image.specs.declared.item.Ending.{Ending}
-use Rattle.tape_image.specs.declared.item.ImageFault.{ImageFault}
-use Rattle.tape_image.specs.Tape.{TapeItem}
+use Rattle.std.proofs.Common.{Option, Some, Bool, true, false, Result, Ok, Err, sym, ap, subst}
+use Rattle.std.proofs.Common.{arith, refl}
+use Rattle.tape_image.specs.Tape.{TapeItem, block, bad, mark}
 use Rattle.tape_image.specs.Begins.{image_limit, Stop, Begins, Walks}
 use Rattle.tape_image.specs.Reader.{Reader}
-use Rattle.tape_image.specs.Step.{TakesEnd, TakesFault}
+use Rattle.tape_image.specs.Step.{least_extent}
 use Rattle.tape_image.specs.Calls.{Gave}
 use Rattle.tape_image.specs.Writer.{Writer}
 use Rattle.tape_image.proofs.Callers.{Gave-walks, front_of_image}
+use Rattle.tape_run.specs.declared.merge.Merged.{Merged}
 use Rattle.tape_run.specs.declared.merge.MergeFault.{MergeFault}
 use Rattle.tape_run.specs.declared.merge.MergeFault.TheVariants as faults
-use Rattle.tape_run.specs.MergeSteps.{HasRead, HaveRead, AllStopped}
+use Rattle.tape_run.specs.declared.merge.reading.Reading.{Reading}
+use Rattle.tape_run.specs.MergeSteps.{HasRead, HasTaken, HaveTaken, TookLast, nothing, last}
+use Rattle.tape_run.specs.MergeSteps.{bads, one_if, is_bad_one}
 use Rattle.tape_run.specs.MergeCalls.{AreAtFront, Merges, FitsFault}
-use Rattle.tape_run.specs.MergedImages.{GivesItems, GiveItems, AllBegin, MergesImages, FaultsImages}
-use Rattle.tape_run.specs.MergeLaws.{AreFronts}
+use Rattle.tape_run.specs.MergedImages.{LastIsAt, no_item, last_item, TakesImage, TakeImages}
+use Rattle.tape_run.specs.MergedImages.{AllBegin, MergesImages, FaultsImages}
+use Rattle.tape_run.specs.MergeLaws.{AreFronts, TakesAs}
 use Rattle.tape_run.proofs.MergeGiven.{readers_give_images}
 use Rattle.tape_run.proofs.MergeRefusals.{refuses_fault}
 use Rattle.tape_run.proofs.MergeJoins.{differ_for_good}
 
-gives_at : (bytes : List ℕ) (items : List TapeItem) (now : Reader) (p : ℕ) → p ≡ 0
-    → ((ending : Ending) × (left : List ℕ) × TakesEnd p items ending now.place bytes left)
-    ⊎ ((fault : ImageFault) × (left : List ℕ) × TakesFault p items fault bytes left)
-    → GivesItems bytes items
-gives_at bytes items now p first (inl (ending, left, takes)) = inl (
-  ending,
-  now.place,
-  left,
-  subst (λ (q : ℕ). TakesEnd q items ending now.place bytes left) first takes,
-)
-gives_at bytes items now p first (inr (fault, left, takes)) =
-    inr (fault, left, subst (λ (q : ℕ). TakesFault q items fault bytes left) first takes)
+-- ---- how long readings are
 
-give_items : (images : List (List ℕ)) (firsts nows : List Reader) (rs : List (List TapeItem))
-    → AreAtFront (map Some images) firsts → HaveRead firsts nows rs → AllStopped nows
-    → GiveItems images rs
-give_items [] [] [] [] front h off = tt
-give_items (bytes ∷ images) (f ∷ firsts) (n ∷ nows) (r ∷ rs) front h off = (
-  gives_at bytes r n f.place front.2
-      (readers_give_images f n r bytes h.0 front.1 off.0 front.0),
-  give_items images firsts nows rs front.3 h.1 off.1,
-)
-give_items [] (f ∷ firsts) nows rs front h off = absurd front
-give_items (bytes ∷ images) [] nows rs front h off = absurd front
-give_items _ _ _ _ front h off = absurd h
+behind_limit : (items : List TapeItem) (a b : Reader) → a.place ≤ image_limit → Gave a items b
+    → b.place ≤ image_limit
+behind_limit [] a b le same =
+    subst (λ (p : ℕ). p ≤ image_limit) (sym (ap (λ (r : Reader). r.place) same)) le
+behind_limit (x ∷ items) a b le (mid, given, then) = behind_limit items mid b given.within then
 
-pub merges_images : (images : List (List ℕ)) (bytes : List (Option (List ℕ)))
-    (firsts nows : List Reader) (c : Merged) (old new : Writer) → AreAtFront bytes firsts
-    → bytes ≡ map Some images → Merges firsts nows c old new → MergesImages images c old new
-merges_images images bytes firsts nows c old new front is m = record {
+some_extent : (x : TapeItem) → 4 ≤ least_extent x
+some_extent (block bytes) = omega arith
+some_extent bad = omega arith
+some_extent mark = omega arith
+
+extents : (items : List TapeItem) (a b : Reader) → Gave a items b
+    → a.place + length items * 4 ≤ b.place
+extents [] a b same =
+    let e : b.place ≡ a.place = ap (λ (r : Reader). r.place) same in
+    omega (arith, e)
+extents (x ∷ items) a b (mid, given, then) =
+    omega (arith, extents items mid b then, given.extent, some_extent x)
+
+bad_at_most : (b : Bool) → one_if b ≤ 1
+bad_at_most true = omega arith
+bad_at_most false = omega arith
+
+few_bad : (items : List TapeItem) → bads items ≤ length items
+few_bad [] = omega arith
+few_bad (x ∷ items) =
+    omega (arith, few_bad items, bad_at_most (is_bad_one (Some x)))
+
+-- an image has fewer than 2 ^ 30 items
+few_items : (f n : Reader) (items : List TapeItem) → HasRead f n items → f.place ≡ 0
+    → length items * 4 ≤ image_limit
+few_items f n items h first = omega (
+  arith,
+  first,
+  extents items f h.behind h.gave,
+  behind_limit items f h.behind (omega (arith, first)) h.gave,
+)
+
+-- ---- what one reading took
+
+last_at : {R : Type 0} (bytes : List ℕ) (f n : Reading R) (items : List TapeItem)
+    → f.image.left ≡ Some bytes → f.image.place ≡ 0 → TookLast f n items → LastIsAt bytes n items
+last_at bytes f n items known first (nothing none from len) = no_item none
+last_at bytes f n items known first (last before x mid is gave from len) =
+    let (rest, here, walks) = Gave-walks before f.image mid bytes known gave in
+    last_item before x rest is
+    (subst (λ (p : ℕ). Walks 0 bytes before p rest) (sym from)
+    (subst (λ (p : ℕ). Walks p bytes before mid.place rest) first walks)) len
+
+takes_image : {R : Type 0} (bytes : List ℕ) (f n : Reading R) (items : List TapeItem)
+    → AreAtFront (Some bytes ∷ []) (f ∷ []) → HasTaken f n items → TakesImage bytes n items
+takes_image bytes f n items (known, on, first, no_items, no_bad, _) h =
+    let (left, is_left, takes) =
+    readers_give_images f.image n.image items bytes h.read on known in
+    let few : length items * 4 ≤ image_limit = few_items f.image n.image items h.read first in
+    record {
+      left = left;
+      is_left = is_left;
+      takes = subst (λ (p : ℕ). TakesAs p n.image.status items n.image.place bytes left) first
+          takes;
+      items = omega (arith, no_items, h.items (omega (arith, no_items, few)));
+      bad = omega (arith, no_bad, h.bad (omega (arith, no_bad, few, few_bad items)));
+      last = last_at bytes f n items known first h.last;
+    }
+
+take_images : {R : Type 0} (images : List (List ℕ)) (firsts nows : List (Reading R))
+    (rs : List (List TapeItem)) → AreAtFront (map Some images) firsts
+    → HaveTaken firsts nows rs → TakeImages images nows rs
+take_images [] [] [] [] front h = tt
+take_images (bytes ∷ images) (f ∷ firsts) (n ∷ nows) (r ∷ rs) front h = (
+  takes_image bytes f n r (front.0, front.1, front.2, front.3, front.4, tt) h.0,
+  take_images images firsts nows rs front.5 h.1,
+)
+take_images [] (f ∷ firsts) nows rs front h = absurd front
+take_images (bytes ∷ images) [] nows rs front h = absurd front
+take_images _ _ _ _ front h = absurd h
+
+merges_images : {R : Type 0} (images : List (List ℕ)) (firsts nows : List (Reading R))
+    (c : Merged) (old new : Writer) → AreAtFront (map Some images) firsts
+    → Merges firsts nows c old new → MergesImages images nows c old new
+merges_images images firsts nows c old new front m = record {
   readings = m.readings;
-  give = give_items images firsts nows m.readings
-      (subst (λ (b : List (Option (List ℕ))). AreAtFront b firsts) is front) m.have m.ended;
+  have = take_images images firsts nows m.readings front m.have;
+  ended = m.ended;
   merged = m.merged;
   is = m.is;
   count = m.count;
@@ -62,12 +117,6 @@ merges_images images bytes firsts nows c old new front is m = record {
 }
 
 -- ---- where readings differ
-
-behind_limit : (items : List TapeItem) (a b : Reader) → a.place ≤ image_limit → Gave a items b
-    → b.place ≤ image_limit
-behind_limit [] a b le same =
-    subst (λ (p : ℕ). p ≤ image_limit) (sym (ap (λ (r : Reader). r.place) same)) le
-behind_limit (x ∷ items) a b le (mid, given, then) = behind_limit items mid b given.within then
 
 begins_with : (bytes : List ℕ) (f n : Reader) (r all : List TapeItem) → HasRead f n r
     → f.left ≡ Some bytes → f.place ≡ 0
@@ -79,48 +128,56 @@ begins_with bytes f n r all h known first (end, stop, begins) =
     (subst (λ (p : ℕ). Walks p bytes r h.behind.place ys) first walks)
     (behind_limit r f h.behind (omega (arith, first)) h.gave) begins
 
-are_begun : (images : List (List ℕ)) (firsts nows : List Reader) (rs all : List (List TapeItem))
-    → AreAtFront (map Some images) firsts → HaveRead firsts nows rs → AllBegin images all
+are_begun : {R : Type 0} (images : List (List ℕ)) (firsts nows : List (Reading R))
+    (rs all : List (List TapeItem))
+    → AreAtFront (map Some images) firsts → HaveTaken firsts nows rs → AllBegin images all
     → AreFronts rs all
 are_begun [] [] [] [] [] front h begins = tt
 are_begun [] [] [] [] (a ∷ all) front h begins = absurd begins
 are_begun (bytes ∷ images) (f ∷ firsts) (n ∷ nows) (r ∷ rs) [] front h begins = absurd begins
 are_begun (bytes ∷ images) (f ∷ firsts) (n ∷ nows) (r ∷ rs) (a ∷ all) front h begins = (
-  begins_with bytes f n r a h.0 front.0 front.2 begins.0,
-  are_begun images firsts nows rs all front.3 h.1 begins.1,
+  begins_with bytes f.image n.image r a h.0.read front.0 front.2 begins.0,
+  are_begun images firsts nows rs all front.5 h.1 begins.1,
 )
 are_begun [] (f ∷ firsts) nows rs all front h begins = absurd front
 are_begun (bytes ∷ images) [] nows rs all front h begins = absurd front
 are_begun _ _ _ _ _ front h begins = absurd h
 
-pub faults_images : (images : List (List ℕ)) (bytes : List (Option (List ℕ)))
-    (firsts nows : List Reader) (old new : Writer) (fault : MergeFault)
-    → AreAtFront bytes firsts → bytes ≡ map Some images → FitsFault firsts nows old new fault
-    → FaultsImages images fault
-faults_images images bytes firsts nows old new (faults.Differ n) front is d =
-    λ readings begins. differ_for_good d.readings readings
-    (are_begun images firsts nows d.readings readings
-    (subst (λ (b : List (Option (List ℕ))). AreAtFront b firsts) is front) d.have begins) d.differ
-faults_images images bytes firsts nows old new faults.OutOfMemory front is d = tt
-faults_images images bytes firsts nows old new (faults.Write fault) front is
+faults_images : {R : Type 0} (images : List (List ℕ)) (firsts nows : List (Reading R))
+    (old new : Writer) (fault : MergeFault) → AreAtFront (map Some images) firsts
+    → FitsFault firsts nows old new fault → FaultsImages images nows fault
+faults_images images firsts nows old new (faults.Differ n) front d = record {
+  readings = d.readings;
+  have = take_images images firsts nows d.readings front d.have;
+  up_to = d.up_to;
+  differ = d.differ;
+  for_good = λ all begins. differ_for_good d.readings all
+      (are_begun images firsts nows d.readings all front d.have begins) d.differ;
+  best = d.best;
+  other = d.other;
+  judged = d.judged;
+  merged = d.merged;
+  is = d.is;
+  count = d.count;
+}
+faults_images images firsts nows old new faults.OutOfMemory front d = tt
+faults_images images firsts nows old new (faults.Write fault) front
     (mid, wrote, on, x, fits, refused) = refuses_fault x mid new fault fits on refused
 
 -- ---- as an engine answers
 
-pub ok_images : (result : Result Merged MergeFault) (bytes : List (Option (List ℕ)))
-    (firsts nows : List Reader) (old new : Writer) → AreAtFront bytes firsts
-    → IfOk result (λ m. Merges firsts nows m old new)
-    → IfOk result (λ m. (images : List (List ℕ)) → bytes ≡ map Some images
-    → MergesImages images m old new)
-ok_images (Ok m) bytes firsts nows old new front h =
-    λ images is. merges_images images bytes firsts nows m old new front is h
-ok_images (Err fault) bytes firsts nows old new front h = tt
+pub ok_images : {R : Type 0} (result : Result Merged MergeFault) (firsts nows : List (Reading R))
+    (old new : Writer) → IfOk result (λ m. Merges firsts nows m old new)
+    → IfOk result (λ m. (images : List (List ℕ)) → AreAtFront (map Some images) firsts
+    → MergesImages images nows m old new)
+ok_images (Ok m) firsts nows old new h =
+    λ images front. merges_images images firsts nows m old new front h
+ok_images (Err fault) firsts nows old new h = tt
 
-pub err_images : (result : Result Merged MergeFault) (bytes : List (Option (List ℕ)))
-    (firsts nows : List Reader) (old new : Writer) → AreAtFront bytes firsts
-    → IfErr result (FitsFault firsts nows old new)
-    → IfErr result (λ fault. (images : List (List ℕ)) → bytes ≡ map Some images
-    → FaultsImages images fault)
-err_images (Ok m) bytes firsts nows old new front h = tt
-err_images (Err fault) bytes firsts nows old new front h =
-    λ images is. faults_images images bytes firsts nows old new fault front is h
+pub err_images : {R : Type 0} (result : Result Merged MergeFault) (firsts nows : List (Reading R))
+    (old new : Writer) → IfErr result (FitsFault firsts nows old new)
+    → IfErr result (λ fault. (images : List (List ℕ)) → AreAtFront (map Some images) firsts
+    → FaultsImages images nows fault)
+err_images (Ok m) firsts nows old new h = tt
+err_images (Err fault) firsts nows old new h =
+    λ images front. faults_images images firsts nows old new fault front h

@@ -1,6 +1,8 @@
 -- Items that are written one after another, and counted.
-use Rattle.std.proofs.Common.{◌≡◌, ◌+◌, ◌≤◌, List, [], ◌∷◌, ◌++◌, length, Option, Some}
-use Rattle.std.proofs.Common.{None, Bool, true, false, refl, sym, ap, subst, ◌∙◌, arith}
+use Rattle.std.proofs.Common.{◌≡◌, ℕ, zero, suc, ◌+◌, ◌<◌, ◌≤◌, List, [], ◌∷◌, ◌++◌, length}
+use Rattle.std.proofs.Common.{Option, Some, None, Bool, true, false, refl, sym, ap, subst, ◌∙◌}
+use Rattle.std.proofs.Common.{arith}
+use Rattle.std.specs.Prelude.{◌==◌}
 use Rattle.std.proofs.Common.{length-append}
 use Rattle.tape_image.specs.Tape.{TapeItem, block, bad, mark}
 use Rattle.tape_image.specs.Begins.{image_limit}
@@ -13,8 +15,10 @@ use Rattle.tape_run.specs.declared.passing.Phase.TheVariants.{Volume}
 use Rattle.tape_run.specs.declared.section.SectionState.{SectionState}
 use Rattle.tape_run.specs.declared.section.SectionState.TheVariants as states
 use Rattle.tape_run.specs.Passing.{Told, step, in_list, phase_after, told_from}
-use Rattle.tape_run.specs.MergeCalls.{Counts, bads, is_bad_one, one_if, miscounted_in}
+use Rattle.tape_run.specs.MergeSteps.{bads, is_bad_one, one_if}
+use Rattle.tape_run.specs.MergeCalls.{Counts, witnesses_at, alone_in, miscounted_in}
 use Rattle.tape_run.specs.MergeCalls.{miscounted_of, has_wrong_count, Puts}
+use Rattle.tape_run.proofs.MergeTaken.{bads-append}
 use Rattle.tape_run.proofs.NotedSoFar.{phase_after-append, told_from-append}
 
 -- ---- writing
@@ -48,11 +52,25 @@ was_none (Some x) a b h = absurd (cc h.0)
 
 -- ---- counting
 
-bads-append : (xs ys : List TapeItem) → bads (xs ++ ys) ≡ bads xs + bads ys
-bads-append [] ys = omega arith
-bads-append (x ∷ xs) ys =
-    let ih : bads (xs ++ ys) ≡ bads xs + bads ys = bads-append xs ys in
-    omega arith
+pub alone_kept : (n : ℕ) (rs ss : List (List TapeItem))
+    → ((j : ℕ) → j < n → witnesses_at j ss ≡ witnesses_at j rs) → alone_in n ss ≡ alone_in n rs
+alone_kept zero rs ss same = refl
+alone_kept (suc n) rs ss same =
+    let here : witnesses_at n ss ≡ witnesses_at n rs = same n (omega arith) in
+    let ih : alone_in n ss ≡ alone_in n rs = alone_kept n rs ss (λ j lt. same j (omega arith)) in
+    let one : one_if (witnesses_at n ss == 1) ≡ one_if (witnesses_at n rs == 1) =
+    ap (λ k. one_if (k == 1)) here in
+    omega (arith, ih, one)
+
+-- one more item, which so many readings have
+alone_more : (n k have : ℕ) (rs ss : List (List TapeItem))
+    → ((j : ℕ) → j < n → witnesses_at j ss ≡ witnesses_at j rs) → witnesses_at n ss ≡ have
+    → k ≡ n + 1 → alone_in k ss ≡ alone_in n rs + one_if (have == 1)
+alone_more n k have rs ss same here is =
+    let next : k ≡ suc n = omega (arith, is) in
+    let one : one_if (witnesses_at n ss == 1) ≡ one_if (have == 1) =
+    ap (λ k. one_if (k == 1)) here in
+    ap (λ i. alone_in i ss) next ∙ omega (arith, alone_kept n rs ss same, one)
 
 miscounted-append : (ts us : List Told)
     → miscounted_in (ts ++ us) ≡ miscounted_in ts + miscounted_in us
@@ -80,17 +98,20 @@ miscounted_one : (t : Option Told) → miscounted_in (in_list t ++ []) ≡ misco
 miscounted_one None = refl
 miscounted_one (Some t) = omega arith
 
--- what counting one more item changes
-pub record CountsOne (a b : Merged) (p q : Phase) (x : TapeItem) : Type 0 where
+-- what counting one more item changes, which so many readings have
+pub record CountsOne (a b : Merged) (p q : Phase) (have : ℕ) (x : TapeItem) : Type 0 where
   pub items : b.items ≡ a.items + 1
+  pub alone : b.alone ≡ a.alone + one_if (have == 1)
   pub bad : b.bad ≡ a.bad + one_if (is_bad_one (Some x))
   pub miscounted : b.miscounted ≡ a.miscounted + miscounted_of (step p x).1
   pub phase : q ≡ (step p x).0
 
-pub counts_more : (merged : List TapeItem) (x : TapeItem) (a b : Merged) (p q : Phase)
-    → Counts merged a → p ≡ phase_after Volume merged → CountsOne a b p q x
-    → Counts (merged ++ x ∷ []) b
-counts_more merged x a b p q counts at one =
+pub counts_more : (merged : List TapeItem) (x : TapeItem) (rs ss : List (List TapeItem))
+    (a b : Merged) (p q : Phase) (have : ℕ)
+    → Counts rs merged a → p ≡ phase_after Volume merged → CountsOne a b p q have x
+    → ((j : ℕ) → j < length merged → witnesses_at j ss ≡ witnesses_at j rs)
+    → witnesses_at (length merged) ss ≡ have → Counts ss (merged ++ x ∷ []) b
+counts_more merged x rs ss a b p q have counts at one same here =
     let more : miscounted_in (told_from Volume (merged ++ x ∷ []))
     ≡ miscounted_in (told_from Volume merged) + miscounted_of (step p x).1 =
     ap miscounted_in (told_from-append Volume merged (x ∷ []))
@@ -101,12 +122,19 @@ counts_more merged x a b p q counts at one =
     record {
       items = omega (arith, length-append merged (x ∷ []), counts.items, one.items);
       bad = omega (arith, bads-append merged (x ∷ []), counts.bad, one.bad);
+      alone = omega (
+        arith,
+        alone_more (length merged) (length (merged ++ x ∷ [])) have rs ss same here
+            (length-append merged (x ∷ [])),
+        counts.alone,
+        one.alone,
+      );
       miscounted = omega (arith, more, counts.miscounted, one.miscounted);
     }
 
-pub phase_more : (merged : List TapeItem) (x : TapeItem) (a b : Merged) (p q : Phase)
-    → p ≡ phase_after Volume merged → CountsOne a b p q x
+pub phase_more : (merged : List TapeItem) (x : TapeItem) (a b : Merged) (p q : Phase) (have : ℕ)
+    → p ≡ phase_after Volume merged → CountsOne a b p q have x
     → q ≡ phase_after Volume (merged ++ x ∷ [])
-phase_more merged x a b p q at one =
+phase_more merged x a b p q have at one =
     one.phase ∙ ap (λ (s : Phase). (step s x).0) at
     ∙ sym (phase_after-append Volume merged (x ∷ []))

@@ -1,12 +1,11 @@
 -- What merging has done after some items, and what it does from there.
 use Rattle.std.proofs.Common.{◌≡◌, ◌≢◌, ℕ, ◌+◌, ◌≤◌, List, [], ◌∷◌, ◌++◌, length, Option, Some}
 use Rattle.std.proofs.Common.{None, Bool, true, false, Result, Err, refl, sym, ap, subst, ◌∙◌, inl}
-use Rattle.std.proofs.Common.{length-append, append-nil}
-use Rattle.std.specs.Prelude.{is_some, IfSome, IfErr}
+use Rattle.std.proofs.Common.{length-append, append-nil, arith}
+use Rattle.std.specs.Prelude.{◌==◌, is_some, IfSome, IfErr}
 use Rattle.tape_image.specs.declared.item.ImageWriteFault.{ImageWriteFault}
 use Rattle.tape_image.specs.Tape.{TapeItem}
 use Rattle.tape_image.specs.Begins.{image_limit}
-use Rattle.tape_image.specs.Reader.{Reader}
 use Rattle.tape_image.specs.Writer.{Writer, writing, PutItem, PutItems}
 use Rattle.tape_run.specs.declared.merge.Merged.{Merged}
 use Rattle.tape_run.specs.declared.merge.MergeFault.{MergeFault}
@@ -15,81 +14,92 @@ use Rattle.tape_run.specs.declared.passing.Phase.{Phase}
 use Rattle.tape_run.specs.declared.passing.Phase.TheVariants.{Volume}
 use Rattle.tape_run.specs.Passing.{Told, step, phase_after, blocks_of}
 use Rattle.tape_run.specs.Merging.{IsReadFrom, AreReadFrom, IsMerged}
-use Rattle.tape_run.specs.MergeSteps.{best_items, AskedAll, HaveRead}
-use Rattle.tape_run.specs.MergeCalls.{Counts, is_bad_one, one_if, miscounted_of, AsksAll, Puts}
+use Rattle.tape_run.specs.declared.merge.reading.Reading.{Reading}
+use Rattle.tape_run.specs.MergeSteps.{best_items, AskedAll, HaveTaken, AreUpTo, nothing}
+use Rattle.tape_run.specs.MergeSteps.{is_bad_one, one_if}
+use Rattle.tape_run.specs.MergeCalls.{Counts, firsts_in, miscounted_of, Puts}
 use Rattle.tape_run.specs.MergeCalls.{Merges, DiffersAt, FitsFault, RefusesCandidate}
 use Rattle.tape_run.proofs.NotedSoFar.{one_block}
 use Rattle.tape_run.proofs.MergeRefusals.{best_fits}
-use Rattle.tape_run.proofs.MergeAsking.{AtPlace, HaveCandidate, all_best, all_differ}
+use Rattle.tape_run.proofs.MergeAsking.{HaveCandidate, all_best, all_differ}
 use Rattle.tape_run.proofs.MergeCounts.{put_one_more, put_moves, was_put, was_none, CountsOne}
-use Rattle.tape_run.proofs.MergeCounts.{counts_more, phase_more}
+use Rattle.tape_run.proofs.MergeCounts.{counts_more, phase_more, alone_kept}
 
 -- ---- the loop
 
 -- items were merged, written and counted
-pub record SoFar (firsts nows : List Reader) (m : Merged) (phase : Phase) (old new : Writer)
-    : Type 0 where
+pub record SoFar {R : Type 0} (firsts nows : List (Reading R)) (m : Merged) (phase : Phase)
+    (old new : Writer) : Type 0 where
   pub readings : List (List TapeItem)
-  pub have : HaveRead firsts nows readings
+  pub have : HaveTaken firsts nows readings
   pub merged : List TapeItem
-  pub at : AtPlace nows readings (length merged)
+  pub at : AreUpTo (length merged) nows readings
   pub is : IsMerged readings merged
-  pub count : Counts merged m
+  pub count : Counts readings merged m
   pub phase_is : phase ≡ phase_after Volume merged
   pub wrote : PutItems merged old new
 
 -- nothing was read yet
-nothing : List Reader → List (List TapeItem)
-nothing [] = []
-nothing (r ∷ rs) = [] ∷ nothing rs
+none_of : {R : Type 0} → List (Reading R) → List (List TapeItem)
+none_of [] = []
+none_of (r ∷ rs) = [] ∷ none_of rs
 
-nothing_read : (rs : List Reader) → HaveRead rs rs (nothing rs)
-unfolding nothing
+nothing_read : {R : Type 0} (rs : List (Reading R)) → HaveTaken rs rs (none_of rs)
+unfolding none_of
 nothing_read [] = tt
-nothing_read (r ∷ rs) =
-    (record { behind = r; gave = refl; stands = inl refl }, nothing_read rs)
+nothing_read (r ∷ rs) = (
+  record {
+    read = record { behind = r.image; gave = refl; stands = inl refl };
+    items = λ le. omega arith;
+    bad = λ le. omega arith;
+    last = nothing refl refl refl;
+  },
+  nothing_read rs,
+)
 
-nothing_at : (rs : List Reader) → AtPlace rs (nothing rs) 0
-unfolding nothing
+nothing_at : {R : Type 0} (rs : List (Reading R)) → AreUpTo 0 rs (none_of rs)
+unfolding none_of
 nothing_at [] = tt
-nothing_at (r ∷ rs) = (λ _. refl, nothing_at rs)
+nothing_at (r ∷ rs) = (λ _. refl, omega arith, nothing_at rs)
 
-nothing_best : (rs : List Reader) → AreReadFrom (nothing rs) []
-unfolding nothing
+nothing_best : {R : Type 0} (rs : List (Reading R)) → AreReadFrom (none_of rs) []
+unfolding none_of
 nothing_best [] = tt
 nothing_best (r ∷ rs) = (tt, nothing_best rs)
 
-pub starts : (rs : List Reader) (w : Writer)
+pub starts : {R : Type 0} (rs : List (Reading R)) (w : Writer)
     → SoFar rs rs (record { items = 0; bad = 0; alone = 0; miscounted = 0 }) Volume w w
 starts rs w = record {
-  readings = nothing rs;
+  readings = none_of rs;
   have = nothing_read rs;
   merged = [];
   at = nothing_at rs;
   is = record { all = nothing_best rs; least = λ tape h. tt };
-  count = record { items = refl; bad = refl; miscounted = refl };
+  count = record { items = refl; bad = refl; alone = refl; miscounted = refl };
   phase_is = refl;
   wrote = refl;
 }
 
 -- a round was made, and all agreed
-pub round : (firsts olds nows : List Reader) (a : Merged) (p : Phase) (old new : Writer)
-    (now : Option TapeItem) → (s : SoFar firsts olds a p old new) → AskedAll olds nows None now true
-    → HaveCandidate firsts nows s.merged None now (λ _. Unit {0})
-round firsts olds nows a p old new now s asked =
+round : {R : Type 0} (firsts olds nows : List (Reading R)) (a : Merged) (p : Phase)
+    (old new : Writer) (now beside : Option TapeItem) → (s : SoFar firsts olds a p old new)
+    → AskedAll olds nows None now None beside → beside ≡ None
+    → HaveCandidate firsts nows s.readings s.merged None now beside (λ _. Unit {0})
+round firsts olds nows a p old new now beside s asked none =
     let empty : s.merged ≡ s.merged ++ [] = sym (append-nil s.merged) in
-    all_best firsts olds nows s.readings s.merged None now true (λ _. Unit {0}) s.have s.at
+    all_best firsts olds nows s.readings s.merged None now beside (λ _. Unit {0}) s.have s.at
     (subst (λ (l : List TapeItem). AreReadFrom s.readings l) empty s.is.all)
     (λ tape k reads. subst (λ (l : List TapeItem). IsReadFrom l tape) empty
-    (s.is.least tape reads)) asked refl
+    (s.is.least tape reads)) asked none
 
 -- there was an item, and it was written
-pub goes_on : (firsts olds nows : List Reader) (a b : Merged) (p q : Phase) (old mid new : Writer)
-    (now : Option TapeItem) (x : TapeItem) → SoFar firsts olds a p old mid
-    → AskedAll olds nows None now true → now ≡ Some x → PutItem x mid new → CountsOne a b p q x
+pub goes_on : {R : Type 0} (firsts olds nows : List (Reading R)) (a b : Merged) (p q : Phase)
+    (have : ℕ) (old mid new : Writer) (now beside : Option TapeItem) (x : TapeItem)
+    → SoFar firsts olds a p old mid → AskedAll olds nows None now None beside → beside ≡ None
+    → have ≡ firsts_in nows → now ≡ Some x → PutItem x mid new → CountsOne a b p q have x
     → SoFar firsts nows b q old new
-goes_on firsts olds nows a b p q old mid new now x s asked is put one =
-    let h = round firsts olds nows a p old mid now s asked in
+goes_on firsts olds nows a b p q have old mid new now beside x s asked none many is put one =
+    let h = round firsts olds nows a p old mid now beside s asked none in
     let shown : s.merged ++ best_items now ≡ s.merged ++ x ∷ [] =
     ap (λ (t : Option TapeItem). s.merged ++ best_items t) is in
     let long : length (s.merged ++ x ∷ []) ≡ length s.merged + 1 =
@@ -98,23 +108,25 @@ goes_on firsts olds nows a b p q old mid new now x s asked is put one =
       readings = h.readings;
       have = h.have;
       merged = s.merged ++ x ∷ [];
-      at = subst (λ (k : ℕ). AtPlace nows h.readings k) (sym long) h.at;
+      at = subst (λ (k : ℕ). AreUpTo k nows h.readings) (sym long) h.at;
       is = record {
         all = subst (λ (l : List TapeItem). AreReadFrom h.readings l) shown h.all;
         least = λ tape reads. subst (λ (l : List TapeItem). IsReadFrom l tape) shown
             (h.least tape tt reads);
       };
-      count = counts_more s.merged x a b p q s.count s.phase_is one;
-      phase_is = phase_more s.merged x a b p q s.phase_is one;
+      count = counts_more s.merged x s.readings h.readings a b p q have s.count s.phase_is one
+          h.before (h.here ∙ sym many);
+      phase_is = phase_more s.merged x a b p q have s.phase_is one;
       wrote = put_one_more s.merged old mid new x s.wrote put;
     }
 
 -- there was none: all have stopped
-pub ends : (firsts olds nows : List Reader) (a : Merged) (p : Phase) (old mid new : Writer)
-    (now : Option TapeItem) → SoFar firsts olds a p old mid → AskedAll olds nows None now true
-    → now ≡ None → new ≡ mid → Merges firsts nows a old new
-ends firsts olds nows a p old mid new now s asked is same =
-    let h = round firsts olds nows a p old mid now s asked in
+pub ends : {R : Type 0} (firsts olds nows : List (Reading R)) (a : Merged) (p : Phase)
+    (old mid new : Writer) (now beside : Option TapeItem) → SoFar firsts olds a p old mid
+    → AskedAll olds nows None now None beside → beside ≡ None → now ≡ None → new ≡ mid
+    → Merges firsts nows a old new
+ends firsts olds nows a p old mid new now beside s asked none is same =
+    let h = round firsts olds nows a p old mid now beside s asked none in
     let shown : s.merged ++ best_items now ≡ s.merged =
     ap (λ (t : Option TapeItem). s.merged ++ best_items t) is ∙ append-nil s.merged in
     record {
@@ -127,45 +139,44 @@ ends firsts olds nows a p old mid new now s asked is same =
         least = λ tape reads. subst (λ (l : List TapeItem). IsReadFrom l tape) shown
             (h.least tape tt reads);
       };
-      count = s.count;
+      count = record {
+        items = s.count.items;
+        bad = s.count.bad;
+        alone = s.count.alone
+            ∙ sym (alone_kept (length s.merged) s.readings h.readings h.before);
+        miscounted = s.count.miscounted;
+      };
       wrote = subst (λ (w : Writer). PutItems s.merged old w) (sym same) s.wrote;
     }
 
 -- one did not agree
-pub differs : (firsts olds nows : List Reader) (a : Merged) (p : Phase) (old new : Writer)
-    (now : Option TapeItem) → SoFar firsts olds a p old new → AskedAll olds nows None now false
+pub differs : {R : Type 0} (firsts olds nows : List (Reading R)) (a : Merged) (p : Phase)
+    (old new : Writer) (now beside : Option TapeItem) → SoFar firsts olds a p old new
+    → AskedAll olds nows None now None beside → beside ≢ None
     → DiffersAt firsts nows (a.items + 1) old new
-differs firsts olds nows a p old new now s asked =
+differs firsts olds nows a p old new now beside s asked some =
     let empty : s.merged ≡ s.merged ++ [] = sym (append-nil s.merged) in
-    let h = all_differ firsts olds nows s.readings s.merged None now false (λ _. Unit {0}) s.have
+    let h = all_differ firsts olds nows s.readings s.merged None now beside (λ _. Unit {0}) s.have
     s.at
     (subst (λ (l : List TapeItem). AreReadFrom s.readings l) empty s.is.all)
     (λ tape k reads. subst (λ (l : List TapeItem). IsReadFrom l tape) empty
-    (s.is.least tape reads)) asked refl in
+    (s.is.least tape reads)) asked some in
+    let number : length s.merged + 1 ≡ a.items + 1 = ap (λ k. k + 1) s.count.items in
     record {
       readings = h.readings;
       have = h.have;
+      up_to = subst (λ (k : ℕ). AreUpTo k nows h.readings) number h.at;
       differ = λ tape reads. h.differ tape tt reads;
-      mids = olds;
-      fronts = s.readings;
-      had = s.have;
+      best = now;
+      other = beside;
+      judged = h.judged;
       merged = s.merged;
-      is = s.is;
-      count = ap (λ k. k + 1) s.count.items;
+      is = subst (λ (l : List (List TapeItem)). IsMerged l s.merged) (sym h.front) s.is;
+      count = number;
       wrote = s.wrote;
     }
 
 -- ---- as the code finds it
-
-agree : (olds nows : List Reader) (now other : Option TapeItem) → AsksAll olds nows now other
-    → other ≡ None → AskedAll olds nows None now true
-agree olds nows now other (true, asked, alike, apart) none = asked
-agree olds nows now other (false, asked, alike, apart) none = absurd (apart refl none)
-
-disagree : (olds nows : List Reader) (now other : Option TapeItem) → AsksAll olds nows now other
-    → other ≢ None → AskedAll olds nows None now false
-disagree olds nows now other (true, asked, alike, apart) some = absurd (some (alike refl))
-disagree olds nows now other (false, asked, alike, apart) some = asked
 
 not_none : (t : Option TapeItem) → is_some t ≡ true → t ≢ None
 not_none None is = absurd (cc is)
@@ -176,27 +187,27 @@ is_none None is = refl
 is_none (Some x) is = absurd (cc is)
 
 -- readings differed
-pub stops_at : (firsts olds nows : List Reader) (a : Merged) (p : Phase) (old new : Writer)
-    (now other : Option TapeItem) → SoFar firsts olds a p old new → AsksAll olds nows now other
-    → is_some other ≡ true → DiffersAt firsts nows (a.items + 1) old new
+pub stops_at : {R : Type 0} (firsts olds nows : List (Reading R)) (a : Merged) (p : Phase)
+    (old new : Writer) (now other : Option TapeItem) → SoFar firsts olds a p old new
+    → AskedAll olds nows None now None other → is_some other ≡ true
+    → DiffersAt firsts nows (a.items + 1) old new
 stops_at firsts olds nows a p old new now other s h is =
-    differs firsts olds nows a p old new now s
-    (disagree olds nows now other h (not_none other is))
+    differs firsts olds nows a p old new now other s h (not_none other is)
 
 -- nothing was written
-pub comes_to_end : (firsts olds nows : List Reader) (a : Merged) (p : Phase) (old mid new : Writer)
-    (now other : Option TapeItem) (some : Bool) → SoFar firsts olds a p old mid
-    → AsksAll olds nows now other → is_some other ≡ false → Puts now some mid new
+pub comes_to_end : {R : Type 0} (firsts olds nows : List (Reading R)) (a : Merged) (p : Phase)
+    (old mid new : Writer) (now other : Option TapeItem) (some : Bool)
+    → SoFar firsts olds a p old mid
+    → AskedAll olds nows None now None other → is_some other ≡ false → Puts now some mid new
     → some ≡ false → Merges firsts nows a old new
 comes_to_end firsts olds nows a p old mid new now other some s h none puts is =
-    let (nothing, same) =
+    let (no_item, same) =
     was_none now mid new (subst (λ (b : Bool). Puts now b mid new) is puts) in
-    ends firsts olds nows a p old mid new now s (agree olds nows now other h (is_none other none))
-    nothing same
+    ends firsts olds nows a p old mid new now other s h (is_none other none) no_item same
 
 -- one item more was written and counted
-pub record OneMore (firsts nows : List Reader) (b : Merged) (p q : Phase) (old mid new : Writer)
-    : Type 0 where
+pub record OneMore {R : Type 0} (firsts nows : List (Reading R)) (b : Merged) (p q : Phase)
+    (old mid new : Writer) : Type 0 where
   pub so_far : SoFar firsts nows b q old new
   pub moves : mid.size + 4 ≤ new.size
   pub within : new.size ≤ image_limit
@@ -204,38 +215,44 @@ pub record OneMore (firsts nows : List Reader) (b : Merged) (p q : Phase) (old m
   pub blocks : blocks_of q ≤ blocks_of p + 1
 
 -- so was the candidate
-pub counted : (a b : Merged) (p : Phase) (next : Phase × Option Told) (now : Option TapeItem)
+one_counted : (a b : Merged) (p : Phase) (next : Phase × Option Told) (have : ℕ)
+    (now : Option TapeItem)
     (x : TapeItem) (is_bad : Bool) → now ≡ Some x → IfSome now (λ x. next ≡ step p x)
     → is_bad ≡ is_bad_one now → b.items ≡ a.items + 1 → b.bad ≡ a.bad + one_if is_bad
-    → b.miscounted ≡ a.miscounted + miscounted_of next.1 → CountsOne a b p next.0 x
-counted a b p next now x is_bad is stepped kind items more_bad miscounted =
+    → b.alone ≡ a.alone + one_if (have == 1)
+    → b.miscounted ≡ a.miscounted + miscounted_of next.1 → CountsOne a b p next.0 have x
+one_counted a b p next have now x is_bad is stepped kind items more_bad alone miscounted =
     let here : next ≡ step p x =
     subst (λ (t : Option TapeItem). IfSome t (λ x. next ≡ step p x)) is stepped in
     record {
       items = items;
+      alone = alone;
       bad = more_bad ∙ ap (λ (b : Bool). a.bad + one_if b) (kind ∙ ap is_bad_one is);
       miscounted = miscounted
           ∙ ap (λ (s : Phase × Option Told). a.miscounted + miscounted_of s.1) here;
       phase = ap (λ (s : Phase × Option Told). s.0) here;
     }
 
-pub one_more : (firsts olds nows : List Reader) (a b : Merged) (p : Phase)
-    (next : Phase × Option Told) (old mid new : Writer) (now other : Option TapeItem)
+pub one_more : {R : Type 0} (firsts olds nows : List (Reading R)) (a b : Merged) (p : Phase)
+    (next : Phase × Option Told) (have : ℕ) (old mid new : Writer) (now other : Option TapeItem)
     (some is_bad : Bool) → SoFar firsts olds a p old mid
-    → AsksAll olds nows now other → is_some other ≡ false → Puts now some mid new
+    → AskedAll olds nows None now None other → have ≡ firsts_in nows
+    → is_some other ≡ false → Puts now some mid new
     → some ≡ true → IfSome now (λ x. next ≡ step p x)
     → is_bad ≡ is_bad_one now → b.items ≡ a.items + 1 → b.bad ≡ a.bad + one_if is_bad
+    → b.alone ≡ a.alone + one_if (have == 1)
     → b.miscounted ≡ a.miscounted + miscounted_of next.1
     → OneMore firsts nows b p next.0 old mid new
-one_more firsts olds nows a b p next old mid new now other some is_bad s h none puts is stepped kind
-    items more_bad miscounted =
+one_more firsts olds nows a b p next have old mid new now other some is_bad s h many none puts is
+    stepped kind items more_bad alone miscounted =
     let (x, best, put) =
     was_put now mid new (subst (λ (b : Bool). Puts now b mid new) is puts) in
     let moved = put_moves x mid new put in
-    let one = counted a b p next now x is_bad best stepped kind items more_bad miscounted in
+    let one =
+    one_counted a b p next have now x is_bad best stepped kind items more_bad alone miscounted in
     record {
-      so_far = goes_on firsts olds nows a b p next.0 old mid new now x s
-          (agree olds nows now other h (is_none other none)) best put one;
+      so_far = goes_on firsts olds nows a b p next.0 have old mid new now other x s h
+          (is_none other none) many best put one;
       moves = moved.0;
       within = moved.1;
       stands = moved.2;
@@ -243,9 +260,10 @@ one_more firsts olds nows a b p next old mid new now other some is_bad s h none 
     }
 
 -- the item was refused
-pub refused_at : (firsts olds nows : List Reader) (a : Merged) (p : Phase) (old mid new : Writer)
+pub refused_at : {R : Type 0} (firsts olds nows : List (Reading R)) (a : Merged) (p : Phase)
+    (old mid new : Writer)
     (now other : Option TapeItem) (fault : ImageWriteFault) → SoFar firsts olds a p old mid
-    → AsksAll olds nows now other → mid.standing ≡ writing → RefusesCandidate now fault mid new
+    → AskedAll olds nows None now None other → mid.standing ≡ writing → RefusesCandidate now fault mid new
     → FitsFault firsts nows old new (faults.Write fault)
 refused_at firsts olds nows a p old mid new None other fault s h on refused = absurd refused
 refused_at firsts olds nows a p old mid new (Some x) other fault s h on refused = (
@@ -260,15 +278,15 @@ refused_at firsts olds nows a p old mid new (Some x) other fault s h on refused 
   },
   on,
   x,
-  best_fits olds nows None (Some x) h.0 tt h.1,
+  best_fits olds nows None (Some x) None other tt h,
   refused,
 )
 
-pub refused_now : {T : Type 0} (result : Result T MergeFault) (firsts olds nows : List Reader)
-    (a : Merged) (p : Phase) (old mid new : Writer) (now other : Option TapeItem)
+pub refused_now : {T R : Type 0} (result : Result T MergeFault)
+    (firsts olds nows : List (Reading R)) (a : Merged) (p : Phase) (old mid new : Writer) (now other : Option TapeItem)
     (fault : ImageWriteFault) → result ≡ Err (faults.Write fault) → SoFar firsts olds a p old mid
-    → AsksAll olds nows now other → mid.standing ≡ writing → RefusesCandidate now fault mid new
+    → AskedAll olds nows None now None other → mid.standing ≡ writing → RefusesCandidate now fault mid new
     → IfErr result (FitsFault firsts nows old new)
-refused_now {T} result firsts olds nows a p old mid new now other fault is s h on refused =
+refused_now {T} {R} result firsts olds nows a p old mid new now other fault is s h on refused =
     let P : Result T MergeFault → Type 0 = λ r. IfErr r (FitsFault firsts nows old new) in
     subst P (sym is) (refused_at firsts olds nows a p old mid new now other fault s h on refused)

@@ -1,12 +1,18 @@
--- What a call of `ImageReader::next` says of a reader that is asked for an item.
-use Rattle.std.proofs.Common.{◌≡◌, Option, Some, Result, Ok, Bool, refl, ap, subst}
+-- What a call of `ImageReader::next` says of a reading that is asked for an item.
+use Rattle.std.proofs.Common.{◌≡◌, ◌≢◌, inl, inr, ℕ, ◌+◌, ◌≤◌, Option, Some, None, Result, Ok, Err}
+use Rattle.std.proofs.Common.{Bool, true, false, refl, ap, subst, sym, ◌∙◌}
 use Rattle.tape_image.specs.declared.item.Item.{Item}
 use Rattle.tape_image.specs.declared.item.ImageFault.{ImageFault}
-use Rattle.tape_image.specs.Tape.{TapeItem}
+use Rattle.tape_image.specs.Tape.{TapeItem, block, bad, mark}
 use Rattle.tape_image.specs.Reader.{Reader, Status, going, ended, failed, seen, tape_item}
 use Rattle.tape_image.specs.Step.{GivesItem, Meets, Answers}
 use Rattle.tape_image.specs.Next.{HasMoved}
-use Rattle.tape_run.specs.MergeSteps.{Takes, Asked, gives}
+use Rattle.tape_run.specs.declared.merge.reading.Reading.{Reading}
+use Rattle.tape_run.specs.declared.merge.reading.Verdict.{Verdict}
+use Rattle.tape_run.specs.declared.merge.reading.Verdict.TheVariants as verdicts
+use Rattle.tape_run.specs.MergeSteps.{agrees, Compares, Stopped, StopsAs, Answered, with_item}
+use Rattle.tape_run.specs.MergeSteps.{is_stop, bad_count, without, RisesBy, is_bad_one, one_if, block_length}
+use Rattle.tape_run.specs.MergeSteps.{CountsItem, CountsNothing, Asked, gives, stops}
 
 status_gives : (s : Status) (old new : Reader) (r : Result (Option TapeItem) ImageFault)
     (x : TapeItem) → Answers s old r new → r ≡ Ok (Some x) → (s ≡ going) × GivesItem old x new
@@ -16,11 +22,140 @@ status_gives (ended ending) old new r x a e = absurd (cc (a.0, e))
 status_gives (failed fault) old new r x a e = absurd (cc (a.0, e))
 
 -- it gave an item
-pub asked_gives : (old new : Reader) (result : Result (Option Item) ImageFault) (item : Item)
-    (best now : Option TapeItem) (agreed : Bool) → HasMoved old result new
-    → result ≡ Ok (Some item) → Takes best (tape_item item) agreed now
-    → Asked old new best agreed now
-asked_gives old new result item best now agreed h e takes =
+pub answered_item : (old new : Reader) (result : Result (Option Item) ImageFault) (item : Item)
+    (verdict : Verdict) (len : ℕ) (best now other beside : Option TapeItem)
+    → HasMoved old result new → result ≡ Ok (Some item)
+    → Compares verdict (tape_item item) best now other beside
+    → len ≡ block_length (tape_item item)
+    → Answered old new verdict len best now other beside
+answered_item old new result item verdict len best now other beside h e compares long =
     let (on, given) = status_gives old.status old new (seen result) (tape_item item) h.answers
     (ap seen e) in
-    gives (tape_item item) on given takes
+    with_item (tape_item item) on given compares long
+
+status_ends : (s : Status) (old new : Reader) (r : Result (Option TapeItem) ImageFault)
+    → old.status ≡ s → Answers s old r new → r ≡ Ok None
+    → Stopped old new × StopsAs verdicts.Ended new.status
+status_ends going old new r at a e =
+    let met = subst (λ (q : Result (Option TapeItem) ImageFault). Meets old q new) e a in
+    (inl (at, inl met), (met.ending, met.ended))
+status_ends (ended ending) old new r at a e =
+    (inr (λ on. cc (on, at), a.1), (ending, ap (λ (r : Reader). r.status) a.1 ∙ at))
+status_ends (failed fault) old new r at a e = absurd (cc (a.0, e))
+
+status_fails : (s : Status) (old new : Reader) (r : Result (Option TapeItem) ImageFault)
+    (f : ImageFault) → old.status ≡ s → Answers s old r new → r ≡ Err f
+    → Stopped old new × StopsAs (verdicts.Failed f) new.status
+status_fails going old new r f at a e =
+    let met = subst (λ (q : Result (Option TapeItem) ImageFault). Meets old q new) e a in
+    (inl (at, inr (f, met)), met.failed)
+status_fails (ended ending) old new r f at a e = absurd (cc (a.0, e))
+status_fails (failed fault) old new r f at a e = (
+  inr (λ on. cc (on, at), a.1),
+  ap (λ (r : Reader). r.status) a.1 ∙ at ∙ ap failed (cc (a.0, e)),
+)
+
+-- it reached the end
+pub answered_end : (old new : Reader) (result : Result (Option Item) ImageFault)
+    (best other : Option TapeItem) (len : ℕ) → HasMoved old result new → result ≡ Ok None
+    → Answered old new verdicts.Ended len best best other other
+answered_end old new result best other len h e =
+    let (stopped, how) = status_ends old.status old new (seen result) refl h.answers (ap seen e) in
+    without stopped how refl refl
+
+-- it failed
+pub answered_fault : (old new : Reader) (result : Result (Option Item) ImageFault)
+    (fault : ImageFault) (best other : Option TapeItem) (len : ℕ) → HasMoved old result new
+    → result ≡ Err fault → Answered old new (verdicts.Failed fault) len best best other other
+answered_fault old new result fault best other len h e =
+    let (stopped, how) =
+    status_fails old.status old new (seen result) fault refl h.answers (ap seen e) in
+    without stopped how refl refl
+
+-- ---- the fields
+
+-- an item that does not agree is not a bad one
+pub disagrees_good : (best : Option TapeItem) (x : TapeItem) → (agrees best x → ⊥) → x ≢ bad
+disagrees_good None x never = λ _. never tt
+disagrees_good (Some bad) x never = λ _. never tt
+disagrees_good (Some (block b)) (block c) never = λ e. cc e
+disagrees_good (Some (block b)) bad never = λ _. never tt
+disagrees_good (Some (block b)) mark never = λ e. cc e
+disagrees_good (Some mark) (block c) never = λ e. cc e
+disagrees_good (Some mark) bad never = λ _. never tt
+disagrees_good (Some mark) mark never = λ _. never tt
+
+good_none_bad : (x : TapeItem) → x ≢ bad → one_if (is_bad_one (Some x)) ≡ 0
+good_none_bad (block b) nb = refl
+good_none_bad bad nb = absurd (nb refl)
+good_none_bad mark nb = refl
+
+compares_bad : (v : Verdict) (x : TapeItem) (best now other beside : Option TapeItem)
+    → Compares v x best now other beside → bad_count v ≡ one_if (is_bad_one (Some x))
+compares_bad verdicts.First x best now other beside h = sym (good_none_bad x h.0)
+compares_bad verdicts.Bad x best now other beside h =
+    ap (λ (y : TapeItem). one_if (is_bad_one (Some y))) (sym h.0)
+compares_bad verdicts.Second x best now other beside h =
+    sym (good_none_bad x (disagrees_good best x h.0.0))
+compares_bad verdicts.Third x best now other beside h =
+    sym (good_none_bad x (disagrees_good best x h.0.0))
+compares_bad verdicts.Ended x best now other beside h = absurd h
+compares_bad (verdicts.Failed fault) x best now other beside h = absurd h
+
+-- the fields after an item with this verdict
+pub record Fields {R : Type 0} (old new : Reading R) (len badly : ℕ) : Type 0 where
+  pub items : RisesBy old.items 1 new.items
+  pub bad : RisesBy old.bad badly new.bad
+  pub from : new.from ≡ old.image.place
+  pub long : new.length ≡ len
+
+item_never : (v : Verdict) (s : Status) → is_stop v ≡ false → StopsAs v s → ⊥
+item_never verdicts.First s is h = h
+item_never verdicts.Bad s is h = h
+item_never verdicts.Second s is h = h
+item_never verdicts.Third s is h = h
+item_never verdicts.Ended s is h = absurd (cc is)
+item_never (verdicts.Failed fault) s is h = absurd (cc is)
+
+stop_never : (v : Verdict) (x : TapeItem) (best now other beside : Option TapeItem)
+    → is_stop v ≡ true → Compares v x best now other beside → ⊥
+stop_never verdicts.First x best now other beside is h = absurd (cc is)
+stop_never verdicts.Bad x best now other beside is h = absurd (cc is)
+stop_never verdicts.Second x best now other beside is h = absurd (cc is)
+stop_never verdicts.Third x best now other beside is h = absurd (cc is)
+stop_never verdicts.Ended x best now other beside is h = h
+stop_never (verdicts.Failed fault) x best now other beside is h = h
+
+-- the reading gave an item, with this verdict
+pub asked_item : {R : Type 0} (old new : Reading R) (verdict : Verdict) (len badly : ℕ)
+    (best now other beside : Option TapeItem)
+    → Answered old.image new.image verdict len best now other beside → new.verdict ≡ verdict
+    → is_stop verdict ≡ false → badly ≡ bad_count verdict
+    → Fields old new len badly → Asked old new best now other beside
+asked_item old new verdict len badly best now other beside
+    (with_item x on given compares long) is no_stop same fields =
+    gives x on given
+    (subst (λ (v : Verdict). Compares v x best now other beside) (sym is) compares)
+    (record {
+      items = fields.items;
+      bad = subst (λ k. RisesBy old.bad k new.bad)
+          (same ∙ compares_bad verdict x best now other beside compares) fields.bad;
+      from = fields.from;
+      len = fields.long ∙ long;
+    })
+asked_item old new verdict len badly best now other beside
+    (without stopped how kept left) is no_stop same fields =
+    absurd (item_never verdict new.image.status no_stop how)
+
+-- the reading stopped, with this verdict
+pub asked_stop : {R : Type 0} (old new : Reading R) (verdict : Verdict) (len : ℕ)
+    (best now other beside : Option TapeItem)
+    → Answered old.image new.image verdict len best now other beside → new.verdict ≡ verdict
+    → is_stop verdict ≡ true → CountsNothing old new
+    → Asked old new best now other beside
+asked_stop old new verdict len best now other beside
+    (with_item x on given compares long) is a_stop same =
+    absurd (stop_never verdict x best now other beside a_stop compares)
+asked_stop old new verdict len best now other beside
+    (without stopped how kept left) is a_stop same =
+    stops stopped (subst (λ (v : Verdict). StopsAs v new.image.status) (sym is) how) same kept left

@@ -1,13 +1,11 @@
--- What comes of the images of a shelf, from what comes of their readers.
-use Rattle.std.proofs.Common.{◌≡◌, ◌⊎◌, ℕ, zero, suc, ◌+◌, List, [], ◌∷◌, ◌++◌, length, map}
-use Rattle.std.proofs.Common.{Option, Some, None, Result, Ok, Err, IfOk, IfErr, refl, sym, ap}
-use Rattle.std.proofs.Common.{subst, ◌∙◌}
-use Rattle.std.proofs.Common.{inl, inr, arith, length-append}
+-- What comes of the images of a shelf, from what comes of their readings.
+use Rattle.std.proofs.Common.{◌≡◌, ◌⊎◌, ℕ, zero, suc, ◌+◌, List, [], ◌∷◌, ◌++◌, length}
+use Rattle.std.proofs.Common.{map, Option, Some, None, Result, Ok, Err, IfOk, IfErr}
+use Rattle.std.proofs.Common.{refl, sym, ap, subst, ◌∙◌, inl, inr, arith, length-append}
 use Rattle.std.specs.List.{flat_map}
 use Rattle.std.specs.Io.KnownBytes.{Appends}
 use Rattle.std.proofs.KnownBytes.{Appends-nil, Appends-trans}
 use Rattle.tape_image.specs.Tape.{TapeItem}
-use Rattle.tape_image.specs.Reader.{Reader}
 use Rattle.tape_image.specs.Written.{written}
 use Rattle.tape_image.specs.Writer.{Writer, writing, PutItems}
 use Rattle.tape_image.proofs.WrittenItems.{put_item}
@@ -20,15 +18,14 @@ use Rattle.tape_run.specs.declared.merge.now.MergeEnd.TheVariants.{Whole, Partia
 use Rattle.tape_run.specs.declared.merge.now.MergeStop.{MergeStop}
 use Rattle.tape_run.specs.declared.merge.now.MergeStop.TheVariants as stops
 use Rattle.tape_run.specs.declared.merge.MergeFault.TheVariants as faults
-use Rattle.tape_run.specs.declared.passing.Phase.TheVariants.{Volume}
-use Rattle.tape_run.specs.Passing.{told_from}
+use Rattle.tape_run.specs.declared.merge.reading.Reading.{Reading}
 use Rattle.tape_run.specs.Reeling.{Mounting, AreMounted}
-use Rattle.tape_run.specs.MergeCalls.{AreAtFront, Merges, FitsFault, DiffersAt}
-use Rattle.tape_run.specs.MergeCalls.{miscounted_in}
-use Rattle.tape_run.specs.MergeNow.{IsOn, MountsAll, IsMissing, end_bytes, FitsEnd, HoldsMerged}
-use Rattle.tape_run.specs.MergeNow.{ComesTo, MergesNow, Misses, LeavesPlace, MakesOut}
-use Rattle.tape_run.specs.MergeNow.{ReadersComeTo}
-use Rattle.tape_run.proofs.MergeBytes.{merges_images, faults_images}
+use Rattle.tape_run.specs.MergeCalls.{AreAtFront}
+use Rattle.tape_run.specs.MergedImages.{MergesImages, FaultsImages}
+use Rattle.tape_run.specs.MergeLines.{lines_from, reading_line, merged_line}
+use Rattle.tape_run.specs.MergeNow.{IsOn, MountsAll, IsMissing, EndsAs, end_bytes}
+use Rattle.tape_run.specs.MergeNow.{FitsEnd, HoldsMerged, ComesTo, ReadingsComeTo, MergesNow, Misses}
+use Rattle.tape_run.specs.MergeNow.{LeavesPlace}
 use Rattle.tape_run.proofs.Turns.{one_mounted}
 
 -- ---- mounting
@@ -72,63 +69,36 @@ appends_items (x ∷ items) old new (mid, put, then) =
     Appends-trans old.contents mid.contents new.contents (written x) (flat_map written items)
     (put_item x old mid put).1.wrote (appends_items items mid new then)
 
--- ---- from readers to images
-
-holds_merged : (images : List (List ℕ)) (bytes : List (Option (List ℕ))) (firsts : List Reader)
-    (out stands : Option (List ℕ)) (end : MergeEnd) → AreAtFront bytes firsts
-    → bytes ≡ map Some images → MakesOut firsts out stands end → HoldsMerged images out stands end
-holds_merged images bytes firsts out stands end front is m =
-    let first : Writer = record { size = 0; standing = writing; contents = out } in
-    let whole = merges_images images bytes firsts m.nows m.counts first m.mid front is m.merges in
-    record {
-      readings = whole.readings;
-      give = whole.give;
-      merged = whole.merged;
-      is = whole.is;
-      ends = m.ends;
-      holds = Appends-trans out m.mid.contents stands (flat_map written whole.merged)
-          (end_bytes m.ends) (appends_items whole.merged first m.mid whole.wrote) m.wrote;
-      fits = subst (λ b. FitsEnd b (miscounted_in (told_from Volume whole.merged)) m.ends end)
-          whole.count.bad
-          (subst (λ n. FitsEnd m.counts.bad n m.ends end) whole.count.miscounted m.fits);
-    }
-
-comes_to : (images : List (List ℕ)) (bytes : List (Option (List ℕ))) (firsts : List Reader)
-    (out stands : Option (List ℕ)) (end : MergeEnd) → AreAtFront bytes firsts
-    → bytes ≡ map Some images → ReadersComeTo firsts out stands end
-    → ComesTo images out stands end
-comes_to images bytes firsts out stands Whole front is m =
-    holds_merged images bytes firsts out stands Whole front is m
-comes_to images bytes firsts out stands Partial front is m =
-    holds_merged images bytes firsts out stands Partial front is m
-comes_to images bytes firsts out stands Differs front is (nows, number, mid, d) =
-    let first : Writer = record { size = 0; standing = writing; contents = out } in
-    faults_images images bytes firsts nows first mid (faults.Differ number) front is d
+-- ---- from readings to images
 
 merges_now : {L R : Type 0} (size : L → ℕ) (gives : Mounting L R) (remaining : R → Option (List ℕ))
-    (shelf left : L) (devices : List R) (firsts : List Reader) (out stands : Option (List ℕ))
-    (end : MergeEnd) → MountsAll size gives shelf left devices
-    → AreAtFront (map remaining devices) firsts → ReadersComeTo firsts out stands end
-    → MergesNow size gives remaining shelf left out stands end
-merges_now size gives remaining shelf left devices firsts out stands end mounts front comes =
-    record {
+    (shelf left : L) (devices : List R) (firsts : List (Reading R)) (names : List (List ℕ))
+    (out stands : Option (List ℕ)) (says : List ℕ → Type 0) (end : MergeEnd)
+    → MountsAll size gives shelf left devices → AreAtFront (map remaining devices) firsts
+    → ReadingsComeTo firsts names out stands says end
+    → MergesNow size gives remaining shelf left names out stands says end
+merges_now size gives remaining shelf left devices firsts names out stands says end mounts front
+    comes = record {
       devices = devices;
       mounts = mounts;
-      comes = λ images is.
-          comes_to images (map remaining devices) firsts out stands end front is comes;
+      comes = λ images is. comes images
+          (subst (λ (l : List (Option (List ℕ))). AreAtFront l firsts) is front);
     }
 
 -- ---- as the engine answers
 
 pub ok_now : {L R : Type 0} (result : Result MergeEnd MergeStop) (size : L → ℕ)
     (gives : Mounting L R) (remaining : R → Option (List ℕ)) (shelf left : L) (devices : List R)
-    (firsts : List Reader) (out stands : Option (List ℕ))
+    (firsts : List (Reading R)) (names : List (List ℕ)) (out stands : Option (List ℕ))
+    (says : List ℕ → Type 0)
     → MountsAll size gives shelf left devices → AreAtFront (map remaining devices) firsts
-    → IfOk result (ReadersComeTo firsts out stands)
-    → IfOk result (MergesNow size gives remaining shelf left out stands)
-ok_now (Ok end) size gives remaining shelf left devices firsts out stands mounts front h =
-    merges_now size gives remaining shelf left devices firsts out stands end mounts front h
-ok_now (Err stop) size gives remaining shelf left devices firsts out stands mounts front h = tt
+    → IfOk result (ReadingsComeTo firsts names out stands says)
+    → IfOk result (MergesNow size gives remaining shelf left names out stands says)
+ok_now (Ok end) size gives remaining shelf left devices firsts names out stands says mounts front
+    h = merges_now size gives remaining shelf left devices firsts names out stands says end mounts
+    front h
+ok_now (Err stop) size gives remaining shelf left devices firsts names out stands says mounts
+    front h = tt
 
 leaves_more : {O : Type 0} (stands : O → Option (List ℕ)) (old new : O) (missing : ℕ → Type 0)
     (P Q : Type 0) (stop : MergeStop) → (P → Q) → LeavesPlace stands old new (λ _. ⊥) P stop
@@ -141,18 +111,19 @@ leaves_more stands old new missing P Q stops.WriteFailed f (inr made) = inr (f m
 
 pub err_now : {L R O : Type 0} (result : Result MergeEnd MergeStop) (place : O → Option (List ℕ))
     (old new : O) (size : L → ℕ) (gives : Mounting L R) (remaining : R → Option (List ℕ))
-    (shelf left : L) (devices : List R) (firsts : List Reader) (out stands : Option (List ℕ))
+    (shelf left : L) (devices : List R) (firsts : List (Reading R)) (names : List (List ℕ))
+    (out stands : Option (List ℕ)) (says : List ℕ → Type 0)
     → MountsAll size gives shelf left devices → AreAtFront (map remaining devices) firsts
     → IfErr result (LeavesPlace place old new (λ _. ⊥)
-    ((end : MergeEnd) × ReadersComeTo firsts out stands end))
+    ((end : MergeEnd) × ReadingsComeTo firsts names out stands says end))
     → IfErr result (LeavesPlace place old new (IsMissing gives shelf left)
-    ((end : MergeEnd) × MergesNow size gives remaining shelf left out stands end))
-err_now (Ok end) place old new size gives remaining shelf left devices firsts out stands mounts
-    front h = tt
-err_now (Err stop) place old new size gives remaining shelf left devices firsts out stands mounts
-    front h = leaves_more place old new (IsMissing gives shelf left) _ _ stop (λ made. (
+    ((end : MergeEnd) × MergesNow size gives remaining shelf left names out stands says end))
+err_now (Ok end) place old new size gives remaining shelf left devices firsts names out stands says
+    mounts front h = tt
+err_now (Err stop) place old new size gives remaining shelf left devices firsts names out stands
+    says mounts front h = leaves_more place old new (IsMissing gives shelf left) _ _ stop (λ made. (
       made.0,
-      merges_now size gives remaining shelf left devices firsts out stands made.0 mounts
+      merges_now size gives remaining shelf left devices firsts names out stands says made.0 mounts
           front made.1,
     )) h
 
@@ -179,31 +150,7 @@ pub err_write : {T O : Type 0} (result : Result T MergeStop) (stands : O → Opt
 err_write {T} result stands old new missing made is h =
     subst (λ (r : Result T MergeStop). IfErr r (LeavesPlace stands old new missing made)) (sym is) h
 
--- ---- the readers
-
-pub makes_out : (firsts : List Reader) (out stands : Option (List ℕ)) (end : MergeEnd)
-    → MakesOut firsts out stands end → ReadersComeTo firsts out stands end
-makes_out firsts out stands Whole m = m
-makes_out firsts out stands Partial m = m
-makes_out firsts out stands Differs m = absurd m.fits
-
-pub made : (firsts nows : List Reader) (counts : Merged) (first mid : Writer)
-    (out put stands : Option (List ℕ)) (ends : MergedEnd) (end : MergeEnd)
-    → first ≡ record { size = 0; standing = writing; contents = out }
-    → Merges firsts nows counts first mid → Appends mid.contents put (end_bytes ends)
-    → stands ≡ put → FitsEnd counts.bad counts.miscounted ends end
-    → ReadersComeTo firsts out stands end
-made firsts nows counts first mid out put stands ends end is merges wrote there fits =
-    makes_out firsts out stands end (record {
-      nows = nows;
-      counts = counts;
-      mid = mid;
-      merges = subst (λ (w : Writer). Merges firsts nows counts w mid) is merges;
-      ends = ends;
-      wrote = subst (λ (s : Option (List ℕ)). Appends mid.contents s (end_bytes ends)) (sym there)
-          wrote;
-      fits = fits;
-    })
+-- ---- the readings
 
 some_end : (bad miscounted : ℕ) (ends : MergedEnd)
     → (end : MergeEnd) × FitsEnd bad miscounted ends end
@@ -213,28 +160,80 @@ some_end zero zero Marked = (Whole, (refl, refl, λ e. cc e))
 some_end zero zero Physical = (Whole, (refl, refl, λ e. cc e))
 some_end zero zero Cut = (Partial, inr (inr refl))
 
--- the same before it is known whether it is whole
-pub made_some : (firsts nows : List Reader) (counts : Merged) (first mid : Writer)
-    (out put stands : Option (List ℕ)) (ends : MergedEnd)
-    → first ≡ record { size = 0; standing = writing; contents = out }
-    → Merges firsts nows counts first mid → Appends mid.contents put (end_bytes ends)
-    → stands ≡ put → (end : MergeEnd) × ReadersComeTo firsts out stands end
-made_some firsts nows counts first mid out put stands ends is merges wrote there =
-    let (end, fits) = some_end counts.bad counts.miscounted ends in
-    (end, made firsts nows counts first mid out put stands ends end is merges wrote there fits)
+comes_whole : (R : Type 0) (images names : List (List ℕ)) (out stands : Option (List ℕ))
+    (says : List ℕ → Type 0) (end : MergeEnd) (ends : MergedEnd) (bad miscounted : ℕ)
+    → FitsEnd bad miscounted ends end → HoldsMerged R images names out stands says end
+    → ComesTo R images names out stands says end
+comes_whole R images names out stands says Whole ends bad miscounted fits h = h
+comes_whole R images names out stands says Partial ends bad miscounted fits h = h
+comes_whole R images names out stands says Differs ends bad miscounted fits h = absurd fits
 
-pub differed : (firsts nows : List Reader) (number : ℕ) (fault : MergeFault) (first mid : Writer)
-    (out stands : Option (List ℕ))
+-- The images were merged, the end was written, and the place has that. The lines were reported, if
+-- the last one was.
+pub made : {R : Type 0} (firsts nows : List (Reading R)) (counts : Merged) (first mid : Writer)
+    (out put stands : Option (List ℕ)) (ends : MergedEnd) (end : MergeEnd) (names : List (List ℕ))
+    (says : List ℕ → Type 0)
     → first ≡ record { size = 0; standing = writing; contents = out }
-    → FitsFault firsts nows first mid fault → fault ≡ faults.Differ number
-    → ReadersComeTo firsts out stands Differs
-differed firsts nows number fault first mid out stands is fits differ = (
-  nows,
-  number,
-  mid,
-  subst (λ (w : Writer). DiffersAt firsts nows number w mid) is
-      (subst (FitsFault firsts nows first mid) differ fits),
-)
+    → ((images : List (List ℕ)) → AreAtFront (map Some images) firsts
+    → MergesImages images nows counts first mid)
+    → Appends mid.contents put (end_bytes ends) → stands ≡ put
+    → FitsEnd counts.bad counts.miscounted ends end → EndsAs counts.items nows ends
+    → says (lines_from (reading_line names) 0 nows ++ merged_line counts ends)
+    → ReadingsComeTo firsts names out stands says end
+made firsts nows counts first mid out put stands ends end names says is merges wrote there fits how
+    lines = λ images front.
+    let m = merges images front in
+    let begun : Appends out mid.contents (flat_map written m.merged) =
+    subst (λ (w : Writer). Appends w.contents mid.contents (flat_map written m.merged)) is
+    (appends_items m.merged first mid m.wrote) in
+    comes_whole _ images names out stands says end ends counts.bad counts.miscounted fits (record {
+      nows = nows;
+      readings = m.readings;
+      have = m.have;
+      stopped = m.ended;
+      merged = m.merged;
+      is = m.is;
+      counts = counts;
+      count = m.count;
+      ends = ends;
+      ends_as = how;
+      holds = Appends-trans out mid.contents stands (flat_map written m.merged) (end_bytes ends)
+          begun (subst (λ (s : Option (List ℕ)). Appends mid.contents s (end_bytes ends))
+          (sym there) wrote);
+      fits = fits;
+      lines = lines;
+    })
+
+-- the same if the last line was not written whole
+pub made_some : {R : Type 0} (firsts nows : List (Reading R)) (counts : Merged)
+    (first mid : Writer) (out put stands : Option (List ℕ)) (ends : MergedEnd)
+    (names : List (List ℕ)) (says : List ℕ → Type 0)
+    → first ≡ record { size = 0; standing = writing; contents = out }
+    → ((images : List (List ℕ)) → AreAtFront (map Some images) firsts
+    → MergesImages images nows counts first mid)
+    → Appends mid.contents put (end_bytes ends) → stands ≡ put
+    → EndsAs counts.items nows ends
+    → says (lines_from (reading_line names) 0 nows ++ merged_line counts ends)
+    → (end : MergeEnd) × ReadingsComeTo firsts names out stands says end
+made_some firsts nows counts first mid out put stands ends names says is merges wrote there how
+    lines =
+    let (end, fits) = some_end counts.bad counts.miscounted ends in (
+      end,
+      made firsts nows counts first mid out put stands ends end names says is merges wrote there
+          fits how lines,
+    )
+
+pub differed : {R : Type 0} (firsts nows : List (Reading R)) (number : ℕ) (fault : MergeFault)
+    (out stands : Option (List ℕ)) (names : List (List ℕ)) (says : List ℕ → Type 0)
+    → ((images : List (List ℕ)) → AreAtFront (map Some images) firsts
+    → FaultsImages images nows fault)
+    → fault ≡ faults.Differ number
+    → ReadingsComeTo firsts names out stands says Differs
+differed firsts nows number fault out stands names says faulted is = λ images front. record {
+  nows = nows;
+  number = number;
+  differ = subst (λ (f : MergeFault). FaultsImages images nows f) is (faulted images front);
+}
 
 pub fits_other : (bad miscounted : ℕ) (ends : MergedEnd) (end : MergeEnd)
     → FitsEnd bad miscounted ends end → end ≡ Differs → ⊥
@@ -242,11 +241,10 @@ fits_other bad miscounted ends Whole h is = absurd (cc is)
 fits_other bad miscounted ends Partial h is = absurd (cc is)
 fits_other bad miscounted ends Differs h is = absurd h
 
--- readers at the beginning of images, as a loan names their devices and them
-pub at_front : {X D : Type 0} (remaining : D → Option (List ℕ)) (reader : X → Reader)
-    (devices lent : List D) (xs ys : List X) → lent ≡ devices → ys ≡ xs
-    → AreAtFront (map remaining lent) (map reader xs)
-    → AreAtFront (map remaining devices) (map reader ys)
-at_front {X} {D} remaining reader devices lent xs ys same e h =
-    subst (λ (l : List D). AreAtFront (map remaining l) (map reader ys)) same
-    (subst (λ (l : List X). AreAtFront (map remaining lent) (map reader l)) (sym e) h)
+-- readings at the beginning of images, as a loan names their devices and them
+pub at_front : {R D : Type 0} (remaining : D → Option (List ℕ)) (devices lent : List D)
+    (xs ys : List (Reading R)) → lent ≡ devices → ys ≡ xs → AreAtFront (map remaining lent) xs
+    → AreAtFront (map remaining devices) ys
+at_front {R} {D} remaining devices lent xs ys same e h =
+    subst (λ (l : List D). AreAtFront (map remaining l) ys) same
+    (subst (λ (l : List (Reading R)). AreAtFront (map remaining lent) l) (sym e) h)

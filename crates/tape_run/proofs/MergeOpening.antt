@@ -2,30 +2,32 @@
 use Rattle.std.proofs.Common.{◌≡◌, ℕ, List, [], ◌∷◌, ◌++◌, length, map, Option, refl, sym, ap}
 use Rattle.std.proofs.Common.{subst, ◌∙◌, arith, append_assoc, append-nil}
 use Rattle.std.proofs.lemmas.List.{map-append}
-use Rattle.tape_image.specs.Reader.{Reader, going}
+use Rattle.tape_image.specs.Reader.{going}
+use Rattle.tape_run.specs.declared.merge.reading.Reading.{Reading}
 use Rattle.tape_run.specs.MergeCalls.{AreAtFront}
 
-front_more : (bs : List (Option (List ℕ))) (rs : List Reader) (b : Option (List ℕ)) (r : Reader)
-    → AreAtFront bs rs → r.left ≡ b → r.status ≡ going → r.place ≡ 0
-    → AreAtFront (bs ++ b ∷ []) (rs ++ r ∷ [])
-front_more [] [] b r h left on first = (left, on, first, tt)
-front_more [] (q ∷ rs) b r h left on first = absurd h
-front_more (a ∷ bs) [] b r h left on first = absurd h
-front_more (a ∷ bs) (q ∷ rs) b r h left on first =
-    (h.0, h.1, h.2, front_more bs rs b r h.3 left on first)
+front_more : {R : Type 0} (bs : List (Option (List ℕ))) (rs : List (Reading R))
+    (b : Option (List ℕ)) (r : Reading R)
+    → AreAtFront bs rs → r.image.left ≡ b → r.image.status ≡ going → r.image.place ≡ 0
+    → (r.items ≡ 0) × (r.bad ≡ 0) → AreAtFront (bs ++ b ∷ []) (rs ++ r ∷ [])
+front_more [] [] b r h left on first none = (left, on, first, none.0, none.1, tt)
+front_more [] (q ∷ rs) b r h left on first none = absurd h
+front_more (a ∷ bs) [] b r h left on first none = absurd h
+front_more (a ∷ bs) (q ∷ rs) b r h left on first none =
+    (h.0, h.1, h.2, h.3, h.4, front_more bs rs b r h.5 left on first none)
 
-pub open_more : {X Y : Type 0} (bytes : X → Option (List ℕ)) (reader : Y → Reader) (xs : List X)
-    (ys : List Y) (x : X) (y : Y) (all : List Y)
-    → AreAtFront (map bytes xs) (map reader ys) → all ≡ ys ++ y ∷ []
-    → (reader y).left ≡ bytes x → (reader y).status ≡ going → (reader y).place ≡ 0
-    → AreAtFront (map bytes (xs ++ x ∷ [])) (map reader all)
-open_more {X} {Y} bytes reader xs ys x y all h is left on first =
-    let more = front_more (map bytes xs) (map reader ys) (bytes x) (reader y) h left on first in
-    let there : AreAtFront (map bytes (xs ++ x ∷ [])) (map reader ys ++ reader y ∷ []) =
-    subst (λ (l : List (Option (List ℕ))). AreAtFront l (map reader ys ++ reader y ∷ []))
+pub open_more : {X R : Type 0} (bytes : X → Option (List ℕ)) (xs : List X)
+    (ys : List (Reading R)) (x : X) (y : Reading R) (all : List (Reading R))
+    → AreAtFront (map bytes xs) ys → all ≡ ys ++ y ∷ []
+    → y.image.left ≡ bytes x → y.image.status ≡ going → y.image.place ≡ 0
+    → (y.items ≡ 0) × (y.bad ≡ 0)
+    → AreAtFront (map bytes (xs ++ x ∷ [])) all
+open_more {X} {R} bytes xs ys x y all h is left on first none =
+    let more = front_more (map bytes xs) ys (bytes x) y h left on first none in
+    let there : AreAtFront (map bytes (xs ++ x ∷ [])) (ys ++ y ∷ []) =
+    subst (λ (l : List (Option (List ℕ))). AreAtFront l (ys ++ y ∷ []))
     (sym (map-append bytes xs (x ∷ []))) more in
-    subst (λ (l : List Reader). AreAtFront (map bytes (xs ++ x ∷ [])) l)
-    (sym (ap (map reader) is ∙ map-append reader ys (y ∷ []))) there
+    subst (λ (l : List (Reading R)). AreAtFront (map bytes (xs ++ x ∷ [])) l) (sym is) there
 
 pub split_more : {X D : Type 0} (value : X → D) (xs : List X) (x : X) (old rest devices : List D)
     → map value xs ++ old ≡ devices → old ≡ value x ∷ rest
@@ -44,11 +46,11 @@ map_twice : {X D B : Type 0} (f : D → B) (value : X → D) (xs : List X)
 map_twice {X} {D} {B} f value [] = refl
 map_twice {X} {D} {B} f value (x ∷ xs) = ap (λ (l : List B). f (value x) ∷ l) (map_twice f value xs)
 
-pub all_open : {X D : Type 0} (bytes : D → Option (List ℕ)) (value : X → D) (xs : List X)
-    (rest devices : List D) (rs : List Reader)
+pub all_open : {X D R : Type 0} (bytes : D → Option (List ℕ)) (value : X → D) (xs : List X)
+    (rest devices : List D) (rs : List (Reading R))
     → AreAtFront (map (λ x. bytes (value x)) xs) rs → map value xs ++ rest ≡ devices
     → length rest ≡ 0 → AreAtFront (map bytes devices) rs
-all_open {X} {D} bytes value xs rest devices rs h e none =
+all_open {X} {D} {R} bytes value xs rest devices rs h e none =
     let values : map value xs ≡ devices =
     sym (append-nil (map value xs)) ∙ ap (λ (l : List D). map value xs ++ l)
     (sym (none_left rest none)) ∙ e in

@@ -7,10 +7,12 @@ use Rattle.tape_image.specs.declared.item.ImageWriteFault.{ImageWriteFault}
 use Rattle.tape_image.specs.declared.item.ImageWriteFault.TheVariants.{BlockLength, Finished}
 use Rattle.tape_image.specs.declared.item.ImageWriteFault.TheVariants.{TooLong, Device}
 use Rattle.tape_image.specs.Tape.{TapeItem, block, bad, mark, IsTapeItem}
-use Rattle.tape_image.specs.Reader.{Reader}
 use Rattle.tape_image.specs.Written.{written, is_no_block}
 use Rattle.tape_image.specs.Writer.{Writer, Standing, writing, Puts, PutsFrom, BlockFrom}
-use Rattle.tape_run.specs.MergeSteps.{joined, Takes, Asked, gives, stops, AskedAll}
+use Rattle.tape_run.specs.declared.merge.reading.Reading.{Reading}
+use Rattle.tape_run.specs.declared.merge.reading.Verdict.{Verdict}
+use Rattle.tape_run.specs.declared.merge.reading.Verdict.TheVariants as verdicts
+use Rattle.tape_run.specs.MergeSteps.{joined, Takes, Compares, Asked, gives, stops, AskedAll}
 use Rattle.tape_run.specs.MergeCalls.{Refuses}
 
 abbrev FitsCandidate : Option TapeItem → Type 0
@@ -29,19 +31,30 @@ takes_fits : (best : Option TapeItem) (x : TapeItem) (b : Bool) (now : Option Ta
 takes_fits best x true now h k (a, is) = subst FitsCandidate (sym is) (joined_fits best x h k)
 takes_fits best x false now h k (a, is) = subst FitsCandidate (sym is) h
 
-asked_fits : (o n : Reader) (best : Option TapeItem) (b : Bool) (now : Option TapeItem)
-    → FitsCandidate best → Asked o n best b now → FitsCandidate now
-asked_fits o n best b now h (gives x on given takes) = takes_fits best x b now h given.fits takes
-asked_fits o n best b now h (stops off agreed same) = subst FitsCandidate (sym same) h
+compares_fits : (v : Verdict) (x : TapeItem) (best now other beside : Option TapeItem)
+    → FitsCandidate best → IsTapeItem x → Compares v x best now other beside → FitsCandidate now
+compares_fits verdicts.First x best now other beside h k c = takes_fits best x true now h k c.1
+compares_fits verdicts.Bad x best now other beside h k c = takes_fits best x true now h k c.1
+compares_fits verdicts.Second x best now other beside h k c = takes_fits best x false now h k c.0
+compares_fits verdicts.Third x best now other beside h k c = takes_fits best x false now h k c.0
+compares_fits verdicts.Ended x best now other beside h k c = absurd c
+compares_fits (verdicts.Failed fault) x best now other beside h k c = absurd c
+
+asked_fits : {R : Type 0} (o n : Reading R) (best now other beside : Option TapeItem)
+    → FitsCandidate best → Asked o n best now other beside → FitsCandidate now
+asked_fits o n best now other beside h (gives x on given compares counts) =
+    compares_fits n.verdict x best now other beside h given.fits compares
+asked_fits o n best now other beside h (stops off how counts same left) =
+    subst FitsCandidate (sym same) h
 
 -- the best item is an item of a tape
-pub best_fits : (olds nows : List Reader) (best now : Option TapeItem) (all : Bool)
-    → FitsCandidate best → AskedAll olds nows best now all → FitsCandidate now
-best_fits [] [] best now all h (same, is) = subst FitsCandidate (sym same) h
-best_fits [] (n ∷ nows) best now all h asked = absurd asked
-best_fits (o ∷ olds) [] best now all h asked = absurd asked
-best_fits (o ∷ olds) (n ∷ nows) best now all h (mid, this, those, one, rest, is) =
-    best_fits olds nows mid now those (asked_fits o n best this mid h one) rest
+pub best_fits : {R : Type 0} (olds nows : List (Reading R)) (best now other beside : Option TapeItem)
+    → FitsCandidate best → AskedAll olds nows best now other beside → FitsCandidate now
+best_fits [] [] best now other beside h (same, is) = subst FitsCandidate (sym same) h
+best_fits [] (n ∷ nows) best now other beside h asked = absurd asked
+best_fits (o ∷ olds) [] best now other beside h asked = absurd asked
+best_fits (o ∷ olds) (n ∷ nows) best now other beside h (mid, between, one, rest) =
+    best_fits olds nows mid now between beside (asked_fits o n best mid other between h one) rest
 
 -- an open writer refuses it since the device fails, or since there is no room
 puts_fault : (bytes : List ℕ) (after : Standing) (old new : Writer) (fault : ImageWriteFault)

@@ -1,13 +1,14 @@
 -- What the calls of merging do.
-use Rattle.std.specs.Prelude.{[], ◌∷◌, ◌≡◌, ◌≢◌, ℕ, ◌+◌, Bool, true, false, List, length, Option}
-use Rattle.std.specs.Prelude.{Some, None, Err, ⊤}
+use Rattle.std.specs.Prelude.{[], ◌∷◌, ◌≡◌, ◌≢◌, ℕ, zero, suc, ◌+◌, ◌==◌, Bool, true, false, List}
+use Rattle.std.specs.Prelude.{length, map, take, slice_get, Option, Some, None, Err, ⊤}
 use Rattle.tape_image.specs.Tape.{TapeItem, block, bad, mark, IsTapeItem}
-use Rattle.tape_image.specs.Reader.{Reader, going}
+use Rattle.tape_image.specs.Reader.{going}
 use Rattle.tape_image.specs.declared.item.ImageWriteFault.{ImageWriteFault}
 use Rattle.tape_image.specs.Written.{written}
 use Rattle.tape_image.specs.Writer.{Writer, writing, PutsFrom, BlockFrom, PutItem, PutItems}
 use Rattle.tape_run.specs.declared.merge.candidate.Kind.{Kind}
 use Rattle.tape_run.specs.declared.merge.candidate.Kind.TheVariants.{Nothing, Bad, Mark, Block}
+use Rattle.tape_run.specs.declared.merge.reading.Reading.{Reading}
 use Rattle.tape_run.specs.declared.merge.reading.Verdict.{Verdict}
 use Rattle.tape_run.specs.declared.merge.reading.Verdict.TheVariants as verdicts
 use Rattle.tape_run.specs.declared.merge.MergeFault.{MergeFault}
@@ -18,7 +19,8 @@ use Rattle.tape_run.specs.declared.section.SectionState.{SectionState}
 use Rattle.tape_run.specs.declared.passing.Phase.TheVariants.{Volume}
 use Rattle.tape_run.specs.Passing.{Told, told_from}
 use Rattle.tape_run.specs.Merging.{IsMerged, Differ}
-use Rattle.tape_run.specs.MergeSteps.{HaveRead, AllStopped, AskedAll}
+use Rattle.tape_run.specs.MergeSteps.{bads, one_if, is_good_one, HaveTaken, AllStopped, AreUpTo}
+use Rattle.tape_run.specs.MergeSteps.{AreJudged}
 
 -- the item of this kind and content
 abbrev pub candidate_of : Kind → List ℕ → Option TapeItem
@@ -27,23 +29,17 @@ candidate_of Bad content = Some bad
 candidate_of Mark content = Some mark
 candidate_of Block content = Some (block content)
 
--- the item is a bad one
-abbrev pub is_bad_one : Option TapeItem → Bool
-is_bad_one None = false
-is_bad_one (Some (block content)) = false
-is_bad_one (Some bad) = true
-is_bad_one (Some mark) = false
-
 -- ---- the counts of the merged items
 
-abbrev pub one_if : Bool → ℕ
-one_if true = 1
-one_if false = 0
+-- how many readings have the item after so many others, readable
+abbrev pub witnesses_at : ℕ → List (List TapeItem) → ℕ
+witnesses_at j [] = 0
+witnesses_at j (r ∷ rs) = one_if (is_good_one (slice_get r j)) + witnesses_at j rs
 
--- how many items are bad
-abbrev pub bads : List TapeItem → ℕ
-bads [] = 0
-bads (x ∷ xs) = one_if (is_bad_one (Some x)) + bads xs
+-- how many of the first items only one reading has, readable
+abbrev pub alone_in : ℕ → List (List TapeItem) → ℕ
+alone_in zero rs = 0
+alone_in (suc n) rs = alone_in n rs + one_if (witnesses_at n rs == 1)
 
 -- the section's trailer label has another count
 abbrev pub has_wrong_count : SectionState → ℕ
@@ -61,22 +57,29 @@ abbrev pub miscounted_in : List Told → ℕ
 miscounted_in [] = 0
 miscounted_in (t ∷ ts) = has_wrong_count t.1.state + miscounted_in ts
 
--- the counts of merged items; the sections are those that `check` reports
-pub record Counts (merged : List TapeItem) (m : Merged) : Type 0 where
-  pub items : length merged ≡ m.items
-  pub bad : m.bad ≡ bads merged
-  pub miscounted : m.miscounted ≡ miscounted_in (told_from Volume merged)
+-- the counts of items merged from readings; the sections are those that `check` reports
+pub record Counts (readings : List (List TapeItem)) (merged : List TapeItem) (m : Merged) : Type 0
+  where
+    pub items : length merged ≡ m.items
+    pub bad : m.bad ≡ bads merged
+    pub alone : m.alone ≡ alone_in (length merged) readings
+    pub miscounted : m.miscounted ≡ miscounted_in (told_from Volume merged)
 
 -- ---- calls
 
--- whether the verdict says that the reading's item agrees, if it has one
-abbrev pub agreed : Verdict → Bool
-agreed verdicts.First = true
-agreed verdicts.Bad = true
-agreed verdicts.Second = false
-agreed verdicts.Third = false
-agreed verdicts.Ended = true
-agreed (verdicts.Failed fault) = true
+-- 1 if the reading has the best item, readable
+abbrev pub has_first : Verdict → ℕ
+has_first verdicts.First = 1
+has_first verdicts.Bad = 0
+has_first verdicts.Second = 0
+has_first verdicts.Third = 0
+has_first verdicts.Ended = 0
+has_first (verdicts.Failed fault) = 0
+
+-- how many readings have it
+abbrev pub firsts_in : {R : Type 0} → List (Reading R) → ℕ
+firsts_in [] = 0
+firsts_in (r ∷ rs) = has_first r.verdict + firsts_in rs
 
 -- the writer refused the item for this cause
 abbrev pub Refuses : TapeItem → ImageWriteFault → Writer → Writer → Type 0
@@ -89,67 +92,62 @@ abbrev pub RefusesCandidate : Option TapeItem → ImageWriteFault → Writer →
 RefusesCandidate None fault old new = ⊥
 RefusesCandidate (Some x) fault old new = Refuses x fault old new
 
--- Once a reading did not agree there is a differing item.
-abbrev pub Clashes : Bool → Option TapeItem → Option TapeItem → Type 0
-Clashes true other now = now ≡ other
-Clashes false other now = now ≢ None
-
 -- the item was written, if there is one
 abbrev pub Puts : Option TapeItem → Bool → Writer → Writer → Type 0
 Puts None some old new = (some ≡ false) × (new ≡ old)
 Puts (Some x) some old new = (some ≡ true) × PutItem x old new
 
--- The readers were asked for one item. There is a differing one exactly if one of them did not
--- agree.
-abbrev pub AsksAll : List Reader → List Reader → Option TapeItem → Option TapeItem → Type 0
-AsksAll olds nows now other = (all : Bool) × AskedAll olds nows None now all
-    × (all ≡ true → other ≡ None) × (all ≡ false → other ≢ None)
-
--- The readers were read to their ends, and the items of the least tape of which they are readings
+-- The readings were read to their ends, and the items of the least tape of which they are readings
 -- were written and counted.
-pub record Merges (firsts nows : List Reader) (m : Merged) (old new : Writer) : Type 0 where
+pub record Merges {R : Type 0} (firsts nows : List (Reading R)) (m : Merged) (old new : Writer)
+    : Type 0 where
   pub readings : List (List TapeItem)
-  pub have : HaveRead firsts nows readings
+  pub have : HaveTaken firsts nows readings
   pub ended : AllStopped nows
   pub merged : List TapeItem
   pub is : IsMerged readings merged
-  pub count : Counts merged m
+  pub count : Counts readings merged m
   pub wrote : PutItems merged old new
 
--- There is no tape of which the items that were read are readings. Up to the item before the n-th
--- there was one, which was written.
-pub record DiffersAt (firsts nows : List Reader) (n : ℕ) (old new : Writer) : Type 0 where
+-- There is no tape of which the items that were read are readings. Each reading was read up to the
+-- n-th item, and says how its item compares with the others. The items before that one make a tape,
+-- which was written.
+pub record DiffersAt {R : Type 0} (firsts nows : List (Reading R)) (n : ℕ) (old new : Writer)
+    : Type 0 where
   pub readings : List (List TapeItem)
-  pub have : HaveRead firsts nows readings
+  pub have : HaveTaken firsts nows readings
+  pub up_to : AreUpTo n nows readings
   pub differ : Differ readings
-  pub mids : List Reader
-  pub fronts : List (List TapeItem)
-  pub had : HaveRead firsts mids fronts
+  pub best : Option TapeItem
+  pub other : Option TapeItem
+  pub judged : AreJudged nows readings best other
   pub merged : List TapeItem
-  pub is : IsMerged fronts merged
+  pub is : IsMerged (map (take (length merged)) readings) merged
   pub count : length merged + 1 ≡ n
   pub wrote : PutItems merged old new
 
 -- Up to some item there was such a tape, which was written.
-pub record HasWritten (firsts : List Reader) (old new : Writer) : Type 0 where
-  pub mids : List Reader
+pub record HasWritten {R : Type 0} (firsts : List (Reading R)) (old new : Writer) : Type 0 where
+  pub mids : List (Reading R)
   pub fronts : List (List TapeItem)
-  pub had : HaveRead firsts mids fronts
+  pub had : HaveTaken firsts mids fronts
   pub merged : List TapeItem
   pub is : IsMerged fronts merged
   pub wrote : PutItems merged old new
 
 -- what is so after each fault
-abbrev pub FitsFault : List Reader → List Reader → Writer → Writer → MergeFault → Type 0
+abbrev pub FitsFault : {R : Type 0} → List (Reading R) → List (Reading R) → Writer → Writer
+    → MergeFault → Type 0
 FitsFault firsts nows old new (faults.Differ n) = DiffersAt firsts nows n old new
 FitsFault firsts nows old new faults.OutOfMemory = HasWritten firsts old new
 FitsFault firsts nows old new (faults.Write fault) =
     (mid : Writer) × HasWritten firsts old mid × (mid.standing ≡ writing)
     × (x : TapeItem) × IsTapeItem x × Refuses x fault mid new
 
--- The readers are at the beginning of images with these bytes, if those are known.
-abbrev pub AreAtFront : List (Option (List ℕ)) → List Reader → Type 0
+-- The readings are at the beginning of images with these bytes, if those are known.
+abbrev pub AreAtFront : {R : Type 0} → List (Option (List ℕ)) → List (Reading R) → Type 0
 AreAtFront [] [] = ⊤
 AreAtFront (bytes ∷ more) (r ∷ rs) =
-    (r.left ≡ bytes) × (r.status ≡ going) × (r.place ≡ 0) × AreAtFront more rs
+    (r.image.left ≡ bytes) × (r.image.status ≡ going) × (r.image.place ≡ 0)
+    × (r.items ≡ 0) × (r.bad ≡ 0) × AreAtFront more rs
 AreAtFront _ _ = ⊥

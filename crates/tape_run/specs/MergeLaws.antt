@@ -1,10 +1,9 @@
 -- Laws of readings, and of the tape that they make together.
-use Rattle.std.specs.Prelude.{◌≡◌, ◌≢◌, ◌⊎◌, ◌<◌, ◌↔◌, ℕ, List, [], ◌∷◌, ◌++◌, length, max}
+use Rattle.std.specs.Prelude.{◌≡◌, ◌⊎◌, ◌<◌, ◌↔◌, ℕ, List, [], ◌∷◌, ◌++◌, length, max}
 use Rattle.std.specs.Prelude.{slice_get, Some, None, ⊤}
-use Rattle.tape_image.specs.declared.item.Ending.{Ending}
-use Rattle.tape_image.specs.declared.item.ImageFault.{ImageFault}
 use Rattle.tape_image.specs.Tape.{TapeItem, bad}
-use Rattle.tape_image.specs.Reader.{Reader, going}
+use Rattle.tape_image.specs.Begins.{Walks}
+use Rattle.tape_image.specs.Reader.{Reader, Status, going, ended, failed}
 use Rattle.tape_image.specs.Step.{TakesEnd, TakesFault}
 use Rattle.tape_run.specs.MergeSteps.{HasRead}
 use Rattle.tape_run.specs.Merging.{IsReadFrom, IsMerged, Differ}
@@ -65,12 +64,18 @@ OrderDoesNotMatter = (rs ss : List (List TapeItem)) (m : List TapeItem)
     → ((r : List TapeItem) → IsOneOf r ss → IsOneOf r rs)
     → IsMerged rs m → IsMerged ss m
 
--- What a reader returned from the beginning of an image until it stopped: the items that its bytes
--- begin with, up to the end of the medium or to a fault of the image. If the device failed, those
--- of the bytes that it returned.
+-- What the status of a reader says of the items that bytes at offset p begin with, up to offset q;
+-- the bytes after them are left.
+abbrev pub TakesAs : ℕ → Status → List TapeItem → ℕ → List ℕ → List ℕ → Type 0
+TakesAs p going items q bytes left = Walks p bytes items q left
+TakesAs p (ended ending) items q bytes left = TakesEnd p items ending q bytes left
+TakesAs p (failed fault) items q bytes left = TakesFault p items fault bytes left
+
+-- What a reader returned of an image are the items that its bytes begin with, up to the end of the
+-- medium or to a fault of the image if it stopped. If the device failed, they are those of the
+-- bytes that it returned. The reader has the rest.
 abbrev pub ReadersGiveImages : Type 0
 ReadersGiveImages = (first now : Reader) (items : List TapeItem) (bytes : List ℕ)
-    → HasRead first now items → first.status ≡ going → now.status ≢ going
-    → first.left ≡ Some bytes
-    → ((ending : Ending) × (left : List ℕ) × TakesEnd first.place items ending now.place bytes left)
-    ⊎ ((fault : ImageFault) × (left : List ℕ) × TakesFault first.place items fault bytes left)
+    → HasRead first now items → first.status ≡ going → first.left ≡ Some bytes
+    → (left : List ℕ) × (now.left ≡ Some left)
+    × TakesAs first.place now.status items now.place bytes left

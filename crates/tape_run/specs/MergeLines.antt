@@ -1,15 +1,22 @@
 -- The lines of `merge` and `compare`. Numbers are plain decimals, and a name is the rest of its
 -- line.
-use Rattle.std.specs.Prelude.{ℕ, List, [], ◌∷◌, ◌++◌, codes, decimal, suc, zero, Option, Some}
-use Rattle.std.specs.Prelude.{None}
+use Rattle.std.specs.Prelude.{ℕ, ◌+◌, List, [], ◌∷◌, ◌++◌, codes, decimal, suc, zero, Option, Some}
+use Rattle.std.specs.Prelude.{None, slice_get, unwrap_or}
+use Rattle.tape_image.specs.declared.item.Ending.{Ending}
+use Rattle.tape_image.specs.Reader.{ending_of}
 use Rattle.tape_run.specs.declared.section.ImageStop.{ImageStop}
+use Rattle.tape_run.specs.declared.section.ImageStop.TheVariants as ends
 use Rattle.tape_run.specs.declared.merge.Merged.{Merged}
+use Rattle.tape_run.specs.declared.merge.reading.Reading.{Reading}
+use Rattle.tape_run.specs.declared.merge.reading.Verdict.{Verdict}
+use Rattle.tape_run.specs.declared.merge.reading.Verdict.TheVariants as verdicts
 use Rattle.tape_run.specs.declared.merge.line.ReadingLine.{ReadingLine}
 use Rattle.tape_run.specs.declared.merge.line.MergedEnd.{MergedEnd}
 use Rattle.tape_run.specs.declared.merge.line.MergedEnd.TheVariants.{Marked, Physical, Cut}
 use Rattle.tape_run.specs.declared.merge.line.ItemKind.{ItemKind}
 use Rattle.tape_run.specs.declared.merge.line.ItemKind.TheVariants as kinds
 use Rattle.tape_run.specs.declared.merge.line.HasLine.{HasLine}
+use Rattle.tape_run.specs.Added.{stop_at}
 use Rattle.tape_run.specs.CheckLine.{stop_text}
 use Rattle.tape_run.specs.SurveyLine.{name_text}
 
@@ -60,3 +67,63 @@ abbrev pub has_text : ℕ → HasLine → List ℕ
 has_text n has =
     codes "HAS " ++ decimal n ++ codes " " ++ has.letter ∷ codes " " ++ kind_text has.kind
     ++ codes " " ++ decimal has.from
+
+-- ---- the lines of readings
+
+-- how a reading stopped, if it did
+abbrev pub stop_of : Option Ending → Verdict → Option ImageStop
+stop_of (Some ending) verdict = Some (stop_at ending)
+stop_of None verdicts.First = None
+stop_of None verdicts.Bad = None
+stop_of None verdicts.Second = None
+stop_of None verdicts.Third = None
+stop_of None verdicts.Ended = None
+stop_of None (verdicts.Failed fault) = Some (ends.Fault fault)
+
+-- what was read of a reading
+abbrev pub line_of : {R : Type 0} → Reading R → ReadingLine
+line_of r = record {
+  items = r.items;
+  bad = r.bad;
+  stop = stop_of (ending_of r.image.status) r.verdict;
+}
+
+-- an item that could be read: a block of so many bytes, or a mark
+abbrev pub kind_of : ℕ → ItemKind
+kind_of zero = kinds.Mark
+kind_of (suc n) = kinds.Block (suc n)
+
+-- the letter of an item of this length at this offset, by how it compares with the others
+abbrev pub has_as : Verdict → ℕ → ℕ → Option HasLine
+has_as verdicts.First len from = Some (record { letter = 65; kind = kind_of len; from = from })
+has_as verdicts.Bad len from = Some (record { letter = 45; kind = kinds.Bad; from = from })
+has_as verdicts.Second len from = Some (record { letter = 66; kind = kind_of len; from = from })
+has_as verdicts.Third len from = Some (record { letter = 67; kind = kind_of len; from = from })
+has_as verdicts.Ended len from = None
+has_as (verdicts.Failed fault) len from = None
+
+-- the last item of a reading, if it was not past its end
+abbrev pub has_of : {R : Type 0} → Reading R → Option HasLine
+has_of r = has_as r.verdict r.length r.from
+
+-- the name of the image with this number, counted from 0
+abbrev pub name_at : List (List ℕ) → ℕ → List ℕ
+name_at names number = unwrap_or (slice_get names number) []
+
+-- the line of the reading with this number, counted from 0
+abbrev pub reading_line : {R : Type 0} → List (List ℕ) → ℕ → Reading R → List ℕ
+reading_line names number r =
+    with_name (reading_text (number + 1) (line_of r)) (name_at names number)
+
+-- the line of what it has, if it has an item there
+abbrev pub item_line : Option HasLine → ℕ → List ℕ → List ℕ
+item_line None number name = []
+item_line (Some has) number name = with_name (has_text (number + 1) has) name
+
+abbrev pub has_line : {R : Type 0} → List (List ℕ) → ℕ → Reading R → List ℕ
+has_line names number r = item_line (has_of r) number (name_at names number)
+
+-- the lines of these readings, the first of which has this number
+abbrev pub lines_from : {A : Type 0} → (ℕ → A → List ℕ) → ℕ → List A → List ℕ
+lines_from line number [] = []
+lines_from line number (x ∷ xs) = line number x ++ lines_from line (number + 1) xs

@@ -1,12 +1,14 @@
--- What `merge_now` leaves: all images of a shelf mounted, and the merged one in the output's place.
-use Rattle.std.specs.Prelude.{◌≡◌, ◌≢◌, ◌⊎◌, ◌<◌, ℕ, List, [], ◌∷◌, ◌++◌, length, map, Option, Some}
+-- What `merge_now` leaves: all images of a shelf mounted, the merged one in the output's place, and
+-- the report.
+use Rattle.std.specs.Prelude.{◌≡◌, ◌≢◌, ◌⊎◌, ℕ, ◌<◌, List, [], ◌∷◌, ◌++◌, length, map, Option, Some}
 use Rattle.std.specs.Prelude.{None, ⊤}
 use Rattle.std.specs.List.{flat_map}
 use Rattle.std.specs.Io.KnownBytes.{Appends}
+use Rattle.tape_image.specs.declared.item.Ending.{Ending}
+use Rattle.tape_image.specs.declared.item.Ending.TheVariants as endings
 use Rattle.tape_image.specs.Tape.{TapeItem}
-use Rattle.tape_image.specs.Reader.{Reader}
+use Rattle.tape_image.specs.Reader.{ended}
 use Rattle.tape_image.specs.Written.{written}
-use Rattle.tape_image.specs.Writer.{Writer, writing}
 use Rattle.tape_run.specs.declared.merge.Merged.{Merged}
 use Rattle.tape_run.specs.declared.merge.line.MergedEnd.{MergedEnd}
 use Rattle.tape_run.specs.declared.merge.line.MergedEnd.TheVariants.{Marked, Physical, Cut}
@@ -14,12 +16,13 @@ use Rattle.tape_run.specs.declared.merge.now.MergeEnd.{MergeEnd}
 use Rattle.tape_run.specs.declared.merge.now.MergeEnd.TheVariants.{Whole, Partial, Differs}
 use Rattle.tape_run.specs.declared.merge.now.MergeStop.{MergeStop}
 use Rattle.tape_run.specs.declared.merge.now.MergeStop.TheVariants as stops
-use Rattle.tape_run.specs.declared.passing.Phase.TheVariants.{Volume}
-use Rattle.tape_run.specs.Passing.{told_from}
+use Rattle.tape_run.specs.declared.merge.reading.Reading.{Reading}
 use Rattle.tape_run.specs.Reeling.{Mounting, AreMounted}
-use Rattle.tape_run.specs.Merging.{IsMerged, Differ}
-use Rattle.tape_run.specs.MergeCalls.{Merges, DiffersAt, bads, miscounted_in}
-use Rattle.tape_run.specs.MergedImages.{GiveItems, AllBegin}
+use Rattle.tape_run.specs.Merging.{IsMerged}
+use Rattle.tape_run.specs.MergeSteps.{AllStopped}
+use Rattle.tape_run.specs.MergeCalls.{Counts, AreAtFront}
+use Rattle.tape_run.specs.MergeLines.{reading_line, lines_from, merged_line}
+use Rattle.tape_run.specs.MergedImages.{TakeImages, DifferImages}
 
 -- ---- the images of a shelf
 
@@ -44,6 +47,22 @@ pub record IsMissing {L R : Type 0} (gives : Mounting L R) (shelf left : L) (num
 
 -- ---- the merged image
 
+-- a reading that took so many items reached this end of the medium
+abbrev pub SomeEnds : {R : Type 0} → ℕ → Ending → List (Reading R) → Type 0
+SomeEnds items ending [] = ⊥
+SomeEnds items ending (r ∷ rs) =
+    ((r.items ≡ items) × (r.image.status ≡ ended ending)) ⊎ SomeEnds items ending rs
+
+-- The merged image, which has so many items, ends as one of the readings of that length: by an
+-- end-of-medium marker if one of them does, else by the end of its bytes. It is cut if each of them
+-- stopped at a fault.
+abbrev pub EndsAs : {R : Type 0} → ℕ → List (Reading R) → MergedEnd → Type 0
+EndsAs items nows Marked = SomeEnds items endings.Marked nows
+EndsAs items nows Physical =
+    SomeEnds items endings.Physical nows × (SomeEnds items endings.Marked nows → ⊥)
+EndsAs items nows Cut =
+    (SomeEnds items endings.Physical nows → ⊥) × (SomeEnds items endings.Marked nows → ⊥)
+
 -- the bytes after its items: an end-of-medium marker, or none
 abbrev pub end_bytes : MergedEnd → List ℕ
 end_bytes Marked = 255 ∷ 255 ∷ 255 ∷ 255 ∷ []
@@ -56,35 +75,52 @@ FitsEnd bad miscounted end Whole = (bad ≡ 0) × (miscounted ≡ 0) × (end ≢
 FitsEnd bad miscounted end Partial = (0 < bad) ⊎ ((0 < miscounted) ⊎ (end ≡ Cut))
 FitsEnd bad miscounted end Differs = ⊥
 
--- Behind what the output had before are the items of the least tape of which the images are
--- readings, each in the encoding that is written, and perhaps an end-of-medium marker.
-pub record HoldsMerged (images : List (List ℕ)) (out stands : Option (List ℕ)) (end : MergeEnd)
-    : Type 0 where
+-- The images were read to their ends. After what the output had before are the items of the least
+-- tape of which they are readings, each in the encoding that is written, and perhaps an
+-- end-of-medium marker. The report has a line for each image, and one for the merged image.
+pub record HoldsMerged (R : Type 0) (images names : List (List ℕ)) (out stands : Option (List ℕ)) (says : List ℕ → Type 0) (end : MergeEnd) : Type 0 where
+  pub nows : List (Reading R)
   pub readings : List (List TapeItem)
-  pub give : GiveItems images readings
+  pub have : TakeImages images nows readings
+  pub stopped : AllStopped nows
   pub merged : List TapeItem
   pub is : IsMerged readings merged
+  pub counts : Merged
+  pub count : Counts readings merged counts
   pub ends : MergedEnd
+  pub ends_as : EndsAs counts.items nows ends
   pub holds : Appends out stands (flat_map written merged ++ end_bytes ends)
-  pub fits : FitsEnd (bads merged) (miscounted_in (told_from Volume merged)) ends end
+  pub fits : FitsEnd counts.bad counts.miscounted ends end
+  pub lines : says (lines_from (reading_line names) 0 nows ++ merged_line counts ends)
 
--- what came of images with these bytes: the merged image, or no tape exists of which they are
--- readings
-abbrev pub ComesTo :
-    List (List ℕ) → Option (List ℕ) → Option (List ℕ) → MergeEnd → Type 0
-ComesTo images out stands Whole = HoldsMerged images out stands Whole
-ComesTo images out stands Partial = HoldsMerged images out stands Partial
-ComesTo images out stands Differs =
-    (readings : List (List TapeItem)) → AllBegin images readings → Differ readings
+-- The images differ at the item with some number.
+pub record DifferNow (R : Type 0) (images : List (List ℕ)) : Type 0 where
+  pub nows : List (Reading R)
+  pub number : ℕ
+  pub differ : DifferImages images nows number
+
+-- what came of images with these bytes
+abbrev pub ComesTo : Type 0 → List (List ℕ) → List (List ℕ) → Option (List ℕ)
+    → Option (List ℕ) → (List ℕ → Type 0) → MergeEnd → Type 0
+ComesTo R images names out stands says Whole = HoldsMerged R images names out stands says Whole
+ComesTo R images names out stands says Partial =
+    HoldsMerged R images names out stands says Partial
+ComesTo R images names out stands says Differs = DifferNow R images
+
+-- what comes of readings, if they are at the beginning of images with known bytes
+abbrev pub ReadingsComeTo : {R : Type 0} → List (Reading R) → List (List ℕ) → Option (List ℕ)
+    → Option (List ℕ) → (List ℕ → Type 0) → MergeEnd → Type 0
+ReadingsComeTo {R} firsts names out stands says end = (images : List (List ℕ))
+    → AreAtFront (map Some images) firsts → ComesTo R images names out stands says end
 
 -- All images of the shelf were mounted, and merged if their bytes are known.
 pub record MergesNow {L R : Type 0} (size : L → ℕ) (gives : Mounting L R)
-    (remaining : R → Option (List ℕ)) (shelf left : L) (out stands : Option (List ℕ))
-    (end : MergeEnd) : Type 0 where
+    (remaining : R → Option (List ℕ)) (shelf left : L) (names : List (List ℕ))
+    (out stands : Option (List ℕ)) (says : List ℕ → Type 0) (end : MergeEnd) : Type 0 where
   pub devices : List R
   pub mounts : MountsAll size gives shelf left devices
   pub comes : (images : List (List ℕ)) → map remaining devices ≡ map Some images
-      → ComesTo images out stands end
+      → ComesTo R images names out stands says end
 
 -- an image that could not be opened is missing
 abbrev pub Misses : (ℕ → Type 0) → MergeStop → Type 0
@@ -101,24 +137,3 @@ LeavesPlace stands old new missing made (stops.NotOpened number) = (new ≡ old)
 LeavesPlace stands old new missing made (stops.TooLong size) = new ≡ old
 LeavesPlace stands old new missing made stops.OutOfMemory = new ≡ old
 LeavesPlace stands old new missing made stops.WriteFailed = (stands new ≡ stands old) ⊎ made
-
--- ---- the same of readers
-
--- The items that they make together were written, and perhaps an end-of-medium marker.
-pub record MakesOut (firsts : List Reader) (out stands : Option (List ℕ)) (end : MergeEnd)
-    : Type 0 where
-  pub nows : List Reader
-  pub counts : Merged
-  pub mid : Writer
-  pub merges :
-      Merges firsts nows counts (record { size = 0; standing = writing; contents = out }) mid
-  pub ends : MergedEnd
-  pub wrote : Appends mid.contents stands (end_bytes ends)
-  pub fits : FitsEnd counts.bad counts.miscounted ends end
-
-abbrev pub ReadersComeTo :
-    List Reader → Option (List ℕ) → Option (List ℕ) → MergeEnd → Type 0
-ReadersComeTo firsts out stands Whole = MakesOut firsts out stands Whole
-ReadersComeTo firsts out stands Partial = MakesOut firsts out stands Partial
-ReadersComeTo firsts out stands Differs = (nows : List Reader) × (number : ℕ) × (mid : Writer)
-    × DiffersAt firsts nows number (record { size = 0; standing = writing; contents = out }) mid

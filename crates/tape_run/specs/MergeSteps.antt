@@ -1,12 +1,16 @@
--- One item of the merged tape, as readers are asked for it one after another, and what readers have
--- returned.
-use Rattle.std.specs.Prelude.{◌≡◌, ◌≢◌, ◌⊎◌, ◌&&◌, Bool, true, false, List, [], ◌∷◌}
-use Rattle.std.specs.Prelude.{Option, Some, None, ⊤}
+-- One item of the merged tape, as readings are asked for it one after another, and what readings
+-- have taken.
+use Rattle.std.specs.Prelude.{◌≡◌, ◌≢◌, ◌⊎◌, ℕ, ◌+◌, ◌≤◌, Bool, true, false, List, [], ◌∷◌}
+use Rattle.std.specs.Prelude.{◌++◌, length, Option, Some, None, ⊤}
+use Rattle.tape_image.specs.declared.item.Ending.{Ending}
 use Rattle.tape_image.specs.Tape.{TapeItem, block, bad, mark}
 use Rattle.tape_image.specs.declared.item.ImageFault.{ImageFault}
-use Rattle.tape_image.specs.Reader.{Reader, going}
+use Rattle.tape_image.specs.Reader.{Reader, Status, going, ended, failed}
 use Rattle.tape_image.specs.Step.{GivesItem, MeetsEnd, MeetsFault}
 use Rattle.tape_image.specs.Calls.{Gave}
+use Rattle.tape_run.specs.declared.merge.reading.Reading.{Reading}
+use Rattle.tape_run.specs.declared.merge.reading.Verdict.{Verdict}
+use Rattle.tape_run.specs.declared.merge.reading.Verdict.TheVariants as verdicts
 
 -- ---- one item of the merged tape
 
@@ -47,7 +51,51 @@ abbrev pub Takes : Option TapeItem → TapeItem → Bool → Option TapeItem →
 Takes best x true now = agrees best x × (now ≡ Some (joined best x))
 Takes best x false now = (agrees best x → ⊥) × (now ≡ best)
 
--- ---- a reader asked for its next item
+-- how many bytes a block has; 0 for any other item
+abbrev pub block_length : TapeItem → ℕ
+block_length (block bytes) = length bytes
+block_length bad = 0
+block_length mark = 0
+
+-- the item is a bad one
+abbrev pub is_bad_one : Option TapeItem → Bool
+is_bad_one None = false
+is_bad_one (Some (block content)) = false
+is_bad_one (Some bad) = true
+is_bad_one (Some mark) = false
+
+-- the item could be read
+abbrev pub is_good_one : Option TapeItem → Bool
+is_good_one None = false
+is_good_one (Some (block content)) = true
+is_good_one (Some bad) = false
+is_good_one (Some mark) = true
+
+abbrev pub one_if : Bool → ℕ
+one_if true = 1
+one_if false = 0
+
+-- how many items are bad
+abbrev pub bads : List TapeItem → ℕ
+bads [] = 0
+bads (x ∷ xs) = one_if (is_bad_one (Some x)) + bads xs
+
+-- ---- a reading asked for its next item
+
+-- How the item of a reading compares with the best one, which it may replace, and, if it differs
+-- from that, with the other one.
+abbrev pub Compares : Verdict → TapeItem → Option TapeItem → Option TapeItem → Option TapeItem
+    → Option TapeItem → Type 0
+Compares verdicts.First x best now other beside =
+    (x ≢ bad) × Takes best x true now × (beside ≡ other)
+Compares verdicts.Bad x best now other beside =
+    (x ≡ bad) × Takes best x true now × (beside ≡ other)
+Compares verdicts.Second x best now other beside =
+    Takes best x false now × Takes other x true beside
+Compares verdicts.Third x best now other beside =
+    Takes best x false now × Takes other x false beside
+Compares verdicts.Ended x best now other beside = ⊥
+Compares (verdicts.Failed fault) x best now other beside = ⊥
 
 -- The reader has stopped: it reached the end or a fault now, or did so before and is unchanged.
 abbrev pub Stopped : Reader → Reader → Type 0
@@ -55,23 +103,81 @@ Stopped old new =
     ((old.status ≡ going) × (MeetsEnd old new ⊎ ((fault : ImageFault) × MeetsFault old fault new)))
     ⊎ ((old.status ≢ going) × (new ≡ old))
 
--- The reader was asked for its next item, and the best item changed in this way.
-pub data Asked (old new : Reader) (best : Option TapeItem) (agreed : Bool) (now : Option TapeItem)
+-- how a reading stopped
+abbrev pub StopsAs : Verdict → Status → Type 0
+StopsAs verdicts.Ended status = (ending : Ending) × (status ≡ ended ending)
+StopsAs (verdicts.Failed fault) status = status ≡ failed fault
+StopsAs verdicts.First status = ⊥
+StopsAs verdicts.Bad status = ⊥
+StopsAs verdicts.Second status = ⊥
+StopsAs verdicts.Third status = ⊥
+
+-- whether the verdict is on a reading that stopped
+abbrev pub is_stop : Verdict → Bool
+is_stop verdicts.First = false
+is_stop verdicts.Bad = false
+is_stop verdicts.Second = false
+is_stop verdicts.Third = false
+is_stop verdicts.Ended = true
+is_stop (verdicts.Failed fault) = true
+
+-- how many bad items it counts
+abbrev pub bad_count : Verdict → ℕ
+bad_count verdicts.First = 0
+bad_count verdicts.Bad = 1
+bad_count verdicts.Second = 0
+bad_count verdicts.Third = 0
+bad_count verdicts.Ended = 0
+bad_count (verdicts.Failed fault) = 0
+
+-- The reader of a reading was asked for its next item, which has this length: the best item and the
+-- other one changed in this way.
+pub data Answered (old new : Reader) (verdict : Verdict) (len : ℕ)
+    (best now other beside : Option TapeItem) : Type 0 where
+  with_item : (x : TapeItem) → old.status ≡ going → GivesItem old x new
+      → Compares verdict x best now other beside → len ≡ block_length x
+      → Answered old new verdict len best now other beside
+  without : Stopped old new → StopsAs verdict new.status → now ≡ best → beside ≡ other
+      → Answered old new verdict len best now other beside
+
+-- the count rose by so many, if it can: it never exceeds its greatest value
+abbrev pub RisesBy : ℕ → ℕ → ℕ → Type 0
+RisesBy old more new = old + more ≤ 18446744073709551615 → new ≡ old + more
+
+-- the fields of a reading after one more item
+pub record CountsItem {R : Type 0} (old new : Reading R) (x : TapeItem) : Type 0 where
+  pub items : RisesBy old.items 1 new.items
+  pub bad : RisesBy old.bad (one_if (is_bad_one (Some x))) new.bad
+  pub from : new.from ≡ old.image.place
+  pub len : new.length ≡ block_length x
+
+-- the fields of a reading that took nothing
+pub record CountsNothing {R : Type 0} (old new : Reading R) : Type 0 where
+  pub items : new.items ≡ old.items
+  pub bad : new.bad ≡ old.bad
+  pub from : new.from ≡ old.from
+  pub len : new.length ≡ old.length
+
+-- The reading was asked for its next item: the best item and the other one changed in this way.
+pub data Asked {R : Type 0} (old new : Reading R) (best now other beside : Option TapeItem)
     : Type 0 where
-  gives : (x : TapeItem) → old.status ≡ going → GivesItem old x new → Takes best x agreed now
-      → Asked old new best agreed now
-  stops : Stopped old new → agreed ≡ true → now ≡ best → Asked old new best agreed now
+  gives : (x : TapeItem) → old.image.status ≡ going → GivesItem old.image x new.image
+      → Compares new.verdict x best now other beside → CountsItem old new x
+      → Asked old new best now other beside
+  stops : Stopped old.image new.image → StopsAs new.verdict new.image.status
+      → CountsNothing old new → now ≡ best → beside ≡ other
+      → Asked old new best now other beside
 
--- The readers were asked one after another; `all` is whether every one of them agreed.
-abbrev pub AskedAll :
-    List Reader → List Reader → Option TapeItem → Option TapeItem → Bool → Type 0
-AskedAll [] [] best now all = (now ≡ best) × (all ≡ true)
-AskedAll (o ∷ olds) (n ∷ nows) best now all =
-    (mid : Option TapeItem) × (agreed rest : Bool) × Asked o n best agreed mid
-    × AskedAll olds nows mid now rest × (all ≡ agreed && rest)
-AskedAll _ _ best now all = ⊥
+-- the readings were asked one after another
+abbrev pub AskedAll : {R : Type 0} → List (Reading R) → List (Reading R) → Option TapeItem
+    → Option TapeItem → Option TapeItem → Option TapeItem → Type 0
+AskedAll [] [] best now other beside = (now ≡ best) × (beside ≡ other)
+AskedAll (o ∷ olds) (n ∷ nows) best now other beside =
+    (mid : Option TapeItem) × (between : Option TapeItem) × Asked o n best mid other between
+    × AskedAll olds nows mid now between beside
+AskedAll _ _ best now other beside = ⊥
 
--- ---- what readers have returned
+-- ---- what readings have taken
 
 -- The reader has returned the items, from where it began, and continues after them, or reached the
 -- end or a fault there.
@@ -81,18 +187,64 @@ pub record HasRead (first now : Reader) (items : List TapeItem) : Type 0 where
   pub stands : (now ≡ behind)
       ⊎ (MeetsEnd behind now ⊎ ((fault : ImageFault) × MeetsFault behind fault now))
 
--- each of the readers has returned these items
-abbrev pub HaveRead : List Reader → List Reader → List (List TapeItem) → Type 0
-HaveRead [] [] [] = ⊤
-HaveRead (f ∷ firsts) (n ∷ nows) (r ∷ readings) = HasRead f n r × HaveRead firsts nows readings
-HaveRead _ _ _ = ⊥
+-- the items end with this one
+abbrev pub EndWith : List TapeItem → TapeItem → Type 0
+EndWith items x = (before : List TapeItem) × (items ≡ before ++ x ∷ [])
 
--- every reader has stopped
-abbrev pub AllStopped : List Reader → Type 0
+-- The fields say where the last item that was taken begins, and its length.
+pub data TookLast {R : Type 0} (first now : Reading R) (items : List TapeItem) : Type 0 where
+  nothing : items ≡ [] → now.from ≡ first.from → now.length ≡ first.length
+      → TookLast first now items
+  last : (before : List TapeItem) (x : TapeItem) (mid : Reader) → items ≡ before ++ x ∷ []
+      → Gave first.image before mid → now.from ≡ mid.place → now.length ≡ block_length x
+      → TookLast first now items
+
+-- The reading took these items from its image, from where it began, and counted them.
+pub record HasTaken {R : Type 0} (first now : Reading R) (taken : List TapeItem) : Type 0 where
+  pub read : HasRead first.image now.image taken
+  pub items : RisesBy first.items (length taken) now.items
+  pub bad : RisesBy first.bad (bads taken) now.bad
+  pub last : TookLast first now taken
+
+-- each of the readings took these items
+abbrev pub HaveTaken : {R : Type 0} → List (Reading R) → List (Reading R) → List (List TapeItem)
+    → Type 0
+HaveTaken [] [] [] = ⊤
+HaveTaken (f ∷ firsts) (n ∷ nows) (r ∷ readings) =
+    HasTaken f n r × HaveTaken firsts nows readings
+HaveTaken _ _ _ = ⊥
+
+-- every reading has stopped, and says how
+abbrev pub AllStopped : {R : Type 0} → List (Reading R) → Type 0
 AllStopped [] = ⊤
-AllStopped (r ∷ rs) = (r.status ≢ going) × AllStopped rs
+AllStopped (r ∷ rs) = StopsAs r.verdict r.image.status × AllStopped rs
 
--- no reader has stopped
-abbrev pub AllGoing : List Reader → Type 0
-AllGoing [] = ⊤
-AllGoing (r ∷ rs) = (r.status ≡ going) × AllGoing rs
+-- Each of the readings was read up to the item with this number, counted from 1, or stopped at it
+-- or before.
+abbrev pub AreUpTo : {R : Type 0} → ℕ → List (Reading R) → List (List TapeItem) → Type 0
+AreUpTo number [] [] = ⊤
+AreUpTo number (n ∷ nows) (r ∷ readings) =
+    (n.image.status ≡ going → length r ≡ number) × (length r ≤ number)
+    × AreUpTo number nows readings
+AreUpTo number _ _ = ⊥
+
+-- What the verdict says of a reading that took these items: how the last one compares with the best
+-- one and the other one, or how the reading stopped.
+abbrev pub Judges : Verdict → Status → List TapeItem → Option TapeItem → Option TapeItem → Type 0
+Judges verdicts.First status items best other = (status ≡ going) × (x : TapeItem)
+    × EndWith items x × (x ≢ bad) × (best ≡ Some x)
+Judges verdicts.Bad status items best other = (status ≡ going) × EndWith items bad
+Judges verdicts.Second status items best other = (status ≡ going) × (x : TapeItem)
+    × EndWith items x × (x ≢ bad) × (best ≢ Some x) × (other ≡ Some x)
+Judges verdicts.Third status items best other = (status ≡ going) × (x : TapeItem)
+    × EndWith items x × (x ≢ bad) × (best ≢ Some x) × (other ≢ Some x)
+Judges verdicts.Ended status items best other = StopsAs verdicts.Ended status
+Judges (verdicts.Failed fault) status items best other = StopsAs (verdicts.Failed fault) status
+
+-- so do the verdicts of all readings
+abbrev pub AreJudged : {R : Type 0} → List (Reading R) → List (List TapeItem) → Option TapeItem
+    → Option TapeItem → Type 0
+AreJudged [] [] best other = ⊤
+AreJudged (n ∷ nows) (r ∷ readings) best other =
+    Judges n.verdict n.image.status r best other × AreJudged nows readings best other
+AreJudged _ _ best other = ⊥

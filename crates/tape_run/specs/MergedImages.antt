@@ -1,30 +1,46 @@
 -- Merging, in terms of the bytes of images.
-use Rattle.std.specs.Prelude.{◌≢◌, ◌⊎◌, ℕ, List, [], ◌∷◌, ⊤}
-use Rattle.tape_image.specs.declared.item.Ending.{Ending}
-use Rattle.tape_image.specs.declared.item.ImageFault.{ImageFault}
+use Rattle.std.specs.Prelude.{◌≡◌, ◌≢◌, ℕ, ◌+◌, List, [], ◌∷◌, ◌++◌, length, map, take, Option, Some}
+use Rattle.std.specs.Prelude.{⊤}
 use Rattle.tape_image.specs.declared.item.ImageWriteFault.TheVariants.{BlockLength, Finished}
 use Rattle.tape_image.specs.Tape.{TapeItem}
-use Rattle.tape_image.specs.Begins.{Stop, Begins}
-use Rattle.tape_image.specs.Step.{TakesEnd, TakesFault}
+use Rattle.tape_image.specs.Begins.{Stop, Begins, Walks}
 use Rattle.tape_image.specs.Writer.{Writer, PutItems}
 use Rattle.tape_run.specs.declared.merge.Merged.{Merged}
 use Rattle.tape_run.specs.declared.merge.MergeFault.{MergeFault}
 use Rattle.tape_run.specs.declared.merge.MergeFault.TheVariants as faults
+use Rattle.tape_run.specs.declared.merge.reading.Reading.{Reading}
 use Rattle.tape_run.specs.Merging.{IsMerged, Differ}
+use Rattle.tape_run.specs.MergeSteps.{bads, block_length, AllStopped, AreUpTo, AreJudged}
+use Rattle.tape_run.specs.MergeLaws.{TakesAs}
 use Rattle.tape_run.specs.MergeCalls.{Counts}
 
--- The image with these bytes has these items: those that the bytes begin with, up to the end of the
--- medium or to a fault. If its device failed, those of the bytes that it returned.
-abbrev pub GivesItems : List ℕ → List TapeItem → Type 0
-GivesItems bytes items =
-    ((ending : Ending) × (place : ℕ) × (left : List ℕ) × TakesEnd 0 items ending place bytes left)
-    ⊎ ((fault : ImageFault) × (left : List ℕ) × TakesFault 0 items fault bytes left)
+-- The fields say where the last item of the image begins, and its length.
+pub data LastIsAt {R : Type 0} (bytes : List ℕ) (now : Reading R) (items : List TapeItem) : Type 0
+  where
+    no_item : items ≡ [] → LastIsAt bytes now items
+    last_item : (before : List TapeItem) (x : TapeItem) (rest : List ℕ) → items ≡ before ++ x ∷ []
+        → Walks 0 bytes before now.from rest → now.length ≡ block_length x
+        → LastIsAt bytes now items
 
--- each image has these items
-abbrev pub GiveItems : List (List ℕ) → List (List TapeItem) → Type 0
-GiveItems [] [] = ⊤
-GiveItems (bytes ∷ images) (r ∷ readings) = GivesItems bytes r × GiveItems images readings
-GiveItems _ _ = ⊥
+-- The reading took these items from the beginning of an image with these bytes, and its reader has
+-- the rest: it may be read on, or is at the end of the medium or at a fault. If its device failed,
+-- the items are those of the bytes that it returned. The fields count the items.
+pub record TakesImage {R : Type 0} (bytes : List ℕ) (now : Reading R) (taken : List TapeItem)
+    : Type 0 where
+  pub left : List ℕ
+  pub is_left : now.image.left ≡ Some left
+  pub takes : TakesAs 0 now.image.status taken now.image.place bytes left
+  pub items : now.items ≡ length taken
+  pub bad : now.bad ≡ bads taken
+  pub last : LastIsAt bytes now taken
+
+-- so did each reading
+abbrev pub TakeImages : {R : Type 0} → List (List ℕ) → List (Reading R) → List (List TapeItem)
+    → Type 0
+TakeImages [] [] [] = ⊤
+TakeImages (bytes ∷ images) (n ∷ nows) (r ∷ readings) =
+    TakesImage bytes n r × TakeImages images nows readings
+TakeImages _ _ _ = ⊥
 
 -- the bytes of each image begin with these items, and with no further one
 abbrev pub AllBegin : List (List ℕ) → List (List TapeItem) → Type 0
@@ -33,20 +49,37 @@ AllBegin (bytes ∷ images) (r ∷ readings) =
     ((end : ℕ) × (stop : Stop) × Begins 0 bytes r end stop) × AllBegin images readings
 AllBegin _ _ = ⊥
 
--- The images were merged: the items of the least tape of which they are readings were written and
--- counted.
-pub record MergesImages (images : List (List ℕ)) (m : Merged) (old new : Writer) : Type 0 where
+-- The images were read to their ends, and merged: the items of the least tape of which they are
+-- readings were written and counted.
+pub record MergesImages {R : Type 0} (images : List (List ℕ)) (nows : List (Reading R))
+    (m : Merged) (old new : Writer) : Type 0 where
   pub readings : List (List TapeItem)
-  pub give : GiveItems images readings
+  pub have : TakeImages images nows readings
+  pub ended : AllStopped nows
   pub merged : List TapeItem
   pub is : IsMerged readings merged
-  pub count : Counts merged m
+  pub count : Counts readings merged m
   pub wrote : PutItems merged old new
 
--- Where a difference was best, there is no tape of which the images are readings. A write fails by
--- the device, or since the merged image would be too long.
-abbrev pub FaultsImages : List (List ℕ) → MergeFault → Type 0
-FaultsImages images (faults.Differ n) =
-    (readings : List (List TapeItem)) → AllBegin images readings → Differ readings
-FaultsImages images faults.OutOfMemory = ⊤
-FaultsImages images (faults.Write fault) = (fault ≢ BlockLength) × (fault ≢ Finished)
+-- There is no tape of which the images are readings. They were read up to the n-th item, at which
+-- they differ; each reading says how its item compares with the others. The items before that one
+-- make a tape.
+pub record DifferImages {R : Type 0} (images : List (List ℕ)) (nows : List (Reading R)) (n : ℕ)
+    : Type 0 where
+  pub readings : List (List TapeItem)
+  pub have : TakeImages images nows readings
+  pub up_to : AreUpTo n nows readings
+  pub differ : Differ readings
+  pub for_good : (all : List (List TapeItem)) → AllBegin images all → Differ all
+  pub best : Option TapeItem
+  pub other : Option TapeItem
+  pub judged : AreJudged nows readings best other
+  pub merged : List TapeItem
+  pub is : IsMerged (map (take (length merged)) readings) merged
+  pub count : length merged + 1 ≡ n
+
+-- A write fails by the device, or since the merged image would be too long.
+abbrev pub FaultsImages : {R : Type 0} → List (List ℕ) → List (Reading R) → MergeFault → Type 0
+FaultsImages images nows (faults.Differ n) = DifferImages images nows n
+FaultsImages images nows faults.OutOfMemory = ⊤
+FaultsImages images nows (faults.Write fault) = (fault ≢ BlockLength) × (fault ≢ Finished)

@@ -1,8 +1,9 @@
 //! `merge`: readings of one tape, read side by side, and the tape that they make together.
 
-ghost use Rattle.std.specs.Prelude.{◌≡◌, ◌<◌, ◌≤◌, ◌+◌, ◌==◌, IfOk, IfErr, map, None};
+ghost use Rattle.std.specs.Prelude.{◌≡◌, ◌<◌, ◌≤◌, ◌+◌, ◌==◌, IfOk, IfErr, None};
 ghost use Rattle.tape_image.specs.Writer.{writing};
-ghost use Rattle.tape_run.specs.MergeCalls.{Merges, FitsFault, AsksAll, one_if, miscounted_of};
+ghost use Rattle.tape_run.specs.MergeSteps.{AskedAll, one_if};
+ghost use Rattle.tape_run.specs.MergeCalls.{Merges, FitsFault, firsts_in, miscounted_of};
 ghost use Rattle.tape_run.specs.declared.merge.MergeFault.TheVariants as faults;
 
 pub(crate) mod candidate;
@@ -99,13 +100,14 @@ fn ask_all<R: Read>(
 ) -> Result<u64, AllocError>
     requires best { best.old ≡ None }
     requires other { other.old ≡ None }
-    ensures { IfOk result (λ _. AsksAll (map (λ r. r.image) readings.old)
-        (map (λ r. r.image) readings.new) best.new other.new) }
+    ensures asked { IfOk result (λ _. AskedAll readings.old readings.new None best.new
+        None other.new) }
+    ensures witnesses { IfOk result (λ witnesses. witnesses ≡ firsts_in readings.new) }
 {
     let mut witnesses = 0u64;
     for number in 0..readings.len() {
         ask(&mut readings[number], best, other)?;
-        witnesses = witnesses.saturating_add(readings[number].verdict.witnesses());
+        witnesses += readings[number].verdict.witnesses();
     }
     Ok(witnesses)
 }
@@ -128,10 +130,9 @@ pub fn merge_items<R: Read, W: Write + Drop>(
     out: &mut ImageWriter<W>,
 ) -> Result<Merged, MergeFault>
     requires writing { out.old.standing ≡ writing }
-    ensures ok { IfOk result (λ merged. Merges (map (λ r. r.image) readings.old)
-        (map (λ r. r.image) readings.new) merged out.old out.new) }
-    ensures fault { IfErr result (FitsFault (map (λ r. r.image) readings.old)
-        (map (λ r. r.image) readings.new) out.old out.new) }
+    ensures ok { IfOk result (λ merged. Merges readings.old readings.new merged
+        out.old out.new) }
+    ensures fault { IfErr result (FitsFault readings.old readings.new out.old out.new) }
 {
     let mut merged = Merged {
         items: 0,

@@ -1,17 +1,20 @@
 //! The lines of `merge` and `compare`.
 
-ghost use Rattle.std.specs.Prelude.{◌≡◌, ◌≤◌, ◌++◌, length, IfOk};
+ghost use Rattle.std.specs.Prelude.{◌≡◌, ◌≤◌, ◌++◌, length, map, IfOk};
 ghost use Rattle.arrayvec.specs.ArrayVec.{array_vec_len};
 ghost use Rattle.tape_run.specs.MergeLines.{reading_text, end_text, merged_line, merged_end};
 ghost use Rattle.tape_run.specs.MergeLines.{miscounted_text, differ_line, has_text, kind_text};
-ghost use Rattle.tape_run.specs.MergeLines.{with_name};
+ghost use Rattle.tape_run.specs.MergeLines.{with_name, line_of, has_of, kind_of, name_at};
 
 use super::Merged;
+use super::reading::{Reading, Verdict};
+use crate::catalogue::stop_at;
 use crate::check_line::stop_text;
 use crate::section::ImageStop;
 use crate::survey::name_text;
 use crate::text::{Text, put, put_decimal};
 use std::alloc::{AllocError, Global};
+use std::io::Read;
 
 /// What was read from an image beside others.
 #[derive(Clone, Copy)]
@@ -178,5 +181,56 @@ fn put_kind(line: &mut Text, kind: ItemKind)
         }
         ItemKind::Mark => put(line, b"MARK"),
         ItemKind::Bad => put(line, b"BAD"),
+    }
+}
+
+/// What was read of a reading.
+pub(crate) fn line_of<R: Read>(reading: &Reading<'_, R>) -> ReadingLine
+    ensures { result ≡ line_of reading.now }
+{
+    let stop = match (reading.image.ending(), reading.verdict) {
+        (Some(ending), _) => Some(stop_at(ending)),
+        (None, Verdict::Failed(fault)) => Some(ImageStop::Fault(fault)),
+        (None, _) => None,
+    };
+    ReadingLine {
+        items: reading.items,
+        bad: reading.bad,
+        stop,
+    }
+}
+
+/// The item that a reading was asked for last, if it has one.
+pub(crate) fn has_of<R: Read>(reading: &Reading<'_, R>) -> Option<HasLine>
+    ensures { result ≡ has_of reading.now }
+{
+    let from = reading.from;
+    let (letter, kind) = match reading.verdict {
+        Verdict::First => (b'A', kind_of(reading.length)),
+        Verdict::Second => (b'B', kind_of(reading.length)),
+        Verdict::Third => (b'C', kind_of(reading.length)),
+        Verdict::Bad => (b'-', ItemKind::Bad),
+        Verdict::Ended | Verdict::Failed(_) => return None,
+    };
+    Some(HasLine { letter, kind, from })
+}
+
+/// An item that could be read, by its length: no block is empty.
+fn kind_of(length: u64) -> ItemKind
+    ensures { result ≡ kind_of length }
+{
+    match length {
+        0 => ItemKind::Mark,
+        _ => ItemKind::Block(length),
+    }
+}
+
+/// The name of the image with this number, counted from 0.
+pub(crate) fn name_at<'n>(names: &[&'n str], number: usize) -> &'n str
+    ensures { result.now ≡ name_at (map (λ n. n.now) names.now) number }
+{
+    match names.get(number) {
+        Some(name) => *name,
+        None => "",
     }
 }

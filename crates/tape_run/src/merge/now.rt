@@ -1,28 +1,27 @@
 //! `merge` and `compare` over images: they are read side by side, and the merged one is put in its
 //! place.
 
-ghost use Rattle.std.specs.Prelude.{◌≡◌, map, IfOk, IfErr};
+ghost use Rattle.std.specs.Prelude.{◌≡◌, map, IfOk, OnOk, IfErr};
 ghost use Rattle.std.specs.Io.KnownBytes.{Appends};
+ghost use Rattle.tape_image.specs.Written.{AppendsFront};
+ghost use Rattle.tape_run.specs.MergeLines.{lines_from, reading_line};
 ghost use Rattle.tape_run.specs.MergeNow.{MountsAll, IsMissing, Misses, MergesNow, LeavesPlace};
-ghost use Rattle.tape_run.specs.MergeNow.{ReadersComeTo, FitsEnd, end_bytes};
+ghost use Rattle.tape_run.specs.MergeNow.{ReadingsComeTo, EndsAs, FitsEnd, end_bytes};
 ghost use Rattle.tape_run.specs.declared.merge.now.MergeEnd.{MergeEnd};
 ghost use Rattle.tape_run.specs.declared.merge.now.MergeEnd.TheVariants.{Differs};
 ghost use Rattle.tape_run.specs.declared.merge.now.MergeStop.TheVariants as stops;
 
-use super::candidate::Candidate;
 use super::line::{
-    HasLine, ItemKind, MergedEnd, ReadingLine, differ_line, has_text, merged_line, reading_text,
+    MergedEnd, differ_line, has_of, has_text, line_of, merged_line, name_at, reading_text,
     with_name,
 };
-use super::open::open_all;
-use super::reading::{Reading, Verdict};
-use super::{MergeFault, Merged, merge_items};
-use crate::catalogue::stop_at;
+use super::open::{merge_to, open_all};
+use super::reading::Reading;
+use super::{MergeFault, Merged};
 use crate::check::pass_on;
 use crate::extract::Place;
 use crate::extract::images::ImageSource;
 use crate::fault::WriteFailed;
-use crate::section::ImageStop;
 use crate::text::flush;
 use std::alloc::{AllocError, Global};
 use std::io::{Read, Write};
@@ -98,12 +97,14 @@ pub fn merge_now<R: Read + Drop, L: ImageSource<R>, W: Write + Drop, O: Place<W>
     report: &mut P,
 ) -> Result<MergeEnd, MergeStop>
     ensures ok { IfOk result (MergesNow L.size L.gives R.remaining images.old images.new
-        (W.contents out) (O.stands place.new)) }
+        (map (λ n. n.now) names.now) (W.contents out) (O.stands place.new)
+        (Appends (P.contents report.old) (P.contents report.new))) }
     ensures untouched { IfOk result (λ end. end ≡ Differs → place.new ≡ place.old) }
     ensures err { IfErr result (LeavesPlace O.stands place.old place.new
         (IsMissing L.gives images.old images.new) ((end : MergeEnd)
-        × MergesNow L.size L.gives R.remaining images.old images.new (W.contents out)
-        (O.stands place.new) end)) }
+        × MergesNow L.size L.gives R.remaining images.old images.new
+        (map (λ n. n.now) names.now) (W.contents out) (O.stands place.new)
+        (AppendsFront (P.contents report.old) (P.contents report.new)) end)) }
 {
     let mut devices = mount_all(alloc, images)?;
     let mut readings = open_all(alloc, devices.as_mut_slice())?;
@@ -140,17 +141,17 @@ fn merge_readings<R: Read, W: Write + Drop, O: Place<W>, P: Write>(
     place: &mut O,
     report: &mut P,
 ) -> Result<MergeEnd, MergeStop>
-    ensures ok { IfOk result (ReadersComeTo (map (λ r. r.image) readings.old) (W.contents out)
-        (O.stands place.new)) }
+    ensures ok { IfOk result (ReadingsComeTo readings.old (map (λ n. n.now) names.now)
+        (W.contents out) (O.stands place.new)
+        (Appends (P.contents report.old) (P.contents report.new))) }
     ensures untouched { IfOk result (λ end. end ≡ Differs → place.new ≡ place.old) }
     ensures err { IfErr result (LeavesPlace O.stands place.old place.new (λ _. ⊥) ((end : MergeEnd)
-        × ReadersComeTo (map (λ r. r.image) readings.old) (W.contents out) (O.stands place.new)
+        × ReadingsComeTo readings.old (map (λ n. n.now) names.now) (W.contents out)
+        (O.stands place.new) (AppendsFront (P.contents report.old) (P.contents report.new))
         end)) }
 {
-    let mut best = Candidate::new(alloc)?;
-    let mut other = Candidate::new(alloc)?;
     let mut image = ImageWriter::new(out);
-    match merge_items(readings, &mut best, &mut other, &mut image) {
+    match merge_to(alloc, readings, &mut image) {
         Ok(merged) => {
             let end = end_of(readings, merged.items);
             report_readings(alloc, readings, names, report)?;
@@ -207,7 +208,9 @@ fn whole_or_partial(merged: &Merged, end: MergedEnd) -> MergeEnd
 }
 
 /// How the merged image ends: as one of its longest readings, by an end word if one of them does.
-fn end_of<R: Read>(readings: &[Reading<'_, R>], items: u64) -> MergedEnd {
+fn end_of<R: Read>(readings: &[Reading<'_, R>], items: u64) -> MergedEnd
+    ensures { EndsAs items readings.now result }
+{
     let mut end = MergedEnd::Cut;
     for reading in readings {
         if reading.items == items {
@@ -228,29 +231,16 @@ fn report_readings<R: Read, P: Write>(
     names: &[&str],
     report: &mut P,
 ) -> Result<(), MergeStop>
+    ensures ok { OnOk result (Appends (P.contents report.old) (P.contents report.new)
+        (lines_from (reading_line (map (λ n. n.now) names.now)) 0 readings.now)) }
     ensures err { IfErr result (Misses (λ _. ⊥)) }
 {
     for number in 0..readings.len() {
-        let name = names.get(number).unwrap_or(&"");
         let text = reading_text(number + 1, &line_of(&readings[number]));
-        let line = with_name(alloc, &text, *name)?;
+        let line = with_name(alloc, &text, name_at(names, number))?;
         pass_on(report, line.as_slice())?;
     }
     Ok(())
-}
-
-/// What was read of a reading.
-fn line_of<R: Read>(reading: &Reading<'_, R>) -> ReadingLine {
-    let stop = match (reading.image.ending(), reading.verdict) {
-        (Some(ending), _) => Some(stop_at(ending)),
-        (None, Verdict::Failed(fault)) => Some(ImageStop::Fault(fault)),
-        (None, _) => None,
-    };
-    ReadingLine {
-        items: reading.items,
-        bad: reading.bad,
-        stop,
-    }
 }
 
 /// Reports what each reading has where they differ, if it has an item there.
@@ -263,32 +253,14 @@ fn report_items<R: Read, P: Write>(
     ensures err { IfErr result (Misses (λ _. ⊥)) }
 {
     for number in 0..readings.len() {
-        if let Some(has) = has_of(&readings[number]) {
-            let name = names.get(number).unwrap_or(&"");
-            let line = with_name(alloc, &has_text(number + 1, &has), *name)?;
-            pass_on(report, line.as_slice())?;
+        match has_of(&readings[number]) {
+            Some(has) => {
+                let text = has_text(number + 1, &has);
+                let line = with_name(alloc, &text, name_at(names, number))?;
+                pass_on(report, line.as_slice())?;
+            }
+            None => {}
         }
     }
     Ok(())
-}
-
-/// The item that a reading was asked for last, if it has one.
-fn has_of<R: Read>(reading: &Reading<'_, R>) -> Option<HasLine> {
-    let letter = match reading.verdict {
-        Verdict::First => b'A',
-        Verdict::Second => b'B',
-        Verdict::Third => b'C',
-        Verdict::Bad => b'-',
-        Verdict::Ended | Verdict::Failed(_) => return None,
-    };
-    let kind = match reading.verdict {
-        Verdict::Bad => ItemKind::Bad,
-        _ if reading.length == 0 => ItemKind::Mark,
-        _ => ItemKind::Block(reading.length),
-    };
-    Some(HasLine {
-        letter,
-        kind,
-        from: reading.from,
-    })
 }

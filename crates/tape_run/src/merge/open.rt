@@ -22,7 +22,7 @@ pub fn open_all<'r, R: Read>(
     devices: &'r mut [R],
 ) -> Result<Vec<Reading<'r, R>>, AllocError>
     ensures { IfOk result (λ readings. AreAtFront (map R.remaining devices.old)
-        (map (λ r. r.image) readings.items)) }
+        readings.items) }
 {
     let mut readings = Vec::new(alloc);
     let opened = devices.iter_mut();
@@ -33,29 +33,29 @@ pub fn open_all<'r, R: Read>(
     Ok(readings)
 }
 
-/// Merges the images on these devices, which are read side by side, and writes the tape that they
-/// make together.
+/// Merges readings of images, which are read side by side, and writes the tape that they make
+/// together. Afterwards the fields of each reading say what was taken of it, and how it stopped.
 ///
-/// It allocates 100,000 bytes for each device, and 200,000.
+/// It allocates 200,000 bytes.
 ///
 /// # Errors
 ///
-/// Those of `merge_items`; `OutOfMemory` also if memory for a buffer is refused, before anything is
+/// Those of `merge_items`; `OutOfMemory` also if memory for a block is refused, before anything is
 /// read.
 pub fn merge_to<R: Read, W: Write + Drop>(
     alloc: Global,
-    devices: &mut [R],
+    readings: &mut [Reading<'_, R>],
     out: &mut ImageWriter<W>,
 ) -> Result<Merged, MergeFault>
     requires { out.old.standing ≡ writing }
     ensures ok { IfOk result (λ merged. (images : List (List ℕ))
-        → map R.remaining devices.old ≡ map Some images
-        → MergesImages images merged out.old out.new) }
+        → AreAtFront (map Some images) readings.old
+        → MergesImages images readings.new merged out.old out.new) }
     ensures fault { IfErr result (λ fault. (images : List (List ℕ))
-        → map R.remaining devices.old ≡ map Some images → FaultsImages images fault) }
+        → AreAtFront (map Some images) readings.old
+        → FaultsImages images readings.new fault) }
 {
     let mut best = Candidate::new(alloc)?;
     let mut other = Candidate::new(alloc)?;
-    let mut readings = open_all(alloc, devices)?;
-    merge_items(readings.as_mut_slice(), &mut best, &mut other, out)
+    merge_items(readings, &mut best, &mut other, out)
 }

@@ -1,9 +1,10 @@
 //! A reading of a tape: an image, and what was taken from it.
 
-ghost use Rattle.std.specs.Prelude.{◌≡◌, true, IfOk, OnOk};
+ghost use Rattle.std.specs.Prelude.{◌≡◌, IfOk, OnOk};
 ghost use Rattle.tape_image.specs.Reader.{tape_item};
-ghost use Rattle.tape_run.specs.MergeSteps.{Asked, Takes};
-ghost use Rattle.tape_run.specs.MergeCalls.{agreed, Clashes};
+ghost use Rattle.tape_run.specs.MergeSteps.{Compares, block_length, is_stop, bad_count};
+ghost use Rattle.tape_run.specs.MergeSteps.{Answered, Asked};
+ghost use Rattle.tape_run.specs.MergeCalls.{has_first};
 
 use super::candidate::Candidate;
 use std::alloc::AllocError;
@@ -44,8 +45,27 @@ pub struct Reading<'r, R: Read> {
 }
 
 impl Verdict {
+    /// Whether the reading stopped: there is no item.
+    fn is_stop(&self) -> bool
+        ensures { result ≡ is_stop self.now }
+    {
+        matches!(self, Verdict::Ended | Verdict::Failed(_))
+    }
+
+    /// How many bad items it counts: 1 or 0.
+    fn bad_items(&self) -> u64
+        ensures { result ≡ bad_count self.now }
+    {
+        match self {
+            Verdict::Bad => 1,
+            _ => 0,
+        }
+    }
+
     /// Whether it counts for the first item: 1 if the reading has it, 0 otherwise.
-    pub(crate) fn witnesses(&self) -> u64 {
+    pub(crate) fn witnesses(&self) -> u64
+        ensures { result ≡ has_first self.now }
+    {
         match self {
             Verdict::First => 1,
             _ => 0,
@@ -56,7 +76,8 @@ impl Verdict {
 impl<'r, R: Read> Reading<'r, R> {
     /// Creates a reading of an image from which nothing was taken.
     pub fn new(image: ImageReader<'r, R>) -> Reading<'r, R>
-        ensures { result.image ≡ image.entry }
+        ensures image { result.image ≡ image.entry }
+        ensures none { (result.items ≡ 0) × (result.bad ≡ 0) }
     {
         Reading {
             image,
@@ -75,12 +96,14 @@ fn take_item(
     best: &mut Candidate,
     other: &mut Candidate,
 ) -> Result<Verdict, AllocError>
-    ensures best { IfOk result (λ verdict.
-        Takes best.old (tape_item item.entry) (agreed verdict) best.new) }
-    ensures other { IfOk result (λ verdict. Clashes (agreed verdict) other.old other.new) }
+    ensures { IfOk result (λ verdict. Compares verdict (tape_item item.entry)
+        best.old best.new other.old other.new) }
 {
     if best.take(item)? {
-        return Ok(first_or_bad(item));
+        return Ok(match item {
+            Item::Bad => Verdict::Bad,
+            Item::Mark | Item::Block(_) => Verdict::First,
+        });
     }
     if other.take(item)? {
         return Ok(Verdict::Second);
@@ -88,21 +111,13 @@ fn take_item(
     Ok(Verdict::Third)
 }
 
-/// Returns the verdict on an item that agrees.
-fn first_or_bad(item: Item<'_>) -> Verdict
-    ensures { agreed result ≡ true }
+/// The number of bytes of a block; 0 for any other item.
+fn length_of(item: Item<'_>) -> u64
+    ensures { result ≡ block_length (tape_item item.entry) }
 {
     match item {
-        Item::Bad => Verdict::Bad,
-        _ => Verdict::First,
-    }
-}
-
-/// The number of bytes of a block; 0 for any other item.
-fn length_of(item: Item<'_>) -> u64 {
-    match item {
         Item::Block(bytes) => bytes.len() as u64,
-        _ => 0,
+        Item::Bad | Item::Mark => 0,
     }
 }
 
@@ -113,9 +128,8 @@ fn ask_image<R: Read>(
     other: &mut Candidate,
 ) -> Result<(Verdict, u64), AllocError>
     ensures same_device { image.new.device ≡ image.old.device }
-    ensures best { IfOk result (λ answer.
-        Asked image.old image.new best.old (agreed answer.0) best.new) }
-    ensures other { IfOk result (λ answer. Clashes (agreed answer.0) other.old other.new) }
+    ensures answered { IfOk result (λ answer. Answered image.old image.new answer.0 answer.1
+        best.old best.new other.old other.new) }
 {
     match image.next() {
         Ok(Some(item)) => Ok((take_item(item, best, other)?, length_of(item))),
@@ -131,23 +145,18 @@ pub(crate) fn ask<R: Read>(
     other: &mut Candidate,
 ) -> Result<(), AllocError>
     ensures same_device { reading.new.image.device ≡ reading.old.image.device }
-    ensures best { OnOk result (Asked reading.old.image reading.new.image
-        best.old (agreed reading.new.verdict) best.new) }
-    ensures other { OnOk result (Clashes (agreed reading.new.verdict) other.old other.new) }
+    ensures asked { OnOk result (Asked reading.old reading.new best.old best.new
+        other.old other.new) }
 {
     let from = reading.image.place();
     let (verdict, length) = ask_image(&mut reading.image, best, other)?;
     reading.verdict = verdict;
-    match verdict {
-        Verdict::Ended | Verdict::Failed(_) => {}
-        _ => {
-            reading.from = from;
-            reading.length = length;
-            reading.items = reading.items.saturating_add(1);
-            if verdict == Verdict::Bad {
-                reading.bad = reading.bad.saturating_add(1);
-            }
-        }
+    if verdict.is_stop() {
+        return Ok(());
     }
+    reading.bad = reading.bad.saturating_add(verdict.bad_items());
+    reading.from = from;
+    reading.length = length;
+    reading.items = reading.items.saturating_add(1);
     Ok(())
 }

@@ -1,8 +1,10 @@
-use Rattle.std.proofs.Common.{map}
-use Rattle.tape_run.proofs.MergeRounds.{HasAsked}
+use Rattle.std.proofs.Common.{◌≤◌, None}
+use Rattle.tape_run.proofs.MergeRounds.{AskedFirst}
 use Rattle.tape_run.proofs.merge.ask_all.Given as goal
 
 -- so many were asked
 abbrev pub invariant-loop-number : goal.invariant-loop-number
-invariant-loop-number g l = HasAsked l.number (map (λ r. r.image) l.fn.readings)
-    (map (λ r. r.image) l.readings) l.fn.best l.best l.other
+invariant-loop-number g l = record {
+  asked : AskedFirst l.number l.fn.readings l.readings None l.best None l.other l.witnesses;
+  few : l.witnesses ≤ l.number;
+}

@@ -19,23 +19,24 @@ items-init g c = record {
 pub returns-then-is_some-clause-fault : goal.returns-then-is_some-clause-fault
 returns-then-is_some-clause-fault g c = stops_at _ _ _ c.items.merged c.items.phase c.args.out.now
     c.items.out c.ask_all.new.best c.ask_all.new.other c.items.invariant.so_far
-    c.in_ok-witnesses.ensures (sym c.is_some.ensures ∙ c.if-is_some.true)
+    c.in_ok-witnesses.ensures.asked (sym c.is_some.ensures ∙ c.if-is_some.true)
 
 pub returns-then-not-branch-clause-ok : goal.returns-then-not-branch-clause-ok
 returns-then-not-branch-clause-ok g c =
     comes_to_end _ _ _ c.items.merged c.items.phase c.args.out.now c.items.out c.put.new.out
     c.ask_all.new.best c.ask_all.new.other c.in_ok-put.field-0 c.items.invariant.so_far
-    c.in_ok-witnesses.ensures (sym c.is_some.ensures ∙ c.if-is_some.false) c.in_ok-put.ensures.ok
+    c.in_ok-witnesses.ensures.asked (sym c.is_some.ensures ∙ c.if-is_some.false) c.in_ok-put.ensures.ok
     c.if-not-branch.true
 
 pub items-preserved : goal.items-preserved
 items-preserved g c =
     let more = one_more _ _ _ c.items.merged c.count.new.self c.items.phase c.step-next.result
-    c.args.out.now c.items.out c.put.new.out
+    c.in_ok-witnesses.witnesses c.args.out.now c.items.out c.put.new.out
     c.ask_all.new.best c.ask_all.new.other c.in_ok-put.field-0 c.is_bad.result
-    c.items.invariant.so_far c.in_ok-witnesses.ensures (sym c.is_some.ensures ∙ c.if-is_some.false)
+    c.items.invariant.so_far c.in_ok-witnesses.ensures.asked c.in_ok-witnesses.ensures.witnesses
+    (sym c.is_some.ensures ∙ c.if-is_some.false)
     c.in_ok-put.ensures.ok c.if-not-branch.false c.step-next.ensures c.is_bad.ensures
-    c.count.ensures.items c.count.ensures.bad c.count.ensures.miscounted in
+    c.count.ensures.items c.count.ensures.bad c.count.ensures.alone c.count.ensures.miscounted in
     record {
       so_far = more.so_far;
       stands = more.stands;
@@ -69,4 +70,4 @@ pub returns-in_err-put-clause-fault : goal.returns-in_err-put-clause-fault
 returns-in_err-put-clause-fault g c = refused_now c.from_residual-in_err-put.result _ _ _
     c.items.merged c.items.phase c.args.out.now c.items.out c.put.new.out c.ask_all.new.best
     c.ask_all.new.other c.in_err-put.field-0.0 (search rules) c.items.invariant.so_far
-    c.in_ok-witnesses.ensures c.items.invariant.stands c.in_err-put.ensures.err
+    c.in_ok-witnesses.ensures.asked c.items.invariant.stands c.in_err-put.ensures.err

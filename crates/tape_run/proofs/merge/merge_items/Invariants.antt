@@ -1,4 +1,4 @@
-use Rattle.std.proofs.Common.{◌≡◌, ◌-◌, ◌*◌, ◌≤◌, map}
+use Rattle.std.proofs.Common.{◌≡◌, ◌-◌, ◌*◌, ◌≤◌}
 use Rattle.tape_image.specs.Begins.{image_limit}
 use Rattle.tape_image.specs.Writer.{writing}
 use Rattle.tape_run.specs.Passing.{blocks_of}
@@ -7,8 +7,7 @@ use Rattle.tape_run.proofs.merge.merge_items.Given as goal
 
 abbrev pub invariant-items : goal.invariant-items
 invariant-items g l = record {
-  so_far : SoFar (map (λ r. r.image) l.fn.readings) (map (λ r. r.image) l.readings) l.merged
-      l.phase l.fn.out l.out;
+  so_far : SoFar l.fn.readings l.readings l.merged l.phase l.fn.out l.out;
   stands : l.out.standing ≡ writing;
   few : l.merged.items * 4 ≤ l.out.size;
   limit : l.merged.items * 4 ≤ image_limit;

@@ -1,19 +1,26 @@
+use Rattle.std.proofs.Common.{map}
+use Rattle.std.specs.Io.KnownBytes.{Appends}
+use Rattle.tape_image.specs.Written.{AppendsFront}
 use Rattle.tape_run.proofs.Ended.{told_err}
 use Rattle.tape_run.proofs.MergeNow.{at_front, ok_now, err_now, err_stays}
 use Rattle.tape_run.proofs.merge.now.merge_now.Goals as goal
 
 pub returns-clause-ok : goal.returns-clause-ok
 returns-clause-ok g c = ok_now c.merge_readings.result g.L.ImageSource.size g.L.ImageSource.gives
-    g.R.Read.remaining _ _ c.in_ok-devices.devices.items _ _ _ c.in_ok-devices.ensures.ok
-    (at_front g.R.Read.remaining (λ r. r.image) c.in_ok-devices.devices.items _ _ _
+    g.R.Read.remaining _ _ c.in_ok-devices.devices.items _ (map (λ n. n.now) c.args.names.now) _ _
+    (Appends (g.P.Write.contents c.args.report.now)
+    (g.P.Write.contents c.merge_readings.new.report)) c.in_ok-devices.ensures.ok
+    (at_front g.R.Read.remaining c.in_ok-devices.devices.items _ _ _
     c.as_mut_slice.ensures.value c.as_mut_slice-2.ensures.value c.in_ok-readings.ensures)
     c.merge_readings.ensures.ok
 
 pub returns-clause-err : goal.returns-clause-err
 returns-clause-err g c = err_now c.merge_readings.result g.O.Place.stands _ _ g.L.ImageSource.size
-    g.L.ImageSource.gives g.R.Read.remaining _ _ c.in_ok-devices.devices.items _ _ _
-    c.in_ok-devices.ensures.ok
-    (at_front g.R.Read.remaining (λ r. r.image) c.in_ok-devices.devices.items _ _ _
+    g.L.ImageSource.gives g.R.Read.remaining _ _ c.in_ok-devices.devices.items _
+    (map (λ n. n.now) c.args.names.now) _ _
+    (AppendsFront (g.P.Write.contents c.args.report.now)
+    (g.P.Write.contents c.merge_readings.new.report)) c.in_ok-devices.ensures.ok
+    (at_front g.R.Read.remaining c.in_ok-devices.devices.items _ _ _
     c.as_mut_slice.ensures.value c.as_mut_slice-2.ensures.value c.in_ok-readings.ensures)
     c.merge_readings.ensures.err
 

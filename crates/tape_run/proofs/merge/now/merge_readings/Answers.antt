@@ -1,21 +1,38 @@
-use Rattle.std.proofs.Common.{map, inl, inr, rules}
+use Rattle.std.proofs.Common.{map, inl, inr, rules, subst, sym, ◌∙◌, [], ◌++◌, append-nil}
+use Rattle.std.specs.Io.KnownBytes.{Appends}
+use Rattle.std.proofs.KnownBytes.{Appends-trans}
+use Rattle.tape_image.specs.Written.{AppendsFront}
+use Rattle.tape_run.specs.MergeLines.{lines_from, reading_line, merged_line}
+use Rattle.tape_run.proofs.Reporting.{front_then}
 use Rattle.tape_run.proofs.MergeNow.{made, made_some, differed, fits_other, err_write}
 use Rattle.tape_run.proofs.merge.now.merge_readings.Goals as goal
 
 pub returns-in-Ok-clause-ok : goal.returns-in-Ok-clause-ok
-returns-in-Ok-clause-ok g c = made (map (λ r. r.image) c.args.readings.now) _ c.in-Ok.merged _ _ _
-    _ _ c.end_of-end.result _ c.new-image.ensures c.in-Ok.ensures.ok
+returns-in-Ok-clause-ok g c =
+    let names = map (λ n. n.now) c.args.names.now in
+    let old = g.P.Write.contents c.args.report.now in
+    let mid = g.P.Write.contents c.report_readings.new.report in
+    let new = g.P.Write.contents c.pass_on.new.report in
+    made c.args.readings.now c.merge_to.new.readings c.in-Ok.merged _ _ _
+    _ _ c.end_of-end.result _ names (Appends old new)
+    c.new-image.ensures c.in-Ok.ensures.ok
     c.in_ok-written-in-Ok.ensures.ok c.in_ok-place-in-Ok.ensures.ok c.whole_or_partial.ensures
+    c.end_of-end.ensures (Appends-trans old mid new
+    (lines_from (reading_line names) 0 c.merge_to.new.readings)
+    (merged_line c.in-Ok.merged c.end_of-end.result) c.in_ok-report_readings-in-Ok.ensures.ok
+    (subst (λ t. Appends mid new t) (c.deref.ensures.0 ∙ c.merged_line.ensures)
+    c.in_ok-pass_on-in-Ok.ensures.ok))
 
 pub returns-in-Ok-clause-untouched : goal.returns-in-Ok-clause-untouched
 returns-in-Ok-clause-untouched g c =
     λ is. absurd (fits_other _ _ _ _ c.whole_or_partial.ensures is)
 
 pub returns-in-Err-Differ-clause-ok : goal.returns-in-Err-Differ-clause-ok
-returns-in-Err-Differ-clause-ok g c = differed (map (λ r. r.image) c.args.readings.now) _
-    c.in-Err-Differ.item c.in-Err-Differ.field-0 _ _ (g.W.Write.contents c.args.out)
-    (g.O.Place.stands c.args.place.now) c.new-image.ensures c.in-Err-Differ.ensures.fault
-    c.in-Err-Differ.field-0-is
+returns-in-Err-Differ-clause-ok g c = differed c.args.readings.now c.merge_to.new.readings
+    c.in-Err-Differ.item c.in-Err-Differ.field-0 (g.W.Write.contents c.args.out)
+    (g.O.Place.stands c.args.place.now) (map (λ n. n.now) c.args.names.now)
+    (Appends (g.P.Write.contents c.args.report.now) (g.P.Write.contents c.report_items.new.report))
+    c.in-Err-Differ.ensures.fault c.in-Err-Differ.field-0-is
 
 pub returns-in_err-place-in-Ok-clause-err : goal.returns-in_err-place-in-Ok-clause-err
 returns-in_err-place-in-Ok-clause-err g c =
@@ -23,7 +40,17 @@ returns-in_err-place-in-Ok-clause-err g c =
 
 pub returns-in_err-pass_on-in-Ok-clause-err : goal.returns-in_err-pass_on-in-Ok-clause-err
 returns-in_err-pass_on-in-Ok-clause-err g c =
+    let names = map (λ n. n.now) c.args.names.now in
+    let old = g.P.Write.contents c.args.report.now in
+    let mid = g.P.Write.contents c.report_readings.new.report in
+    let new = g.P.Write.contents c.pass_on.new.report in
+    let lines = lines_from (reading_line names) 0 c.merge_to.new.readings in
+    let last = merged_line c.in-Ok.merged c.end_of-end.result in
     err_write _ g.O.Place.stands _ _ _ _ (search rules) (inr (made_some
-    (map (λ r. r.image) c.args.readings.now) _ c.in-Ok.merged _ _ _ _ _ c.end_of-end.result
+    c.args.readings.now c.merge_to.new.readings c.in-Ok.merged _ _ _ _ _ c.end_of-end.result
+    names (AppendsFront old new)
     c.new-image.ensures c.in-Ok.ensures.ok c.in_ok-written-in-Ok.ensures.ok
-    c.in_ok-place-in-Ok.ensures.ok))
+    c.in_ok-place-in-Ok.ensures.ok c.end_of-end.ensures
+    (front_then old mid new lines last [] (lines ++ last) c.in_ok-report_readings-in-Ok.ensures.ok
+    (subst (λ t. AppendsFront mid new t) (c.deref.ensures.0 ∙ c.merged_line.ensures)
+    c.in_err-pass_on-in-Ok.ensures.err) (sym (append-nil (lines ++ last))))))

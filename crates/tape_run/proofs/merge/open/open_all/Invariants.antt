@@ -5,7 +5,6 @@ use Rattle.tape_run.proofs.merge.open.open_all.Given as goal
 -- those that were yielded have readings at their fronts, and are the first of all
 abbrev pub invariant-loop-device : goal.invariant-loop-device
 invariant-loop-device g l = record {
-  fronts : AreAtFront (map (λ y. g.R.Read.remaining y.now) l.yielded)
-      (map (λ r. r.image) l.readings.items);
+  fronts : AreAtFront (map (λ y. g.R.Read.remaining y.now) l.yielded) l.readings.items;
   split : map (λ y. y.now) l.yielded ++ l.device-iterator.s.now ≡ l.fn.devices;
 }

@@ -1,0 +1,158 @@
+-- The lines of readings, one after another, and how the merged image ends.
+use Rattle.std.proofs.Common.{◌≡◌, ◌⊎◌, ℕ, zero, suc, ◌+◌, ◌<◌, ◌≤◌, List, [], ◌∷◌, ◌++◌, length}
+use Rattle.std.proofs.Common.{drop, get_or, Option, Some, None, refl, sym, ap, subst, ◌∙◌, inl, inr, arith}
+use Rattle.std.specs.Io.KnownBytes.{Appends}
+use Rattle.std.proofs.KnownBytes.{Appends-nil, Appends-trans}
+use Rattle.tape_image.specs.declared.item.Ending.{Ending}
+use Rattle.tape_image.specs.declared.item.Ending.TheVariants as endings
+use Rattle.tape_image.specs.Reader.{Status, going, ended, failed, ending_of}
+use Rattle.tape_run.specs.declared.merge.line.MergedEnd.{MergedEnd}
+use Rattle.tape_run.specs.declared.merge.line.MergedEnd.TheVariants.{Marked, Physical, Cut}
+use Rattle.tape_run.specs.declared.merge.reading.Reading.{Reading}
+use Rattle.tape_run.specs.declared.merge.line.HasLine.{HasLine}
+use Rattle.tape_run.specs.MergeLines.{lines_from, item_line, with_name, has_text}
+use Rattle.tape_run.specs.MergeNow.{SomeEnds, EndsAs}
+
+-- ---- lines
+
+drop_none : {A : Type 0} (xs : List A) (n : ℕ) → length xs ≤ n → drop n xs ≡ []
+drop_none [] zero le = refl
+drop_none [] (suc n) le = refl
+drop_none (x ∷ xs) zero le = absurd (omega arith)
+drop_none (x ∷ xs) (suc n) le = drop_none xs n (omega arith)
+
+drop_one : {A : Type 0} (xs : List A) (n : ℕ) (x : A) → n < length xs → x ≡ get_or xs n x
+    → drop n xs ≡ x ∷ drop (n + 1) xs
+drop_one {A} [] n x lt is = absurd (omega arith)
+drop_one {A} (y ∷ xs) zero x lt is = ap (λ (z : A). z ∷ xs) (sym is)
+drop_one {A} (y ∷ xs) (suc n) x lt is =
+    let next : suc n + 1 ≡ suc (n + 1) = omega arith in
+    drop_one xs n x (omega arith) is
+    ∙ ap (λ (l : List A). x ∷ l) (ap (λ k. drop k (y ∷ xs)) (sym next))
+
+-- The lines of these were reported, and with those of the others that will be all.
+abbrev pub ReportsFirst : {A : Type 0} → (ℕ → A → List ℕ) → ℕ → List A → Option (List ℕ)
+    → Option (List ℕ) → Type 0
+ReportsFirst line number xs old mid = (new : Option (List ℕ))
+    → Appends mid new (lines_from line number (drop number xs))
+    → Appends old new (lines_from line 0 xs)
+
+pub reports_more : {A : Type 0} (line : ℕ → A → List ℕ) (number : ℕ) (xs : List A) (x : A)
+    (old mid next : Option (List ℕ)) (text : List ℕ) → number < length xs
+    → x ≡ get_or xs number x → text ≡ line number x → ReportsFirst line number xs old mid
+    → Appends mid next text → ReportsFirst line (number + 1) xs old next
+reports_more {A} line number xs x old mid next text lt is this h wrote = λ new rest.
+    h new (subst (λ (l : List A). Appends mid new (lines_from line number l))
+    (sym (drop_one xs number x lt is))
+    (Appends-trans mid next new (line number x) (lines_from line (number + 1)
+    (drop (number + 1) xs)) (subst (λ t. Appends mid next t) this wrote) rest))
+
+pub reports_all : {A : Type 0} (line : ℕ → A → List ℕ) (number : ℕ) (xs : List A)
+    (old new : Option (List ℕ)) → length xs ≤ number → ReportsFirst line number xs old new
+    → Appends old new (lines_from line 0 xs)
+reports_all {A} line number xs old new le h =
+    h new (subst (λ (l : List A). Appends new new (lines_from line number l))
+    (sym (drop_none xs number le)) (Appends-nil new))
+
+-- the line of an item that is there
+pub item_some : (o : Option HasLine) (has : HasLine) (number : ℕ) (name : List ℕ) → o ≡ Some has
+    → item_line o number name ≡ with_name (has_text (number + 1) has) name
+item_some o has number name is = ap (λ (o : Option HasLine). item_line o number name) is
+
+pub item_none : (o : Option HasLine) (number : ℕ) (name : List ℕ) → o ≡ None
+    → item_line o number name ≡ []
+item_none o number name is = ap (λ (o : Option HasLine). item_line o number name) is
+
+-- ---- how the merged image ends
+
+-- After some readings: none of them ended so that the answer would be another.
+pub record EndsSoFar {R : Type 0} (items : ℕ) (number : ℕ) (all : List (Reading R))
+    (end : MergedEnd) : Type 0 where
+  pub no_marked : SomeEnds items endings.Marked all
+      → SomeEnds items endings.Marked (drop number all)
+  pub not_marked : end ≡ Marked → ⊥
+  pub physical : end ≡ Physical → SomeEnds items endings.Physical all
+  pub cut : end ≡ Cut → SomeEnds items endings.Physical all
+      → SomeEnds items endings.Physical (drop number all)
+
+-- the reading with this number ended so
+pub ends_here : {R : Type 0} (items number : ℕ) (all : List (Reading R)) (r : Reading R)
+    (ending : Ending) → number < length all → r ≡ get_or all number r → r.items ≡ items
+    → r.image.status ≡ ended ending → SomeEnds items ending all
+ends_here {R} items number [] r ending lt is many how = absurd (omega arith)
+ends_here {R} items zero (x ∷ all) r ending lt is many how = inl (
+  ap (λ (q : Reading R). q.items) (sym is) ∙ many,
+  ap (λ (q : Reading R). q.image.status) (sym is) ∙ how,
+)
+ends_here {R} items (suc number) (x ∷ all) r ending lt is many how =
+    inr (ends_here items number all r ending (omega arith) is many how)
+
+is_later : {R : Type 0} (items : ℕ) (ending : Ending) (r : Reading R) (rest : List (Reading R))
+    → (r.items ≡ items → r.image.status ≡ ended ending → ⊥)
+    → SomeEnds items ending (r ∷ rest) → SomeEnds items ending rest
+is_later items ending r rest never (inl (many, how)) = absurd (never many how)
+is_later items ending r rest never (inr later) = later
+
+-- it did not
+pub ends_later : {R : Type 0} (items number : ℕ) (all : List (Reading R)) (r : Reading R)
+    (ending : Ending) → number < length all → r ≡ get_or all number r
+    → (r.items ≡ items → r.image.status ≡ ended ending → ⊥)
+    → (SomeEnds items ending all → SomeEnds items ending (drop number all))
+    → SomeEnds items ending all → SomeEnds items ending (drop (number + 1) all)
+ends_later {R} items number all r ending lt is never so_far some =
+    is_later items ending r (drop (number + 1) all) never
+    (subst (SomeEnds items ending) (drop_one all number r lt is) (so_far some))
+
+-- its status, as `ending` answers
+pub ending_is : (s : Status) (ending : Ending) → ending_of s ≡ Some ending → s ≡ ended ending
+ending_is going ending is = absurd (cc is)
+ending_is (ended other) ending is = cc is
+ending_is (failed fault) ending is = absurd (cc is)
+
+pub ending_none : (s : Status) (ending : Ending) → ending_of s ≡ None → s ≡ ended ending → ⊥
+ending_none s ending none is = cc (none, ap ending_of is)
+
+-- it ended by the end of the bytes
+pub ends_physical : {R : Type 0} (items number : ℕ) (all : List (Reading R)) (end : MergedEnd)
+    (r : Reading R) → number < length all → r ≡ get_or all number r → r.items ≡ items
+    → ending_of r.image.status ≡ Some endings.Physical → EndsSoFar items number all end
+    → EndsSoFar items (number + 1) all Physical
+ends_physical items number all end r lt is many how h =
+    let at : r.image.status ≡ ended endings.Physical =
+    ending_is r.image.status endings.Physical how in
+    record {
+      no_marked = ends_later items number all r endings.Marked lt is (λ _ m. cc (m, at)) h.no_marked;
+      not_marked = λ e. cc e;
+      physical = λ _. ends_here items number all r endings.Physical lt is many at;
+      cut = λ e. absurd (cc e);
+    }
+
+-- it did not end, or it is shorter
+pub ends_kept : {R : Type 0} (items number : ℕ) (all : List (Reading R)) (end : MergedEnd)
+    (r : Reading R) → number < length all → r ≡ get_or all number r
+    → ((ending : Ending) → r.items ≡ items → r.image.status ≡ ended ending → ⊥)
+    → EndsSoFar items number all end → EndsSoFar items (number + 1) all end
+ends_kept items number all end r lt is never h = record {
+  no_marked = ends_later items number all r endings.Marked lt is (never endings.Marked) h.no_marked;
+  not_marked = h.not_marked;
+  physical = h.physical;
+  cut = λ e. ends_later items number all r endings.Physical lt is (never endings.Physical)
+      (h.cut e);
+}
+
+-- none is left
+pub ends_none : {R : Type 0} (items number : ℕ) (all : List (Reading R)) (ending : Ending)
+    → length all ≤ number → (SomeEnds items ending all → SomeEnds items ending (drop number all))
+    → SomeEnds items ending all → ⊥
+ends_none items number all ending le so_far some =
+    subst (SomeEnds items ending) (drop_none all number le) (so_far some)
+
+pub ends_as : {R : Type 0} (items number : ℕ) (all : List (Reading R)) (end : MergedEnd)
+    → length all ≤ number → EndsSoFar items number all end → EndsAs items all end
+ends_as items number all Marked le h = absurd (h.not_marked refl)
+ends_as items number all Physical le h =
+    (h.physical refl, ends_none items number all endings.Marked le h.no_marked)
+ends_as items number all Cut le h = (
+  ends_none items number all endings.Physical le (h.cut refl),
+  ends_none items number all endings.Marked le h.no_marked,
+)

@@ -1,0 +1,37 @@
+use Rattle.std.proofs.Common.{arith, Some, None, sym, ap, subst, ◌∙◌, rules, ◌+◌}
+use Rattle.tape_image.specs.declared.item.Ending.TheVariants as endings
+use Rattle.tape_run.specs.declared.merge.line.MergedEnd.TheVariants.{Physical}
+use Rattle.tape_run.proofs.MergeReports.{EndsSoFar, ends_here, ending_is, ending_none}
+use Rattle.tape_run.proofs.MergeReports.{ends_physical, ends_kept}
+use Rattle.tape_run.proofs.merge.now.end_of.Goals.{then-reading-items+in-Some-Physical}
+use Rattle.tape_run.proofs.merge.now.end_of.Goals.{then-reading-items+in-None, else-reading-items}
+use Rattle.tape_run.proofs.merge.now.end_of.Goals as goal
+
+pub returns-in-Some-Marked : goal.returns-in-Some-Marked
+returns-in-Some-Marked g c = ends_here c.args.items c.loop-reading.reading-index
+    c.args.readings.now c.reading-item.result endings.Marked (search rules) c.reading-item.is
+    (search rules)
+    (ending_is c.reading-item.result.image.status endings.Marked (search rules))
+
+pub loop-reading-preserved : goal.loop-reading-preserved
+loop-reading-preserved g c = elim c.if-reading-items.branch [
+  | then-reading-items+in-Some-Physical w ↦
+      subst (EndsSoFar c.args.items (c.loop-reading.reading-index + 1) c.args.readings.now)
+      (sym w.end-is) (ends_physical c.args.items c.loop-reading.reading-index
+      c.args.readings.now c.loop-reading.end c.reading-item.result (search rules)
+      c.reading-item.is (search rules)
+      (search rules)
+      c.loop-reading.invariant)
+  | then-reading-items+in-None w ↦
+      subst (EndsSoFar c.args.items (c.loop-reading.reading-index + 1) c.args.readings.now)
+      (sym w.end-is) (ends_kept c.args.items c.loop-reading.reading-index
+      c.args.readings.now c.loop-reading.end c.reading-item.result (search rules)
+      c.reading-item.is (λ ending _ at. ending_none c.reading-item.result.image.status ending
+      (search rules) at) c.loop-reading.invariant)
+  | else-reading-items w ↦
+      subst (EndsSoFar c.args.items (c.loop-reading.reading-index + 1) c.args.readings.now)
+      (sym w.end-is) (ends_kept c.args.items c.loop-reading.reading-index
+      c.args.readings.now c.loop-reading.end c.reading-item.result (search rules)
+      c.reading-item.is (λ ending many _. w.if-reading-items.false many)
+      c.loop-reading.invariant)
+]
