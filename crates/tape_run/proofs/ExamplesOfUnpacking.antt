@@ -22,6 +22,14 @@ cases_of_unpacking = record {
   escaped = refl;
   control = refl;
   spaces = refl;
+  case = refl;
+  refused = refl;
+  hidden = refl;
+  seen = refl;
+  printed_as = refl;
+  told_apart = λ law a b ua ub other e. other (law a b ua ub e);
+  shows = λ law. law;
+  keeps = λ law. law;
   line = refl;
   no_path = refl;
   kept = refl;
@@ -33,7 +41,9 @@ cases_of_unpacking = record {
   of_no_set = λ s none. ap (λ h. option_map (λ x. x.set_id) h) none;
   of_a_set = λ s h is. ap (λ o. option_map (λ x. x.set_id) o) is;
   not_opened = refl;
-  own_name = λ law s t m n a b ss ts long lm ln other e.
-      other (law s t m n a b ss ts long lm ln e).0;
+  own_name = λ law s t m n a b x y ss ts long lm ln other e.
+      other (law s t m n a b x y ss ts long lm ln e).0;
+  case_folded = refl;
   stays = λ law. law;
+  fits = λ law. law;
 }

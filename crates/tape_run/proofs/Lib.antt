@@ -74,9 +74,11 @@ mod ExamplesOfSurveys
 mod ExamplesOfCompared
 mod ExamplesOfUnpacking
 mod UnpackedFiles
+mod UnpackedFits
 mod UnpackedNames
 mod WholeReports
 mod Streams
+mod QuotedNames
 pub mod RecordFronts
 mod Turns
 mod TurnSteps

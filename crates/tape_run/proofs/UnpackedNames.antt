@@ -1,15 +1,16 @@
--- Names of files that are unpacked: each is of one file, and stays in its folder.
-use Rattle.std.proofs.Common.{◌≡◌, ℕ, suc, ◌+◌, ◌*◌, ◌<◌, ◌≤◌, ◌/◌, ◌%◌, ◌^◌, length-append}
-use Rattle.std.proofs.Common.{Bool, true, false, List, [], ◌∷◌, ◌++◌, length, map, take}
-use Rattle.std.proofs.Common.{refl, sym, ap, subst, ◌∙◌, arith, append_assoc, codes}
-use Rattle.std.specs.Prelude.{◌==◌, decimal, if◌then◌else◌}
+-- Names of files that are unpacked: each is of one file.
+use Rattle.std.proofs.Common.{◌≡◌, ℕ, ◌+◌, ◌*◌, ◌<◌, ◌≤◌, ◌/◌, ◌%◌, ◌^◌}
+use Rattle.std.proofs.Common.{Bool, true, false, List, [], ◌∷◌, ◌++◌, length, map}
+use Rattle.std.proofs.Common.{refl, sym, ap, ◌∙◌, arith, append_assoc, codes}
+use Rattle.std.specs.Prelude.{◌==◌, ◌||◌, decimal, if◌then◌else◌}
 use Rattle.std.specs.List.{AllByRecursion}
 use Rattle.std.proofs.lemmas.Bool.Decides.{nat_tests}
-use Rattle.std.proofs.lemmas.Fmt.{decimal_by_steps, decimal_injective, decimal_nonempty}
+use Rattle.std.proofs.lemmas.Fmt.{decimal_by_steps, decimal_injective}
+use Rattle.std.proofs.lemmas.List.{map-append}
 use Rattle.std.proofs.lemmas.Nat.{div-add-mod', mod_below, div_below}
-use Rattle.tape_run.specs.Unpacking.{is_plain, hex, escaped, escaped_all, fit, fit_text, file_name}
-use Rattle.tape_run.specs.SurveyLine.{trimmed_len}
-use Rattle.tape_run.specs.UnpackLaws.{NamesDiffer, NamesStay, AreBytes, MayStand}
+use Rattle.tape_run.specs.Quoting.{hex}
+use Rattle.tape_run.specs.Unpacking.{is_plain, escaped, escaped_all, fit_text, file_name}
+use Rattle.tape_run.specs.UnpackLaws.{NamesDiffer, AreBytes, folded}
 
 -- ---- lists
 
@@ -21,16 +22,16 @@ abbrev rest_of : List ℕ → List ℕ
 rest_of [] = []
 rest_of (y ∷ ys) = ys
 
-heads : (a b : ℕ) (xs ys : List ℕ) → a ∷ xs ≡ b ∷ ys → a ≡ b
+pub heads : (a b : ℕ) (xs ys : List ℕ) → a ∷ xs ≡ b ∷ ys → a ≡ b
 heads a b xs ys e = ap (first_of a) e
 
-tails : (a b : ℕ) (xs ys : List ℕ) → a ∷ xs ≡ b ∷ ys → xs ≡ ys
+pub tails : (a b : ℕ) (xs ys : List ℕ) → a ∷ xs ≡ b ∷ ys → xs ≡ ys
 tails a b xs ys e = ap rest_of e
 
 -- ---- set identifiers
 
 -- two bytes that are told by one text are one
-hex_one : (a b : ℕ) → a < 16 → b < 16 → hex a ≡ hex b → a ≡ b
+pub hex_one : (a b : ℕ) → a < 16 → b < 16 → hex a ≡ hex b → a ≡ b
 hex_one a b p q e = grind (arith, nat_tests)
 
 both : (a b : ℕ) → a < 256 → b < 256 → a / 16 ≡ b / 16 → a % 16 ≡ b % 16 → a ≡ b
@@ -38,9 +39,9 @@ both a b p q high low =
     sym (div-add-mod' a 16) ∙ ap (λ h. h * 16 + a % 16) high
     ∙ ap (λ l. b / 16 * 16 + l) low ∙ div-add-mod' b 16
 
-record Split (a b : ℕ) (xs ys : List ℕ) : Type 0 where
-  same : a ≡ b
-  rest : xs ≡ ys
+pub record Split (a b : ℕ) (xs ys : List ℕ) : Type 0 where
+  pub same : a ≡ b
+  pub rest : xs ≡ ys
 
 split_hex : (a b : ℕ) (xs ys : List ℕ) → a < 256 → b < 256
     → 37 ∷ hex (a / 16) ∷ hex (a % 16) ∷ xs ≡ 37 ∷ hex (b / 16) ∷ hex (b % 16) ∷ ys
@@ -58,7 +59,7 @@ split_hex a b xs ys p q e =
     }
 
 -- the text of a byte, by whether it is plain and whether it is a space
-abbrev by_kind : Bool → Bool → ℕ → List ℕ
+abbrev pub by_kind : Bool → Bool → ℕ → List ℕ
 by_kind plain space b =
     if plain then b ∷ [] else if space then codes "_"
     else 37 ∷ hex (b / 16) ∷ hex (b % 16) ∷ []
@@ -113,7 +114,7 @@ split_all (a ∷ s) (b ∷ t) xs ys (la, ss) (lb, ts) n e =
 
 -- ---- numbers
 
-abbrev IsDigit : ℕ → Type 0
+abbrev pub IsDigit : ℕ → Type 0
 IsDigit b = (48 ≤ b) × (b ≤ 57)
 
 digits_more : (xs : List ℕ) (d : ℕ) → AllByRecursion IsDigit xs → IsDigit d
@@ -121,7 +122,7 @@ digits_more : (xs : List ℕ) (d : ℕ) → AllByRecursion IsDigit xs → IsDigi
 digits_more [] d all is = (is, tt)
 digits_more (x ∷ xs) d (one, all) is = (one, digits_more xs d all is)
 
-digits_are : (n : ℕ) → n < 2 ^ 64 → AllByRecursion IsDigit (decimal n)
+pub digits_are : (n : ℕ) → n < 2 ^ 64 → AllByRecursion IsDigit (decimal n)
 digits_are = decimal_by_steps (λ n ds. AllByRecursion IsDigit ds)
     (λ n small. ((omega arith, omega (arith, small)), tt))
     (λ n ds some all. let low : n % 10 < 10 = mod_below n 10 (omega arith) in
@@ -139,89 +140,95 @@ before_stop (a ∷ p) (b ∷ q) xs ys (pa, ps) (qb, qs) e =
     ap (λ c. c ∷ p) (heads a b _ _ e)
     ∙ ap (λ r. b ∷ r) (before_stop p q xs ys ps qs (tails a b _ _ e))
 
-wide : (n : ℕ) → n < 2 ^ 16 → n < 2 ^ 64
+pub wide : (n : ℕ) → n < 2 ^ 16 → n < 2 ^ 64
 wide n p = omega (arith, p)
 
 -- what stands behind the set identifier
-abbrev numbered : ℕ → List ℕ → List ℕ
-numbered n a = decimal n ++ 46 ∷ fit_text a
+abbrev pub numbered : ℕ → List ℕ → List ℕ
+numbered n more = decimal n ++ 46 ∷ more
 
-grouped : (s a : List ℕ) (n : ℕ) → file_name s n a ≡ escaped_all s ++ 46 ∷ numbered n a
+pub grouped : (s a : List ℕ) (n : ℕ)
+    → file_name s n a ≡ escaped_all s ++ 46 ∷ numbered n (fit_text a)
 grouped s a n =
     let dot : List ℕ = 46 ∷ [] in
     append_assoc (((escaped_all s ++ dot) ++ decimal n)) dot (fit_text a)
     ∙ append_assoc (escaped_all s ++ dot) (decimal n) (dot ++ fit_text a)
     ∙ append_assoc (escaped_all s) dot (decimal n ++ (dot ++ fit_text a))
 
+-- ---- bytes
+
+pub all_more : (P : ℕ → Type 0) (xs ys : List ℕ) → AllByRecursion P xs → AllByRecursion P ys
+    → AllByRecursion P (xs ++ ys)
+all_more P [] ys xsa ysa = ysa
+all_more P (x ∷ xs) ys (one, xsa) ysa = (one, all_more P xs ys xsa ysa)
+
+pub all_each : {P Q : ℕ → Type 0} → ((b : ℕ) → P b → Q b) → (xs : List ℕ) → AllByRecursion P xs
+    → AllByRecursion Q xs
+all_each f [] all = tt
+all_each f (x ∷ xs) (one, all) = (f x one, all_each f xs all)
+
+-- the bytes of the text of a set identifier
+abbrev pub InSet : ℕ → Type 0
+InSet b = (is_plain b || (b == 95) || (b == 37)) ≡ true
+
+pub hex_in_set : (n : ℕ) → n < 16 → InSet (hex n)
+hex_in_set n small = grind (arith, nat_tests)
+
+kind_in_set : (b : ℕ) → b < 256 → (plain space : Bool) → is_plain b ≡ plain
+    → AllByRecursion InSet (by_kind plain space b)
+kind_in_set b small true space is = (grind (arith, nat_tests), tt)
+kind_in_set b small false true is = (refl, tt)
+kind_in_set b small false false is =
+    let high = hex_in_set (b / 16) (div_below b 16 16 (omega arith) small) in
+    let low = hex_in_set (b % 16) (mod_below b 16 (omega arith)) in (refl, (high, (low, tt)))
+
+pub set_bytes : (s : List ℕ) → AreBytes s → AllByRecursion InSet (escaped_all s)
+set_bytes [] ss = tt
+set_bytes (b ∷ s) (small, ss) =
+    all_more InSet (escaped b) (escaped_all s)
+    (kind_in_set b small (is_plain b) (b == 32) refl) (set_bytes s ss)
+
+-- ---- where capital and small letters are one
+
+same_folded : (xs : List ℕ) → AllByRecursion (λ b. folded b ≡ b) xs → map folded xs ≡ xs
+same_folded [] all = refl
+same_folded (x ∷ xs) (one, all) = ap (λ y. y ∷ map folded xs) one ∙ ap (λ ys. x ∷ ys)
+    (same_folded xs all)
+
+folded_in_set : (b : ℕ) → InSet b → folded b ≡ b
+folded_in_set b is = grind (arith, nat_tests)
+
+folded_digit : (b : ℕ) → IsDigit b → folded b ≡ b
+folded_digit b (low, high) = grind (arith, nat_tests)
+
+-- only what follows the number changes
+folded_name : (s a x : List ℕ) (n : ℕ) → AreBytes s → n < 2 ^ 16
+    → map folded (file_name s n a ++ x)
+    ≡ escaped_all s ++ 46 ∷ numbered n (map folded (fit_text a ++ x))
+folded_name s a x n ss small =
+    let digits = same_folded (decimal n)
+    (all_each folded_digit (decimal n) (digits_are n (wide n small))) in
+    let set = same_folded (escaped_all s)
+    (all_each folded_in_set (escaped_all s) (set_bytes s ss)) in
+    let rest = fit_text a ++ x in
+    ap (λ l. map folded (l ++ x)) (grouped s a n)
+    ∙ ap (map folded) (append_assoc (escaped_all s) (46 ∷ numbered n (fit_text a)) x)
+    ∙ ap (λ l. map folded (escaped_all s ++ 46 ∷ l))
+    (append_assoc (decimal n) (46 ∷ fit_text a) x)
+    ∙ map-append folded (escaped_all s) (46 ∷ numbered n rest)
+    ∙ ap (λ l. l ++ map folded (46 ∷ numbered n rest)) set
+    ∙ ap (λ l. escaped_all s ++ 46 ∷ l) (map-append folded (decimal n) (46 ∷ rest))
+    ∙ ap (λ l. escaped_all s ++ 46 ∷ (l ++ 46 ∷ map folded rest)) digits
+
 pub names_differ : NamesDiffer
-names_differ s t m n a b ss ts long lm ln e =
-    let all = split_all s t (46 ∷ numbered m a) (46 ∷ numbered n b) ss ts long
-    (sym (grouped s a m) ∙ e ∙ grouped t b n) in
-    let behind = tails 46 46 (numbered m a) (numbered n b) all.rest in (
+names_differ s t m n a b x y ss ts long lm ln e =
+    let p = map folded (fit_text a ++ x) in
+    let q = map folded (fit_text b ++ y) in
+    let all = split_all s t (46 ∷ numbered m p) (46 ∷ numbered n q) ss ts long
+    (sym (folded_name s a x m ss lm) ∙ e ∙ folded_name t b y n ts ln) in
+    let behind = tails 46 46 (numbered m p) (numbered n q) all.rest in (
       all.same,
       decimal_injective m n (wide m lm) (wide n ln)
-          (before_stop (decimal m) (decimal n) (fit_text a) (fit_text b) (digits_are m (wide m lm))
+          (before_stop (decimal m) (decimal n) p q (digits_are m (wide m lm))
           (digits_are n (wide n ln)) behind),
     )
-
--- ---- folders
-
-stands_more : (xs ys : List ℕ) → AllByRecursion MayStand xs → AllByRecursion MayStand ys
-    → AllByRecursion MayStand (xs ++ ys)
-stands_more [] ys xsa ysa = ysa
-stands_more (x ∷ xs) ys (one, xsa) ysa = (one, stands_more xs ys xsa ysa)
-
-hex_stands : (n : ℕ) → n < 16 → MayStand (hex n)
-hex_stands n small = grind (arith, nat_tests)
-
-kind_stands : (b : ℕ) → b < 256 → (plain space : Bool) → is_plain b ≡ plain
-    → AllByRecursion MayStand (by_kind plain space b)
-kind_stands b small true space is = (grind (arith, nat_tests), tt)
-kind_stands b small false true is = ((omega arith, omega arith, λ e. omega (arith, e)), tt)
-kind_stands b small false false is =
-    let high = hex_stands (b / 16) (div_below b 16 16 (omega arith) small) in
-    let low = hex_stands (b % 16) (mod_below b 16 (omega arith)) in
-    ((omega arith, omega arith, λ e. omega (arith, e)), (high, (low, tt)))
-
-set_stands : (s : List ℕ) → AreBytes s → AllByRecursion MayStand (escaped_all s)
-set_stands [] ss = tt
-set_stands (b ∷ s) (small, ss) =
-    stands_more (escaped b) (escaped_all s)
-    (kind_stands b small (is_plain b) (b == 32) refl) (set_stands s ss)
-
-digits_stand : (ds : List ℕ) → AllByRecursion IsDigit ds → AllByRecursion MayStand ds
-digits_stand [] all = tt
-digits_stand (d ∷ ds) ((low, high), all) =
-    ((omega (arith, low), omega (arith, high), λ e. omega (arith, e, low)), digits_stand ds all)
-
-fit_stands : (b : ℕ) → MayStand (fit b)
-fit_stands b = grind (arith, nat_tests)
-
-all_fit : (bs : List ℕ) → AllByRecursion MayStand (map fit bs)
-all_fit [] = tt
-all_fit (b ∷ bs) = (fit_stands b, all_fit bs)
-
-long : (s a : List ℕ) (n : ℕ) → n < 2 ^ 16 → 3 ≤ length (file_name s n a)
-long s a n small =
-    let all : length (file_name s n a) ≡ length (escaped_all s) + suc (length (numbered n a)) =
-    ap length (grouped s a n) ∙ length-append (escaped_all s) (46 ∷ numbered n a) in
-    let behind : length (numbered n a) ≡ length (decimal n) + suc (length (fit_text a)) =
-    length-append (decimal n) (46 ∷ fit_text a) in
-    omega (arith, decimal_nonempty n (wide n small), all, behind)
-
-pub names_stay : NamesStay
-names_stay s n a ss small =
-    let most = long s a n small in
-    let full : MayStand 46 = (omega arith, omega arith, λ e. omega (arith, e)) in
-    record {
-      bytes = subst (AllByRecursion MayStand) (sym (grouped s a n))
-          (stands_more (escaped_all s) (46 ∷ numbered n a) (set_stands s ss) (
-            full,
-            stands_more (decimal n) (46 ∷ fit_text a)
-                (digits_stand (decimal n) (digits_are n (wide n small)))
-                (full, all_fit (take (trimmed_len a) a)),
-          ));
-      some = λ e. omega (arith, most, ap length e);
-      not_itself = λ e. omega (arith, most, ap length e);
-      not_above = λ e. omega (arith, most, ap length e);
-    }

@@ -2,7 +2,8 @@
 use Rattle.std.specs.Prelude.{◌≡◌, ◌≢◌, ℕ, ◌<◌, ◌^◌, List, [], ◌∷◌, ◌++◌, length, Bool}
 use Rattle.std.specs.Prelude.{true, false, is_some}
 use Rattle.std.specs.Prelude.{Some, None}
-use Rattle.std.specs.Prelude.{codes, map}
+use Rattle.std.specs.Prelude.{codes, map, replicate, chars, IsUtf8}
+use Rattle.std.specs.List.{AllByRecursion, flat_map}
 use Rattle.tape_label.specs.declared.values.Head1.{Head1}
 use Rattle.tape_run.specs.declared.survey.view.ImageSurvey.{ImageSurvey}
 use Rattle.tape_run.specs.declared.survey.files.FileNote.{FileNote}
@@ -11,6 +12,8 @@ use Rattle.tape_run.specs.declared.unpack.SetFile.{SetFile}
 use Rattle.tape_run.specs.declared.unpack.FoundFiles.{FoundFiles}
 use Rattle.tape_run.specs.declared.unpack.line.UnpackOutcome.TheVariants as outcomes
 use Rattle.tape_run.specs.CasesOfExtracts.{Readers}
+use Rattle.tape_run.specs.Quoting.{is_hidden, name_text, quoted}
+use Rattle.tape_run.specs.QuotingLaws.{NamesShow, NamesTellApart, NamesKeep}
 use Rattle.tape_run.specs.Reeling.{Took}
 use Rattle.tape_run.specs.SurveyCopies.{dispute_at}
 use Rattle.tape_run.specs.SurveyFiles.{note_at, file_key}
@@ -18,7 +21,8 @@ use Rattle.tape_run.specs.SurveyRead.{Found, nothing_found, AreViewed}
 use Rattle.tape_run.specs.Unpacking.{heading_of, file_at, set_files, files_of, file_name, FilesOn}
 use Rattle.tape_run.specs.Unpacking.{set_of}
 use Rattle.tape_run.specs.UnpackLine.{file_line, unpack_outcome_text, left_over_line}
-use Rattle.tape_run.specs.UnpackLaws.{NamesDiffer, NamesStay, AreBytes, IsNameOfOne}
+use Rattle.tape_run.specs.UnpackLaws.{NamesDiffer, NamesStay, NamesFit, AreBytes, IsNameOfOne}
+use Rattle.tape_run.specs.UnpackLaws.{IsNoDevice, folded}
 
 -- what unpacking says of files, names and lines
 pub record CasesOfUnpacking : Type 0 where
@@ -41,15 +45,34 @@ pub record CasesOfUnpacking : Type 0 where
   -- names
   pub name : file_name (codes "ABC001") 1 (codes "PAYROLL          ") ≡ codes "ABC001.1.PAYROLL"
   pub escaped : file_name (codes "A/_. -") 12 (codes "A/B C.D          ")
-      ≡ codes "A%2F%5F%2E_%2D.12.A_B C.D"
+      ≡ codes "A%2F%5F%2E_%2D.12.A%2FB C.D"
   pub control : file_name (0 ∷ 10 ∷ 31 ∷ 127 ∷ 200 ∷ 255 ∷ []) 1
       (10 ∷ 200 ∷ codes "Z              ")
-      ≡ codes "%00%0A%1F%7F%C8%FF.1.__Z"
+      ≡ codes "%00%0A%1F%7F%C8%FF.1.%0A%C8Z"
   pub spaces : file_name (codes "      ") 9999 (codes "                 ")
-      ≡ codes "______.9999."
+      ≡ codes "______.9999.%20"
+  pub case : file_name (codes "Ab.01 ") 1 (codes "a\\B.~_-.         ")
+      ≡ codes "A%62%2E01_.1.a%5CB.~_-%2E"
+  pub refused : file_name (codes "000000") 7 (codes "%\"*:<>?|!$&'()[] ")
+      ≡ codes "000000.7.%25%22%2A%3A%3C%3E%3F%7C!$&'()[]"
+  -- paths: what a terminal would obey or not show is written out, and `\` is doubled
+  pub hidden : map is_hidden (0 ∷ 31 ∷ 127 ∷ 159 ∷ 173 ∷ 1564 ∷ 8203 ∷ 8207 ∷ 8232 ∷ 8238 ∷ 8288
+      ∷ 8303 ∷ 65279 ∷ []) ≡ replicate 13 true
+  pub seen : map is_hidden (32 ∷ 126 ∷ 160 ∷ 172 ∷ 174 ∷ 1563 ∷ 1565 ∷ 8202 ∷ 8208 ∷ 8231 ∷ 8239
+      ∷ 8287 ∷ 8304 ∷ 65278 ∷ 65280 ∷ []) ≡ replicate 15 false
+  pub printed_as : flat_map quoted (27 ∷ 92 ∷ 252 ∷ 155 ∷ 8238 ∷ 126 ∷ [])
+      ≡ codes "\\u001B\\\\" ++ 252 ∷ codes "\\u009B\\u202E~"
+  pub told_apart : NamesTellApart → (a b : List ℕ) → IsUtf8 a → IsUtf8 b → a ≢ b
+      → name_text a ≢ name_text b
+  pub shows : NamesShow → (name : List ℕ) → IsUtf8 name
+      → AllByRecursion (λ c. is_hidden c ≡ false) (chars (name_text name))
+  pub keeps : NamesKeep → (name : List ℕ) → IsUtf8 name
+      → AllByRecursion (λ c. (is_hidden c ≡ false) × (c ≢ 92)) (chars name)
+      → name_text name ≡ name
   -- lines
   pub line : file_line (codes "ABC001") 1 (codes "COMPLETE 25") (codes "out/ABC001.1.PAYROLL")
-      ≡ codes "FILE ABC001 1 COMPLETE 25 out/ABC001.1.PAYROLL\n"
+      ≡ codes "FILE ABC001 1 COMPLETE 25 " ++ name_text (codes "out/ABC001.1.PAYROLL")
+      ++ codes "\n"
   pub no_path : file_line (codes "AB 001") 2 (unpack_outcome_text outcomes.Conflict) []
       ≡ codes "FILE AB 001 2 CONFLICT\n"
   pub kept : unpack_outcome_text outcomes.Exists ≡ codes "EXISTS"
@@ -70,8 +93,11 @@ pub record CasesOfUnpacking : Type 0 where
       → set_of (Some s) ≡ Some h.set_id
   pub not_opened : set_of None ≡ None
   -- what a caller can conclude from the laws of names
-  pub own_name : NamesDiffer → (s t : List ℕ) (m n : ℕ) (a b : List ℕ) → AreBytes s → AreBytes t
-      → length s ≡ length t → m < 2 ^ 16 → n < 2 ^ 16 → s ≢ t
-      → file_name s m a ≢ file_name t n b
-  pub stays : NamesStay → (s : List ℕ) (n : ℕ) (a : List ℕ) → AreBytes s → n < 2 ^ 16
-      → IsNameOfOne (file_name s n a)
+  pub own_name : NamesDiffer → (s t : List ℕ) (m n : ℕ) (a b x y : List ℕ) → AreBytes s
+      → AreBytes t → length s ≡ length t → m < 2 ^ 16 → n < 2 ^ 16 → s ≢ t
+      → map folded (file_name s m a ++ x) ≢ map folded (file_name t n b ++ y)
+  pub case_folded : map folded (codes "[Abz{@") ≡ codes "[ABZ{@"
+  pub stays : NamesStay → (s : List ℕ) (n : ℕ) (a : List ℕ) → AreBytes s → AreBytes a
+      → n < 2 ^ 16 → IsNameOfOne (file_name s n a)
+  pub fits : NamesFit → (s : List ℕ) (n : ℕ) (a : List ℕ) → AreBytes s → n < 2 ^ 16
+      → length s ≡ 6 → length a ≡ 17 → IsNoDevice (file_name s n a)

@@ -36,6 +36,8 @@ pub mod WorkedHistory
 pub mod WorkedDays
 -- Writers, and identifiers as they are printed: of the reports below.
 pub mod Identifier
+pub mod Quoting
+pub mod QuotingLaws
 -- Listings of images: definitions to believe, in this order.
 pub mod ListLine
 pub mod Listing

@@ -1,30 +1,49 @@
 -- Laws of the names under which files are unpacked.
-use Rattle.std.specs.Prelude.{◌≡◌, ◌≢◌, ℕ, ◌<◌, ◌≤◌, ◌^◌, List, [], length, codes}
+use Rattle.std.specs.Prelude.{◌≡◌, ◌≢◌, ℕ, ◌-◌, ◌<◌, ◌≤◌, ◌^◌, ◌&&◌, nat_le, if◌then◌else◌}
+use Rattle.std.specs.Prelude.{List, [], ◌∷◌, ◌++◌, length, map, codes, true}
 use Rattle.std.specs.List.{AllByRecursion}
-use Rattle.tape_run.specs.Unpacking.{file_name}
+use Rattle.tape_run.specs.Unpacking.{is_kept, file_name}
 
 -- these are bytes
 abbrev pub AreBytes : List ℕ → Type 0
 AreBytes bytes = AllByRecursion (λ b. b < 256) bytes
 
--- Two files that have one name have one number, in sets of one identifier.
+-- a byte, as file systems compare it for which capital and small letters are one
+abbrev pub folded : ℕ → ℕ
+folded b = if nat_le 97 b && nat_le b 122 then b - 32 else b
+
+-- Two files whose names are one where capital and small letters are have one number, in sets of one
+-- identifier. This holds with anything appended to the names, such as `.stage`.
 abbrev pub NamesDiffer : Type 0
-NamesDiffer = (s t : List ℕ) (m n : ℕ) (a b : List ℕ) → AreBytes s → AreBytes t
+NamesDiffer = (s t : List ℕ) (m n : ℕ) (a b x y : List ℕ) → AreBytes s → AreBytes t
     → length s ≡ length t → m < 2 ^ 16 → n < 2 ^ 16
-    → file_name s m a ≡ file_name t n b → (s ≡ t) × (m ≡ n)
+    → map folded (file_name s m a ++ x) ≡ map folded (file_name t n b ++ y) → (s ≡ t) × (m ≡ n)
 
--- a byte that can be printed, and is no slash
+-- a character that every file system keeps
 abbrev pub MayStand : ℕ → Type 0
-MayStand b = (32 ≤ b) × (b ≤ 126) × (b ≢ 47)
+MayStand b = is_kept b ≡ true
 
--- It is the name of one file in a folder.
+-- It is the name of one file in a folder, and every file system keeps it.
 pub record IsNameOfOne (name : List ℕ) : Type 0 where
   pub bytes : AllByRecursion MayStand name
   pub some : name ≢ []
   pub not_itself : name ≢ codes "."
   pub not_above : name ≢ codes ".."
+  -- a space or a full stop at the end would be dropped
+  pub last : (front : List ℕ) (b : ℕ) → name ≡ front ++ b ∷ [] → (b ≢ 32) × (b ≢ 46)
 
 -- Each name is.
 abbrev pub NamesStay : Type 0
-NamesStay = (s : List ℕ) (n : ℕ) (a : List ℕ) → AreBytes s → n < 2 ^ 16
+NamesStay = (s : List ℕ) (n : ℕ) (a : List ℕ) → AreBytes s → AreBytes a → n < 2 ^ 16
     → IsNameOfOne (file_name s n a)
+
+-- It is short enough, and more than five characters precede its first full stop: at most four do in
+-- the name of a device, such as CON, NUL or LPT1, which no file may have, whatever follows.
+pub record IsNoDevice (name : List ℕ) : Type 0 where
+  pub short : length name ≤ 76
+  pub device : (d rest : List ℕ) → name ≡ d ++ codes "." ++ rest → 5 < length d
+
+-- Each name of a file of a tape is.
+abbrev pub NamesFit : Type 0
+NamesFit = (s : List ℕ) (n : ℕ) (a : List ℕ) → AreBytes s → n < 2 ^ 16 → length s ≡ 6
+    → length a ≡ 17 → IsNoDevice (file_name s n a)

@@ -4,7 +4,7 @@ use Rattle.tape_run.specs.declared.unpack.line.UnpackOutcome.{UnpackOutcome}
 use Rattle.tape_run.specs.declared.unpack.line.UnpackOutcome.TheVariants.{Exists, Conflict}
 use Rattle.tape_run.specs.declared.unpack.line.UnpackOutcome.TheVariants.{Failed}
 use Rattle.tape_run.specs.Identifier.{identifier_text}
-use Rattle.tape_run.specs.SurveyLine.{name_text}
+use Rattle.tape_run.specs.Quoting.{name_text}
 
 -- why a file was not unpacked, as `unpack` prints it
 abbrev pub unpack_outcome_text : UnpackOutcome → List ℕ

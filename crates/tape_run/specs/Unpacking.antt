@@ -1,7 +1,7 @@
 -- Which files are unpacked from images, and under which names.
-use Rattle.std.specs.Prelude.{◌≡◌, ◌==◌, ◌&&◌, ◌||◌, not, ℕ, zero, suc, ◌+◌, ◌/◌, ◌%◌, nat_le}
-use Rattle.std.specs.Prelude.{nat_lt, Bool, if◌then◌else◌, List, [], ◌∷◌, ◌++◌, length, map, take}
-use Rattle.std.specs.Prelude.{Option, Some, None, option_map, is_some, codes, decimal}
+use Rattle.std.specs.Prelude.{◌≡◌, ◌==◌, ◌&&◌, ◌||◌, not, ℕ, zero, suc, ◌+◌, ◌-◌, ◌/◌, ◌%◌}
+use Rattle.std.specs.Prelude.{nat_le, Bool, if◌then◌else◌, List, [], ◌∷◌, ◌++◌, length, map, take}
+use Rattle.std.specs.Prelude.{Option, Some, None, option_map, is_some, codes, decimal, get_or}
 use Rattle.std.specs.List.{flat_map}
 use Rattle.tape_run.specs.declared.survey.view.ImageSurvey.{ImageSurvey}
 use Rattle.tape_run.specs.declared.survey.files.FileNote.{FileNote}
@@ -10,6 +10,7 @@ use Rattle.tape_run.specs.declared.unpack.Heading.TheVariants.{Differs, Named}
 use Rattle.tape_run.specs.declared.unpack.SetFile.{SetFile}
 use Rattle.tape_run.specs.declared.unpack.FoundFiles.{FoundFiles}
 use Rattle.tape_run.specs.Lacks.{SetFiles, sets_from, lack_of}
+use Rattle.tape_run.specs.Quoting.{hex}
 use Rattle.tape_run.specs.Reeling.{Mounting}
 use Rattle.tape_run.specs.SurveyCopies.{dispute_at}
 use Rattle.tape_run.specs.SurveyFiles.{note_at, file_key}
@@ -75,32 +76,47 @@ pub record FilesOn {L R : Type 0} (size : L → ℕ) (gives : Mounting L R)
 
 -- ---- names
 
--- a digit or a letter
+-- a digit or a capital letter
 abbrev pub is_plain : ℕ → Bool
-is_plain b = (nat_le 48 b && nat_le b 57)
-    || ((nat_le 65 b && nat_le b 90) || (nat_le 97 b && nat_le b 122))
+is_plain b = (nat_le 48 b && nat_le b 57) || (nat_le 65 b && nat_le b 90)
 
--- a hexadecimal digit
-abbrev pub hex : ℕ → ℕ
-hex n = if nat_lt n 10 then 48 + n else 55 + n
+-- a printable character that every file system keeps: none of `"`, `*`, `/`, `:`, `<`, `>`, `?`,
+-- `\`, `|`
+abbrev pub is_kept : ℕ → Bool
+is_kept b =
+    (nat_le 32 b && nat_le b 126)
+    && not ((b == 34) || (b == 42) || (b == 47) || (b == 58) || (b == 60) || (b == 62) || (b == 63)
+    || (b == 92) || (b == 124))
+
+-- a byte as `%` and its two hexadecimal digits
+abbrev pub escape : ℕ → List ℕ
+escape b = 37 ∷ hex (b / 16) ∷ hex (b % 16) ∷ []
 
 -- a byte of a set identifier
 abbrev pub escaped : ℕ → List ℕ
-escaped b =
-    if is_plain b then b ∷ [] else if b == 32 then codes "_"
-    else 37 ∷ hex (b / 16) ∷ hex (b % 16) ∷ []
+escaped b = if is_plain b then b ∷ [] else if b == 32 then codes "_" else escape b
 
 -- a set identifier
 abbrev pub escaped_all : List ℕ → List ℕ
 escaped_all set_id = flat_map escaped set_id
 
--- a byte of a file identifier
-abbrev pub fit : ℕ → ℕ
-fit b = if nat_le 32 b && (nat_le b 126 && not (b == 47)) then b else 95
+-- a byte of a file identifier that another one follows
+abbrev pub fit : ℕ → List ℕ
+fit b = if is_kept b && not (b == 37) then b ∷ [] else escape b
+
+-- the last byte, which is neither a space nor a full stop: some file systems drop these at the end
+abbrev pub fit_last : ℕ → List ℕ
+fit_last b = if (b == 32) || (b == 46) then escape b else fit b
+
+-- so many bytes of a file identifier, or one space instead of none
+abbrev pub fit_first : ℕ → List ℕ → List ℕ
+fit_first n bytes =
+    if n == 0 then fit_last 32
+    else flat_map fit (take (n - 1) bytes) ++ fit_last (get_or bytes (n - 1) 32)
 
 -- a file identifier, without the spaces at its end
 abbrev pub fit_text : List ℕ → List ℕ
-fit_text bytes = map fit (take (trimmed_len bytes) bytes)
+fit_text bytes = fit_first (trimmed_len bytes) bytes
 
 -- the name under which a file is unpacked
 abbrev pub file_name : List ℕ → ℕ → List ℕ → List ℕ

@@ -65,8 +65,8 @@ fn files_of_shelves(rt: HostRuntime) -> Result<(), Fail> {
     let [first, second, whole, third, other] = [&first, &second, &whole, &third, &other].map(
         |image| Some(image.bytes.as_slice()),
     );
-    let payroll = "FILE ABC001 1 ABC001.1.PAYROLL out/a?\n";
-    let thirds = "FILE AB. 01 3 AB%2E_01.3.TH_RD out/a?\n";
+    let payroll = "FILE ABC001 1 ABC001.1.PAYROLL out/a\\u000A\n";
+    let thirds = "FILE AB. 01 3 AB%2E_01.3.TH%2FRD out/a\\u000A\n";
     let mixed = "FILE ABC001 1 CONFLICT\n";
     found(&rt, &[], true, "")?;
     found(&rt, &[None], false, "")?;

@@ -25,7 +25,7 @@ slash_kept : (κs : _) (a : _) (z : _) (s : _) → file_name.Learnt κs a z s
     → z.items ≡ codes "ABC001.1.A/B" → ⊥
 unfolding digits
 slash_kept κs a z s h set file name w =
-    absurd (let e : 47 ≡ 95 = ap (λ v. slice_index v 10) (sym w ∙ h
+    absurd (let e : 47 ≡ 37 = ap (λ v. slice_index v 10) (sym w ∙ h
     ∙ ap (λ x. unpacking.file_name x a.1.0 a.1.1.0.now) set
     ∙ ap (λ n. unpacking.file_name (codes "ABC001") n a.1.1.0.now) file
     ∙ ap (unpacking.file_name (codes "ABC001") 1) name) in omega arith)
@@ -40,6 +40,28 @@ stop_of_a_set_kept κs a z s h set file name w =
     ∙ ap (λ x. unpacking.file_name x a.1.0 a.1.1.0.now) set
     ∙ ap (λ n. unpacking.file_name (codes "A.1   ") n a.1.1.0.now) file
     ∙ ap (unpacking.file_name (codes "A.1   ") 2) name) in omega arith)
+
+-- small_letters_kept: two sets have one name where capital and small letters are one
+small_letters_kept : (κs : _) (a : _) (z : _) (s : _) → file_name.Learnt κs a z s
+    → a.0.now ≡ codes "aBC001" → a.1.0 ≡ 1 → a.1.1.0.now ≡ codes "B                "
+    → z.items ≡ codes "aBC001.1.B" → ⊥
+unfolding digits
+small_letters_kept κs a z s h set file name w =
+    absurd (let e : 97 ≡ 37 = ap (λ v. slice_index v 0) (sym w ∙ h
+    ∙ ap (λ x. unpacking.file_name x a.1.0 a.1.1.0.now) set
+    ∙ ap (λ n. unpacking.file_name (codes "aBC001") n a.1.1.0.now) file
+    ∙ ap (unpacking.file_name (codes "aBC001") 1) name) in omega arith)
+
+-- final_stop_kept: a name has a full stop at its end, which some file systems drop
+final_stop_kept : (κs : _) (a : _) (z : _) (s : _) → file_name.Learnt κs a z s
+    → a.0.now ≡ codes "ABC001" → a.1.0 ≡ 1 → a.1.1.0.now ≡ codes "A.               "
+    → z.items ≡ codes "ABC001.1.A." → ⊥
+unfolding digits
+final_stop_kept κs a z s h set file name w =
+    absurd (let e : 46 ≡ 37 = ap (λ v. slice_index v 10) (sym w ∙ h
+    ∙ ap (λ x. unpacking.file_name x a.1.0 a.1.1.0.now) set
+    ∙ ap (λ n. unpacking.file_name (codes "ABC001") n a.1.1.0.now) file
+    ∙ ap (unpacking.file_name (codes "ABC001") 1) name) in omega arith)
 
 -- path_left_out: it is not told where the records of a file are
 path_left_out : (κs : _) (a : _) (z : _) (s : _) → file_line.Learnt κs a (Ok z) s

@@ -4,7 +4,7 @@ ghost use Rattle.arrayvec.specs.ArrayVec.{array_vec_len};
 ghost use Rattle.tape_run.specs.UnpackLine.{file_front, path_text, file_line, unpack_outcome_text};
 ghost use Rattle.tape_run.specs.UnpackLine.{left_over_line};
 
-use crate::survey::name_text;
+use crate::quoting::name_text;
 use crate::text::{Text, put, put_decimal, put_identifier};
 use std::alloc::{AllocError, Global};
 use tape_label::Field;
@@ -16,7 +16,7 @@ pub enum UnpackOutcome {
     Exists,
     /// Labels of different files have its number.
     Conflict,
-    /// An error ended the run.
+    /// An error ended the recovery of the file.
     Failed,
 }
 

@@ -1,20 +1,23 @@
 //! The names under which files are unpacked.
 ghost use Rattle.std.specs.Prelude.{◌≡◌, ◌≤◌, ◌<◌, ◌+◌, ◌*◌, ◌++◌, length};
 ghost use Rattle.arrayvec.specs.ArrayVec.{array_vec_len};
-ghost use Rattle.tape_run.specs.Unpacking.{is_plain, hex, escaped, escaped_all, fit, fit_text};
-ghost use Rattle.tape_run.specs.Unpacking.{file_name};
+ghost use Rattle.tape_run.specs.Unpacking.{is_plain, is_kept, escape, escaped, escaped_all};
+ghost use Rattle.tape_run.specs.Unpacking.{fit, fit_last, fit_text, file_name};
 
+use crate::quoting::hex;
 use crate::text::{Text, put, put_decimal, trimmed_len};
 use tape_label::Field;
 
 /// Returns the name of a file, `SET.FILE.NAME`: its set identifier, its number there and its file
 /// identifier, for example `ABC001.1.PAYROLL`.
 ///
-/// Names are unique in a directory: files with different numbers or of different sets never have
-/// the same name (`names_differ`), and no name leads out of the directory (`names_stay`). In the
-/// set identifier digits and letters are unchanged; `_` replaces a space, and `%` with two
-/// hexadecimal digits any other byte. In the file identifier spaces at the end are left out, and
-/// `_` replaces `/` and each unprintable byte.
+/// Names are unique in a directory, also where capital and small letters are one: files with
+/// different numbers or of different sets never have the same name (`names_differ`). Every file
+/// system accepts each name and keeps it (`names_stay`, `names_fit`). `%` with two hexadecimal
+/// digits replaces a byte: in the set identifier each but digits, capital letters and the space,
+/// which becomes `_`; in the file identifier `%`, unprintable bytes and the characters
+/// `" * / : < > ? \ |`. Spaces at the end of the file identifier are left out; a full stop at its
+/// end is replaced too, and an identifier of spaces is `%20`.
 pub fn file_name(set_id: &Field<6>, file: u16, file_id: &Field<17>) -> Text
     ensures { result.items ≡ file_name set_id.now file file_id.now }
 {
@@ -23,23 +26,36 @@ pub fn file_name(set_id: &Field<6>, file: u16, file_id: &Field<17>) -> Text
     put(&mut text, b".");
     put_decimal(&mut text, u64::from(file));
     put(&mut text, b".");
-    put_fit(&mut text, file_id);
+    put_file_id(&mut text, file_id);
     text
 }
 
-/// Whether the byte is a digit or a letter.
+/// Whether the byte is a digit or a capital letter.
 fn is_plain(byte: u8) -> bool
     ensures { result ≡ is_plain byte }
 {
-    (b'0'..=b'9').contains(&byte) || (b'A'..=b'Z').contains(&byte) || (b'a'..=b'z').contains(&byte)
+    (b'0'..=b'9').contains(&byte) || (b'A'..=b'Z').contains(&byte)
 }
 
-/// A hexadecimal digit.
-fn hex(digit: u8) -> u8
-    requires { digit < 16 }
-    ensures { result ≡ hex digit }
+/// Whether the byte is a printable character that every file system keeps.
+fn is_kept(byte: u8) -> bool
+    ensures { result ≡ is_kept byte }
 {
-    if digit < 10 { b'0' + digit } else { 55 + digit }
+    match byte {
+        b'"' | b'*' | b'/' | b':' | b'<' | b'>' | b'?' | b'\\' | b'|' => false,
+        _ => (b' '..=b'~').contains(&byte),
+    }
+}
+
+/// A byte as `%` and its two hexadecimal digits.
+fn put_escape(text: &mut Text, byte: u8)
+    requires { array_vec_len text.old ≤ 500 }
+    ensures items { text.new.items ≡ text.old.items ++ escape byte }
+    ensures len { array_vec_len text.new ≡ array_vec_len text.old + 3 }
+{
+    text.push(b'%');
+    text.push(hex(u32::from(byte / 16)));
+    text.push(hex(u32::from(byte % 16)));
 }
 
 /// A byte of a set identifier.
@@ -53,9 +69,7 @@ fn put_byte(text: &mut Text, byte: u8)
     } else if byte == b' ' {
         text.push(b'_');
     } else {
-        text.push(b'%');
-        text.push(hex(byte / 16));
-        text.push(hex(byte % 16));
+        put_escape(text, byte);
     }
 }
 
@@ -70,24 +84,44 @@ fn put_escaped(text: &mut Text, set_id: &Field<6>)
     }
 }
 
-/// A byte of a file identifier.
-fn fit(byte: u8) -> u8
-    ensures { result ≡ fit byte }
+/// A byte of a file identifier that another one follows.
+fn put_fit(text: &mut Text, byte: u8)
+    requires { array_vec_len text.old ≤ 500 }
+    ensures items { text.new.items ≡ text.old.items ++ fit byte }
+    ensures len { array_vec_len text.new ≤ array_vec_len text.old + 3 }
 {
-    if (b' '..=b'~').contains(&byte) && byte != b'/' {
-        byte
+    if is_kept(byte) && byte != b'%' {
+        text.push(byte);
     } else {
-        b'_'
+        put_escape(text, byte);
     }
 }
 
-/// A file identifier, without the spaces at its end.
-fn put_fit(text: &mut Text, file_id: &Field<17>)
+/// The last byte: some file systems drop a space or a full stop at the end.
+fn put_last(text: &mut Text, byte: u8)
+    requires { array_vec_len text.old ≤ 500 }
+    ensures { text.new.items ≡ text.old.items ++ fit_last byte }
+{
+    if byte == b' ' || byte == b'.' {
+        put_escape(text, byte);
+    } else {
+        put_fit(text, byte);
+    }
+}
+
+/// A file identifier, without the spaces at its end, or one space instead of none.
+fn put_file_id(text: &mut Text, file_id: &Field<17>)
     requires { array_vec_len text.old ≤ 200 }
-    ensures items { text.new.items ≡ text.old.items ++ fit_text file_id.now }
+    ensures { text.new.items ≡ text.old.items ++ fit_text file_id.now }
 {
     let bytes = file_id.bytes();
-    for byte in &bytes[..trimmed_len(bytes)] {
-        text.push(fit(*byte));
+    let count = trimmed_len(bytes);
+    if count == 0 {
+        put_last(text, b' ');
+        return;
     }
+    for byte in &bytes[..count - 1] {
+        put_fit(text, *byte);
+    }
+    put_last(text, bytes[count - 1]);
 }

@@ -45,10 +45,11 @@ and a last line 'INCOMPLETE IMAGES' if an image could not be opened, or is not a
 whole volume in formats that tape reads. 'tape survey' shows which.
 
 Files are named SET.FILE.NAME after their labels. In SET, '_' replaces a space
-and %XX any other character except digits and letters; in NAME, '_' replaces '/'
-and unprintable characters, and spaces at the end are left out. A file gets its
-name when it is complete, and its stage, NAME.stage, is then removed. Existing
-files are never overwritten.
+and %XX any other character except digits and capital letters; in NAME, %XX
+replaces '%', unprintable characters and those that some file system refuses,
+and spaces at the end are left out. A file gets its name when it is complete,
+and its stage, NAME.stage, is then removed. Existing files are never
+overwritten.
 
 Exit status: 0 all files complete and all images read, 1 error, 2 usage error,
 3 a file is incomplete, in conflict or not found, an image was not read to its

@@ -1,4 +1,4 @@
-use Rattle.tape_run.proofs.UnpackedNames.{names_stay}
+use Rattle.tape_run.proofs.UnpackedFits.{names_stay}
 use Rattle.tape_run.proofs.unpack_laws.names_stay.Goals as goal
 
 pub returns : goal.returns
