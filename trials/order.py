@@ -274,8 +274,6 @@ def options_do_something(t):
         for call in (["list", "lost.tap"], ["check", "--files-from", "lost"], [*EXTRACT, "lost.tap", "--stage", "lost/s"]):
             run = t([*call, *words], REELS, env=env)
             yield run.status == 1 and "No such file or directory" in run.err, f"{call}: {run.err!r}"
-        run = t([*EXTRACT, "one.tap", *words], REELS, env=env)
-        yield run.status == 3 and "AWAITS 1 2 0" in run.err and "No image has section 2" in run.err, f"extract: {run.err!r}"
     yield t(["list", "lost.tap"], {}).err == "tape: file fault 2\n", "nothing is explained unless it is asked for"
 
 
@@ -367,18 +365,6 @@ def lines_of_lists(t):
     names = b"".join(b"%d.tap\n" % number for number in range(1, 11)) + b"M\xfcller.tap\n12.tap\n"
     run = t(["check", "--files-from", "names"], {"names": names})
     yield run.status == 2 and "line 11 of the list" in run.err, f"a line that is not text: {run.err!r}"
-
-
-@check
-def standard_input(t):
-    for command in ("check", "survey"):
-        run = t([command, "-", "two.tap"], REELS, stdin=ONE)
-        named = t([command, "one.tap", "two.tap"], REELS)
-        yield run.status == 0 and run.out.replace("-: ", "one.tap: ", 1) == named.out, f"{command} -: {run.status} {run.out!r}"
-        for words in (["-", "-"], ["-", "--files-from", "-"]):
-            run = t([command, *words], REELS, stdin=ONE)
-            yield run.status == 2 and "only once" in run.err, f"{command} {words}: {run.status} {run.err!r}"
-        yield "-" in t([command, "./-"], {"-": ONE}).out or command == "check", "./- is a file"
 
 
 def main():

@@ -106,6 +106,7 @@ fn word_argument<'a>(arg: Arg<'a>, kind: Kind) -> Arg<'a> {
 /// The parser's argument for an option with a value.
 fn option_argument<'a>(long: Arg<'a>, kind: Kind) -> Arg<'a> {
     long.value_name(value_name_of(kind))
+        .hide_possible_values(true)
         .value_parser(parser_of(kind))
         .default_values(defaults_of(kind))
 }

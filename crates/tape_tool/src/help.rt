@@ -42,7 +42,7 @@ pub const NO_COMMAND: &str = "name a command, for example 'tape list'";
 pub const ABOUT: &str = "Read and write ANSI-labelled tape volumes (ECMA-13) as SIMH .tap images";
 
 /// What `--explain` does.
-pub const EXPLAIN: &str = "Explain errors: what happened, what was kept, what to do next";
+pub const EXPLAIN: &str = "Explain errors, and say what to do next";
 
 /// Help after the list of commands.
 pub const AFTER: &str =

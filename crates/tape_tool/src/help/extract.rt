@@ -16,13 +16,14 @@ pub const OUT: &str = "Output file; not touched until the file is complete";
 pub const REELS: &str = "SIMH .tap images (at most 256; see --files-from)";
 
 /// What the form is.
-pub const FORM_OF_OUT: &str = "lines: end each record with a line feed; raw: do not";
+pub const FORM_OF_OUT: &str = "lines: end each record with a line feed;
+raw: do not";
 
 /// What the stage is.
-pub const STAGE: &str = "Save the recovered data in this file, and continue from it";
+pub const STAGE: &str = "Save recovered data here, and continue from it";
 
 /// What `--again` does.
-pub const AGAIN: &str = "Read the images repeatedly until a pass recovers nothing new";
+pub const AGAIN: &str = "Repeat until a pass recovers nothing new";
 
 /// SET is none.
 pub const WRONG_SET: &str = "SET must have 1 to 6 characters, for example 'ABC001'";

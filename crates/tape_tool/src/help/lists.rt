@@ -11,10 +11,10 @@ pub const TOO_MANY_TO_SURVEY: &str =
   find . -name '*.tap' -print0 | tape survey --files-from - --null";
 
 /// What LIST is.
-pub const FROM: &str = "Read more names from LIST, one per line ('-': standard input)";
+pub const FROM: &str = "More names, one per line ('-': standard input)";
 
 /// What `--null` says.
-pub const NULL: &str = "Names in LIST end with NUL, as 'find -print0' writes them";
+pub const NULL: &str = "Names in LIST end with NUL, as of 'find -print0'";
 
 /// No image is named, and the list is empty.
 pub const NO_IMAGE: &str = "the list contains no image names";

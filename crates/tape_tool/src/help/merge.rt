@@ -59,18 +59,18 @@ wrong, and nothing says which. OUT is not created:
   HAS 1 A BLOCK 800 45256 monday.tap
   HAS 2 B BLOCK 800 45256 tuesday.tap
   HAS 3 A BLOCK 800 45256 drive2.tap
-           each image that reaches this item: its number; A, B or C for different
-           items, - for a bad one; BLOCK and its length, MARK or BAD; the byte
-           offset in the image; and the name
-If most images agree, leave out the one that does not. If it differs in all later
-items too, it has lost an item, or has one twice.
+           each image that reaches this item: its number; A, B or C for
+           different items, - for a bad one; BLOCK and its length, MARK or BAD;
+           the byte offset in the image; and the name
+If most images agree, leave out the one that does not. If it differs in all
+later items too, it has lost an item, or has one twice.
 
-An existing OUT is never overwritten ('tape: file fault 1'), and OUT appears only
-when it is complete. It contains no erase gaps, nothing after an end-of-medium
-marker, and no data of bad blocks, so keep the images.
+An existing OUT is never overwritten ('tape: file fault 1'), and OUT appears
+only when it is complete. It contains no erase gaps, nothing after an
+end-of-medium marker, and no data of bad blocks, so keep the images.
 
-Exit status: 0 OUT is complete, 1 error, 2 usage error, 3 OUT has a bad item or a
-wrong count or is cut, or the images differ";
+Exit status: 0 OUT is complete, 1 error, 2 usage error, 3 OUT has a bad item or
+a wrong count or is cut, or the images differ";
 
 /// Help after the arguments of `compare`.
 pub const AFTER_COMPARE: &str = "Examples:

@@ -7,8 +7,8 @@ pub const ABOUT_SALVAGE: &str = "Recover what is readable of a file that no imag
 pub const OUT_OF_SALVAGE: &str = "New file for the recovered records (never an existing one)";
 
 /// What the form is.
-pub const FORM_OF_SALVAGED: &str =
-    "lines: end each record with a line feed; raw: do not; blocks: copy whole blocks";
+pub const FORM_OF_SALVAGED: &str = "lines: end each record with a line feed;
+raw: do not; blocks: whole blocks";
 
 /// Too many images.
 pub const TOO_MANY_TO_SALVAGE: &str =

@@ -7,7 +7,8 @@ pub const ABOUT_UNPACK: &str = "Recover every file on the images into a director
 pub const FOLDER_OF_FILES: &str = "Existing directory for the files and their stages";
 
 /// What the form is.
-pub const FORM_OF_FILES: &str = "lines: end each record with a line feed; raw: do not";
+pub const FORM_OF_FILES: &str = "lines: end each record with a line feed;
+raw: do not";
 
 /// Too many images.
 pub const TOO_MANY_TO_UNPACK: &str =

@@ -40,24 +40,25 @@ pub const CAPACITY: &str = "Maximum size of an image in bytes, at least --block 
 pub const FILES: &str = "File identifier (for the label) and the file with its records";
 
 /// What FORMAT is.
-pub const FORMAT: &str = "Record format: F fixed, D variable, S spanned";
+pub const FORMAT: &str = "F fixed, D variable, S spanned records";
 
 /// What the block length is.
-pub const BLOCK: &str = "Maximum block length, 18 to 99999 (S: to 9999)";
+pub const BLOCK: &str = "Longest block, 18 to 99999 (S: to 9999)";
 
 /// What the record length is.
-pub const RECORD: &str = "Record length. F: required, 18 to 99999. D: maximum plus 4, up to
-9999 [default: as much as a block holds]. S: not allowed";
+pub const RECORD: &str = "Record length. F: required, 18 to 99999.
+D: maximum plus 4, up to 9999 [default: as much
+as a block holds]. S: not allowed";
 
 /// What the offset is.
-pub const OFFSET: &str = "Bytes before the first record of each block, 0 to 99";
+pub const OFFSET: &str = "Bytes before a block's records, 0 to 99";
 
 /// What padding is.
 pub const PAD_FULL: &str = "D: fill every block to --block with padding";
 
 /// What FORM is.
-pub const FORM: &str = "lines: one record per line; raw: F cuts the input into records, S
-takes it as one record";
+pub const FORM: &str = "lines: one record per line; raw: F cuts the input
+into records, S takes it as one record";
 
 /// An ID=PATH has no '='.
 pub const NO_PATH: &str = "files are given as ID=PATH, for example 'PAYROLL=payroll.txt'";
