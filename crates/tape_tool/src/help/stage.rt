@@ -10,7 +10,7 @@ pub const STAGE_READ: &str = "Stage of 'tape extract' or 'tape unpack'; it is no
 pub const OUT_OF_STAGE: &str = "Output file for the records recovered so far";
 
 /// What `--damaged` does.
-pub const DAMAGED: &str = "Accept a damaged stage, and use the part before the damage";
+pub const DAMAGED: &str = "Use the intact beginning of a damaged stage";
 
 /// `stage` was called with several outputs.
 pub const ONE_OUT: &str = "stage takes one stage and at most one OUT";
