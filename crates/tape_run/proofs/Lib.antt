@@ -64,6 +64,7 @@ pub mod SurveyCopies
 pub mod SurveyShown
 pub mod SurveyConflicts
 pub mod SurveySound
+mod SurveyJoins
 mod SurveyProblems
 mod SurveyCounts
 mod SurveyLooks
