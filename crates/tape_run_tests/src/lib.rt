@@ -57,6 +57,8 @@ mod sessions;
 #[cfg(test)]
 mod survey;
 #[cfg(test)]
+mod survey_copies;
+#[cfg(test)]
 mod taken_back;
 #[cfg(test)]
 mod unpack;

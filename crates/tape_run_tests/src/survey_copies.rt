@@ -1,0 +1,67 @@
+//! Surveys of images with several complete copies of a section.
+use crate::image::{HDR1, Image, payroll};
+use crate::sections::one_section;
+use crate::survey::{survey, told};
+use crate::volumes::EOF_ONE;
+use std::alloc::{AllocError, Global};
+use std::test::Fail;
+use tape_run::Wording;
+
+const AGREED: &str = "one.tap                   ok           volume ABC001, 1 section
+two.tap                   ok           volume ABC001, 1 section
+Set ABC001: 1 of 1 files complete
+   1 PAYROLL                        complete
+ABC001 file 1 section 1: good, 2 copies agree
+All files are complete, and every image was read to its end.
+";
+
+const DISPUTED: &str = "one.tap                   ok           volume ABC001, 1 section
+two.tap                   ok           volume ABC001, 1 section
+Set ABC001: 0 of 1 files complete
+   1 PAYROLL                        conflict: good copies of a section differ
+ABC001 file 1 section 1: CONFLICT, one.tap and two.tap differ ('tape compare' shows where)
+";
+
+const ROWS_OF_THREE: &str =
+    "IMAGE\t1.tap\tWHOLE\tABC001\tABC001\t\t12\t1\t0\tMARKED\tvolume ABC001, \
+         1 section
+IMAGE\t2.tap\tWHOLE\tABC001\tABC001\t\t12\t1\t0\tMARKED\tvolume ABC001, 1 section
+IMAGE\t3.tap\tWHOLE\tABC001\tABC001\t\t12\t1\t0\tMARKED\tvolume ABC001, 1 section
+SECTION\tABC001\t1\t1\tABC001\t3\tGOOD\tEOF
+FILE\tABC001\t1\tPAYROLL\t 00000\tCOMPLETE\t\t\tCONFLICT
+COPIES\tABC001\t1\t1\t2\t1.tap\t2.tap\tCONFLICT
+";
+
+/// The worked volume with another byte in its first block.
+fn changed(alloc: Global) -> Result<Image, AllocError> {
+    let mut image = payroll(alloc)?;
+    for (place, byte) in image.bytes.as_mut_slice().iter_mut().enumerate() {
+        if place == 300 {
+            *byte = b'?';
+        }
+    }
+    Ok(image)
+}
+
+#[test]
+fn copies(rt: HostRuntime) -> Result<(), Fail> {
+    let alloc = rt.alloc();
+    let (whole, changed) = (payroll(alloc)?, changed(alloc)?);
+    let shorter = one_section(alloc, HDR1, EOF_ONE)?;
+    let [whole, changed, shorter] = [&whole, &changed, &shorter].map(|image| Some(
+        image.bytes.as_slice(),
+    ));
+    let names = ["one.tap", "two.tap"];
+    survey(&rt, &[whole, whole], &names, true, AGREED)?;
+    survey(&rt, &[whole, changed], &names, false, DISPUTED)?;
+    survey(&rt, &[shorter, whole], &names, false, DISPUTED)?;
+    let names = ["1.tap", "2.tap", "3.tap"];
+    told(
+        &rt,
+        &[whole, changed, whole],
+        &names,
+        Wording::Rows,
+        false,
+        ROWS_OF_THREE,
+    )
+}
