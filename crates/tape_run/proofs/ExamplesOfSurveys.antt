@@ -83,7 +83,6 @@ cases_of_wholes = record {
   other_century = refl;
   trimmed = refl;
   all_spaces = refl;
-  names = refl;
 }
 
 -- a volume begins with a block

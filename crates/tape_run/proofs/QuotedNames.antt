@@ -1,6 +1,6 @@
 -- Names as they are printed: nothing of them is hidden, and no two are printed as one.
-use Rattle.std.proofs.Common.{◌≡◌, ◌≢◌, ℕ, ◌+◌, ◌*◌, ◌/◌, ◌%◌, ◌<◌, ◌≤◌, Bool, true, false}
-use Rattle.std.proofs.Common.{List, [], ◌∷◌, ◌++◌, refl, sym, ap, subst, ◌∙◌, arith, append_assoc}
+use Rattle.std.proofs.Common.{◌≡◌, ◌≢◌, ℕ, ◌+◌, ◌*◌, ◌/◌, ◌%◌, ◌<◌, Bool, true, false}
+use Rattle.std.proofs.Common.{List, [], ◌∷◌, ◌++◌, refl, sym, ap, subst, ◌∙◌, arith}
 use Rattle.std.proofs.Common.{chars, encode_utf8_all, length}
 use Rattle.std.specs.Prelude.{◌==◌, ◌&&◌, if◌then◌else◌}
 use Rattle.std.specs.List.{AllByRecursion, flat_map}
@@ -9,7 +9,7 @@ use Rattle.std.proofs.lemmas.Bool.{and_parts}
 use Rattle.std.proofs.lemmas.Bool.Decides.{nat_tests}
 use Rattle.std.proofs.lemmas.Nat.{div-add-mod', mod_below, div_below}
 use Rattle.std.proofs.lemmas.Str.{encodes-chars, chars-encodes, encodes_same, scalars-chars}
-use Rattle.tape_run.specs.Quoting.{hex, is_hidden, quoted, name_text}
+use Rattle.tape_run.specs.Quoting.{hex, is_hidden, quoted}
 use Rattle.tape_run.specs.QuotingLaws.{NamesShow, NamesTellApart, NamesKeep}
 use Rattle.tape_run.proofs.UnpackedNames.{Split, all_more, heads, hex_one, tails}
 

@@ -48,7 +48,7 @@ use Rattle.tape_run.specs.SurveyLaws.{IsVolumeInOrder, IsFirstAstray, LeavesTher
 use Rattle.tape_run.specs.SurveyGaps.{is_found, gap_first, gap_text, numbers_line}
 use Rattle.tape_run.specs.SurveyWording.{found_text, file_text}
 use Rattle.tape_run.specs.SurveyWording.{image_text, summary, sections_text, end_text}
-use Rattle.tape_run.specs.SurveyLine.{trimmed_text, named}
+use Rattle.tape_run.specs.SurveyLine.{trimmed_text}
 use Rattle.tape_run.specs.SurveyRows.{section_row, sight_cells, eof_cell, standing_cells}
 use Rattle.tape_run.specs.SurveyRows.{conflict_cell}
 use Rattle.tape_run.specs.Lacks.{good_end, entry_at, key_at}
@@ -201,11 +201,9 @@ pub record CasesOfWholes : Type 0 where
   pub no_date : date_text (date_of (codes " 00000")) ≡ codes "          "
   pub past_the_year : date_of (codes " 85366") ≡ None
   pub other_century : date_of (codes "185113") ≡ None
-  -- spaces at the end are left out, and nothing in a name breaks the line
+  -- spaces at the end are left out
   pub trimmed : trimmed_text (codes "A B   ") ≡ codes "A B"
   pub all_spaces : trimmed_text (codes "      ") ≡ []
-  pub names : named 9 ∷ named 10 ∷ named 32 ∷ named 127 ∷ named 195 ∷ []
-      ≡ 63 ∷ 63 ∷ 32 ∷ 63 ∷ 195 ∷ []
 
 -- of the order of a volume, and of what is reported
 pub record CasesOfSurveys : Type 0 where

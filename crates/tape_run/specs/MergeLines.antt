@@ -18,7 +18,7 @@ use Rattle.tape_run.specs.declared.merge.line.ItemKind.TheVariants as kinds
 use Rattle.tape_run.specs.declared.merge.line.HasLine.{HasLine}
 use Rattle.tape_run.specs.Added.{stop_at}
 use Rattle.tape_run.specs.CheckLine.{stop_text}
-use Rattle.tape_run.specs.SurveyLine.{name_text}
+use Rattle.tape_run.specs.Quoting.{name_text}
 
 -- a line that ends with a name
 abbrev pub with_name : List ℕ → List ℕ → List ℕ

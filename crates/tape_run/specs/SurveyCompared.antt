@@ -8,7 +8,8 @@ use Rattle.tape_run.specs.declared.survey.copies.CopyNote.{CopyNote}
 use Rattle.tape_run.specs.declared.survey.Wording.{Wording}
 use Rattle.tape_run.specs.declared.survey.Wording.TheVariants.{Words, Rows}
 use Rattle.tape_run.specs.SurveyCopies.{Noted}
-use Rattle.tape_run.specs.SurveyLine.{trimmed_text, name_text}
+use Rattle.tape_run.specs.Quoting.{name_text}
+use Rattle.tape_run.specs.SurveyLine.{trimmed_text}
 use Rattle.tape_run.specs.SurveyRows.{key_cells}
 
 -- the name of the image with this number, if there is one

@@ -1,6 +1,6 @@
 -- What a survey says of an image. The text is for people, and may change.
-use Rattle.std.specs.Prelude.{Bool, true, false, ◌||◌, not, is_some, length, take, ◌-◌, ℕ, ◌==◌, ◌&&◌, nat_le}
-use Rattle.std.specs.Prelude.{nat_lt, map, if◌then◌else◌, List, [], ◌++◌, codes, decimal}
+use Rattle.std.specs.Prelude.{Bool, true, false, not, is_some, length, take, ◌-◌, ℕ, ◌==◌, ◌&&◌}
+use Rattle.std.specs.Prelude.{nat_le, nat_lt, map, if◌then◌else◌, List, [], ◌++◌, codes, decimal}
 use Rattle.std.specs.Prelude.{Option, Some, None, replicate}
 use Rattle.tape_image.specs.declared.item.ImageFault.{ImageFault}
 use Rattle.std.specs.List.{suffix_len}
@@ -20,6 +20,7 @@ use Rattle.tape_run.specs.declared.survey.course.LabelOrder.TheVariants.{Follows
 use Rattle.tape_run.specs.declared.survey.glance.ImageSummary.{ImageSummary}
 use Rattle.tape_run.specs.declared.survey.view.ImageSurvey.{ImageSurvey}
 use Rattle.tape_run.specs.Identifier.{printed}
+use Rattle.tape_run.specs.Quoting.{name_text}
 use Rattle.tape_run.specs.SurveyRead.{is_sound, is_ended, is_end}
 
 -- a space
@@ -216,19 +217,11 @@ abbrev pub sight_text : Option ImageSurvey → List ℕ
 sight_text (Some s) = opened_text s
 sight_text None = codes "not opened\n"
 
--- the line of an image after its name, which has this length: the next column is the same for all
--- names of at most 24 bytes
+-- the line of an image after its printed name, which has this length: the next column is the same
+-- for all that have at most 24 bytes
 abbrev pub line_end : ℕ → Option ImageSurvey → List ℕ
 line_end named sight = replicate (24 - named) 32 ++ (codes "  " ++ sight_text sight)
 
--- a byte of a name: a question mark replaces one that would break the line
-abbrev pub named : ℕ → ℕ
-named byte = if nat_lt byte 32 || (byte == 127) then 63 else byte
-
--- a name
-abbrev pub name_text : List ℕ → List ℕ
-name_text name = map named name
-
 -- the line of an image
 abbrev pub image_line : List ℕ → Option ImageSurvey → List ℕ
-image_line name sight = name_text name ++ line_end (length name) sight
+image_line name sight = name_text name ++ line_end (length (name_text name)) sight

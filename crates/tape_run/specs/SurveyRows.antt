@@ -15,7 +15,8 @@ use Rattle.tape_run.specs.CheckLine.{state_text, stop_text}
 use Rattle.tape_run.specs.Passing.{Told}
 use Rattle.tape_run.specs.SurveyCopies.{dispute_at}
 use Rattle.tape_run.specs.SurveyFiles.{note_at, file_key}
-use Rattle.tape_run.specs.SurveyLine.{trimmed_text, name_text, seen_text}
+use Rattle.tape_run.specs.Quoting.{name_text}
+use Rattle.tape_run.specs.SurveyLine.{trimmed_text, seen_text}
 use Rattle.tape_run.specs.SurveyRead.{Found, is_sound}
 use Rattle.tape_run.specs.SurveySets.{standing_of, is_mixed}
 

@@ -4,7 +4,7 @@ ghost use Rattle.std.specs.Io.KnownBytes.{Appends};
 ghost use Rattle.tape_run.specs.Checked.{IsCheckFault};
 ghost use Rattle.tape_image.specs.Written.{AppendsFront};
 ghost use Rattle.tape_run.specs.SurveyWording.{image_text, end_text, summary};
-ghost use Rattle.tape_run.specs.SurveyLine.{named, name_text, image_line};
+ghost use Rattle.tape_run.specs.SurveyLine.{image_line};
 ghost use Rattle.tape_run.specs.SurveyRead.{nothing_found};
 ghost use Rattle.tape_run.specs.SurveyRows.{image_row};
 ghost use Rattle.tape_run.specs.SurveySets.{is_all, last_text};
@@ -32,6 +32,7 @@ pub(crate) mod view;
 use crate::check::pass_on;
 use crate::extract::images::ImageSource;
 use crate::fault::{EngineFault, NO_MEMORY};
+use crate::quoting::name_text;
 use crate::text::append;
 use compared::copies_text;
 use line::{LineEnd, WordsCell};
@@ -168,30 +169,9 @@ fn image_line(alloc: Global, name: &str, sight: &Option<ImageSurvey>) -> Result<
     ensures { IfOk result (λ line. line.items ≡ image_line name.now sight.now) }
 {
     let mut line = name_text(alloc, name)?;
-    append(alloc, &mut line, LineEnd(name.len(), sight))?;
+    let named = line.len();
+    append(alloc, &mut line, LineEnd(named, sight))?;
     Ok(line)
-}
-
-/// A name.
-pub(crate) fn name_text(alloc: Global, name: &str) -> Result<Vec<u8>, AllocError>
-    ensures { IfOk result (λ line. line.items ≡ name_text name.now) }
-{
-    let mut line = Vec::new(alloc);
-    for byte in name.as_bytes() {
-        line.push(named(*byte))?;
-    }
-    Ok(line)
-}
-
-/// A byte of a name: a question mark replaces one that would break the line.
-fn named(byte: u8) -> u8
-    ensures { result ≡ named byte }
-{
-    if byte < b' ' || byte == 127 {
-        b'?'
-    } else {
-        byte
-    }
 }
 
 /// Writes what follows the lines of the images, and returns whether all is well.

@@ -99,7 +99,7 @@ fn undefined(alloc: Global) -> Result<Image, AllocError> {
 }
 
 const BOTH: &str = "2.tap                     ok           volume ABC002, 1 section
-1?.tap                    ok           volume ABC001, 1 section
+1\\u0009.tap                ok           volume ABC001, 1 section
 Set ABC001: 1 of 1 files complete
    1 PAYROLL                        complete
 All files are complete, and every image was read to its end.
@@ -301,7 +301,7 @@ fn date_of_a_file(rt: HostRuntime) -> Result<(), Fail> {
     )
 }
 
-const ROWS: &str = "IMAGE\t1?.tap\tWHOLE\tABC001\tABC001\t\t12\t1\t0\tMARKED\tvolume ABC001, \
+const ROWS: &str = "IMAGE\t1\\u0009.tap\tWHOLE\tABC001\tABC001\t\t12\t1\t0\tMARKED\tvolume ABC001, \
          1 section
 IMAGE\tcut.tap\tPARTIAL\tABC001\tABC001\t\t6\t1\t0\tFAULT 1 1884\tvolume ABC001, 1 section; \
          image fault 1 at byte 1884; section 1 of file 1 is truncated, blocks found: 2

@@ -5,8 +5,9 @@ ghost use Rattle.tape_run.specs.SurveyCompared.{agreed_text, conflict_text, verd
 ghost use Rattle.tape_run.specs.SurveyCompared.{verdict_cell, copy_line, copy_row, is_alone};
 ghost use Rattle.tape_run.specs.SurveyCompared.{copy_text, copies_text};
 
+use super::Wording;
 use super::copies::{CopyNote, CopyNotes};
-use super::{Wording, name_text};
+use crate::quoting::name_text;
 use crate::section::SectionKey;
 use crate::text::{Text, put, put_decimal, put_trimmed};
 use std::alloc::{AllocError, Global};
