@@ -10,7 +10,7 @@ use Rattle.tape_set.specs.declared.position.Position.{Position}
 use Rattle.tape_set.specs.Position.{at_part, next_block}
 use Rattle.tape_core.specs.Point.{Point}
 use Rattle.tape_core.specs.State.{State}
-use Rattle.tape_core.specs.Place.{IsPlaced, place_of}
+use Rattle.tape_core.specs.Place.{IsPlaced, place_of, rest_of}
 use Rattle.tape_core.specs.Table.{saved, mount_of}
 use Rattle.tape_core.specs.Stands.{weight_of}
 use Rattle.tape_core.specs.Weight.{IsFront, Rose}
@@ -70,6 +70,12 @@ pub record WentBack (n : ℕ) (old new : Seen) : Type 0 where
   pub notes : new.notes ≡ take (n + 1) old.notes
   pub count : new.failures ≡ old.failures
   pub calm : new.refusals ≡ old.refusals
+
+-- the session has the position of the checkpoint with this number, if that is one of its file
+abbrev pub IsAtNote : {S : Type 0} → ℕ → SessionState S → SessionState S → Type 0
+IsAtNote n old new = (point : Point) → slice_get old.notes n ≡ Some point
+    → point.set_id ≡ old.core.set_id → point.file ≡ old.core.file
+    → rest_of new.core ≡ place_of point
 
 -- ---- steps that failed
 

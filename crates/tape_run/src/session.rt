@@ -23,7 +23,7 @@ ghost use Rattle.tape_run.specs.CrashRuns.{IsResumed};
 ghost use Rattle.tape_run.specs.Reels.{Reads, Leaves};
 ghost use Rattle.tape_run.specs.Seen.{seen, IsKept, IsSession, IfSeen, IsSeen};
 ghost use Rattle.tape_run.specs.Steps.{Reeled, ReelFails, Refuses, Saved, SaveFails, WentBack};
-ghost use Rattle.tape_run.specs.Steps.{RestartFails, RefusesRestart};
+ghost use Rattle.tape_run.specs.Steps.{RestartFails, RefusesRestart, IsAtNote};
 
 use crate::fault::RunFault;
 use crate::reel_reader::{ReelAnswer, ReelReader};
@@ -221,8 +221,7 @@ impl<S: PartSink> Session<S> {
         ensures at { IfOk result (λ point.
             point ≡ saved (rest_of self.old.core) (S.weighs self.old.sink)) }
         ensures place { self.new.core ≡ self.old.core }
-        ensures calm { OnOk result
-            (S.refusals self.new.sink ≡ S.refusals self.old.sink) }
+        ensures calm { OnOk result (S.refusals self.new.sink ≡ S.refusals self.old.sink) }
         ensures refuses { IfErr result (λ fault. Refuses S.PartSink fault self.old self.new) }
         // The checkpoint is valid, with the parts delivered.
         ensures stands { IfOk result (λ point. (set : FileSet) (held : List Portion)
@@ -294,12 +293,12 @@ impl<S: PartSink> Session<S> {
         ensures err { IfErr result (λ fault. IfSeen S.PartSink self.old (λ old. IsKept old
             → (fault ≢ RunFault.Sink SinkFault.Device → S.holds self.new.sink old.parts)
             × RestartFails n fault old (seen S.PartSink self.new old.parts))) }
-        // For any sink: the later checkpoints are gone, or the session's position is unchanged; no
-        // call of the sink was refused, or the one that was is in the result.
+        // For any sink: the session is at the checkpoint and the later ones are gone, or its
+        // position is unchanged; no call of the sink was refused, or the one that was is reported.
         ensures stays { OnErr result (self.new.core ≡ self.old.core) }
+        ensures place { OnOk result (IsAtNote n self.old self.new) }
         ensures notes { OnOk result (self.new.notes ≡ take (n + 1) self.old.notes) }
-        ensures calm { OnOk result
-            (S.refusals self.new.sink ≡ S.refusals self.old.sink) }
+        ensures calm { OnOk result (S.refusals self.new.sink ≡ S.refusals self.old.sink) }
         ensures refuses { IfErr result (λ fault.
             RefusesRestart S.PartSink n fault self.old self.new) }
         // In any case: a crash during or after it leaves the checkpoint with this number, with its

@@ -26,6 +26,16 @@ returns-clause-ok g c =
       (back.kept, back.went),
     ))
 
+pub returns-clause-place : goal.returns-clause-place
+returns-clause-place g c =
+    rw (← c.self.view_is) (λ point is set file.
+    let s = c.self.inside in
+    let noted : slice_get s.notes.items c.args.n ≡ Some c.in-Some.field-0.now =
+    grind (arith, common_steps, gets) in
+    let same : point ≡ c.in-Some.field-0.now = cc in
+    rw same (from_taken c.restart.result _ c.restart.ensures.there
+    (c.restart.ensures.taken (rw same at set) (rw same at file))))
+
 pub returns-then-point-weight-clause-err : goal.returns-then-point-weight-clause-err
 returns-then-point-weight-clause-err g c =
     rw (← c.self.view_is) (λ held was kept.
