@@ -146,7 +146,8 @@ all_best [] [] (n ∷ nows) [] m best now beside others h at reads least asked s
 all_best (f ∷ firsts) (o ∷ olds) [] (r ∷ rs) m best now beside others h at reads least asked so =
     absurd asked
 all_best (f ∷ firsts) (o ∷ olds) (n ∷ nows) (r ∷ rs) m best now beside others h at reads least
-    (mid, Some y, one, rest) so = absurd (later_other o n best mid y olds nows now beside one rest so)
+    (mid, Some y, one, rest) so =
+    absurd (later_other o n best mid y olds nows now beside one rest so)
 all_best (f ∷ firsts) (o ∷ olds) (n ∷ nows) (r ∷ rs) m best now beside others h at reads least
     (mid, None, one, rest) so =
     let first = one_best f o n r m best mid (λ tape. others tape × AreReadFrom rs tape) h.0 at.0

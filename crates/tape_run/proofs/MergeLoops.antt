@@ -263,7 +263,8 @@ one_more firsts olds nows a b p next have old mid new now other some is_bad s h 
 pub refused_at : {R : Type 0} (firsts olds nows : List (Reading R)) (a : Merged) (p : Phase)
     (old mid new : Writer)
     (now other : Option TapeItem) (fault : ImageWriteFault) → SoFar firsts olds a p old mid
-    → AskedAll olds nows None now None other → mid.standing ≡ writing → RefusesCandidate now fault mid new
+    → AskedAll olds nows None now None other → mid.standing ≡ writing
+    → RefusesCandidate now fault mid new
     → FitsFault firsts nows old new (faults.Write fault)
 refused_at firsts olds nows a p old mid new None other fault s h on refused = absurd refused
 refused_at firsts olds nows a p old mid new (Some x) other fault s h on refused = (
@@ -283,9 +284,11 @@ refused_at firsts olds nows a p old mid new (Some x) other fault s h on refused 
 )
 
 pub refused_now : {T R : Type 0} (result : Result T MergeFault)
-    (firsts olds nows : List (Reading R)) (a : Merged) (p : Phase) (old mid new : Writer) (now other : Option TapeItem)
+    (firsts olds nows : List (Reading R)) (a : Merged) (p : Phase) (old mid new : Writer)
+    (now other : Option TapeItem)
     (fault : ImageWriteFault) → result ≡ Err (faults.Write fault) → SoFar firsts olds a p old mid
-    → AskedAll olds nows None now None other → mid.standing ≡ writing → RefusesCandidate now fault mid new
+    → AskedAll olds nows None now None other → mid.standing ≡ writing
+    → RefusesCandidate now fault mid new
     → IfErr result (FitsFault firsts nows old new)
 refused_now {T} {R} result firsts olds nows a p old mid new now other fault is s h on refused =
     let P : Result T MergeFault → Type 0 = λ r. IfErr r (FitsFault firsts nows old new) in

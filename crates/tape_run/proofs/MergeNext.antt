@@ -11,7 +11,8 @@ use Rattle.tape_run.specs.declared.merge.reading.Reading.{Reading}
 use Rattle.tape_run.specs.declared.merge.reading.Verdict.{Verdict}
 use Rattle.tape_run.specs.declared.merge.reading.Verdict.TheVariants as verdicts
 use Rattle.tape_run.specs.MergeSteps.{agrees, Compares, Stopped, StopsAs, Answered, with_item}
-use Rattle.tape_run.specs.MergeSteps.{is_stop, bad_count, without, RisesBy, is_bad_one, one_if, block_length}
+use Rattle.tape_run.specs.MergeSteps.{is_stop, bad_count, without, RisesBy, is_bad_one, one_if}
+use Rattle.tape_run.specs.MergeSteps.{block_length}
 use Rattle.tape_run.specs.MergeSteps.{CountsItem, CountsNothing, Asked, gives, stops}
 
 status_gives : (s : Status) (old new : Reader) (r : Result (Option TapeItem) ImageFault)

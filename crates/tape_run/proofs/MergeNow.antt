@@ -22,9 +22,10 @@ use Rattle.tape_run.specs.declared.merge.reading.Reading.{Reading}
 use Rattle.tape_run.specs.Reeling.{Mounting, AreMounted}
 use Rattle.tape_run.specs.MergeCalls.{AreAtFront}
 use Rattle.tape_run.specs.MergedImages.{MergesImages, FaultsImages}
-use Rattle.tape_run.specs.MergeLines.{lines_from, reading_line, merged_line}
+use Rattle.tape_run.specs.MergeLines.{lines_from, reading_line, has_line, merged_line, differ_line}
 use Rattle.tape_run.specs.MergeNow.{IsOn, MountsAll, IsMissing, EndsAs, end_bytes}
-use Rattle.tape_run.specs.MergeNow.{FitsEnd, HoldsMerged, ComesTo, ReadingsComeTo, MergesNow, Misses}
+use Rattle.tape_run.specs.MergeNow.{FitsEnd, HoldsMerged, ComesTo, ReadingsComeTo, MergesNow}
+use Rattle.tape_run.specs.MergeNow.{Misses}
 use Rattle.tape_run.specs.MergeNow.{LeavesPlace}
 use Rattle.tape_run.proofs.Turns.{one_mounted}
 
@@ -228,11 +229,14 @@ pub differed : {R : Type 0} (firsts nows : List (Reading R)) (number : ℕ) (fau
     → ((images : List (List ℕ)) → AreAtFront (map Some images) firsts
     → FaultsImages images nows fault)
     → fault ≡ faults.Differ number
+    → says (lines_from (reading_line names) 0 nows ++ differ_line number
+    ++ lines_from (has_line names) 0 nows)
     → ReadingsComeTo firsts names out stands says Differs
-differed firsts nows number fault out stands names says faulted is = λ images front. record {
+differed firsts nows number fault out stands names says faulted is lines = λ images front. record {
   nows = nows;
   number = number;
   differ = subst (λ (f : MergeFault). FaultsImages images nows f) is (faulted images front);
+  lines = lines;
 }
 
 pub fits_other : (bad miscounted : ℕ) (ends : MergedEnd) (end : MergeEnd)

@@ -48,7 +48,8 @@ asked_fits o n best now other beside h (stops off how counts same left) =
     subst FitsCandidate (sym same) h
 
 -- the best item is an item of a tape
-pub best_fits : {R : Type 0} (olds nows : List (Reading R)) (best now other beside : Option TapeItem)
+pub best_fits : {R : Type 0} (olds nows : List (Reading R))
+    (best now other beside : Option TapeItem)
     → FitsCandidate best → AskedAll olds nows best now other beside → FitsCandidate now
 best_fits [] [] best now other beside h (same, is) = subst FitsCandidate (sym same) h
 best_fits [] (n ∷ nows) best now other beside h asked = absurd asked

@@ -1,6 +1,7 @@
 -- The lines of readings, one after another, and how the merged image ends.
 use Rattle.std.proofs.Common.{◌≡◌, ◌⊎◌, ℕ, zero, suc, ◌+◌, ◌<◌, ◌≤◌, List, [], ◌∷◌, ◌++◌, length}
-use Rattle.std.proofs.Common.{drop, get_or, Option, Some, None, refl, sym, ap, subst, ◌∙◌, inl, inr, arith}
+use Rattle.std.proofs.Common.{drop, get_or, Option, Some, None, refl, sym, ap, subst, ◌∙◌, inl, inr}
+use Rattle.std.proofs.Common.{arith}
 use Rattle.std.specs.Io.KnownBytes.{Appends}
 use Rattle.std.proofs.KnownBytes.{Appends-nil, Appends-trans}
 use Rattle.tape_image.specs.declared.item.Ending.{Ending}
@@ -121,7 +122,8 @@ ends_physical items number all end r lt is many how h =
     let at : r.image.status ≡ ended endings.Physical =
     ending_is r.image.status endings.Physical how in
     record {
-      no_marked = ends_later items number all r endings.Marked lt is (λ _ m. cc (m, at)) h.no_marked;
+      no_marked = ends_later items number all r endings.Marked lt is (λ _ m. cc (m, at))
+          h.no_marked;
       not_marked = λ e. cc e;
       physical = λ _. ends_here items number all r endings.Physical lt is many at;
       cut = λ e. absurd (cc e);

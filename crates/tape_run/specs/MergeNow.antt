@@ -21,7 +21,7 @@ use Rattle.tape_run.specs.Reeling.{Mounting, AreMounted}
 use Rattle.tape_run.specs.Merging.{IsMerged}
 use Rattle.tape_run.specs.MergeSteps.{AllStopped}
 use Rattle.tape_run.specs.MergeCalls.{Counts, AreAtFront}
-use Rattle.tape_run.specs.MergeLines.{reading_line, lines_from, merged_line}
+use Rattle.tape_run.specs.MergeLines.{reading_line, has_line, lines_from, merged_line, differ_line}
 use Rattle.tape_run.specs.MergedImages.{TakeImages, DifferImages}
 
 -- ---- the images of a shelf
@@ -78,7 +78,8 @@ FitsEnd bad miscounted end Differs = ⊥
 -- The images were read to their ends. After what the output had before are the items of the least
 -- tape of which they are readings, each in the encoding that is written, and perhaps an
 -- end-of-medium marker. The report has a line for each image, and one for the merged image.
-pub record HoldsMerged (R : Type 0) (images names : List (List ℕ)) (out stands : Option (List ℕ)) (says : List ℕ → Type 0) (end : MergeEnd) : Type 0 where
+pub record HoldsMerged (R : Type 0) (images names : List (List ℕ))
+    (out stands : Option (List ℕ)) (says : List ℕ → Type 0) (end : MergeEnd) : Type 0 where
   pub nows : List (Reading R)
   pub readings : List (List TapeItem)
   pub have : TakeImages images nows readings
@@ -93,11 +94,15 @@ pub record HoldsMerged (R : Type 0) (images names : List (List ℕ)) (out stands
   pub fits : FitsEnd counts.bad counts.miscounted ends end
   pub lines : says (lines_from (reading_line names) 0 nows ++ merged_line counts ends)
 
--- The images differ at the item with some number.
-pub record DifferNow (R : Type 0) (images : List (List ℕ)) : Type 0 where
+-- The images differ. The report has a line for each image, the number of the first item at which
+-- they differ, and a line for each image that reaches it.
+pub record ReportsDiffering (R : Type 0) (images names : List (List ℕ))
+    (says : List ℕ → Type 0) : Type 0 where
   pub nows : List (Reading R)
   pub number : ℕ
   pub differ : DifferImages images nows number
+  pub lines : says (lines_from (reading_line names) 0 nows ++ differ_line number
+      ++ lines_from (has_line names) 0 nows)
 
 -- what came of images with these bytes
 abbrev pub ComesTo : Type 0 → List (List ℕ) → List (List ℕ) → Option (List ℕ)
@@ -105,7 +110,7 @@ abbrev pub ComesTo : Type 0 → List (List ℕ) → List (List ℕ) → Option (
 ComesTo R images names out stands says Whole = HoldsMerged R images names out stands says Whole
 ComesTo R images names out stands says Partial =
     HoldsMerged R images names out stands says Partial
-ComesTo R images names out stands says Differs = DifferNow R images
+ComesTo R images names out stands says Differs = ReportsDiffering R images names says
 
 -- what comes of readings, if they are at the beginning of images with known bytes
 abbrev pub ReadingsComeTo : {R : Type 0} → List (Reading R) → List (List ℕ) → Option (List ℕ)

@@ -4,7 +4,7 @@
 ghost use Rattle.std.specs.Prelude.{◌≡◌, map, IfOk, OnOk, IfErr};
 ghost use Rattle.std.specs.Io.KnownBytes.{Appends};
 ghost use Rattle.tape_image.specs.Written.{AppendsFront};
-ghost use Rattle.tape_run.specs.MergeLines.{lines_from, reading_line};
+ghost use Rattle.tape_run.specs.MergeLines.{lines_from, reading_line, has_line};
 ghost use Rattle.tape_run.specs.MergeNow.{MountsAll, IsMissing, Misses, MergesNow, LeavesPlace};
 ghost use Rattle.tape_run.specs.MergeNow.{ReadingsComeTo, EndsAs, FitsEnd, end_bytes};
 ghost use Rattle.tape_run.specs.declared.merge.now.MergeEnd.{MergeEnd};
@@ -250,6 +250,8 @@ fn report_items<R: Read, P: Write>(
     names: &[&str],
     report: &mut P,
 ) -> Result<(), MergeStop>
+    ensures ok { OnOk result (Appends (P.contents report.old) (P.contents report.new)
+        (lines_from (has_line (map (λ n. n.now) names.now)) 0 readings.now)) }
     ensures err { IfErr result (Misses (λ _. ⊥)) }
 {
     for number in 0..readings.len() {

@@ -25,7 +25,8 @@ pub returns-then-not-branch-clause-ok : goal.returns-then-not-branch-clause-ok
 returns-then-not-branch-clause-ok g c =
     comes_to_end _ _ _ c.items.merged c.items.phase c.args.out.now c.items.out c.put.new.out
     c.ask_all.new.best c.ask_all.new.other c.in_ok-put.field-0 c.items.invariant.so_far
-    c.in_ok-witnesses.ensures.asked (sym c.is_some.ensures ∙ c.if-is_some.false) c.in_ok-put.ensures.ok
+    c.in_ok-witnesses.ensures.asked (sym c.is_some.ensures ∙ c.if-is_some.false)
+    c.in_ok-put.ensures.ok
     c.if-not-branch.true
 
 pub items-preserved : goal.items-preserved

@@ -1,8 +1,8 @@
-use Rattle.std.proofs.Common.{map, inl, inr, rules, subst, sym, ◌∙◌, [], ◌++◌, append-nil}
+use Rattle.std.proofs.Common.{◌≡◌, map, inl, inr, rules, subst, sym, ◌∙◌, [], ◌++◌, append-nil}
 use Rattle.std.specs.Io.KnownBytes.{Appends}
 use Rattle.std.proofs.KnownBytes.{Appends-trans}
 use Rattle.tape_image.specs.Written.{AppendsFront}
-use Rattle.tape_run.specs.MergeLines.{lines_from, reading_line, merged_line}
+use Rattle.tape_run.specs.MergeLines.{lines_from, reading_line, has_line, merged_line, differ_line}
 use Rattle.tape_run.proofs.Reporting.{front_then}
 use Rattle.tape_run.proofs.MergeNow.{made, made_some, differed, fits_other, err_write}
 use Rattle.tape_run.proofs.merge.now.merge_readings.Goals as goal
@@ -28,11 +28,24 @@ returns-in-Ok-clause-untouched g c =
     λ is. absurd (fits_other _ _ _ _ c.whole_or_partial.ensures is)
 
 pub returns-in-Err-Differ-clause-ok : goal.returns-in-Err-Differ-clause-ok
-returns-in-Err-Differ-clause-ok g c = differed c.args.readings.now c.merge_to.new.readings
-    c.in-Err-Differ.item c.in-Err-Differ.field-0 (g.W.Write.contents c.args.out)
-    (g.O.Place.stands c.args.place.now) (map (λ n. n.now) c.args.names.now)
-    (Appends (g.P.Write.contents c.args.report.now) (g.P.Write.contents c.report_items.new.report))
-    c.in-Err-Differ.ensures.fault c.in-Err-Differ.field-0-is
+returns-in-Err-Differ-clause-ok g c =
+    let names = map (λ n. n.now) c.args.names.now in
+    let old = g.P.Write.contents c.args.report.now in
+    let first = g.P.Write.contents c.report_readings-in-Err-Differ.new.report in
+    let second = g.P.Write.contents c.pass_on-in-Err-Differ.new.report in
+    let new = g.P.Write.contents c.report_items.new.report in
+    let lines = lines_from (reading_line names) 0 c.merge_to.new.readings in
+    let items = lines_from (has_line names) 0 c.merge_to.new.readings in
+    let text : c.deref-in-Err-Differ.result.now ≡ differ_line c.in-Err-Differ.item =
+    search rules in
+    differed c.args.readings.now c.merge_to.new.readings c.in-Err-Differ.item
+    c.in-Err-Differ.field-0 (g.W.Write.contents c.args.out) (g.O.Place.stands c.args.place.now)
+    names (Appends old new) c.in-Err-Differ.ensures.fault c.in-Err-Differ.field-0-is
+    (Appends-trans old second new (lines ++ differ_line c.in-Err-Differ.item) items
+    (Appends-trans old first second lines (differ_line c.in-Err-Differ.item)
+    c.in_ok-report_readings-in-Err-Differ.ensures.ok
+    (subst (λ t. Appends first second t) text c.in_ok-pass_on-in-Err-Differ.ensures.ok))
+    c.in_ok-report_items-in-Err-Differ.ensures.ok)
 
 pub returns-in_err-place-in-Ok-clause-err : goal.returns-in_err-place-in-Ok-clause-err
 returns-in_err-place-in-Ok-clause-err g c =
