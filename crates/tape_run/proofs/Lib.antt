@@ -108,6 +108,7 @@ mod SalvageShelf
 mod SalvageRest
 mod SalvageClosings
 mod SalvageText
+mod SalvageFile
 mod Examples
 mod ExamplesOfReels
 mod ExamplesOfCatalogues

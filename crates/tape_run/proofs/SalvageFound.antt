@@ -106,7 +106,7 @@ finds_section set_id volumes r s before read may =
     let w = section_walked added quiet set_id volumes r s [] [] [] (λ z k. (z, Some k) ∷ []) read
     may
     (λ v k z. quiet_data added (key_of set_id r) v [] r.blocks k (λ u b e. refl) (λ u e. refl))
-    (λ v k. refl) (λ z k. refl) (λ z k. refl) in
+    (λ v k l. refl) (λ z k. refl) (λ z k. refl) in
     let at = at_place (found_from s before (read_section r)) (w.section, Some w.closing)
     (sym (same_gathered s before [] (read_section r)) ∙ w.walk.gives) in
     (w.section, w.closing, at.0, at.1, w.key, w.blocks, w.count)

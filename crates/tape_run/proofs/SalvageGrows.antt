@@ -112,7 +112,7 @@ grown_blocks form p ((true, f) ∷ bs) end (i, is) (a, all) t o =
           ∙ append_assoc (p.done ++ p.front) f.parts (all_parts bs);
     }
 
-after_append : (form : FileForm) (p : Piece) (bs cs : Blocks)
+pub after_append : (form : FileForm) (p : Piece) (bs cs : Blocks)
     → piece_after form p (bs ++ cs) ≡ piece_after form (piece_after form p bs) cs
 after_append form p [] cs = refl
 after_append form p (b ∷ bs) cs =

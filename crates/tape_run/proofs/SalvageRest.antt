@@ -13,17 +13,11 @@ use Rattle.tape_run.specs.declared.salvage.walk.Expected.TheVariants.{Unnamed, U
 use Rattle.tape_run.specs.SalvageWalk.{step, expected_after}
 use Rattle.tape_run.specs.SalvageBlocks.{Salvaged, salvaged_at, text_at}
 use Rattle.tape_run.specs.SalvageImage.{is_in, is_mark, number_in, salvaged_from, text_from}
-use Rattle.tape_run.specs.SalvageImage.{closings, RestHasNothing}
+use Rattle.tape_run.specs.SalvageImage.{closings, EndsData, RestHasNothing}
 use Rattle.tape_run.proofs.SalvagedSoFar.{expected_after-append, salvaged_from-append}
-use Rattle.tape_run.proofs.SalvagedSoFar.{text_from-append}
+use Rattle.tape_run.proofs.SalvagedSoFar.{text_from-append, closings-append}
 
 module _ (key : SectionKey) where
-  pub closings-append : (s : Expected) (xs ys : List TapeItem)
-      → closings key s (xs ++ ys) ≡ closings key s xs + closings key (expected_after s xs) ys
-  closings-append s [] ys = omega arith
-  closings-append s (x ∷ xs) ys =
-      let r = closings-append (step s x).0 xs ys in omega (arith, r)
-
   -- an item that is not a mark leaves the data open
   stays_in : (s : Expected) (x : TapeItem) → is_in key s ≡ true → is_mark x ≡ false
       → is_in key (step s x).0 ≡ true
@@ -45,7 +39,7 @@ module _ (key : SectionKey) where
   none_by true n e = absurd (omega (arith, e))
   none_by false n e = refl
 
-  rest_none : (b : Bool) (n : ℕ) → (if b then 1 else 0) + n ≡ 0 → n ≡ 0
+  pub rest_none : (b : Bool) (n : ℕ) → (if b then 1 else 0) + n ≡ 0 → n ≡ 0
   rest_none true n e = omega (arith, e)
   rest_none false n e = omega (arith, e)
 
@@ -104,14 +98,21 @@ module _ (key : SectionKey) where
   after_mark (UnnamedTrailer r) h = absurd (cc h)
   after_mark (Skipping n u) h = absurd (cc h)
 
-pub rest_has_nothing : RestHasNothing
-rest_has_nothing key most form o items rest g (front, is, at) once end =
-    let s = expected_after o items in
+-- the data of the section do not end again
+pub none_after : (key : SectionKey) (o : Expected) (items rest : List TapeItem)
+    → EndsData o key items → closings key o (items ++ rest) ≡ 1
+    → closings key (expected_after o items) rest ≡ 0
+none_after key o items rest (front, is, at) once =
     let all = closings-append key o items rest in
     let first : closings key o items ≡ closings key o front + 1 =
     ap (closings key o) is ∙ closings-append key o front (mark ∷ [])
     ∙ ap (λ b. closings key o front + ((if b && true then 1 else 0) + 0)) at in
-    let none : closings key s rest ≡ 0 = omega (arith, once, all, first) in
+    omega (arith, once, all, first)
+
+pub rest_has_nothing : RestHasNothing
+rest_has_nothing key most form o items rest g ends once end =
+    let s = expected_after o items in
+    let none = none_after key o items rest ends once in
     let more = nothing_by key most form (is_in key s) s (salvaged_from key most form o g items) rest
     refl none (ap (is_in key) (sym (expected_after-append o items rest)) ∙ end) in (
       sym (salvaged_from-append key most form o g items rest ∙ more.0),

@@ -134,7 +134,7 @@ own_walked key form set_id volumes r s g read may same =
     (salvaged_blocks form m g bs)) z
     (own_data key (length bs) form v g bs (ap (λ c. same_key c key) k ∙ same) (omega (arith, z))
     (omega (arith, n, read.is.few))))
-    (λ v k. no_mark form h (number_in key (length bs) (Data v)))
+    (λ v k l. no_mark form h (number_in key (length bs) (Data v)))
     (λ z k. refl) (λ z k. refl)).walk
 
 pub recovers_section_of : RecoversSectionOf
@@ -159,7 +159,7 @@ other_walked key most form set_id volumes r s g read may other =
     (λ v k z. quiet_data (taken key most form) (key_of set_id r) v g r.blocks k
     (λ u b e. ap (λ m. salvaged_at form g m (block b)) (none u e))
     (λ u e. ap (λ m. salvaged_at form g m bad) (none u e)))
-    (λ v k. no_mark form g (number_in key most (Data v)))
+    (λ v k l. no_mark form g (number_in key most (Data v)))
     (λ z k. refl) (λ z k. refl)).walk
 
 pub passes_section : PassesSection

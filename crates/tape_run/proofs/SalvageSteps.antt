@@ -34,7 +34,7 @@ abbrev pub gathered : {A : Type 0} → (Expected → A → TapeItem → A) → E
 gathered act s a [] = a
 gathered act s a (x ∷ xs) = gathered act (step s x).0 (act s a x) xs
 
-gathered-append : {A : Type 0} (act : Expected → A → TapeItem → A) (s : Expected) (a : A)
+pub gathered-append : {A : Type 0} (act : Expected → A → TapeItem → A) (s : Expected) (a : A)
     (xs ys : List TapeItem)
     → gathered act s a (xs ++ ys) ≡ gathered act (expected_after s xs) (gathered act s a xs) ys
 gathered-append act s a [] ys = refl
@@ -177,7 +177,8 @@ module _ {A : Type 0} (act : Expected → A → TapeItem → A) where
       → MayBegin s
       → ((v : OpenSection) → v.key ≡ key_of set_id r → v.blocks ≡ 0
       → Walk act (Data v) a (read_blocks r.blocks) (Data (section_after v r.blocks)) b)
-      → ((w : OpenSection) → w.key ≡ key_of set_id r → act (Data w) b mark ≡ c)
+      → ((w : OpenSection) → w.key ≡ key_of set_id r → w.blocks ≡ length r.blocks
+      → act (Data w) b mark ≡ c)
       → ((z : OpenSection) (k : Closing) → act (Trailers z k) c mark ≡ ends z k)
       → ((z : OpenSection) (k : Closing) → act (Trailers z k) c bad ≡ ends z k)
       → Walked set_id r s a ends
@@ -216,7 +217,7 @@ module _ {A : Type 0} (act : Expected → A → TapeItem → A) where
             (follow (Data v) (Data w) e a b d (read_blocks r.blocks) _ (on_data v own two.none)
             (follow (Data w) (Trailers w k) e b c d (mark ∷ block y.trailer ∷ []) _
             (first (Data w) (Trailer w) (Trailers w k) b c c mark (block y.trailer ∷ []) refl
-            (on_mark w whose)
+            (on_mark w whose (omega (arith, all, two.none)))
             (one (Trailer w) (Trailers w k) c c (block y.trailer)
             (ap (λ p. p.0) (trailer_step w y.trailer t at closed))
             (q.trailer w c y.trailer t at closed)))

@@ -12,16 +12,18 @@ use Rattle.tape_label.proofs.First.{head1_found}
 use Rattle.tape_label.proofs.Apart.{HasKind-unique}
 use Rattle.tape_label.proofs.VolumeLabels.{volume_label_again, no_volume_label}
 use Rattle.tape_set.specs.Layout.{Volume}
-use Rattle.tape_set.specs.Lawful.{IsVolume, IsVolumeLabel}
+use Rattle.tape_set.specs.Lawful.{IsVolume, IsVolumeLabel, FileForm}
 use Rattle.tape_run.specs.declared.section.SectionKey.{SectionKey}
+use Rattle.tape_run.specs.Noted.{same_key}
 use Rattle.tape_run.specs.declared.salvage.walk.Expected.{Expected}
 use Rattle.tape_run.specs.declared.salvage.walk.Expected.TheVariants.{Outside}
 use Rattle.tape_run.specs.SalvageWalk.{step}
 use Rattle.tape_run.specs.SalvageBlocks.{Salvaged}
+use Rattle.tape_run.specs.SalvageImage.{salvaged_from}
 use Rattle.tape_run.specs.SalvageSections.{Labels, labels_of, read_labels, SectionRead, IsNoHead}
 use Rattle.tape_run.specs.SalvageSections.{AreNoHeads, IsRead, IsOther, MayBegin, after_trailers}
 use Rattle.tape_run.specs.SalvageSections.{read_section, read_sections, read_volume, AreLabels}
-use Rattle.tape_run.specs.SalvageSections.{RecoversFromVolume}
+use Rattle.tape_run.specs.SalvageSections.{RecoversFromVolume, key_of}
 use Rattle.tape_run.proofs.SalvageOpened.{may_after}
 use Rattle.tape_run.proofs.SalvageSteps.{Walk, Quiet, follow, one, outside}
 use Rattle.tape_run.proofs.SalvageSections.{taken, same_gathered, quiet, own_walked, other_walked}
@@ -136,9 +138,16 @@ module _ {A : Type 0} (act : Expected → A → TapeItem → A) (q : Quiet act) 
 
 -- ---- what is recovered
 
-pub recovers_from_volume : RecoversFromVolume
-recovers_from_volume set_id volumes v ls before r rest form key g is labels read other read' other'
-    own same =
+pub volume_salvaged : (set_id : List ℕ) (volumes : ℕ) (v : Volume) (ls : Labels)
+    (before : List SectionRead) (r : SectionRead) (rest : List SectionRead) (form : FileForm)
+    (key : SectionKey) (g : Salvaged) → IsVolume v → AreLabels v ls
+    → AllByRecursion (IsRead set_id volumes) before → AllByRecursion (IsOther set_id key) before
+    → AllByRecursion (IsRead set_id volumes) rest → AllByRecursion (IsOther set_id key) rest
+    → IsRead set_id volumes r → same_key (key_of set_id r) key ≡ true
+    → salvaged_from key (length r.blocks) (Some form) (Outside 0) g
+    (read_volume ls (before ++ r ∷ rest)) ≡ salvaged_blocks (Some form) 0 g r.blocks
+volume_salvaged set_id volumes v ls before r rest form key g is labels read other read' other' own
+    same =
     let n = length r.blocks in
     let f = Some form in
     let act = taken key n f in
@@ -147,6 +156,10 @@ recovers_from_volume set_id volumes v ls before r rest form key g is labels read
     (λ x s a m may o. other_walked key n f set_id volumes x s a m may o) v ls before r rest g h is
     labels read other read' other'
     (λ s may. own_walked key f set_id volumes r s g own may same) in
-    ap (λ (d : Salvaged). d.piece)
-    (same_gathered key n f (Outside 0) g (read_volume ls (before ++ r ∷ rest)) ∙ w.walk.gives)
-    ∙ piece_of form 0 g r.blocks
+    same_gathered key n f (Outside 0) g (read_volume ls (before ++ r ∷ rest)) ∙ w.walk.gives
+
+pub recovers_from_volume : RecoversFromVolume
+recovers_from_volume set_id volumes v ls before r rest form key g is labels read other read' other'
+    own same = ap (λ (d : Salvaged). d.piece)
+    (volume_salvaged set_id volumes v ls before r rest form key g is labels read other read' other'
+    own same) ∙ piece_of form 0 g r.blocks

@@ -1,11 +1,11 @@
 -- What was recovered after some items of an image.
 use Rattle.std.proofs.Common.{◌≡◌, ℕ, List, [], ◌∷◌, ◌++◌, Option, Some, None}
 use Rattle.std.proofs.Common.{true, false, refl, sym, ap, subst, ◌∙◌, append-nil}
-use Rattle.std.proofs.Common.{append_assoc}
-use Rattle.std.specs.Prelude.{IfSome}
+use Rattle.std.proofs.Common.{append_assoc, arith, ◌+◌, ◌&&◌, Bool}
+use Rattle.std.specs.Prelude.{IfSome, if◌then◌else◌}
 use Rattle.std.specs.Io.KnownBytes.{Appends}
 use Rattle.std.proofs.KnownBytes.{Appends-nil, Appends-trans}
-use Rattle.tape_image.specs.Tape.{TapeItem, mark}
+use Rattle.tape_image.specs.Tape.{TapeItem, block, bad, mark}
 use Rattle.tape_image.specs.Begins.{Walks}
 use Rattle.tape_image.specs.Reader.{IfKnown}
 use Rattle.tape_image.specs.Step.{TakesItem, TakesEnd, TakesFault}
@@ -23,7 +23,7 @@ use Rattle.tape_run.specs.declared.salvage.walk.Expected.TheVariants.{Data}
 use Rattle.tape_run.specs.SalvageWalk.{step, expected_after}
 use Rattle.tape_run.specs.SalvageBlocks.{Salvaged, HasSalvaged, Recovers, salvaged_at, text_at}
 use Rattle.tape_run.specs.SalvageImage.{is_in, read_in, number_in, salvaged_from, text_from}
-use Rattle.tape_run.specs.SalvageImage.{RecoversSection}
+use Rattle.tape_run.specs.SalvageImage.{RecoversSection, is_mark, closings}
 
 -- Of the bytes `all` the items up to a place were read, and `left` is left; the blocks of the
 -- section among them were taken.
@@ -37,7 +37,7 @@ pub record SoFar {W : Type 0} (contents : W → Option (List ℕ)) (all left : O
       (λ g. salvaged_from key most form origin g items)
       (λ g. text_from key most form origin g items)
 
-pub starts : {W : Type 0} (contents : W → Option (List ℕ)) (all left : Option (List ℕ))
+abbrev pub starts : {W : Type 0} (contents : W → Option (List ℕ)) (all left : Option (List ℕ))
     (place : ℕ) (origin : Expected) (key : SectionKey) (most : ℕ) (form : Option FileForm)
     (recovery : Recovery W) (said : Option (List ℕ)) → place ≡ 0 → left ≡ all
     → SoFar contents all left place origin key most form origin recovery recovery said said
@@ -131,6 +131,49 @@ one_more contents all left next p q origin key most form expected after item old
           said says now s.expects s.recovers taken;
     }
 
+-- the data of the section have not ended yet
+pub closings-append : (key : SectionKey) (s : Expected) (xs ys : List TapeItem)
+    → closings key s (xs ++ ys) ≡ closings key s xs + closings key (expected_after s xs) ys
+closings-append key s [] ys = omega arith
+closings-append key s (x ∷ xs) ys =
+    let r = closings-append key (step s x).0 xs ys in omega (arith, r)
+
+turned : (a b : Bool) → (b && a) ≡ false → (a && b) ≡ false
+turned true true e = e
+turned true false e = refl
+turned false b e = refl
+
+no_more : (n : ℕ) (b : Bool) → n ≡ 0 → b ≡ false → n + ((if b then 1 else 0) + 0) ≡ 0
+no_more n true none off = absurd (cc off)
+no_more n false none off = omega (arith, none)
+
+pub still_open : (key : SectionKey) (origin expected : Expected) (items : List TapeItem)
+    (item : TapeItem) (b : Bool) → expected ≡ expected_after origin items
+    → closings key origin items ≡ 0 → b ≡ (is_mark item && is_in key expected) → b ≡ false
+    → closings key origin (items ++ item ∷ []) ≡ 0
+still_open key origin expected items item b at none is off =
+    closings-append key origin items (item ∷ [])
+    ∙ no_more (closings key origin items)
+    (is_in key (expected_after origin items) && is_mark item) none
+    (ap (λ s. is_in key s && is_mark item) (sym at)
+    ∙ turned (is_in key expected) (is_mark item) (sym is ∙ off))
+
+both : (a b : Bool) → (a && b) ≡ true → (a ≡ true) × (b ≡ true)
+both true true e = (refl, refl)
+both true false e = absurd (cc e)
+both false b e = absurd (cc e)
+
+mark_is : (x : TapeItem) → is_mark x ≡ true → x ≡ mark
+mark_is mark e = refl
+mark_is (block b) e = absurd (cc e)
+mark_is bad e = absurd (cc e)
+
+-- the item that ends the data
+pub ends_at : (key : SectionKey) (s : Expected) (x : TapeItem) (b : Bool)
+    → b ≡ (is_mark x && is_in key s) → b ≡ true → (is_in key s ≡ true) × (x ≡ mark)
+ends_at key s x b is on =
+    let r = both (is_mark x) (is_in key s) (sym is ∙ on) in (r.1, mark_is x r.0)
+
 -- the items were read
 placed : (all left : Option (List ℕ)) (q : ℕ) (items : List TapeItem)
     → IfKnown all left (λ xs ys. Walks 0 xs items q ys)
@@ -140,7 +183,7 @@ placed (Some xs) None q items h = absurd h
 placed (Some xs) (Some ys) q items h = (q, ys, h)
 
 -- the mark that ends the section's data is none of them
-read_at_mark : (key : SectionKey) (s : Expected) → is_in key s ≡ true
+pub read_at_mark : (key : SectionKey) (s : Expected) → is_in key s ≡ true
     → read_in key s ≡ read_in key (step s mark).0
 read_at_mark key (Data u) is = refl
 read_at_mark key _ is = absurd (cc)
@@ -172,6 +215,7 @@ ends_data contents all left next p q origin key most form expected item old mid 
           ap (is_in key) (sym s.expects) ∙ is,
         );
         all = λ f. absurd (cc);
+        unended = λ f. absurd (cc);
       };
       count = count ∙ read_at_mark key expected is
           ∙ ap (λ x. read_in key (step expected x).0) (sym e) ∙ ap (read_in key) more.expects;
@@ -183,11 +227,12 @@ pub at_end : {W : Type 0} (contents : W → Option (List ℕ)) (all left next : 
     (p q : ℕ) (ending : Ending) (origin : Expected) (key : SectionKey) (most : ℕ)
     (form : Option FileForm) (expected : Expected) (old new : Recovery W)
     (said says : Option (List ℕ))
-    → SoFar contents all left p origin key most form expected old new said says
+    → (s : SoFar contents all left p origin key most form expected old new said says)
     → IfKnown left next (TakesEnd p [] ending q) → (n : ℕ) → n ≡ read_in key expected
+    → closings key origin s.items ≡ 0
     → RecoversSection contents all next origin key most form old new said says n
 at_end contents all left next p q ending origin key most form expected old new said says s takes n
-    count = record {
+    count unended = record {
       items = s.items;
       is_ended = false;
       reads = record {
@@ -199,6 +244,7 @@ at_end contents all left next p q ending origin key most form expected old new s
               (by_ending s.items ending q)
               (known_end all left next 0 p q s.items ending s.known takes),
         );
+        unended = λ _. unended;
       };
       count = count ∙ ap (read_in key) s.expects;
       recovers = s.recovers;
@@ -208,17 +254,19 @@ pub at_fault : {W : Type 0} (contents : W → Option (List ℕ)) (all left next 
     (p : ℕ) (fault : ImageFault) (origin : Expected) (key : SectionKey) (most : ℕ)
     (form : Option FileForm) (expected : Expected) (old new : Recovery W)
     (said says : Option (List ℕ))
-    → SoFar contents all left p origin key most form expected old new said says
+    → (s : SoFar contents all left p origin key most form expected old new said says)
     → IfKnown left next (TakesFault p [] fault) → (n : ℕ) → n ≡ read_in key expected
+    → closings key origin s.items ≡ 0
     → RecoversSection contents all next origin key most form old new said says n
 at_fault contents all left next p fault origin key most form expected old new said says s takes n
-    count = record {
+    count unended = record {
       items = s.items;
       is_ended = false;
       reads = record {
         walked = placed all left p s.items s.known;
         at_mark = λ f. absurd (cc);
         all = λ _. (Fault fault, known_fault all left next 0 p s.items fault s.known takes);
+        unended = λ _. unended;
       };
       count = count ∙ ap (read_in key) s.expects;
       recovers = s.recovers;

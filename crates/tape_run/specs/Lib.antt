@@ -110,6 +110,7 @@ pub mod SalvageTaking
 pub mod Salvaging
 pub mod SalvageWhole
 pub mod SalvageSections
+pub mod SalvageFile
 -- Examples, which keep the definitions from saying too little.
 pub mod Cases
 pub mod CasesOfRuns

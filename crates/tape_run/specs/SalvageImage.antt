@@ -48,6 +48,16 @@ text_from key most form s g (x ∷ xs) =
     text_at key.sect form g (number_in key most s) x
     ++ text_from key most form (step s x).0 (salvaged_at form g (number_in key most s) x) xs
 
+abbrev pub is_mark : TapeItem → Bool
+is_mark mark = true
+is_mark _ = false
+
+-- how often a tape mark ends the data of this section in these items
+abbrev pub closings : SectionKey → Expected → List TapeItem → ℕ
+closings key s [] = 0
+closings key s (x ∷ xs) =
+    (if is_in key s && is_mark x then 1 else 0) + closings key (step s x).0 xs
+
 -- the last of the items is the mark after the data of this section
 abbrev pub EndsData : Expected → SectionKey → List TapeItem → Type 0
 EndsData start key items = (front : List TapeItem) × (items ≡ front ++ mark ∷ [])
@@ -60,6 +70,7 @@ pub record ReadsSection (before after : Option (List ℕ)) (start : Expected) (k
   pub walked : IfSome before (λ xs. (place : ℕ) × (ys : List ℕ) × Walks 0 xs items place ys)
   pub at_mark : is_ended ≡ true → EndsData start key items
   pub all : is_ended ≡ false → (stop : ImageStop) × IfKnown before after (StopsBehind items stop)
+  pub unended : is_ended ≡ false → closings key start items ≡ 0
 
 -- Items of the image were read, so many of them data items of the section, and its blocks were
 -- taken.
@@ -76,16 +87,6 @@ pub record RecoversSection {W : Type 0} (contents : W → Option (List ℕ))
       (λ g. text_from key most form start g items)
 
 -- ---- the rest of the image
-
-abbrev pub is_mark : TapeItem → Bool
-is_mark mark = true
-is_mark _ = false
-
--- how often a tape mark ends the data of this section in these items
-abbrev pub closings : SectionKey → Expected → List TapeItem → ℕ
-closings key s [] = 0
-closings key s (x ∷ xs) =
-    (if is_in key s && is_mark x then 1 else 0) + closings key (step s x).0 xs
 
 -- If the data of the section end once on the image, and are not open at its end, then nothing more
 -- is recovered from the items after the mark that ends them.

@@ -5,6 +5,7 @@ ghost use Rattle.tape_run.specs.SalvageWhole.{WritesOutput};
 ghost use Rattle.tape_run.specs.SalvageImage.{RestHasNothing};
 ghost use Rattle.tape_run.specs.SalvageSections.{RecoversSectionOf, PassesSection, FindsSection};
 ghost use Rattle.tape_run.specs.SalvageSections.{RecoversFromVolume, RecoversFromReading};
+ghost use Rattle.tape_run.specs.SalvageFile.{RecoversBlocks, RecoversFile, RecoversUpToGap};
 
 /// Of a file whose parts are in order, with any of its blocks missing, exactly the records are
 /// recovered all of whose parts are in blocks that were read.
@@ -69,4 +70,23 @@ pub fn the_rest_has_nothing_more()
 /// items, exactly the records of the section's blocks that were read are recovered.
 pub fn readings_are_recovered()
     ensures { RecoversFromReading }
+{}
+
+/// From readings of the volumes of a lawful set, each section from one, the records are recovered
+/// that are in the sections' blocks one after another, whichever blocks were read. If nothing is
+/// missing, every block was read.
+pub fn sections_make_a_file()
+    ensures { RecoversBlocks }
+{}
+
+/// So of a file exactly the records are recovered all of whose parts are in blocks that were read.
+/// If nothing is missing, all parts of the file are recovered.
+pub fn files_are_recovered()
+    ensures { RecoversFile }
+{}
+
+/// Up to the first block that was not read no record of the file is left out, so no less is
+/// recovered than `extract` gathers up to there.
+pub fn files_are_recovered_up_to_the_gap()
+    ensures { RecoversUpToGap }
 {}

@@ -1,11 +1,11 @@
 //! A section recovered from one image.
 
-ghost use Rattle.std.specs.Prelude.{◌≡◌, IfOk, IfErr, true};
+ghost use Rattle.std.specs.Prelude.{◌≡◌, ◌&&◌, IfOk, IfErr};
 ghost use Rattle.tape_image.specs.Reader.{going, tape_item};
-ghost use Rattle.tape_image.specs.Tape.{mark};
 ghost use Rattle.tape_run.specs.Checked.{IsCheckFault};
 ghost use Rattle.tape_run.specs.Noted.{same_key};
-ghost use Rattle.tape_run.specs.SalvageImage.{number_in, is_in, read_in, RecoversSection};
+ghost use Rattle.tape_run.specs.SalvageImage.{number_in, is_in, is_mark, read_in};
+ghost use Rattle.tape_run.specs.SalvageImage.{RecoversSection};
 
 use crate::fault::EngineFault;
 use crate::salvage::recovery::Recovery;
@@ -93,7 +93,7 @@ pub fn recover_section<R: Read, W: Write, P: Write>(
             Ok(Some(item)) => {
                 let number = number_in(key, most, &expected);
                 recovery.take_item(key.sect, form, number, item, report)?;
-                if is_in(key, &expected) && is_mark(item) {
+                if is_end(key, &expected, item) {
                     return Ok(read_in(key, &expected));
                 }
                 expected = step(expected, item).0;
@@ -104,9 +104,12 @@ pub fn recover_section<R: Read, W: Write, P: Write>(
     }
 }
 
-/// Whether it is a tape mark.
-fn is_mark(item: Item<'_>) -> bool
-    ensures { result ≡ true → tape_item item.entry ≡ mark }
+/// Whether the item is the tape mark that ends the data of this section.
+fn is_end(key: &SectionKey, expected: &Expected, item: Item<'_>) -> bool
+    ensures { result ≡ (is_mark (tape_item item.entry) && is_in key.now expected.now) }
 {
-    matches!(item, Item::Mark)
+    match item {
+        Item::Mark => is_in(key, expected),
+        Item::Block(_) | Item::Bad => false,
+    }
 }

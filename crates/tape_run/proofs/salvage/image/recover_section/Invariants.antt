@@ -1,6 +1,7 @@
 use Rattle.std.proofs.Common.{◌≡◌, ◌-◌, ◌≤◌}
 use Rattle.tape_image.specs.Begins.{image_limit}
 use Rattle.tape_image.specs.Reader.{going}
+use Rattle.tape_run.specs.SalvageImage.{closings}
 use Rattle.tape_run.proofs.SalvagedSoFar.{SoFar}
 use Rattle.tape_run.proofs.salvage.image.recover_section.Given as goal
 
@@ -12,6 +13,7 @@ invariant-items g l = record {
   so_far : SoFar g.W.Write.contents l.fn.image.left l.image.left l.image.place l.fn.start l.key
       l.most l.form l.expected l.fn.recovery l.recovery (g.P.Write.contents l.fn.report)
       (g.P.Write.contents l.report);
+  unended : closings l.key l.fn.start so_far.items ≡ 0;
 }
 
 abbrev pub decreases-items : goal.decreases-items
