@@ -99,7 +99,7 @@ fn undefined(alloc: Global) -> Result<Image, AllocError> {
 }
 
 const BOTH: &str = "2.tap                     ok           volume ABC002, 1 section
-1\\u0009.tap                ok           volume ABC001, 1 section
+1\\u0009.tap               ok           volume ABC001, 1 section
 Set ABC001: 1 of 1 files complete
    1 PAYROLL                        complete
 All files are complete, and every image was read to its end.
