@@ -62,9 +62,11 @@ fn files_of_shelves(rt: HostRuntime) -> Result<(), Fail> {
         "HDR1LEDGER           ABC00100010001000100 00000 00000 000000",
         EOF_ONE,
     )?;
-    let [first, second, whole, third, other] = [&first, &second, &whole, &third, &other].map(
-        |image| Some(image.bytes.as_slice()),
-    );
+    let shorter = one_section(alloc, HDR1, EOF_ONE)?;
+    let images = [&first, &second, &whole, &third, &other, &shorter];
+    let [first, second, whole, third, other, shorter] = images.map(|image| Some(
+        image.bytes.as_slice(),
+    ));
     let payroll = "FILE ABC001 1 ABC001.1.PAYROLL out/a\\u000A\n";
     let thirds = "FILE AB. 01 3 AB%2E_01.3.TH%2FRD out/a\\u000A\n";
     let mixed = "FILE ABC001 1 CONFLICT\n";
@@ -74,7 +76,6 @@ fn files_of_shelves(rt: HostRuntime) -> Result<(), Fail> {
     found(&rt, &[whole, None], false, payroll)?;
     found(&rt, &[third], true, thirds)?;
     found(&rt, &[whole, other], true, mixed)?;
-    let shorter = one_section(alloc, HDR1, EOF_ONE)?;
-    found(&rt, &[whole, Some(shorter.bytes.as_slice())], true, mixed)?;
+    found(&rt, &[whole, shorter], true, mixed)?;
     found(&rt, &[whole, whole], true, payroll)
 }
