@@ -15,6 +15,7 @@ wrong.
 """
 import os
 import random
+import re
 import subprocess
 import sys
 import tempfile
@@ -24,6 +25,9 @@ from merge import BAD, MARK, Reading, block, model, run, word, written
 
 HERE = os.path.dirname(os.path.abspath(__file__))
 wrong = 0
+
+# A backslash, control characters, and characters that are not seen
+HIDDEN = re.compile('[\\\\\x00-\x1f\x7f-\x9f\xad\u061c\u200b-\u200f\u2028-\u202e\u2060-\u206f\ufeff]')
 
 
 def expect(what, got, right):
@@ -61,10 +65,14 @@ def put(folder, readings, names=None):
     return names
 
 
+def printed(name):
+    """A name as the reference says that it is printed."""
+    return HIDDEN.sub(lambda c: '\\\\' if c[0] == '\\' else f'\\u{ord(c[0]):04X}', name)
+
+
 def judge(what, program, folder, readings, names, words=None):
     """`merge` and `compare` print the model's lines, and OUT has its bytes."""
-    shown = [''.join('?' if ord(c) < 32 or ord(c) == 127 else c for c in name) for name in names]
-    lines, status, data = model(readings, shown)
+    lines, status, data = model(readings, [printed(name) for name in names])
     out = os.path.join(folder, 'out')
     expect(f'{what}: merge', run(program, 'merge', out, *(words or names)), (lines, status, ''))
     expect(f'{what}: OUT', text_of(out), data)
