@@ -73,6 +73,8 @@ const SAID: &[(&str, i32, &str)] = &[
         2,
         "write './-' for a file of that name",
     ),
+    ("check - a.tap -", 2, "standard input can be read only once"),
+    ("survey --files-from - -", 2, "A file of this name is './-'"),
 ];
 
 /// The line ends with this status and text.
