@@ -25,7 +25,7 @@ COMMANDS = {
     "check": ("[--files-from LIST [--null]] [IMAGE]...", [
         ("IMAGE", "IMAGES"), ("--files-from LIST", "FROM"), ("--null", "NULL")]),
     "survey": ("[--tsv] [--files-from LIST [--null]] [IMAGE]...", [
-        ("IMAGE", "SHELF"), ("--files-from LIST", "FROM"), ("--null", "NULL"), ("--tsv", "ROWS")]),
+        ("IMAGE", "IMAGES"), ("--files-from LIST", "FROM"), ("--null", "NULL"), ("--tsv", "ROWS")]),
     "compare": ("[--files-from LIST [--null]] [IMAGE]...", [
         ("IMAGE", "READINGS"), ("--files-from LIST", "FROM"), ("--null", "NULL")]),
     "merge": ("[--files-from LIST [--null]] OUT [IMAGE]...", [
@@ -40,7 +40,7 @@ COMMANDS = {
         ("DIR", "FOLDER_OF_FILES"), ("IMAGE", "SHELF"), ("--files-from LIST", "FROM"),
         ("--null", "NULL"), ("--form lines|raw", "FORM_OF_FILES")]),
     "salvage": ("[--form FORM] [--files-from LIST [--null]] SET FILE OUT [IMAGE]...", [
-        ("SET", "SET"), ("FILE", "FILE"), ("OUT", "OUT_OF_SALVAGE"), ("IMAGE", "IMAGES"),
+        ("SET", "SET"), ("FILE", "FILE"), ("OUT", "OUT_OF_SALVAGE"), ("IMAGE", "SHELF"),
         ("--files-from LIST", "FROM"), ("--null", "NULL"),
         ("--form lines|raw|blocks", "FORM_OF_SALVAGED")]),
     "stage": ("[--form FORM] [--damaged] PATH [OUT]", [

@@ -26,7 +26,7 @@ use Rattle.tape_tool.specs.CasesOfWords.{CasesOfWords, CasesOfOrders, shelf}
 use Rattle.tape_tool.specs.Words.{AsksToExtract, AsksToInit, AsksToSalvage, AsksToUnpack}
 use Rattle.tape_tool.specs.Words.{IsDashOrMore, IsFlag}
 use Rattle.tape_tool.specs.Words.{IsNoExtract, IsNoInit, IsNoSet, IsNoUnpack, IsOrderIn}
-use Rattle.tape_tool.specs.Words.{NamesImages}
+use Rattle.tape_tool.specs.Words.{NamesImages, NamesInput}
 use Rattle.tape_tool.specs.Words.{RefusedFor, is_in_rows, texts_of_one}
 
 abbrev bit : Bool → ℕ
@@ -206,7 +206,7 @@ other : (one two : List ℕ) (m n : ℕ) → one ≡ two → get_or one 0 0 ≡ 
 other one two m n same at_one at_two = sym at_one ∙ ap (λ t. get_or t 0 0) same ∙ at_two
 
 check : (rows : List Row) (order : Order) → IsOrderIn (Some (codes "check", rows)) order
-    → (named : Named) × (order ≡ orders.Check named) × NamesImages rows named
+    → (named : Named) × (order ≡ orders.Check named) × NamesInput rows named
 check rows (orders.Check named) h = (named, refl, h.1)
 check rows (orders.List _) h =
     absurd (let n : 99 ≡ 108 = other _ _ 99 108 h.0 refl refl in omega arith)
@@ -240,7 +240,7 @@ cases_of_orders = record {
   list = λ order a. (one_text order.image (codes "a.tap") a.image, a.offsets.given refl);
   list_input = λ order a. (no_text order.image a.image, a.offsets.none refl);
   list_dash = λ order a. never_dash order.image a.image a.named;
-  survey = λ order a. (told_in_rows order.wording (a.wording.given refl), a.images.words);
+  survey = λ order a. (told_in_rows order.wording (a.wording.given refl), a.images.images.words);
   survey_words = λ order a. told_in_words order.wording (a.wording.none refl);
   extract = λ order a. (
     a.task.set_id,

@@ -11,7 +11,8 @@ use Rattle.tape_tool.specs.declared.words.Verb.{Verb}
 use Rattle.tape_tool.specs.declared.words.Verb.TheVariants as verbs
 use Rattle.tape_tool.specs.CasesOfWords.{AreRefused, CasesOfWrongWords, to_write, with_format, word}
 use Rattle.tape_tool.specs.Words.{AreAtOdds, AreTooMany, IsSomeNumber, HavePaths, IsDashOrMore}
-use Rattle.tape_tool.specs.Words.{IsNoExtract, IsNoInit, IsNoUnpack, name_of}
+use Rattle.tape_tool.specs.Words.{IsNoExtract, IsNoInit, IsNoInput, IsNoUnpack, NamesInput}
+use Rattle.tape_tool.specs.Words.{name_of}
 use Rattle.tape_tool.specs.declared.images.Named.{Named}
 use Rattle.tape_tool.specs.declared.words.Order.{Order}
 use Rattle.tape_tool.specs.declared.merge.words.Merge.{Merge}
@@ -107,8 +108,13 @@ pub none_named : IsDashOrMore [] → ⊥
 none_named (inl e) = absurd (let n : 0 ≡ 1 = ap length e in omega (arith, n))
 none_named (inr h) = absurd (let n : 2 ≤ 0 = h in omega (arith, n))
 
-one_image : AreTooMany (word (codes "IMAGE") (codes "-" ∷ []) ∷ []) → ⊥
-one_image h = absurd (let n : 256 < 1 = h in omega (arith, n))
+one_image : IsNoInput (word (codes "IMAGE") (codes "-" ∷ []) ∷ []) → ⊥
+one_image (inl h) = absurd (let n : 256 < 1 = h in omega (arith, n))
+one_image (inr h) = absurd (let n : 1 < 1 = h in omega (arith, n))
+
+one_list : IsNoInput (word (codes "files-from") (codes "-" ∷ []) ∷ []) → ⊥
+one_list (inl h) = absurd (let n : 256 < 0 = h in omega (arith, n))
+one_list (inr h) = absurd (let n : 0 < 0 = h in omega (arith, n))
 
 extract : IsNoExtract (word (codes "SET") (codes "ABC001" ∷ []) ∷ []) → ⊥
 extract (inl (inl (inl e))) = absurd (let n : 6 ≡ 0 = e in omega (arith, n))
@@ -137,6 +143,10 @@ one_at_most one texts is named (inr h) = two_of_one one (subst (λ ts. 2 ≤ len
 few : (named : Named) (rows : List Row) → NamesImages rows named → AreTooMany rows → ⊥
 few named rows n many = absurd (omega (arith, n.few, many))
 
+once : (named : Named) (rows : List Row) → NamesInput rows named → IsNoInput rows → ⊥
+once named rows n (inl many) = few named rows n.images many
+once named rows n (inr twice) = n.once twice
+
 no_merge : (order : Merge) (rows : List Row) → AsksToMerge rows order → IsNoMerge rows → ⊥
 no_merge order rows asked (inl dash) = asked.named dash
 no_merge order rows asked (inr many) = few order.images rows asked.images many
@@ -145,9 +155,9 @@ both : (name : List ℕ) (rows : List Row) (order : Order) → IsOrderOf name ro
     → IsNoOrderOf name rows → ⊥
 both name rows (orders.List o) h =
     known_by verbs.List name rows h.0 (one_at_most o.image _ h.1.image h.1.named)
-both name rows (orders.Check o) h = known_by verbs.Check name rows h.0 (few o rows h.1)
+both name rows (orders.Check o) h = known_by verbs.Check name rows h.0 (once o rows h.1)
 both name rows (orders.Survey o) h =
-    known_by verbs.Survey name rows h.0 (few o.images rows h.1.images)
+    known_by verbs.Survey name rows h.0 (once o.images rows h.1.images)
 both name rows (orders.Extract o) h =
     known_by verbs.Extract name rows h.0 (no_extract o rows h.1)
 both name rows (orders.Unpack o) h = known_by verbs.Unpack name rows h.0 (no_unpack o rows h.1)
@@ -185,6 +195,9 @@ cases_of_wrong_words = record {
   list = known verbs.List _ none_named;
   check = known verbs.Check _ one_image;
   survey = known verbs.Survey _ one_image;
+  list_of_input = known verbs.Check _ one_list;
+  two_inputs = inr (verbs.Check, refl, inr (lit< tt));
+  input_and_list = inr (verbs.Survey, refl, inr (lit< tt));
   extract = known verbs.Extract _ extract;
   unpack = known verbs.Unpack _ unpack;
   stage = known verbs.Stage _ none_named;

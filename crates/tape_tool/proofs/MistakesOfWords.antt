@@ -49,7 +49,7 @@ second_image_passed_over : (κs : _) (a : _) (o : _) (s : _)
     ≡ Some (codes "a.tap" ∷ codes "b.tap" ∷ [])
     → map (λ w. w.now) o.words.items ≡ codes "a.tap" ∷ [] → ⊥
 second_image_passed_over κs a o s l asked one =
-    absurd (let n : 1 ≡ 2 = ap length (sym one ∙ l.ok.words
+    absurd (let n : 1 ≡ 2 = ap length (sym one ∙ l.ok.images.words
     ∙ ap (λ ts. unwrap_or ts []) asked) in omega arith)
 
 -- nulls_forgotten: the names of a list end with NULs, and are taken for lines
@@ -60,7 +60,7 @@ nulls_forgotten : (κs : _) (a : _) (o : _) (s : _) (list : _)
 nulls_forgotten κs a o s list l asked named none =
     let null : IsFlag (rows_of (found_of a.1.0.now)) (codes "null") list.null
     = subst (λ f. IfSome f (λ g. IsFlag (rows_of (found_of a.1.0.now)) (codes "null") g.null))
-    named l.ok.list.null in
+    named l.ok.images.list.null in
     absurd (let n : 0 ≡ 1 = ap (λ b. bit b) (sym none ∙ null.given asked) in omega arith)
 
 -- rows_forgotten: a survey is requested in rows, and printed in words

@@ -24,7 +24,7 @@ use Rattle.tape_tool.specs.Words.{AsksForStage, AsksToExtract, AsksToInit, AsksT
 use Rattle.tape_tool.specs.Words.{AsksToSurvey, AsksToUnpack, AsksToWrite, IsDashOrMore, IsFlag}
 use Rattle.tape_tool.specs.Words.{HavePaths, IsForm, IsNoExtract, IsNoInit, IsNoOrderIn}
 use Rattle.tape_tool.specs.Words.{IsNoOrderOf, IsNoSet, IsNoUnpack, IsNoWrite, IsNumber, IsOrderIn}
-use Rattle.tape_tool.specs.Words.{IsOrderOf, IsSomeNumber, NamesImages, RefusedFor}
+use Rattle.tape_tool.specs.Words.{IsOrderOf, IsSomeNumber, NamesImages, NamesInput, RefusedFor}
 use Rattle.tape_tool.specs.Words.{padded_set, text_in, texts_in}
 
 -- what the parser found of an argument or an option
@@ -190,7 +190,7 @@ pub record CasesOfOrders : Type 0 where
   pub names : (rows : List Row) (order : Listing) → IsOrderOf (codes "check") rows
       (orders.List order) → ⊥
   pub check : (rows : List Row) (order : Order) → IsOrderIn (Some (codes "check", rows)) order
-      → (named : Named) × (order ≡ orders.Check named) × NamesImages rows named
+      → (named : Named) × (order ≡ orders.Check named) × NamesInput rows named
   pub no_command : (order : Order) → IsOrderIn None order → ⊥
 
 -- arguments of `write`: its prefix, its directory, an argument for a file, and its options
@@ -231,6 +231,13 @@ pub record CasesOfWrongWords : Type 0 where
   pub list : IsNoOrderOf (codes "list") (word (codes "OUT") (codes "-" ∷ []) ∷ []) → ⊥
   pub check : IsNoOrderOf (codes "check") (word (codes "IMAGE") (codes "-" ∷ []) ∷ []) → ⊥
   pub survey : IsNoOrderOf (codes "survey") (word (codes "IMAGE") (codes "-" ∷ []) ∷ []) → ⊥
+  -- standard input may be an image or the list, but not both, nor two images
+  pub list_of_input : IsNoOrderOf (codes "check") (word (codes "files-from") (codes "-" ∷ []) ∷ [])
+      → ⊥
+  pub two_inputs : IsNoOrderOf (codes "check")
+      (word (codes "IMAGE") (codes "-" ∷ codes "a.tap" ∷ codes "-" ∷ []) ∷ [])
+  pub input_and_list : IsNoOrderOf (codes "survey") (word (codes "IMAGE") (codes "-" ∷ [])
+      ∷ word (codes "files-from") (codes "-" ∷ []) ∷ [])
   pub extract : IsNoOrderOf (codes "extract") (word (codes "SET") (codes "ABC001" ∷ []) ∷ [])
       → ⊥
   pub unpack : IsNoOrderOf (codes "unpack") (word (codes "DIR") (codes "out" ∷ []) ∷ []) → ⊥

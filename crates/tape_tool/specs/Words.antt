@@ -4,7 +4,7 @@ use Rattle.std.specs.Prelude.{◌≡◌, ◌≢◌, ◌⊎◌, ◌<◌, ◌≤�
 use Rattle.std.specs.Prelude.{List, [], ◌∷◌, ◌++◌, map, length, replicate, if◌then◌else◌}
 use Rattle.std.specs.Prelude.{◌-◌, ⊤, Option, Some, None, IfSome, option_map, unwrap_or}
 use Rattle.std.specs.Borrow.{Bor}
-use Rattle.std.specs.List.{All, Contains}
+use Rattle.std.specs.List.{All, Contains, count_by}
 use Rattle.std.specs.Str.{bytes_eq}
 use Rattle.std.specs.Str.Parse.{IsNumeral, digits_value, without_leading_plus}
 use Rattle.clap.specs.Words.{Row, all_of, first_of, kind_of, one_of}
@@ -103,6 +103,29 @@ pub record NamesImages (rows : List Row) (named : Named) : Type 0 where
 abbrev pub AreTooMany : List Row → Type 0
 AreTooMany rows = 256 < length (texts_in rows (codes "IMAGE"))
 
+-- how many texts are a dash, which means standard input
+abbrev pub dashes : List (List ℕ) → ℕ
+dashes texts = count_by (λ text. bytes_eq text (codes "-")) texts
+
+-- how many images may be standard input: none if the list is
+abbrev pub inputs_beside : Option (List ℕ) → ℕ
+inputs_beside None = 1
+inputs_beside (Some list) = if bytes_eq list (codes "-") then 0 else 1
+
+-- standard input would be read more than once, as an image or as the list
+abbrev pub ReadsTwice : List Row → Type 0
+ReadsTwice rows =
+    inputs_beside (first_of (codes "files-from") rows) < dashes (texts_in rows (codes "IMAGE"))
+
+-- The images of a run in which one of them may be standard input.
+pub record NamesInput (rows : List Row) (named : Named) : Type 0 where
+  pub images : NamesImages rows named
+  pub once : ReadsTwice rows → ⊥
+
+-- why the images of such a run are refused
+abbrev pub IsNoInput : List Row → Type 0
+IsNoInput rows = AreTooMany rows ⊎ ReadsTwice rows
+
 -- ---- commands
 
 -- what `list` is asked for: an image, or standard input if none is named
@@ -118,7 +141,7 @@ is_in_rows wordings.Words = false
 
 -- what `survey` is asked for
 pub record AsksToSurvey (rows : List Row) (order : Survey) : Type 0 where
-  pub images : NamesImages rows order.images
+  pub images : NamesInput rows order.images
   pub wording : IsFlag rows (codes "tsv") (is_in_rows order.wording)
 
 -- a set's identifier, padded with spaces (32)
@@ -268,7 +291,7 @@ name_of verbs.Compare = codes "compare"
 -- The order is that of the command with this name, and asks for what its rows say.
 abbrev pub IsOrderOf : List ℕ → List Row → Order → Type 0
 IsOrderOf name rows (orders.List order) = (name ≡ codes "list") × AsksToList rows order
-IsOrderOf name rows (orders.Check named) = (name ≡ codes "check") × NamesImages rows named
+IsOrderOf name rows (orders.Check named) = (name ≡ codes "check") × NamesInput rows named
 IsOrderOf name rows (orders.Survey order) = (name ≡ codes "survey") × AsksToSurvey rows order
 IsOrderOf name rows (orders.Extract order) = (name ≡ codes "extract") × AsksToExtract rows order
 IsOrderOf name rows (orders.Unpack order) = (name ≡ codes "unpack") × AsksToUnpack rows order
@@ -287,8 +310,8 @@ IsOrderIn (Some met) order = IsOrderOf met.0 met.1 order
 -- why the arguments of a command are refused
 abbrev pub IsNoOrder : Verb → List Row → Type 0
 IsNoOrder verbs.List rows = IsDashOrMore (texts_in rows (codes "IMAGE"))
-IsNoOrder verbs.Check rows = AreTooMany rows
-IsNoOrder verbs.Survey rows = AreTooMany rows
+IsNoOrder verbs.Check rows = IsNoInput rows
+IsNoOrder verbs.Survey rows = IsNoInput rows
 IsNoOrder verbs.Extract rows = IsNoExtract rows
 IsNoOrder verbs.Unpack rows = IsNoUnpack rows
 IsNoOrder verbs.Salvage rows = IsNoExtract rows

@@ -156,6 +156,16 @@ pub fn mistake(alloc: Global, command_spec: &CommandSpec, text: &str) -> Error
     }
 }
 
+/// Returns the same for a value that is not accepted, which the message names before the text.
+pub fn wrong_value(alloc: Global, command_spec: &CommandSpec, value: &str, text: &str) -> Error
+    ensures { RefusedFor ⊤ result }
+{
+    match format!(in alloc; "invalid value {value:?}: {text}") {
+        Ok(text) => mistake(alloc, command_spec, text.as_str()),
+        Err(_) => Error::from(AllocError),
+    }
+}
+
 /// The same, if there is memory for it.
 fn told(alloc: Global, command_spec: &CommandSpec, text: &str) -> Result<Error, AllocError>
     ensures { IfOk result (λ error. kind_of error ≡ ErrorKind.ValueValidation) }

@@ -13,7 +13,7 @@ pub use extract::{
     OUT_IS_LIST, OUT_IS_STAGE, REELS, SET, STAGE, TOO_MANY_IMAGES, WRONG_SET,
 };
 pub use lists::{
-    FROM, NO_IMAGE, NO_TEXT_IN_LIST, NUL_IN_LINES, NULL, ODD_LINES, TOO_MANY_TO_CHECK,
+    FROM, INPUT_TWICE, NO_IMAGE, NO_TEXT_IN_LIST, NUL_IN_LINES, NULL, ODD_LINES, TOO_MANY_TO_CHECK,
     TOO_MANY_TO_SURVEY,
 };
 pub use merge::{
@@ -135,8 +135,9 @@ Examples:
 /// What `check` does.
 pub const ABOUT_CHECK: &str = "Report which file sections are on the images and what is missing";
 
-/// What the IMAGEs of `check` are.
-pub const IMAGES: &str = "SIMH .tap images, in any order (at most 256; see --files-from)";
+/// What the IMAGEs of `check` and `survey` are.
+pub const IMAGES: &str = "SIMH .tap images, in any order (at most 256; see
+--files-from); '-' is standard input";
 
 /// Help after the arguments of `check`.
 pub const AFTER_CHECK: &str =

@@ -7,9 +7,12 @@ ghost use Rattle.tape_tool.specs.Names.{end_byte, is_name, names_in, pieces_of a
 use crate::explain::FaultSite;
 use crate::fault::{FileFault, OUT_OF_MEMORY};
 use crate::help;
+use crate::host::Host;
 use crate::refusal::{Refusal, refused};
+use crate::words::is_dash;
 use std::alloc::{AllocError, Global};
 use std::fs::{File, Files};
+use std::io;
 use std::io::{BufReader, ErrorKind, Read};
 use std::rt::Runtime;
 use tape_label::Field;
@@ -259,6 +262,75 @@ impl<'a, R: Runtime + AllocGlobal> ImageSource<BufReader<<R as Files>::File>> fo
             return Ok(None);
         };
         match BufReader::with_capacity(self.rt.alloc(), READ_AHEAD, file) {
+            Ok(reader) => Ok(Some(reader)),
+            Err(_) => Err(AllocError),
+        }
+    }
+}
+
+/// The bytes of an image: those of a file, or standard input.
+#[derive(Drop)]
+pub enum ImageBytes<R: Host> {
+    Named(File),
+    Input(R::Reader),
+}
+
+impl<R: Host> Read for ImageBytes<R> {
+    fn read(&mut self, buf: &mut [u8]) -> io::Result<usize> {
+        match self {
+            ImageBytes::Named(file) => file.read(buf),
+            ImageBytes::Input(reader) => reader.read(buf),
+        }
+    }
+}
+
+/// The images of a run, one of which may be standard input.
+#[derive(Drop)]
+pub struct ImagesOrInput<'a, R> {
+    rt: &'a R,
+    names: &'a [&'a str],
+    /// The number of the image that is standard input, if one is.
+    input: Option<usize>,
+}
+
+impl<'a, R: Host> ImagesOrInput<'a, R> {
+    /// Creates the images with these names, which begin with those of the arguments. The first `-`
+    /// among the arguments means standard input; in a list it is the name of a file.
+    pub fn new(rt: &'a R, names: &'a [&'a str], named: &Named<'_>) -> ImagesOrInput<'a, R> {
+        ImagesOrInput {
+            rt,
+            names,
+            input: named.words.iter().position(|word| is_dash(*word)),
+        }
+    }
+
+    /// Opens the image with this number, or standard input. Returns `None` if it cannot be opened.
+    fn open(&self, number: usize) -> Option<ImageBytes<R>> {
+        let name = self.names.get(number)?;
+        if self.input == Some(number) {
+            return Some(ImageBytes::Input(self.rt.reader()));
+        }
+        match File::open(self.rt, *name) {
+            Ok(file) => Some(ImageBytes::Named(file)),
+            Err(_) => None,
+        }
+    }
+}
+
+impl<'a, R: Host> ImageSource<BufReader<ImageBytes<R>>> for ImagesOrInput<'a, R> {
+    ghost size = { λ images. length images.names.now };
+
+    ghost gives = { λ _ _ _ _. ⊤ };
+
+    fn count(&self) -> usize {
+        self.names.len()
+    }
+
+    fn mount(&mut self, number: usize) -> Result<Option<BufReader<ImageBytes<R>>>, AllocError> {
+        let Some(bytes) = self.open(number) else {
+            return Ok(None);
+        };
+        match BufReader::with_capacity(self.rt.alloc(), READ_AHEAD, bytes) {
             Ok(reader) => Ok(Some(reader)),
             Err(_) => Err(AllocError),
         }

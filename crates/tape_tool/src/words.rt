@@ -7,7 +7,8 @@ ghost use Rattle.clap.specs.Words.{found_of, rows_of, subcommand_rows_of, first_
 ghost use Rattle.tape_tool.specs.Words.{IsFlag, IsNoOrder, IsNoOrderIn, IsNoOrderOf, IsOrderIn};
 ghost use Rattle.tape_tool.specs.Words.{IsOrderOf, RefusedFor, name_of, text_in, texts_in};
 ghost use Rattle.tape_tool.specs.Words.{list_file, texts_of_one, IsNumber, IsForm, IsListIn};
-ghost use Rattle.tape_tool.specs.Words.{NamesImages, IsDashOrMore};
+ghost use Rattle.tape_tool.specs.Words.{NamesImages, NamesInput, IsNoInput, IsDashOrMore};
+ghost use Rattle.tape_tool.specs.Words.{ReadsTwice, dashes, inputs_beside};
 
 use crate::check::words::{CHECK, check_order};
 use crate::command_spec::{CommandSpec, command_of, mistake};
@@ -81,6 +82,31 @@ pub fn is_dash(word: &str) -> bool
     word == "-"
 }
 
+/// Returns whether standard input would be read more than once, as an image or as the list.
+pub fn is_read_twice(matches: &ArgMatches<'_>) -> bool
+    ensures { IsTrue result ↔ ReadsTwice (rows_of (found_of matches.now)) }
+{
+    let most = inputs_beside(option_of(matches, "files-from"));
+    most < count_dashes(matches.get_strs("IMAGE").unwrap_or(&[]))
+}
+
+/// Returns how many images may be standard input, beside this list.
+fn inputs_beside(list: Option<&str>) -> usize
+    ensures { result ≡ inputs_beside (option_map (λ l. l.now) list.entry) }
+{
+    match list {
+        Some(list) if is_dash(list) => 0,
+        _ => 1,
+    }
+}
+
+/// Counts the arguments that mean a stream.
+fn count_dashes(words: &[&str]) -> usize
+    ensures { result ≡ dashes (map (λ w. w.now) words.now) }
+{
+    words.iter().filter(|word| is_dash(**word)).count()
+}
+
 /// Returns the one text, if there is one. Several are a usage error, and so is a stream; each has
 /// its message.
 pub fn at_most_one<'a>(
@@ -120,6 +146,22 @@ pub fn named<'a>(
         words: Vec::from_slice(alloc, words)?,
         list: list_of(matches),
     })
+}
+
+/// Returns the same for a command that may read standard input once, as an image named `-`.
+pub fn named_once<'a>(
+    alloc: Global,
+    matches: &ArgMatches<'a>,
+    command_spec: &CommandSpec,
+    too_many: &str,
+) -> Result<Named<'a>, Error>
+    ensures ok { IfOk result (NamesInput (rows_of (found_of matches.now))) }
+    ensures err { IfErr result (RefusedFor (IsNoInput (rows_of (found_of matches.now)))) }
+{
+    if is_read_twice(matches) {
+        return Err(mistake(alloc, command_spec, help::INPUT_TWICE));
+    }
+    named(alloc, matches, command_spec, too_many)
 }
 
 /// The list that the arguments name, if they do.
@@ -203,11 +245,8 @@ const TAPE: CommandSpec = CommandSpec {
     words: &[],
 };
 
-/// Returns what the arguments ask for, the first of which is the program's name.
-///
-/// # Errors
-///
-/// A usage error, a call for help, or an allocation that was refused, with its text.
+/// Returns what the arguments ask for, the first of which is the program's name; or, with its text,
+/// a usage error, a call for help, or an allocation that was refused.
 pub fn call_of<'a>(alloc: Global, words: &'a [String]) -> Result<Call<'a>, Error> {
     let matches = command(alloc)?.try_get_matches_from(words)?;
     call_in(alloc, &matches)

@@ -2,33 +2,30 @@
 
 use super::words::CHECK;
 use crate::explain::FaultSite;
-use crate::images::{Images, Named, names_of};
+use crate::host::Host;
+use crate::images::{ImagesOrInput, Named, names_of};
 use crate::program::{End, check_end, end_refused};
 use std::io;
 use std::io::BufWriter;
-use std::rt::Runtime;
 use tape_run::{EngineFault, RunFault, check_to};
 
 /// Reports what is on the images named in the arguments. On error, the site says where it occurred.
-pub fn check<'a, R: Runtime + AllocGlobal>(
-    rt: &R,
-    named: &Named<'a>,
-    site: &mut FaultSite<'a>,
-) -> End {
+pub fn check<'a, R: Host>(rt: &R, named: &Named<'a>, site: &mut FaultSite<'a>) -> End {
     let mut text = String::new(rt.alloc());
     match names_of(rt, named, &mut text, site) {
         Ok(names) => {
             *site = FaultSite::Lines;
-            check_end(check_files(rt, names.as_slice()))
+            check_end(check_files(rt, named, names.as_slice()))
         }
         Err(refusal) => end_refused(rt, &CHECK, refusal),
     }
 }
 
 /// Reports what is on the images with these names, and returns whether all sections were found.
-fn check_files<R: Runtime + AllocGlobal>(rt: &R, names: &[&str]) -> Result<bool, EngineFault> {
+fn check_files<R: Host>(rt: &R, named: &Named<'_>, names: &[&str]) -> Result<bool, EngineFault> {
     let Ok(mut report) = BufWriter::new(rt.alloc(), io::writer(rt)) else {
         return Err(EngineFault::Run(RunFault::OutOfMemory));
     };
-    check_to(rt.alloc(), &mut Images::new(rt, names), &mut report)
+    let images = &mut ImagesOrInput::new(rt, names, named);
+    check_to(rt.alloc(), images, &mut report)
 }

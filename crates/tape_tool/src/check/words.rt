@@ -1,12 +1,12 @@
 //! The arguments of `check`.
 ghost use Rattle.std.specs.Prelude.{IfOk, IfErr};
 ghost use Rattle.clap.specs.Words.{found_of, rows_of};
-ghost use Rattle.tape_tool.specs.Words.{AreTooMany, NamesImages, RefusedFor};
+ghost use Rattle.tape_tool.specs.Words.{IsNoInput, NamesInput, RefusedFor};
 
 use crate::command_spec::{CommandSpec, Kind, Word};
 use crate::help;
 use crate::images::Named;
-use crate::words::named;
+use crate::words::named_once;
 use clap::{ArgMatches, Error};
 use std::alloc::Global;
 
@@ -26,8 +26,8 @@ pub const CHECK: CommandSpec = CommandSpec {
 
 /// Returns what the arguments of `check` ask for.
 pub fn check_order<'a>(alloc: Global, matches: &ArgMatches<'a>) -> Result<Named<'a>, Error>
-    ensures ok { IfOk result (NamesImages (rows_of (found_of matches.now))) }
-    ensures err { IfErr result (RefusedFor (AreTooMany (rows_of (found_of matches.now)))) }
+    ensures ok { IfOk result (NamesInput (rows_of (found_of matches.now))) }
+    ensures err { IfErr result (RefusedFor (IsNoInput (rows_of (found_of matches.now)))) }
 {
-    named(alloc, matches, &CHECK, help::TOO_MANY_TO_CHECK)
+    named_once(alloc, matches, &CHECK, help::TOO_MANY_TO_CHECK)
 }

@@ -5,7 +5,7 @@ ghost use Rattle.clap.specs.Words.{found_of, rows_of};
 ghost use Rattle.tape_tool.specs.Words.{AsksForFile, AsksToExtract, IsNoExtract, IsNoSet, IsNoTask};
 ghost use Rattle.tape_tool.specs.Words.{RefusedFor, padded_set};
 
-use crate::command_spec::{CommandSpec, Kind, Word, mistake};
+use crate::command_spec::{CommandSpec, Kind, Word, mistake, wrong_value};
 use crate::help;
 use crate::images::Named;
 use crate::words::{FORMS, flag_of, form_of, is_dash, named, number_of, option_of, text_of};
@@ -75,8 +75,9 @@ fn task_of<'a>(alloc: Global, matches: &ArgMatches<'a>) -> Result<Task<'a>, Erro
     ensures err { IfErr result (RefusedFor (IsNoTask (rows_of (found_of matches.now)))) }
 {
     let command_spec = &EXTRACT;
-    let Some(set_id) = set_id_of(text_of(matches, "SET")) else {
-        return Err(mistake(alloc, command_spec, help::WRONG_SET));
+    let set = text_of(matches, "SET");
+    let Some(set_id) = set_id_of(set) else {
+        return Err(wrong_value(alloc, command_spec, set, help::WRONG_SET));
     };
     let out = text_of(matches, "OUT");
     if is_dash(out) {

@@ -19,6 +19,10 @@ pub const NULL: &str = "Names in LIST end with NUL, as of 'find -print0'";
 /// No image is named, and the list is empty.
 pub const NO_IMAGE: &str = "the list contains no image names";
 
+/// Standard input is named twice.
+pub const INPUT_TWICE: &str = "standard input can be read only once: '-' is named twice.
+A file of this name is './-'";
+
 /// A line of a list contains a NUL, which no file name does.
 pub const NUL_IN_LINES: &str = "the names in the list end with NUL: add --null";
 

@@ -4,7 +4,7 @@
 pub const ABOUT_SURVEY: &str =
     "Describe each image, and report what is complete and what is missing";
 
-/// What the IMAGEs of `survey` are.
+/// What the IMAGEs of `unpack` and `salvage` are.
 pub const SHELF: &str = "SIMH .tap images, in any order (at most 256; see --files-from)";
 
 /// What `--tsv` says.

@@ -3,7 +3,7 @@ ghost use Rattle.std.specs.Prelude.{IfOk, IfErr};
 ghost use Rattle.clap.specs.Words.{found_of, rows_of};
 ghost use Rattle.tape_tool.specs.Words.{AsksToInit, IsNoInit, RefusedFor};
 
-use crate::command_spec::{CommandSpec, Kind, Word, mistake};
+use crate::command_spec::{CommandSpec, Kind, Word, mistake, wrong_value};
 use crate::help;
 use crate::words::{number_of, text_of};
 use clap::{ArgMatches, Error};
@@ -42,12 +42,13 @@ pub fn init_order<'a>(alloc: Global, matches: &ArgMatches<'a>) -> Result<Init<'a
     if folder.is_empty() {
         return Err(mistake(alloc, command_spec, help::NO_FOLDER));
     }
-    match Prefix::new(text_of(matches, "PRE")) {
+    let prefix = text_of(matches, "PRE");
+    match Prefix::new(prefix) {
         Some(prefix) => Ok(Init {
             folder,
             prefix,
             count: number_of(matches, "COUNT"),
         }),
-        None => Err(mistake(alloc, command_spec, help::WRONG_PREFIX)),
+        None => Err(wrong_value(alloc, command_spec, prefix, help::WRONG_PREFIX)),
     }
 }

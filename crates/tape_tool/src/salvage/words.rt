@@ -6,7 +6,7 @@ ghost use Rattle.tape_run.specs.declared.salvage.Content.TheVariants.{Records, B
 ghost use Rattle.tape_tool.specs.Words.{AsksToSalvage, IsForm, IsNoExtract, IsNoSet, IsNoTask};
 ghost use Rattle.tape_tool.specs.Words.{RefusedFor, padded_set, text_in};
 
-use crate::command_spec::{CommandSpec, Kind, Word, mistake};
+use crate::command_spec::{CommandSpec, Kind, Word, mistake, wrong_value};
 use crate::help;
 use crate::images::Named;
 use crate::words::{form_of, is_dash, named, number_of, option_of, set_id_of, text_of};
@@ -38,7 +38,7 @@ pub const SALVAGE: CommandSpec = CommandSpec {
         Word("SET", Kind::Text, help::SET),
         Word("FILE", Kind::Number(1, 9_999), help::FILE),
         Word("OUT", Kind::Text, help::OUT_OF_SALVAGE),
-        Word("IMAGE", Kind::TextsOr("files-from"), help::IMAGES),
+        Word("IMAGE", Kind::TextsOr("files-from"), help::SHELF),
         Word("files-from", Kind::TextOption("LIST"), help::FROM),
         Word("null", Kind::FlagOf("files-from"), help::NULL),
         Word(
@@ -79,9 +79,10 @@ fn set_in(alloc: Global, matches: &ArgMatches<'_>) -> Result<Field<6>, Error>
         IsNoSet (text_in (rows_of (found_of matches.now)) (codes "SET")) → ⊥) }
     ensures err { IfErr result (RefusedFor (IsNoTask (rows_of (found_of matches.now)))) }
 {
-    match set_id_of(text_of(matches, "SET")) {
+    let set = text_of(matches, "SET");
+    match set_id_of(set) {
         Some(set_id) => Ok(set_id),
-        None => Err(mistake(alloc, &SALVAGE, help::WRONG_SET)),
+        None => Err(wrong_value(alloc, &SALVAGE, set, help::WRONG_SET)),
     }
 }
 

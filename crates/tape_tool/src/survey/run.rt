@@ -2,23 +2,20 @@
 
 use super::words::{SURVEY, Survey};
 use crate::explain::FaultSite;
-use crate::images::{Images, names_of};
+use crate::host::Host;
+use crate::images::{ImagesOrInput, names_of};
 use crate::program::{End, check_end, end_refused};
 use std::io;
 use std::io::BufWriter;
-use std::rt::Runtime;
-use tape_run::{EngineFault, RunFault, Wording, survey_to};
+use tape_run::{EngineFault, RunFault, survey_to};
 
 /// Describes the images named in the arguments. On error, the site says where it occurred.
-pub fn survey<'a, R>(rt: &R, order: &Survey<'a>, site: &mut FaultSite<'a>) -> End
-where
-    R: Runtime + AllocGlobal,
-{
+pub fn survey<'a, R: Host>(rt: &R, order: &Survey<'a>, site: &mut FaultSite<'a>) -> End {
     let mut text = String::new(rt.alloc());
     match names_of(rt, &order.images, &mut text, site) {
         Ok(names) => {
             *site = FaultSite::Lines;
-            check_end(survey_files(rt, names.as_slice(), order.wording))
+            check_end(survey_files(rt, order, names.as_slice()))
         }
         Err(refusal) => end_refused(rt, &SURVEY, refusal),
     }
@@ -26,19 +23,10 @@ where
 
 /// Describes the images with these names, and returns whether nothing is missing and every image
 /// was read completely.
-fn survey_files<R: Runtime + AllocGlobal>(
-    rt: &R,
-    names: &[&str],
-    wording: Wording,
-) -> Result<bool, EngineFault> {
+fn survey_files<R: Host>(rt: &R, order: &Survey<'_>, names: &[&str]) -> Result<bool, EngineFault> {
     let Ok(mut report) = BufWriter::new(rt.alloc(), io::writer(rt)) else {
         return Err(EngineFault::Run(RunFault::OutOfMemory));
     };
-    survey_to(
-        rt.alloc(),
-        &mut Images::new(rt, names),
-        names,
-        wording,
-        &mut report,
-    )
+    let images = &mut ImagesOrInput::new(rt, names, &order.images);
+    survey_to(rt.alloc(), images, names, order.wording, &mut report)
 }

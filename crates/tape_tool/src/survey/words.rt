@@ -1,12 +1,12 @@
 //! The arguments of `survey`.
 ghost use Rattle.std.specs.Prelude.{codes, IfOk, IfErr};
 ghost use Rattle.clap.specs.Words.{found_of, rows_of};
-ghost use Rattle.tape_tool.specs.Words.{AreTooMany, AsksToSurvey, IsFlag, RefusedFor, is_in_rows};
+ghost use Rattle.tape_tool.specs.Words.{AsksToSurvey, IsFlag, IsNoInput, RefusedFor, is_in_rows};
 
 use crate::command_spec::{CommandSpec, Kind, Word};
 use crate::help;
 use crate::images::Named;
-use crate::words::{flag_of, named};
+use crate::words::{flag_of, named_once};
 use clap::{ArgMatches, Error};
 use std::alloc::Global;
 use tape_run::Wording;
@@ -26,7 +26,7 @@ pub const SURVEY: CommandSpec = CommandSpec {
     after_help: help::AFTER_SURVEY,
     usage: None,
     words: &[
-        Word("IMAGE", Kind::TextsOr("files-from"), help::SHELF),
+        Word("IMAGE", Kind::TextsOr("files-from"), help::IMAGES),
         Word("files-from", Kind::TextOption("LIST"), help::FROM),
         Word("null", Kind::FlagOf("files-from"), help::NULL),
         Word("tsv", Kind::Flag, help::ROWS),
@@ -36,10 +36,10 @@ pub const SURVEY: CommandSpec = CommandSpec {
 /// Returns what the arguments of `survey` ask for.
 pub fn survey_order<'a>(alloc: Global, matches: &ArgMatches<'a>) -> Result<Survey<'a>, Error>
     ensures ok { IfOk result (AsksToSurvey (rows_of (found_of matches.now))) }
-    ensures err { IfErr result (RefusedFor (AreTooMany (rows_of (found_of matches.now)))) }
+    ensures err { IfErr result (RefusedFor (IsNoInput (rows_of (found_of matches.now)))) }
 {
     Ok(Survey {
-        images: named(alloc, matches, &SURVEY, help::TOO_MANY_TO_SURVEY)?,
+        images: named_once(alloc, matches, &SURVEY, help::TOO_MANY_TO_SURVEY)?,
         wording: wording_of(matches),
     })
 }

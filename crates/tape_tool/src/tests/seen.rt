@@ -49,6 +49,24 @@ const ROWS: &[Row<'_>] = &[
         "",
         Some("seen2.tap lost.tap? seen1.tap "),
     ),
+    // Standard input, which is an image of one mark.
+    (
+        "check - seen2.tap",
+        3,
+        "IMAGE 1 1 MARKED\nIMAGE 2 9 MARKED\n\
+            SECTION ABC001 1 2 ABC002 0 GOOD\nLACKS ABC001 1 1\n",
+        "",
+        Some("seen2.tap "),
+    ),
+    (
+        "survey - --files-from -",
+        2,
+        "",
+        "error: standard input can be read only once: '-' is named twice.\n\
+            A file of this name is './-'\n\n\
+            Usage: tape survey [OPTIONS] [IMAGE]...\n\nFor more information, try '--help'.\n",
+        Some(""),
+    ),
     // A missing section, and an image that does not exist.
     (
         "check seen1.tap lost.tap",

@@ -73,6 +73,29 @@ const SAID: &[(&str, i32, &str)] = &[
         2,
         "write './-' for a file of that name",
     ),
+    ("check - a.tap -", 2, "standard input can be read only once"),
+    ("survey --files-from - -", 2, "A file of this name is './-'"),
+    // The value that is not accepted.
+    (
+        "extract TOOLONG 1 a.txt a.tap",
+        2,
+        "error: invalid value \"TOOLONG\": SET must have 1 to 6 characters",
+    ),
+    (
+        "salvage TOOLONG 1 a.txt a.tap",
+        2,
+        "error: invalid value \"TOOLONG\": SET must have",
+    ),
+    (
+        "init . ab 2",
+        2,
+        "error: invalid value \"ab\": PRE must be three characters",
+    ),
+    (
+        "write . ABCD 100000 A=B",
+        2,
+        "error: invalid value \"ABCD\": PRE must be three characters",
+    ),
 ];
 
 /// The line ends with this status and text.

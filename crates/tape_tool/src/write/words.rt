@@ -7,7 +7,7 @@ ghost use Rattle.clap.specs.Words.{found_of, rows_of};
 ghost use Rattle.tape_tool.specs.Words.{AreAtOdds, AsksToWrite, HavePaths, IsAtOdds, IsNoWrite};
 ghost use Rattle.tape_tool.specs.Words.{RefusedFor, text_in, texts_in};
 
-use crate::command_spec::{CommandSpec, Kind, Word, mistake};
+use crate::command_spec::{CommandSpec, Kind, Word, mistake, wrong_value};
 use crate::help;
 use crate::words::{FORMS, flag_of, form_of, text_of};
 use clap::{ArgMatches, Error};
@@ -72,8 +72,9 @@ pub fn write_order<'a>(alloc: Global, matches: &ArgMatches<'a>) -> Result<WriteO
     ensures ok { IfOk result (AsksToWrite (rows_of (found_of matches.now))) }
     ensures err { IfErr result (RefusedFor (IsNoWrite (rows_of (found_of matches.now)))) }
 {
-    let Some(prefix) = Prefix::new(text_of(matches, "PRE")) else {
-        return Err(mistake(alloc, &WRITE, help::WRONG_PREFIX));
+    let name = text_of(matches, "PRE");
+    let Some(prefix) = Prefix::new(name) else {
+        return Err(wrong_value(alloc, &WRITE, name, help::WRONG_PREFIX));
     };
     let order = asked(matches, prefix, files_of(alloc, matches)?);
     match wrong(&order) {
