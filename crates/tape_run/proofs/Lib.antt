@@ -128,6 +128,7 @@ mod MistakesOfReports
 mod MistakesOfRuns
 mod MistakesOfReadings
 mod MistakesOfStops
+mod MistakesOfSalvage
 mod MistakesOfSaves
 mod MistakesOfCauses
 mod MergeReadings

@@ -1,8 +1,8 @@
-//! Images whose reader fails as `salvage` reads them again.
+//! `salvage` on images whose reader fails as it reads them again, and without HDR1.
 ghost use Rattle.std.specs.Prelude.{⊤};
 
 use crate::devices::Narrow;
-use crate::image::set_id;
+use crate::image::{Image, set_id};
 use crate::now::Name;
 use crate::readers::Failing;
 use crate::volumes::cut;
@@ -58,14 +58,98 @@ const ROWS: &[(usize, bool, &str, usize)] = &[
     (2484, true, "SECTION 1 1 3\nCOMPLETE 25\n", 2025),
 ];
 
-/// Returns whether the result is that of the row.
-fn comes_to(alloc: Global, row: &(usize, bool, &str, usize)) -> Result<bool, Fail> {
-    let (again, complete, lines, length) = row;
-    let first = cut(alloc, 2484)?;
-    let second = cut(alloc, *again)?;
+/// Which bytes of the worked image are changed, and to what; whether nothing is missing then, the
+/// report, and how many bytes are written. HDR1 is at 88, HDR2 at 176, EOF1 at 2296, EOF2 at 2384; a
+/// block whose length words end with 0x80 cannot be read.
+const CHANGED: &[(&[(usize, u8)], bool, &str, usize)] = &[
+    // Without HDR1 the section is found by its EOF1.
+    (
+        &[(91, 128), (175, 128)],
+        true,
+        "SECTION 1 1 3\nCOMPLETE 25\n",
+        2025,
+    ),
+    // Neither HDR1 nor HDR2: the form is that of EOF2.
+    (
+        &[(91, 128), (175, 128), (179, 128), (263, 128)],
+        true,
+        "SECTION 1 1 3\nCOMPLETE 25\n",
+        2025,
+    ),
+    // Nor block 0, the first item after the mark.
+    (
+        &[(91, 128), (175, 128), (271, 128), (1075, 128)],
+        false,
+        "SECTION 1 1 3\nGAP 1 0 0 0\nSALVAGED 15\n",
+        1215,
+    ),
+    // Nor block 1.
+    (
+        &[(91, 128), (175, 128), (1079, 128), (1883, 128)],
+        false,
+        "SECTION 1 1 3\nGAP 1 1 1 10\nSALVAGED 15\n",
+        1215,
+    ),
+    // Nor any label that has the form.
+    (
+        &[
+            (91, 128),
+            (175, 128),
+            (179, 128),
+            (263, 128),
+            (2387, 128),
+            (2471, 128),
+        ],
+        false,
+        "NO FORM 1 0\nSALVAGED 0\n",
+        0,
+    ),
+    // Nor EOF1.
+    (
+        &[(91, 128), (175, 128), (2299, 128), (2383, 128)],
+        false,
+        "GAP 1 - - 0\nSALVAGED 0\n",
+        0,
+    ),
+    // EOF1 counts four blocks, not three: with HDR1 that is reported.
+    (
+        &[(2359, b'4')],
+        false,
+        "SECTION 1 1 3\nCOUNT 1 4 3\nSALVAGED 25\n",
+        2025,
+    ),
+    // Without HDR1 the items are not believed then.
+    (
+        &[(91, 128), (175, 128), (2359, b'4')],
+        false,
+        "GAP 1 - - 0\nSALVAGED 0\n",
+        0,
+    ),
+];
+
+/// Returns the worked image with these bytes changed.
+fn changed(alloc: Global, changes: &[(usize, u8)]) -> Result<Image, AllocError> {
+    let mut image = cut(alloc, 2484)?;
+    for (place, value) in changes {
+        if let Some(byte) = image.bytes.as_mut_slice().get_mut(*place) {
+            *byte = *value;
+        }
+    }
+    Ok(image)
+}
+
+/// Returns whether `salvage`, reading `first` and then `again`, has this result.
+fn comes_to(
+    alloc: Global,
+    first: &[u8],
+    again: &[u8],
+    complete: bool,
+    lines: &str,
+    length: usize,
+) -> Result<bool, Fail> {
     let mut shelf = Twice {
-        first: first.bytes.as_slice(),
-        again: second.bytes.as_slice(),
+        first,
+        again,
         is_read: false,
     };
     let task = SalvageTask {
@@ -82,14 +166,30 @@ fn comes_to(alloc: Global, row: &(usize, bool, &str, usize)) -> Result<bool, Fai
     let out = Narrow::new(alloc, 10000, true);
     let answer = salvage_to(alloc, &task, &mut shelf, out, &mut name, &mut report);
     let written = name.there.map(|out| out.taken.len());
-    Ok(answer == Ok(*complete) && report.as_slice() == lines.as_bytes() && written == Some(*length))
+    Ok(answer == Ok(complete) && report.as_slice() == lines.as_bytes() && written == Some(length))
 }
 
 /// A block that is not read again is a gap, whatever the first reading found.
 #[test]
 fn readers_that_fail_again(rt: HostRuntime) -> Result<(), Fail> {
-    for (number, row) in ROWS.iter().enumerate() {
-        assert!(rt; comes_to(rt.alloc(), row)?, "row {number}");
+    let first = cut(rt.alloc(), 2484)?;
+    for (number, (again, complete, lines, length)) in ROWS.iter().enumerate() {
+        let second = cut(rt.alloc(), *again)?;
+        let (first, second) = (first.bytes.as_slice(), second.bytes.as_slice());
+        let is_so = comes_to(rt.alloc(), first, second, *complete, lines, *length)?;
+        assert!(rt; is_so, "row {number}");
+    }
+    Ok(())
+}
+
+/// A section whose HDR1 was not read is found by the label after its data, if it counts them.
+#[test]
+fn sections_without_hdr1(rt: HostRuntime) -> Result<(), Fail> {
+    for (number, (changes, complete, lines, length)) in CHANGED.iter().enumerate() {
+        let image = changed(rt.alloc(), changes)?;
+        let bytes = image.bytes.as_slice();
+        let is_so = comes_to(rt.alloc(), bytes, bytes, *complete, lines, *length)?;
+        assert!(rt; is_so, "row {number}");
     }
     Ok(())
 }
