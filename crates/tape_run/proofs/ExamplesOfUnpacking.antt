@@ -36,8 +36,7 @@ cases_of_unpacking = record {
   failed = refl;
   left_over = refl;
   nothing_left = refl;
-  on_images = λ shelf left met f.
-      (f.viewed.all, f.viewed.viewed, f.files, f.whole, f.viewed.sets_are);
+  on_images = λ shelf left met f. (f.viewed.all, f.viewed.viewed, f.files, f.whole);
   of_no_set = λ s none. ap (λ h. option_map (λ x. x.set_id) h) none;
   of_a_set = λ s h is. ap (λ o. option_map (λ x. x.set_id) o) is;
   not_opened = refl;

@@ -1,13 +1,17 @@
 -- Images that stay mounted, and are read on from file to file.
-use Rattle.std.proofs.Common.{◌≡◌, ◌≢◌, ◌⊎◌, inl, inr, ℕ, false, List, [], ◌∷◌, ◌++◌, Option}
-use Rattle.std.proofs.Common.{Some, None, refl, sym, ap, subst, ◌∙◌, true}
+use Rattle.std.proofs.Common.{◌≡◌, ◌≢◌, ◌⊎◌, inl, inr, ℕ, ◌<◌, Bool, false, List, [], ◌∷◌, ◌++◌}
+use Rattle.std.proofs.Common.{Option, Some, None, refl, sym, ap, subst, ◌∙◌, true, length, arith}
+use Rattle.std.proofs.Common.{length-append}
+use Rattle.tape_set.specs.declared.position.Position.TheVariants.{Finished}
+use Rattle.tape_set.specs.declared.position.Want.{Want}
 use Rattle.tape_core.specs.Table.{in_phase, mounted}
 use Rattle.tape_core.specs.declared.sink.PartSink.{Ghosts}
 use Rattle.tape_run.specs.ExtractingLocated.{IsHeld, Stretch, IsPartOf, AreFrom, held_behind}
-use Rattle.tape_run.specs.ExtractingLocated.{ReadsPart, ReadsLocated, ReadsSections}
+use Rattle.tape_run.specs.ExtractingLocated.{ReadsPart, ReadsLocated, ReadsSections, EndsReading}
 use Rattle.tape_run.specs.Reeling.{Mounting}
 use Rattle.tape_run.specs.Seen.{seen, IfSeen, IsSeen}
 use Rattle.tape_run.specs.SessionState.{SessionState}
+use Rattle.tape_run.specs.SurveyLocations.{Located}
 use Rattle.tape_run.specs.declared.extract.located.Mounted.{Mounted}
 use Rattle.tape_run.proofs.BehindReads.{rest_twice}
 use Rattle.tape_run.proofs.LocatedParts.{FollowsOn, follows_more, gathers_of}
@@ -162,14 +166,16 @@ section_read g gives remaining session mid new shelf left next whole held after 
 
 -- What was read so far is all.
 pub sections_read : {S L R : Type 0} (g : Ghosts S) (gives : Mounting L R)
-    (remaining : R → Option (List ℕ)) (session now : SessionState S) (shelf left last : L)
-    (whole : Option (List ℕ)) (held after : Option (Mounted R))
+    (remaining : R → Option (List ℕ)) (locations : List Located) (complete : Bool)
+    (session now : SessionState S) (shelf left last : L) (whole : Option (List ℕ))
+    (held after : Option (Mounted R))
     (s : ReadSoFar g gives remaining session now shelf left whole held)
     → (last ≡ left) ⊎ ((number : ℕ) × (image : Option R) × gives left number image last)
     → IsHeld remaining after (held_behind whole s.stretches)
-    → ReadsSections g gives remaining session now shelf last whole after
-sections_read {S} {L} {R} g gives remaining session now shelf left last whole held after s more
-    mounted = record {
+    → EndsReading gives locations s.stretches now.core last complete
+    → ReadsSections g gives remaining locations complete session now shelf last whole after
+sections_read {S} {L} {R} g gives remaining locations complete session now shelf left last whole
+    held after s more mounted ends = record {
       stretches = s.stretches;
       are_from = are_from gives remaining whole shelf s.stretches left last s.are_read more;
       held = mounted;
@@ -180,33 +186,75 @@ sections_read {S} {L} {R} g gives remaining session now shelf left last whole he
             gathers_of (seen g session parts) s.stretches (seen g now is)
                 (ap (λ p. in_phase session.core p) (sym (rest_twice session.core.phase))) f,
           );
+      ends = ends;
     }
+
+some_more : (ss : List Stretch) (s : Stretch) → ss ++ s ∷ [] ≢ []
+some_more ss s = λ e. absurd (omega (arith, ap length e, length-append ss (s ∷ [])))
 
 -- no section ended, and no image stays mounted
 pub section_failed : {S L R : Type 0} (g : Ghosts S) (gives : Mounting L R)
+    (remaining : R → Option (List ℕ)) (locations : List Located) (session mid new : SessionState S)
+    (shelf left next : L) (whole : Option (List ℕ)) (held after : Option (Mounted R))
+    (s : ReadSoFar g gives remaining session mid shelf left whole held)
+    → ReadsLocated g gives remaining mid new left next (held_behind whole s.stretches) after
+    → after ≡ None → new.core.position ≢ Finished
+    → ReadsSections g gives remaining locations false session new shelf next whole after
+unfolding more_read
+section_failed {S} {L} {R} g gives remaining locations session mid new shelf left next whole held
+    after s (inl (same, p)) none waits =
+    let t = more_read g gives remaining session mid new shelf left next whole
+    (held_behind whole s.stretches) held after s p (inl (refl, same)) in
+    sections_read g gives remaining locations false session new shelf next next whole after after t
+    (inl refl) t.held (waits, inr (inl (some_more s.stretches p.stretch)))
+section_failed {S} {L} {R} g gives remaining locations session mid new shelf left next whole held
+    after s (inr (inl (number, device, gave, p))) none waits =
+    let t = more_read g gives remaining session mid new shelf left next whole (remaining device)
+    held after s p (inr (number, device, gave, refl)) in
+    sections_read g gives remaining locations false session new shelf next next whole after after t
+    (inl refl) t.held (waits, inr (inl (some_more s.stretches p.stretch)))
+section_failed {S} {L} {R} g gives remaining locations session mid new shelf left next whole held
+    after s (inr (inr (number, gave, same, is))) none waits =
+    subst (λ z. ReadsSections g gives remaining locations false session z shelf next whole after)
+    (sym same)
+    (sections_read g gives remaining locations false session mid shelf left next whole held after s
+    (inr (number, None, gave))
+    (subst (λ m. IsHeld remaining m (held_behind whole s.stretches)) (sym is) tt) (
+      λ e. waits (ap (λ (z : SessionState S). z.core.position) same ∙ e),
+      inr (inr (left, number, gave)),
+    ))
+
+-- one more was read
+pub read_some : {S L R : Type 0} (g : Ghosts S) (gives : Mounting L R)
     (remaining : R → Option (List ℕ)) (session mid new : SessionState S) (shelf left next : L)
     (whole : Option (List ℕ)) (held after : Option (Mounted R))
     (s : ReadSoFar g gives remaining session mid shelf left whole held)
-    → ReadsLocated g gives remaining mid new left next (held_behind whole s.stretches) after
-    → after ≡ None → ReadsSections g gives remaining session new shelf next whole after
-section_failed {S} {L} {R} g gives remaining session mid new shelf left next whole held after s
-    (inl (same, p)) none =
-    let t = more_read g gives remaining session mid new shelf left next whole
-    (held_behind whole s.stretches) held after s p (inl (refl, same)) in
-    sections_read g gives remaining session new shelf next next whole after after t (inl refl)
-    t.held
-section_failed {S} {L} {R} g gives remaining session mid new shelf left next whole held after s
-    (inr (inl (number, device, gave, p))) none =
-    let t = more_read g gives remaining session mid new shelf left next whole (remaining device)
-    held after s p (inr (number, device, gave, refl)) in
-    sections_read g gives remaining session new shelf next next whole after after t (inl refl)
-    t.held
-section_failed {S} {L} {R} g gives remaining session mid new shelf left next whole held after s
-    (inr (inr (number, gave, same, is))) none =
-    subst (λ z. ReadsSections g gives remaining session z shelf next whole after) (sym same)
-    (sections_read g gives remaining session mid shelf left next whole held after s
-    (inr (number, None, gave))
-    (subst (λ m. IsHeld remaining m (held_behind whole s.stretches)) (sym is) tt))
+    (r : ReadsLocated g gives remaining mid new left next (held_behind whole s.stretches) after)
+    (some : after ≢ None) → (section_read g gives remaining session mid new shelf left next whole
+    held after s r some).stretches ≢ []
+unfolding section_read more_read
+read_some g gives remaining session mid new shelf left next whole held after s (inl (same, p))
+    some = some_more s.stretches p.stretch
+read_some g gives remaining session mid new shelf left next whole held after s
+    (inr (inl (number, device, gave, p))) some = some_more s.stretches p.stretch
+read_some g gives remaining session mid new shelf left next whole held after s
+    (inr (inr (number, gave, same, none))) some = absurd (some none)
+
+-- the section of what is expected
+abbrev pub wanted_sect : Option Want → ℕ
+wanted_sect None = 0
+wanted_sect (Some want) = want.sect
+
+-- so complete as it is
+pub ended_as : {S L R : Type 0} {g : Ghosts S} {gives : Mounting L R}
+    {remaining : R → Option (List ℕ)} {locations : List Located} {old new : SessionState S}
+    {shelf left : L} {whole : Option (List ℕ)} {after : Option (Mounted R)} {b is : Bool} → b ≡ is
+    → ReadsSections g gives remaining locations b old new shelf left whole after
+    → ReadsSections g gives remaining locations is old new shelf left whole after
+ended_as {S} {L} {R} {g} {gives} {remaining} {locations} {old} {new} {shelf} {left} {whole} {after}
+    same reads =
+    subst (λ b. ReadsSections g gives remaining locations b old new shelf left whole after) same
+    reads
 
 pub not_none : {X : Type 0} (o : Option X) → Rattle.std.specs.Prelude.is_some o ≡ true → o ≢ None
 not_none None some = absurd (cc)

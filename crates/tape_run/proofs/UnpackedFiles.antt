@@ -1,8 +1,7 @@
 -- The files of a shelf, image by image and file by file.
 use Rattle.std.proofs.Common.{◌≡◌, ℕ, zero, suc, ◌+◌, ◌-◌, ◌<◌, List, [], ◌∷◌, ◌++◌, length, take}
 use Rattle.std.proofs.Common.{slice_get, Option, Some, refl, sym, ap, subst, ◌∙◌, arith}
-use Rattle.std.proofs.Common.{append_assoc, append-nil, length-append, map}
-use Rattle.std.proofs.lemmas.List.{map-append}
+use Rattle.std.proofs.Common.{append_assoc, append-nil, length-append}
 use Rattle.std.specs.Prelude.{option_map}
 use Rattle.std.proofs.lemmas.Grind.{flat_map-append}
 use Rattle.tape_run.specs.declared.survey.view.ImageSurvey.{ImageSurvey}
@@ -10,54 +9,37 @@ use Rattle.tape_run.specs.declared.unpack.SetFile.{SetFile}
 use Rattle.tape_run.specs.Lacks.{SetFiles}
 use Rattle.tape_run.specs.Reeling.{Mounting}
 use Rattle.tape_run.specs.SurveyRead.{Found, nothing_found, IsViewed, AreViewed}
-use Rattle.tape_run.specs.Unpacking.{file_at, files_from, set_files, set_of, ViewsAll}
+use Rattle.tape_run.specs.Unpacking.{file_at, files_from, set_files}
 use Rattle.tape_run.proofs.Listing.{take_get}
 use Rattle.tape_run.proofs.SurveyTexts.{viewed_more}
 
 -- the first images were read
 pub record ViewedSoFar {L R : Type 0} (gives : Mounting L R) (remaining : R → Option (List ℕ))
-    (shelf left : L) (number : ℕ) (d : Found) (sets : List (Option (List ℕ))) : Type 0 where
-  pub sights : List (Option ImageSurvey)
+    (shelf left : L) (number : ℕ) (d : Found) (sights : List (Option ImageSurvey)) : Type 0 where
   pub counted : length sights ≡ number
   pub viewed : AreViewed gives remaining shelf 0 sights nothing_found left d
-  pub sets_are : sets ≡ map set_of sights
 
 pub views_none : {L R : Type 0} (gives : Mounting L R) (remaining : R → Option (List ℕ))
-    (shelf : L) (d : Found) (sets : List (Option (List ℕ))) → d ≡ nothing_found → sets ≡ []
-    → ViewedSoFar gives remaining shelf shelf 0 d sets
-views_none gives remaining shelf d sets none empty =
-    record { sights = []; counted = refl; viewed = (refl, none); sets_are = empty }
+    (shelf : L) (d : Found) (sights : List (Option ImageSurvey)) → d ≡ nothing_found → sights ≡ []
+    → ViewedSoFar gives remaining shelf shelf 0 d sights
+views_none gives remaining shelf d sights none empty =
+    subst (λ l. ViewedSoFar gives remaining shelf shelf 0 d l) (sym empty)
+    (record { counted = refl; viewed = (refl, none) })
 
 pub views_more : {L R : Type 0} (gives : Mounting L R) (remaining : R → Option (List ℕ))
     (shelf left next : L) (number : ℕ) (mid d : Found) (image : Option R) (sight : Option ImageSurvey)
-    (old new : List (Option (List ℕ))) (set : Option (List ℕ)) → set ≡ set_of sight
-    → new ≡ old ++ set ∷ [] → ViewedSoFar gives remaining shelf left number mid old
+    (old new : List (Option ImageSurvey)) → new ≡ old ++ sight ∷ []
+    → ViewedSoFar gives remaining shelf left number mid old
     → gives left number image next → IsViewed (option_map remaining image) sight mid d
     → ViewedSoFar gives remaining shelf next (number + 1) d new
-views_more gives remaining shelf left next number mid d image sight old new set is put s g viewed =
-    let at : number ≡ 0 + length s.sights = omega (arith, s.counted) in
-    record {
-      sights = s.sights ++ sight ∷ [];
-      counted = length-append s.sights (sight ∷ []) ∙ ap (λ n. n + 1) s.counted;
-      viewed = viewed_more gives remaining shelf 0 s.sights nothing_found left mid sight image next
+views_more gives remaining shelf left next number mid d image sight old new put s g viewed =
+    let at : number ≡ 0 + length old = omega (arith, s.counted) in
+    subst (λ l. ViewedSoFar gives remaining shelf next (number + 1) d l) (sym put)
+    (record {
+      counted = length-append old (sight ∷ []) ∙ ap (λ n. n + 1) s.counted;
+      viewed = viewed_more gives remaining shelf 0 old nothing_found left mid sight image next
           d s.viewed (subst (λ n. gives left n image next) at g) viewed;
-      sets_are = put ∙ ap (λ l. l ++ set ∷ []) s.sets_are
-          ∙ ap (λ x. map set_of s.sights ++ x ∷ []) is
-          ∙ sym (map-append set_of s.sights (sight ∷ []));
-    }
-
--- all were
-pub views_all : {L R : Type 0} (size : L → ℕ) (gives : Mounting L R)
-    (remaining : R → Option (List ℕ)) (shelf left : L) (number : ℕ) (d : Found)
-    (sets : List (Option (List ℕ))) → number ≡ size shelf
-    → ViewedSoFar gives remaining shelf left number d sets
-    → ViewsAll size gives remaining shelf left d sets
-views_all size gives remaining shelf left number d sets all s = record {
-  sights = s.sights;
-  all = s.counted ∙ all;
-  viewed = s.viewed;
-  sets_are = s.sets_are;
-}
+    })
 
 -- ---- files and sets
 

@@ -82,10 +82,9 @@ pub record CasesOfUnpacking : Type 0 where
   -- the files are those of the images, all of which were read, each in its place
   pub on_images : (shelf left : Readers) (met : FoundFiles)
       (f : FilesOn length Took (λ r. r) shelf left met)
-      → (length f.viewed.sights ≡ length shelf)
-      × AreViewed Took (λ r. r) shelf 0 f.viewed.sights nothing_found left f.found
+      → (length met.images ≡ length shelf)
+      × AreViewed Took (λ r. r) shelf 0 met.images nothing_found left f.found
       × (met.files ≡ files_of f.found) × (met.whole ≡ f.found.whole)
-      × (met.sets ≡ map set_of f.viewed.sights)
   -- an image on which no section begins is of no set, and another is of the set of its first
   -- section
   pub of_no_set : (s : ImageSurvey) → s.glance.head ≡ None → set_of (Some s) ≡ None

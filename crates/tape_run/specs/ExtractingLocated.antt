@@ -1,6 +1,7 @@
 -- What `unpack` leaves of a complete file, if an image is read once for all of its files.
-use Rattle.std.specs.Prelude.{◌≡◌, ◌≢◌, ◌⊎◌, ℕ, ◌<◌, Bool, false, List, [], ◌∷◌, ◌++◌}
-use Rattle.std.specs.Prelude.{Option, Some, None, IsSome, ⊤}
+use Rattle.std.specs.Prelude.{◌≡◌, ◌≢◌, ◌⊎◌, ℕ, ◌<◌, Bool, true, false, List, [], ◌∷◌, ◌++◌}
+use Rattle.std.specs.Prelude.{Option, Some, None, IsSome, is_some, ⊤}
+use Rattle.std.specs.Map.{lookup}
 use Rattle.tape_blocks.specs.Block.{Portion}
 use Rattle.tape_blocks.specs.declared.parts.Form.{Form}
 use Rattle.tape_image.specs.Begins.{Stop, Begins, Walks}
@@ -9,7 +10,7 @@ use Rattle.tape_image.specs.Tape.{TapeItem}
 use Rattle.tape_set.specs.Layout.{FileSet}
 use Rattle.tape_set.specs.Lawful.{IsLawful}
 use Rattle.tape_set.specs.declared.position.Position.{Position}
-use Rattle.tape_set.specs.declared.position.Position.TheVariants.{Finished}
+use Rattle.tape_set.specs.declared.position.Position.TheVariants.{Awaits, Finished}
 use Rattle.tape_core.specs.Known.{is_finished}
 use Rattle.tape_core.specs.Place.{IsPlaced}
 use Rattle.tape_core.specs.State.{State}
@@ -21,10 +22,13 @@ use Rattle.tape_run.specs.ExtractingNow.{IsPut}
 use Rattle.tape_run.specs.Given.{IsGiven}
 use Rattle.tape_run.specs.GoesBehind.{PassedOver}
 use Rattle.tape_run.specs.Lead.{Lead, over_reel}
+use Rattle.tape_run.specs.Lacks.{key_at}
 use Rattle.tape_run.specs.Mount.{MountEvent, IsMount, after_mount}
+use Rattle.tape_run.specs.Noted.{same_key}
 use Rattle.tape_run.specs.Reeling.{Mounting}
 use Rattle.tape_run.specs.Seen.{Seen, IfSeen, IsSeen}
 use Rattle.tape_run.specs.SessionState.{SessionState}
+use Rattle.tape_run.specs.SurveyLocations.{Located}
 use Rattle.tape_run.specs.declared.extract.located.Mounted.{Mounted}
 use Rattle.tape_run.specs.declared.survey.files.FileKey.{FileKey}
 
@@ -169,22 +173,38 @@ ReadsLocated g gives remaining old new shelf left whole after =
     × ReadsPart g remaining (remaining device) old new after)
     ⊎ ((number : ℕ) × gives shelf number None left × (new ≡ old) × (after ≡ None)))
 
+-- No image is known on which the missing section begins.
+abbrev pub HasNoImage : List Located → State → Type 0
+HasNoImage locations core = (sect number part : ℕ) → core.position ≡ Awaits sect number part
+    → lookup (same_key (key_at core.set_id core.file sect)) locations ≡ None
+
+-- The file is complete; or it is not, and no image is known for the missing section, or that image
+-- could not be opened, or something was read.
+abbrev pub EndsReading : {L R : Type 0} → Mounting L R → List Located → List Stretch → State → L
+    → Bool → Type 0
+EndsReading gives locations stretches core left true = core.position ≡ Finished
+EndsReading gives locations stretches core left false = (core.position ≢ Finished)
+    × (HasNoImage locations core ⊎ ((stretches ≢ [])
+    ⊎ ((shelf : _) × (number : ℕ) × gives shelf number None left)))
+
 -- Stretches of images were read, one after another, and this image is open then.
 pub record ReadsSections {S L R : Type 0} (g : Ghosts S) (gives : Mounting L R)
-    (remaining : R → Option (List ℕ)) (old new : SessionState S) (shelf left : L)
-    (whole : Option (List ℕ)) (after : Option (Mounted R)) : Type 0 where
+    (remaining : R → Option (List ℕ)) (locations : List Located) (complete : Bool)
+    (old new : SessionState S) (shelf left : L) (whole : Option (List ℕ))
+    (after : Option (Mounted R)) : Type 0 where
   pub stretches : List Stretch
   pub are_from : AreFrom gives remaining whole shelf stretches left
   pub held : IsHeld remaining after (held_behind whole stretches)
   pub gathers : IfSeen g old (λ was. IsSeen g new (λ is. GathersOf stretches was is))
+  pub ends : EndsReading gives locations stretches new.core left complete
 
 -- A file was read in this way. If it is complete, exactly its records have the output's name.
 pub record ExtractsLocated {S L R : Type 0} (g : Ghosts S) (gives : Mounting L R)
-    (remaining : R → Option (List ℕ)) (session : SessionState S) (shelf left : L)
-    (whole : Option (List ℕ)) (after : Option (Mounted R)) (form : Form) (tells : Type 0)
-    (stands : Option (List ℕ)) (records : Option ℕ) : Type 0 where
+    (remaining : R → Option (List ℕ)) (locations : List Located) (session : SessionState S)
+    (shelf left : L) (whole : Option (List ℕ)) (after : Option (Mounted R)) (form : Form)
+    (tells : Type 0) (stands : Option (List ℕ)) (records : Option ℕ) : Type 0 where
   pub last : SessionState S
-  pub reads : ReadsSections g gives remaining session last shelf left whole after
-  pub complete : (n : ℕ) → records ≡ Some n → (last.core.position ≡ Finished)
-      × ((parts : List Portion) → g.holds last.sink parts
-      → IsPut None tells n form stands parts)
+  pub reads : ReadsSections g gives remaining locations (is_some records) session last shelf left
+      whole after
+  pub complete : (n : ℕ) → records ≡ Some n → (parts : List Portion) → g.holds last.sink parts
+      → IsPut None tells n form stands parts

@@ -55,21 +55,20 @@ abbrev pub set_of : Option ImageSurvey → Option (List ℕ)
 set_of None = None
 set_of (Some sight) = option_map (λ head. head.set_id) sight.glance.head
 
--- All images of a source were opened and read, one after another, and this was found.
+-- All images of a source were opened and read, one after another, and this was found. Each is this,
+-- and was read up to where it stops.
 pub record ViewsAll {L R : Type 0} (size : L → ℕ) (gives : Mounting L R)
     (remaining : R → Option (List ℕ)) (shelf left : L) (found : Found)
-    (sets : List (Option (List ℕ))) : Type 0 where
-  pub sights : List (Option ImageSurvey)
+    (sights : List (Option ImageSurvey)) : Type 0 where
   pub all : length sights ≡ size shelf
   pub viewed : AreViewed gives remaining shelf 0 sights nothing_found left found
-  pub sets_are : sets ≡ map set_of sights
 
--- These are the files of all sets that were found on them; also recorded are the set of each image,
+-- These are the files of all sets that were found on them; also recorded are what each image is,
 -- whether every image was read completely, and the image on which each section begins.
 pub record FilesOn {L R : Type 0} (size : L → ℕ) (gives : Mounting L R)
     (remaining : R → Option (List ℕ)) (shelf left : L) (met : FoundFiles) : Type 0 where
   pub found : Found
-  pub viewed : ViewsAll size gives remaining shelf left found met.sets
+  pub viewed : ViewsAll size gives remaining shelf left found met.images
   pub files : met.files ≡ files_of found
   pub whole : met.whole ≡ found.whole
   pub locations : met.locations.entries ≡ found.locations

@@ -68,5 +68,5 @@ pub use survey::{Wording, survey_to};
 pub use text::{flush, write_text};
 pub use unpack::line::{UnpackOutcome, file_line, left_over_line, unpack_outcome_text};
 pub use unpack::name::file_name;
-pub use unpack::{FoundFiles, Heading, SetFile, find_files};
+pub use unpack::{FoundFiles, Heading, SetFile, find_files, set_of};
 pub use whole::{read_file, resume_and_run};

@@ -48,9 +48,8 @@ pub struct FoundFiles {
     /// The files of which a label was found: set by set in the order in which the sets were found
     /// first, and by their numbers.
     pub files: Sequence<SetFile>,
-    /// For each image the set of the section that begins first on it, if any. It contains nothing
-    /// of a file of another set.
-    pub sets: Sequence<Option<Field<6>>>,
+    /// What each image is and how far it was read, or `None` if it was not opened.
+    pub images: Sequence<Option<ImageSurvey>>,
     /// Whether every image was read completely: each was opened, and is a volume from its label to
     /// its end, in formats that are read.
     pub whole: bool,
@@ -61,8 +60,8 @@ pub struct FoundFiles {
 /// Finds the files of all sets on the images: exactly those that `survey` reports.
 ///
 /// Images are opened in their order, each read to its end or to a fault, and then closed. Allocates
-/// for the reader of one image, for the sections and files that were found, and for the set of each
-/// image.
+/// for the reader of one image, for the sections and files that were found, and for what each image
+/// is.
 ///
 /// # Errors
 ///
@@ -76,12 +75,12 @@ pub fn find_files<R: Read + Drop, L: ImageSource<R>>(
     ensures fault { IsOkUnless result faults.OutOfMemory }
 {
     let mut findings = Findings::new(alloc);
-    let sets = view_images(&mut findings, images)?;
+    let sights = view_images(&mut findings, images)?;
     let whole = findings.whole;
     match files_of(alloc, &findings) {
         Ok(files) => Ok(FoundFiles {
             files: Sequence::of_vec(files),
-            sets: Sequence::of_vec(sets),
+            images: Sequence::of_vec(sights),
             whole,
             locations: findings.locations,
         }),
@@ -89,32 +88,33 @@ pub fn find_files<R: Read + Drop, L: ImageSource<R>>(
     }
 }
 
-/// Reads the images, and returns the set of each.
+/// Reads the images, and returns what each is.
 fn view_images<R: Read + Drop, L: ImageSource<R>>(
     findings: &mut Findings,
     images: &mut L,
-) -> Result<Vec<Option<Field<6>>>, RunFault>
+) -> Result<Vec<Option<ImageSurvey>>, RunFault>
     requires { findings.old ≡ nothing_found }
-    ensures ok { IfOk result (λ sets.
-        ViewsAll L.size L.gives R.remaining images.old images.new findings.new sets.items) }
+    ensures ok { IfOk result (λ sights.
+        ViewsAll L.size L.gives R.remaining images.old images.new findings.new sights.items) }
     ensures fault { IsOkUnless result faults.OutOfMemory }
 {
-    let mut sets = Vec::new(findings.alloc);
+    let mut sights = Vec::new(findings.alloc);
     for number in 0..images.count() {
         let Ok(image) = images.mount(number) else {
             return Err(RunFault::OutOfMemory);
         };
         let sight = findings.read(image)?;
-        let Ok(()) = sets.push(set_of(sight)) else {
+        let Ok(()) = sights.push(sight) else {
             return Err(RunFault::OutOfMemory);
         };
     }
-    Ok(sets)
+    Ok(sights)
 }
 
-/// The set of the section that begins first on an image, if any.
-fn set_of(sight: Option<ImageSurvey>) -> Option<Field<6>>
-    ensures { result ≡ set_of sight }
+/// Returns the set of the section that begins first on an image, if any. The image contains nothing
+/// of a file of another set.
+pub fn set_of(sight: &Option<ImageSurvey>) -> Option<Field<6>>
+    ensures { result ≡ set_of sight.now }
 {
     match sight {
         Some(sight) => sight.glance.head.map(|head| head.set_id),

@@ -16,7 +16,7 @@ use std::io;
 use std::io::{BufReader, ErrorKind, Read};
 use std::rt::Runtime;
 use tape_label::Field;
-use tape_run::{FoundFiles, ImageSource, SectionKey};
+use tape_run::{FoundFiles, ImageSource, SectionKey, set_of};
 
 /// The source of the names of a run's images.
 #[derive(Drop)]
@@ -195,8 +195,8 @@ pub fn in_reading_order<'n>(
         };
         take_name(&mut order, &mut taken, names, *at)?;
     }
-    for (at, set) in met.sets.as_slice().iter().enumerate() {
-        if all || *set == Some(set_id) {
+    for (at, image) in met.images.as_slice().iter().enumerate() {
+        if all || set_of(image) == Some(set_id) {
             take_name(&mut order, &mut taken, names, at)?;
         }
     }

@@ -1,14 +1,20 @@
 -- Answers that the contracts of unpacking exclude: each is what a wrong body would give.
-use Rattle.std.proofs.Common.{◌≡◌, ◌∙◌, ℕ, List, [], ◌∷◌, ◌++◌, length, true, false, sym, ap}
-use Rattle.std.proofs.Common.{arith, codes}
+use Rattle.std.proofs.Common.{◌≡◌, ◌≢◌, ◌∙◌, ℕ, List, [], ◌∷◌, ◌++◌, length, true, false, sym, ap}
+use Rattle.std.proofs.Common.{arith, codes, refl, subst}
 use Rattle.std.specs.Prelude.{Ok, Option, Some, None, slice_index, option_map}
 use Rattle.std.specs.Fmt.{digits}
+use Rattle.tape_image.specs.declared.item.Ending.TheVariants as endings
+use Rattle.tape_image.specs.Begins.{Begins, ends}
+use Rattle.tape_image.specs.Tape.{TapeItem}
+use Rattle.tape_image.proofs.Uniqueness.{Begins-one}
+use Rattle.tape_run.specs.declared.section.ImageStop.TheVariants.{Marked}
 use Rattle.tape_run.specs.declared.survey.files.FileNote.{FileNote}
 use Rattle.tape_run.specs.declared.survey.view.ImageSurvey.{ImageSurvey}
 use Rattle.tape_run.specs.declared.unpack.line.UnpackOutcome.TheVariants as outcomes
+use Rattle.tape_run.specs.Added.{StopsBehind}
 use Rattle.tape_run.specs.Reeling.{Mounting}
 use Rattle.tape_run.specs.SurveyFiles.{note_at, file_key}
-use Rattle.tape_run.specs.SurveyRead.{Found, nothing_found, AreViewed}
+use Rattle.tape_run.specs.SurveyRead.{Found, nothing_found, IsViewed, AreViewed}
 use Rattle.tape_run.specs.Unpacking as unpacking
 use Rattle.tape_run.specs.UnpackLine as lines
 use Rattle.tape_run.proofs.unpack.add_files.Reads as add_files
@@ -102,7 +108,7 @@ left_over_turned : (R : _) (L : _) (LR : _) (LL : _) (g : _) (d : _) (h : _) (i 
     → h.size a.1.0.now ≡ 0 → met.whole ≡ false → ⊥
 left_over_turned R L LR LL g d h i j κs a met s l empty told =
     let f = l.ok in
-    let none = none_found _ _ _ _ f.viewed.sights f.found (f.viewed.all ∙ empty) f.viewed.viewed in
+    let none = none_found _ _ _ _ met.images f.found (f.viewed.all ∙ empty) f.viewed.viewed in
     absurd (let e : false ≡ true = sym told ∙ f.whole ∙ ap (λ (x : Found). x.whole) none in cc e)
 
 -- first_file_left_out: a set has one file, and none is added
@@ -121,8 +127,86 @@ told (Some set_id) = 1
 told None = 0
 
 -- image_of_no_set: a section begins on an image, and it is told to be of no set
-image_of_no_set : (κs : _) (sight : _) (s : _) (h : _) → set_of.Learnt κs (Some sight, tt) None s
-    → sight.glance.head ≡ Some h → ⊥
-image_of_no_set κs sight s h l is =
-    absurd (let e : 0 ≡ 1 = ap (λ o. told o) (l ∙ ap (λ o. option_map (λ x. x.set_id) o) is) in
-    omega arith)
+image_of_no_set : (κs : _) (a : _) (sight : _) (s : _) (h : _) → set_of.Learnt κs a None s
+    → a.0.now ≡ Some sight → sight.glance.head ≡ Some h → ⊥
+image_of_no_set κs a sight s h l of is =
+    absurd (let e : 0 ≡ 1 = ap (λ o. told o) (l ∙ ap unpacking.set_of of
+    ∙ ap (λ o. option_map (λ x. x.set_id) o) is) in omega arith)
+
+-- image_left_out: there is an image, and nothing is reported of it
+image_left_out : (R : _) (L : _) (LR : _) (LL : _) (g : _) (d : _) (h : _) (i : _) (j : _)
+    (κs : _) (a : _) (met : _) (s : _) → find_files.Learnt-named R L LR LL g d h i j κs a (Ok met) s
+    → h.size a.1.0.now ≡ 1 → met.images ≡ [] → ⊥
+image_left_out R L LR LL g d h i j κs a met s l one none =
+    absurd (let e : 0 ≡ 1 = sym (ap length none) ∙ l.ok.viewed.all ∙ one in omega arith)
+
+-- an image that was read, whose bytes have no end-of-medium marker at their end
+unmarked : (sight : ImageSurvey) (c d : Found) (bytes : List ℕ) (items : List TapeItem) (end : ℕ)
+    → IsViewed (Some (Some bytes)) (Some sight) c d → Begins 0 bytes items end (ends endings.Physical)
+    → sight.stop ≡ Marked → ⊥
+unmarked sight c d bytes items end (None, v, whole, count) begins marked = v.stop
+unmarked sight c d bytes items end (Some left, v, whole, count) begins marked =
+    let t : StopsBehind v.items Marked bytes left =
+    subst (λ stop. StopsBehind v.items stop bytes left) marked v.stop in
+    let e : ends endings.Physical ≡ ends endings.Marked
+    = (Begins-one 0 bytes items v.items end t.1.end (ends endings.Physical) (ends endings.Marked)
+    begins t.1.begins).2 in
+    absurd (cc)
+
+-- the first image of a source
+first_unmarked : {L R : Type 0} (gives : Mounting L R) (remaining : R → Option (List ℕ))
+    (shelf left : L) (sights : List (Option ImageSurvey)) (sight : ImageSurvey)
+    (more : List (Option ImageSurvey)) (d : Found) (bytes : List ℕ) (items : List TapeItem)
+    (end : ℕ) → AreViewed gives remaining shelf 0 sights nothing_found left d
+    → sights ≡ Some sight ∷ more
+    → ((image : Option R) (next : L) → gives shelf 0 image next
+    → option_map remaining image ≡ Some (Some bytes))
+    → Begins 0 bytes items end (ends endings.Physical) → sight.stop ≡ Marked → ⊥
+first_unmarked gives remaining shelf left sights sight more d bytes items end are is first begins
+    marked =
+    let (image, next, mid, gave, viewed, rest) =
+    subst (λ l. AreViewed gives remaining shelf 0 l nothing_found left d) is are in
+    unmarked sight nothing_found mid bytes items end
+    (subst (λ o. IsViewed o (Some sight) nothing_found mid) (first image next gave) viewed) begins
+    marked
+
+-- unread_image_reported_as_ended: the bytes of the first image have no end-of-medium marker at their
+-- end, and it is reported to have one
+unread_image_reported_as_ended : (R : _) (L : _) (LR : _) (LL : _) (g : _) (d : _) (h : _) (i : _)
+    (j : _) (κs : _) (a : _) (met : _) (s : _)
+    → find_files.Learnt-named R L LR LL g d h i j κs a (Ok met) s
+    → (bytes : List ℕ) (items : List TapeItem) (end : ℕ) (sight : ImageSurvey)
+    (more : List (Option ImageSurvey))
+    → ((image : _) (next : _) → h.gives a.1.0.now 0 image next
+    → option_map g.remaining image ≡ Some (Some bytes))
+    → Begins 0 bytes items end (ends endings.Physical) → met.images ≡ Some sight ∷ more
+    → sight.stop ≡ Marked → ⊥
+unread_image_reported_as_ended R L LR LL g d h i j κs a met s l bytes items end sight more first
+    begins is marked =
+    let f = l.ok in
+    first_unmarked _ _ _ _ met.images sight more f.found bytes items end f.viewed.viewed is first
+    begins marked
+
+opened : {R : Type 0} (remaining : R → Option (List ℕ)) (image : Option R) (c d : Found)
+    → IsViewed (option_map remaining image) None c d → image ≡ None
+opened remaining None c d v = refl
+opened remaining (Some reader) c d v = absurd v
+
+first_opened : {L R : Type 0} (gives : Mounting L R) (remaining : R → Option (List ℕ))
+    (shelf left : L) (sights more : List (Option ImageSurvey)) (d : Found)
+    → AreViewed gives remaining shelf 0 sights nothing_found left d → sights ≡ None ∷ more
+    → ((image : Option R) (next : L) → gives shelf 0 image next → image ≢ None) → ⊥
+first_opened gives remaining shelf left sights more d are is first =
+    let (image, next, mid, gave, viewed, rest) =
+    subst (λ l. AreViewed gives remaining shelf 0 l nothing_found left d) is are in
+    first image next gave (opened remaining image nothing_found mid viewed)
+
+-- image_reported_as_not_opened: the first image was opened, and it is reported not to be
+image_reported_as_not_opened : (R : _) (L : _) (LR : _) (LL : _) (g : _) (d : _) (h : _) (i : _)
+    (j : _) (κs : _) (a : _) (met : _) (s : _)
+    → find_files.Learnt-named R L LR LL g d h i j κs a (Ok met) s
+    → (more : List (Option ImageSurvey))
+    → ((image : _) (next : _) → h.gives a.1.0.now 0 image next → image ≢ None)
+    → met.images ≡ None ∷ more → ⊥
+image_reported_as_not_opened R L LR LL g d h i j κs a met s l more first is =
+    let f = l.ok in first_opened _ _ _ _ met.images more f.found f.viewed.viewed is first

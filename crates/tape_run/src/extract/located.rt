@@ -1,8 +1,8 @@
 //! `unpack` of complete files: each image is read once for all of its files.
 
-ghost use Rattle.std.specs.Prelude.{◌≡◌, ◌≢◌, ◌<◌, List, Option, Some, None, ℕ, true, OnOk, IfOk};
+ghost use Rattle.std.specs.Prelude.{◌≡◌, ◌≢◌, ◌<◌, List, Option, Some, None, ℕ, OnOk, IfOk};
 ghost use Rattle.std.specs.Prelude.{OnErr, IfErr};
-ghost use Rattle.std.specs.Bool.{OnTrue};
+ghost use Rattle.std.specs.Bool.{OnTrue, OnFalse};
 ghost use Rattle.tape_set.specs.declared.position.Position.TheVariants.{Finished};
 ghost use Rattle.tape_run.specs.Causes.{IsExtractFault};
 ghost use Rattle.tape_run.specs.ExtractingLocated.{IsHeld, ReadsPart, ReadsLocated};
@@ -37,9 +37,9 @@ pub struct Mounted<R> {
 
 /// Reads a file from the images on which its sections begin, each section from one image, and
 /// writes the file's records as they come. If the file is complete its output is placed under its
-/// name; returns how many records it has. Returns `None` if a section has no image in `locations`,
-/// or could not be read to its end from its image. Then the output's name is not touched, and what
-/// was written is dropped with the session.
+/// name; returns how many records it has. Returns `None` exactly if the file is not complete: a
+/// section has no image in `locations`, or could not be read to its end from its image. Then the
+/// output's name is not touched, and what was written is dropped with the session.
 ///
 /// The image of the last section stays open. The session of a later file of the set continues
 /// there, as if it had read the image from its start. So each byte of an image is read once for all
@@ -61,8 +61,9 @@ pub fn extract_located<W: Write + Drop, R: Read + Drop, L: ImageSource<R>, O: Pl
     // Whatever image is open, it is one with these bytes.
     ensures ok { IfOk result (λ records. (whole : Option (List ℕ))
         → IsHeld R.remaining mounted.old whole
-        → ExtractsLocated ⟦<OutSink<W> as PartSink>⟧ L.gives R.remaining session images.old
-        images.new whole mounted.new form (TellsAlways W.contents) (O.stands out.new) records) }
+        → ExtractsLocated ⟦<OutSink<W> as PartSink>⟧ L.gives R.remaining locations.now.entries
+        session images.old images.new whole mounted.new form (TellsAlways W.contents)
+        (O.stands out.new) records) }
     ensures untouched { IfOk result (λ records. records ≡ None → out.new ≡ out.old) }
     ensures err { OnErr result (O.stands out.new ≡ O.stands out.old) }
     ensures cause { IfErr result IsExtractFault }
@@ -85,19 +86,18 @@ fn read_sections<S: PartSink, R: Read + Drop, L: ImageSource<R>>(
     mounted: &mut Option<Mounted<R>>,
     locations: &Locations,
 ) -> Result<bool, EngineFault>
-    ensures ok { OnOk result ((whole : Option (List ℕ)) → IsHeld R.remaining mounted.old whole
-        → ReadsSections S.PartSink L.gives R.remaining session.old session.new images.old images.new
-        whole mounted.new) }
-    ensures complete { IfOk result (λ complete. complete ≡ true
-        → session.new.core.position ≡ Finished) }
+    ensures ok { IfOk result (λ complete. (whole : Option (List ℕ))
+        → IsHeld R.remaining mounted.old whole
+        → ReadsSections S.PartSink L.gives R.remaining locations.now.entries complete
+        session.old session.new images.old images.new whole mounted.new) }
     ensures cause { IfErr result IsExtractFault }
 {
-    let mut last = 0u16;
+    let mut next = 0u32;
     'sections: while let Some(want) = session.want() {
-        if want.sect <= last {
+        if u32::from(want.sect) < next {
             return Ok(false);
         }
-        last = want.sect;
+        next = u32::from(want.sect) + 1;
         let FileKey { set_id, file } = session.file_key();
         let sect = want.sect;
         let Some(&number) = locations.get(&SectionKey { set_id, file, sect }) else {
@@ -124,6 +124,8 @@ fn read_section<S: PartSink, R: Read + Drop, L: ImageSource<R>>(
     ensures ok { IfOk result (λ after. (whole : Option (List ℕ)) → IsHeld R.remaining held whole
         → ReadsLocated S.PartSink L.gives R.remaining session.old session.new images.old images.new
         whole after) }
+    ensures unfinished { IfOk result (λ after. after ≡ None
+        → session.new.core.position ≢ Finished) }
     ensures cause { IfErr result IsExtractFault }
 {
     let key = session.file_key();
@@ -154,6 +156,8 @@ fn read_front<S: PartSink, R: Read + Drop>(
     requires waits { session.old.core.position ≢ Finished }
     ensures ok { IfOk result (ReadsPart S.PartSink R.remaining (R.remaining device)
         session.old session.new) }
+    ensures unfinished { IfOk result (λ after. after ≡ None
+        → session.new.core.position ≢ Finished) }
     ensures cause { IfErr result (λ fault. IsExtractFault (engine.Run fault)) }
 {
     let mut device = device;
@@ -180,6 +184,8 @@ fn read_on<S: PartSink, R: Read + Drop>(
     ensures ok { IfOk result (λ after. (whole : Option (List ℕ))
         → IsHeld R.remaining (Some held) whole
         → ReadsPart S.PartSink R.remaining whole session.old session.new after) }
+    ensures unfinished { IfOk result (λ after. after ≡ None
+        → session.new.core.position ≢ Finished) }
     ensures cause { IfErr result (λ fault. IsExtractFault (engine.Run fault)) }
 {
     let number = held.number;
@@ -198,7 +204,8 @@ fn read_on<S: PartSink, R: Read + Drop>(
 
 /// Whether a reading completed a section.
 fn ends_section(answer: &ReelAnswer) -> bool
-    ensures { OnTrue result (EndsSection answer.now.answer) }
+    ensures yes { OnTrue result (EndsSection answer.now.answer) }
+    ensures no { OnFalse result (answer.now.answer ≢ Answer.Complete) }
 {
     matches!(answer.answer, Answer::SectionDone | Answer::Complete)
 }

@@ -18,7 +18,7 @@ returns-then-ends_section-clause-ok g c =
     (held_front had left core answer c.file_key-file.result
     (not_finished core.position c.requires.waits)
     (c.file_key-file.ensures.set_id ∙ c.reel.ensures.file.0)
-    (c.file_key-file.ensures.file ∙ c.reel.ensures.file.1) c.if-ends_section.ensures
+    (c.file_key-file.ensures.file ∙ c.reel.ensures.file.1) c.if-ends_section.ensures.yes
     c.in_ok-answer.ensures.answer)
 
 pub returns-clause-ok : goal.returns-clause-ok

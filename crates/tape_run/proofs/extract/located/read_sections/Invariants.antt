@@ -1,12 +1,12 @@
-use Rattle.std.proofs.Common.{ℕ, ◌-◌, List, Option}
+use Rattle.std.proofs.Common.{ℕ, ◌-◌, ◌<◌, ◌≢◌, List, [], Option}
 use Rattle.tape_run.specs.ExtractingLocated.{IsHeld}
 use Rattle.tape_run.proofs.Located.{ReadSoFar}
 use Rattle.tape_run.proofs.extract.located.read_sections.Given as goal
 
 abbrev pub invariant-sections : goal.invariant-sections
 invariant-sections g l = (whole : Option (List ℕ)) → IsHeld g.R.Read.remaining l.fn.mounted whole
-    → ReadSoFar g.S.PartSink g.L.ImageSource.gives g.R.Read.remaining l.fn.session l.session l.fn.images
-    l.images whole l.mounted
+    → (s : ReadSoFar g.S.PartSink g.L.ImageSource.gives g.R.Read.remaining l.fn.session l.session
+    l.fn.images l.images whole l.mounted) × (0 < l.next → s.stretches ≢ [])
 
 abbrev pub decreases-sections : goal.decreases-sections
-decreases-sections g l = 65535 - l.last
+decreases-sections g l = 65536 - l.next
