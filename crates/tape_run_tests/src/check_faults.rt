@@ -94,7 +94,7 @@ fn lines_are_passed_on_one_by_one(rt: HostRuntime) -> Result<(), Fail> {
     Ok(())
 }
 
-/// A survey flushes the line of each image when it was read, 29 bytes each, and then the rest.
+/// A survey flushes the line of each image when it was read, 64 bytes each, and then the rest.
 #[test]
 fn lines_of_a_survey_are_passed_on_one_by_one(rt: HostRuntime) -> Result<(), Fail> {
     let image = payroll(rt.alloc())?;
@@ -106,9 +106,9 @@ fn lines_of_a_survey_are_passed_on_one_by_one(rt: HostRuntime) -> Result<(), Fai
     };
     let names = ["a.tap", "b.tap"];
     survey_to(rt.alloc(), &mut images, &names, Wording::Words, &mut report)?;
-    assert!(rt; report.at.get(0) == Some(&29));
-    assert!(rt; report.at.get(1) == Some(&58));
-    assert!(rt; report.taken > 58);
+    assert!(rt; report.at.get(0) == Some(&64));
+    assert!(rt; report.at.get(1) == Some(&128));
+    assert!(rt; report.taken > 128);
     assert!(rt; report.at.last() == Some(&report.taken));
     Ok(())
 }
