@@ -23,9 +23,3 @@ sure_more d set_id sure next goal before greatest within is was =
     let fewer : greatest - before - 1 ≡ greatest - (before + 1) = omega (arith, within) in
     let same = ap (λ n. sure_files d set_id (before + 1 + 1) n) fewer in
     omega (arith, is, was, behind, same)
-
--- and none is left
-pub sure_all : (d : Found) (set_id : List ℕ) (sure goal file left : ℕ) → left ≡ 0
-    → sure + sure_files d set_id file left ≡ goal → sure ≡ goal
-sure_all d set_id sure goal file left none was =
-    let same = ap (λ n. sure_files d set_id file n) none in omega (arith, was, same)
