@@ -67,7 +67,7 @@ pub record Here (shape : Shape) (blocks : List Filled) (i : ℕ) (bytes : List �
   pub behind : Bool
   pub order : InOrder before block.parts behind
 
--- if the parts of a list of blocks are in span order, so are the parts of each block
+-- two lists of parts, one after the other, are each in span order if both together are
 InOrder-split : (ps qs : List Portion) (begun end : Bool) → InOrder begun (ps ++ qs) end
     → (middle : Bool) × InOrder begun ps middle × InOrder middle qs end
 InOrder-split [] qs begun end order = (begun, refl, order)
