@@ -8,14 +8,14 @@ use std::{fs, io};
 use tape_core::Checkpoint;
 use tape_stage::{BufferedFile, Disk, DiskFault, FileDisk, Stage, buffered_file};
 
-/// An existing file, or a new one, for reading and writing.
+/// Opens a file for reading and writing, creating it if necessary.
 fn open(rt: &HostRuntime, path: &str) -> io::Result<File> {
     let mut options = OpenOptions::new();
     options.read(true).write(true).create(true);
     options.open(rt, path)
 }
 
-/// A new stage in a file.
+/// Creates a stage in a new file.
 fn made_in(rt: &HostRuntime, path: &str) -> Option<Stage<BufferedFile<File>>> {
     let Ok(mut disk) = buffered_file(rt.alloc(), open(rt, path).ok()?) else {
         return None;
@@ -26,7 +26,7 @@ fn made_in(rt: &HostRuntime, path: &str) -> Option<Stage<BufferedFile<File>>> {
     }
 }
 
-/// The stage of a file that was created earlier.
+/// Opens the stage in a file that was created earlier.
 fn opened_in(rt: &HostRuntime, path: &str) -> Option<(Stage<BufferedFile<File>>, Checkpoint)> {
     let Ok(disk) = buffered_file(rt.alloc(), open(rt, path).ok()?) else {
         return None;
@@ -34,13 +34,13 @@ fn opened_in(rt: &HostRuntime, path: &str) -> Option<(Stage<BufferedFile<File>>,
     Stage::open_disk(rt.alloc(), disk).ok()
 }
 
-/// Returns how many bytes the file has.
+/// Returns the size of the file in bytes.
 fn size_of(rt: &HostRuntime, path: &str) -> io::Result<usize> {
     Ok(fs::read(rt, path)?.len())
 }
 
-/// Leaves a file with one acknowledged part, and one after it that is not. Returns its length while
-/// the second part is buffered, and after the parts were read.
+/// Leaves a file with one acknowledged part, followed by one that is not acknowledged. Returns its
+/// length while the second part is buffered, and after the parts were read.
 fn leave_two_parts(
     rt: &HostRuntime,
     path: &str,
@@ -57,7 +57,8 @@ fn leave_two_parts(
     Ok(if done && read { Some(sizes) } else { None })
 }
 
-/// Returns whether the file opens with this checkpoint, and returns the part that it counts.
+/// Returns whether the file opens with the checkpoint `one`, and returns the one part that it
+/// counts.
 fn opens_with_one_part(rt: &HostRuntime, path: &str, one: &Checkpoint) -> bool {
     match opened_in(rt, path) {
         Some((mut stage, point)) => point == *one && holds(&mut stage, b"a"),
@@ -85,7 +86,7 @@ fn a_stage_in_a_file(rt: HostRuntime) -> Result<(), Fail> {
     Ok(())
 }
 
-/// Four bytes that are moved one per call, this many times; every later call is interrupted.
+/// Four bytes, of which each call moves one until no move is left; every later call is interrupted.
 #[derive(Drop)]
 struct Slow {
     bytes: [u8; 4],
@@ -177,7 +178,7 @@ fn four_bytes(left: u8) -> Slow {
     }
 }
 
-/// The first bytes of such a file, if this many moves are left.
+/// Reads the first bytes of such a file, with `left` moves left. Returns whether the read succeeds.
 fn read_slowly(left: u8, buf: &mut [u8]) -> bool {
     match FileDisk::new(four_bytes(left)) {
         Ok(mut disk) => read(&mut disk, 0, buf),
@@ -185,7 +186,7 @@ fn read_slowly(left: u8, buf: &mut [u8]) -> bool {
     }
 }
 
-/// The file after a write to its second byte and a sync, if this many moves are left.
+/// Returns the file after a write to its second byte and a sync, with `left` moves left.
 fn write_slowly(left: u8, bytes: &[u8]) -> Option<[u8; 4]> {
     let Ok(mut disk) = FileDisk::new(four_bytes(left)) else {
         return None;
@@ -211,7 +212,7 @@ fn interruptions_and_ends_are_failures(rt: HostRuntime) {
     let mut three = [0; 3];
     assert!(rt; !read_slowly(2, &mut three));
     assert!(rt; write_slowly(1, b"XY").is_none());
-    // The fifth byte is not accepted.
+    // The fifth byte cannot be written.
     assert!(rt; write_slowly(9, b"WXYZ").is_none());
 }
 
@@ -232,7 +233,7 @@ fn the_length_is_counted(rt: HostRuntime) {
         return;
     };
     assert!(rt; disk.len() == Ok(4));
-    // This file cuts to nothing alone.
+    // This file can only be cut to length 0.
     assert!(rt; !cut(&mut disk, 3) && disk.len() == Ok(4));
     assert!(rt; cut(&mut disk, 0) && disk.len() == Ok(0));
     assert!(rt; write(&mut disk, 0, b"ab") && disk.len() == Ok(2));
