@@ -117,8 +117,8 @@ impl ReaderCore {
     }
 
     /// Begins reading after a trailer label, where the reader of an earlier file of the set has
-    /// just completed a section. This misses nothing that came before. A broken reader stays
-    /// broken, and a reader whose file is complete needs no reel.
+    /// completed a section. This misses nothing that came before. A broken reader stays broken, and
+    /// a reader whose file is complete needs no reel.
     pub fn mount_behind(&mut self)
         ensures table { self.new ≡ behind_of self.old }
         ensures same { rest_of self.new ≡ rest_of self.old }

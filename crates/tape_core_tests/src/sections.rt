@@ -154,7 +154,7 @@ fn odd_second_header() -> [u8; 80] {
     odd
 }
 
-/// Checks that all `items` are passed.
+/// Checks that the answer to each item is `Passed`.
 fn pass(rt: &impl Abort, core: &mut ReaderCore, name: &str, items: &[Event<'_>]) {
     for (n, item) in items.iter().enumerate() {
         assert!(rt; core.step(*item) == Passed, "{name}: item {n}");

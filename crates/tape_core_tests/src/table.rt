@@ -11,7 +11,7 @@ use tape_core::{Answer, Event, ReaderCore};
 use tape_label::{Format, LabelFault};
 use tape_set::Position;
 
-/// Checks that all items are passed.
+/// Checks that the answer to each item is `Passed`.
 fn passes(rt: &impl Abort, core: &mut ReaderCore, before: &[Event<'_>]) {
     for (n, each) in before.iter().enumerate() {
         assert!(rt; core.step(*each) == Passed, "item {n} before the row");
