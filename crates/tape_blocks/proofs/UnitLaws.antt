@@ -67,7 +67,7 @@ counted_cases span h bytes found e =
       found_is = p.4;
     }
 
--- four digits, the bytes after them that they count, and the rest
+-- four digits, the bytes that they count after them, and the rest
 four_digits : (bytes : List ℕ) (len : ℕ) → 4 ≤ length bytes → all_ascii_digits (take 4 bytes) ≡ true
     → digits 4 (number_of (take 4 bytes)) ≡ take 4 bytes
 four_digits bytes len room there =

@@ -54,7 +54,7 @@ pub record CasesOfBlocks : Type 0 where
   -- a written block has exactly one text, which is within the block length
   pub text_of_block : (shape : Shape) (b : Filled) → IsWritten shape b
       → (b.bytes ≡ written shape b.parts) × (length b.bytes ≤ shape.block_len)
-  -- the first of two blocks was full for the part that begins the second
+  -- the first of two blocks had no room for the first part of the second
   pub closed_when_full : (shape : Shape) (records : List (List ℕ)) (a b : Filled)
       → IsTight shape records (a ∷ b ∷ []) → IsFull shape a.parts (first_len b.parts 0)
 

@@ -5,13 +5,13 @@ ghost use Rattle.tape_blocks.specs.Numbers.{pack_fault_number};
 
 use thiserror::Error;
 
-/// What happened to the rest of a record that was offered to a packer.
+/// The result of offering the rest of a record to a packer.
 #[derive(Clone, Copy, Debug, PartialEq, Eq)]
 pub enum Offer {
     /// The whole rest is in the current block, and the record has ended.
     Taken,
-    /// The first bytes of the rest, this many, were accepted, and the block is closed: take it, and
-    /// offer the remaining bytes.
+    /// The given number of bytes was accepted, and the block is closed: take it, and offer the
+    /// remaining bytes.
     BlockReady(usize),
 }
 

@@ -21,8 +21,8 @@ use tape_label::Format;
 /// Packs records into blocks of the given shape (ECMA-13, 4th edition: blocking of records).
 ///
 /// The caller offers a record until it is accepted. Each time a block is ready, the caller takes it
-/// and offers the rest of the record. At the end of the file the caller takes the current block
-/// too. A block of format F or D is only closed if the next record does not fit, and a block of
+/// and offers the rest of the record. At the end of the file the caller also takes the current
+/// block. A block of format F or D is only closed if the next record does not fit, and a block of
 /// format S if fewer than 6 bytes are free, so all blocks are as full as the records allow.
 ///
 /// Only `new` allocates: no later call can run out of memory, or make the block larger.

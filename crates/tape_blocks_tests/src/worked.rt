@@ -87,8 +87,8 @@ pub fn pack_fault(alloc: Global, shape: Shape, records: &[&[u8]]) -> Option<Pack
     }
 }
 
-/// Returns true if both the shape and a packer say the same as `written`: that blocks of this shape
-/// can be written, or that they cannot.
+/// Returns true if the shape and a packer agree with `written` on whether blocks of this shape can
+/// be written.
 pub fn is_judged(alloc: Global, shape: Shape, written: bool) -> bool {
     let refused = if written {
         None

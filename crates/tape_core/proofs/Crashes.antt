@@ -18,7 +18,7 @@ either : {A B C D : Type 0} → (A → C ⊎ D) → (B → D) → A ⊎ B → C 
 either f g (inl a) = f a
 either f g (inr b) = inr (g b)
 
--- a call that adds some contents, and then a call that adds some of the same
+-- a call that adds some contents, and then a call that adds a subset of them
 pub only_then : (these those : Returns) (a b c : Crashes)
     → ((back : Point) (there : List Portion) → those back there → these back there)
     → AddsOnly these a b → AddsOnly those b c → AddsOnly these a c

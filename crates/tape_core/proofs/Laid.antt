@@ -129,7 +129,7 @@ laid_cut n es bytes laid =
     length-take-le (end_from 0 (take n es)) bytes (end_front n 0 es (length bytes) laid) in
     subst (AreLaid 0 (take n es)) (sym long) (laid_front n 0 es (length bytes) laid)
 
--- the number of parts is that of entries
+-- there are as many parts as entries
 pub parts_length : (start : ℕ) (es : List Entry) (bytes : List ℕ)
     → length (parts_from start es bytes) ≡ length es
 parts_length start [] bytes = refl
@@ -194,7 +194,7 @@ pub weight_all : (es : List Entry) (bytes : List ℕ) → IsLaid es bytes
     → weight_of (parts_from 0 es bytes) ≡ 5 * length es + length bytes
 weight_all es bytes laid = omega (arith, weight_laid 0 es (length bytes) bytes laid (omega arith))
 
--- the parts from a number on begin with the part with that number
+-- the parts after the first n begin with part number n
 pub drop_get : (ps : List Portion) (n : ℕ) (p : Portion) → slice_get ps n ≡ Some p
     → drop n ps ≡ p ∷ drop (n + 1) ps
 drop_get [] n p h = absurd (cc)

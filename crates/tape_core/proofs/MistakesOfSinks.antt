@@ -90,7 +90,7 @@ walk_skips_a_part κs a part s h held none w =
     = g.2 ∙ ap (λ n. drop n (portions sink)) w ∙ ap (drop 2) (sym kept) in
     absurd (let e : 2 ≡ 1 = ap length g.1 ∙ ap (λ ps. length (view part ∷ ps)) left in omega arith)
 
--- refuses_every_call: after one call was refused, the next call will be refused too
+-- refuses_every_call: after one call was refused, the next call will also be refused
 refuses_every_call : (S : _) (L : _) (g : _) (d : _) (κs : _) (a : _) (s : _)
     → is_refused.Learnt-named S L g d κs a true s → s.0.now.left ≡ 0 → ⊥
 refuses_every_call S L g d κs a s l w = absurd (let e : 0 < s.0.now.left = l.next in omega arith)

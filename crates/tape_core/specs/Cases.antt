@@ -122,7 +122,7 @@ pub record CasesOfPlaces : Type 0 where
       ∷ record { span = Whole; end = 2 } ∷ record { span = Whole; end = 3 } ∷ [])
       (65 ∷ 66 ∷ 67 ∷ []) ≡ record { span = First; bytes = 65 ∷ 66 ∷ [] }
       ∷ record { span = Whole; bytes = [] } ∷ record { span = Whole; bytes = 67 ∷ [] } ∷ []
-  -- all that is known about a reader with a position in a file
+  -- everything that is known about a reader with a position in a file
   pub at : (set : FileSet) (core : State) → IsAt set core
       → (core.set_id ≡ set.set_id) × (is_broken core.phase ≡ false)
       × IsIn set core.file core.position

@@ -146,7 +146,7 @@ at_data core heading form seen bytes =
     if nat_lt seen (block_of core.position) then passed core (DataWanted heading form (seen + 1))
     else at_awaited core heading form bytes
 
--- an unreadable item: it is skipped in the place of a block that was delivered already
+-- an unreadable item: it is skipped if it is a block that was delivered already
 abbrev pub at_bad_data : State → Heading → FileForm → ℕ → Outcome
 at_bad_data core heading form seen =
     if nat_lt seen (block_of core.position) then passed core (DataWanted heading form (seen + 1))

@@ -18,7 +18,7 @@ use tape_blocks::Part;
 
 /// A sink in memory, which does not survive a crash.
 ///
-/// All bytes are in one allocation, and an entry of 16 bytes for each part is in a second one. Each
+/// All bytes are in one allocation, and the entries of the parts, 16 bytes each, in another. Each
 /// allocation grows by doubling.
 #[derive(Drop)]
 pub struct MemorySink {

@@ -38,7 +38,7 @@ pub struct ReaderCore {
     begun: bool,
     /// The form of the file; `None` at the start of the file.
     known: Option<Known>,
-    /// What is expected next on the reel.
+    /// The items expected next on the reel.
     phase: Phase,
 }
 
@@ -110,7 +110,7 @@ impl ReaderCore {
         ensures foreign { (set : FileSet) (reel : List TapeItem) → IsAt set self.old
             → starts_set set.set_id reel ≡ Bool.false
             → IsForeignAt set.set_id reel self.new.position self.new.phase }
-        // Only what is expected next changes.
+        // Only the phase changes.
         ensures same { rest_of self.new ≡ rest_of self.old }
     {
         self.begin()
@@ -137,7 +137,7 @@ impl ReaderCore {
         };
     }
 
-    /// Processes the next event from the reel, and returns what it means for the file.
+    /// Processes the next event from the reel, and returns its meaning for the file.
     ///
     /// If the file is complete, the answer is always `Complete`. After `BlockCount` it is
     /// `Useless(Broken)` until `restart`, and if no reading is in progress, `Useless(ReelEnded)`.
@@ -172,7 +172,7 @@ impl ReaderCore {
         // For any input, the reader's set and file do not change.
         ensures set_id { self.new.set_id ≡ self.old.set_id }
         ensures file { self.new.file ≡ self.old.file }
-        // The end of the reel ends the reading; only what is expected next changes.
+        // The end of the reel ends the reading; only the phase changes.
         ensures left { arrival event.entry ≡ None
             → (rest_of self.new ≡ rest_of self.old) × IsFinal result }
     {
@@ -182,7 +182,7 @@ impl ReaderCore {
     /// Returns the part needed next, or `None` exactly if the file is complete.
     pub fn want(&self) -> Option<Want>
         ensures value { result ≡ want_at self.now.file self.now.position }
-        // The result is what is needed next at the position that the reading reaches.
+        // The result is the part needed next at the position that the reading reaches.
         ensures far { (set : FileSet) (p : Position) (k : ℕ) (good : List Bool) → IsLawful set
             → IsSome (nth set.volumes k) → IsReading set p k good self.now
             → result ≡ want_at self.now.file (far set self.now.file p (reading k good)) }

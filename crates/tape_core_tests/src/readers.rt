@@ -56,7 +56,7 @@ pub(crate) fn reader_at(
     core
 }
 
-/// Returns the given part of file 1, as what is needed next.
+/// Returns the given part of file 1, as a `Want`.
 pub(crate) fn wanted(sect: u16, block: u32, part: u32) -> Option<Want> {
     Some(Want {
         file: 1,
@@ -66,7 +66,7 @@ pub(crate) fn wanted(sect: u16, block: u32, part: u32) -> Option<Want> {
     })
 }
 
-/// Checks what the reader expects next.
+/// Checks the part that the reader expects next.
 pub(crate) fn wants(rt: &impl Abort, core: &ReaderCore, name: &str, want: Option<Want>) {
     assert_eq!(rt; core.want(), want, "{name}");
 }
@@ -115,7 +115,7 @@ pub(crate) fn front<'x>(
     );
 }
 
-/// Does the same, processes the items after the mark, and checks what is then expected.
+/// Does the same, processes the items after the mark, and checks the part that is then expected.
 pub(crate) fn read_section<'x>(
     rt: &impl Abort,
     core: &mut ReaderCore,

@@ -230,7 +230,7 @@ const fn span_broken() -> Answer {
     }))
 }
 
-/// Reads the items of the first section, of format S, and checks what is then expected.
+/// Reads the items of the first section, of format S, and checks the part that is then expected.
 fn read_spanned(
     rt: &impl Abort,
     core: &mut ReaderCore,

@@ -27,7 +27,7 @@ take_one zero h = refl
 take_one (suc zero) h = refl
 take_one (suc (suc k)) h = absurd (omega arith)
 
--- what holds anyway holds on an error
+-- a fact that is always true is true on an error
 pub on_err : {T E : Type 0} (r : Result T E) (P : Type 0) → P → OnErr r P
 on_err (Ok x) P p = tt
 on_err (Err e) P p = p

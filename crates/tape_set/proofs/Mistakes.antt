@@ -76,7 +76,7 @@ section_passed_over : (κs : _) (s : _)
     → next_section.Learnt κs (Awaits 1 2 3, tt) (Awaits 2 1 0) s → ⊥
 section_passed_over κs s h = absurd (let n : 1 ≡ 0 = ap block_of h in omega arith)
 
--- ---- what is expected at a position
+-- ---- the part expected at a position
 
 abbrev part_wanted : Option Want → ℕ
 part_wanted None = 0

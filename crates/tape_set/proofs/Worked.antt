@@ -136,7 +136,8 @@ form shape = form_of (head 1 1) (second_of shape)
 
 -- ---- proofs that they are valid
 
--- the numbers of a file and of a section fit their digits, and the section has not too many blocks
+-- the numbers of a file and of a section fit their digits, and the section has at most
+-- `most_blocks` blocks
 pub record Fit (file sect n : ℕ) : Type 0 where
   pub file_least : 1 ≤ file
   pub file_most : file ≤ 9999

@@ -116,8 +116,8 @@ two_files_tight = record {
 two_files_sizes : map items_size (all_items two_files) ≡ 2844 ∷ 2480 ∷ []
 two_files_sizes = refl
 
--- a reading of the first volume moves the second file past its empty section; only the labels of
--- that section state its form
+-- a reading of the first volume moves the position in the second file past its empty section; only
+-- the labels of that section state its form
 behind_empty_section : far two_files 2 start (reading 1 (replicate 19 true)) ≡ awaiting 2 0
 behind_empty_section = refl
 

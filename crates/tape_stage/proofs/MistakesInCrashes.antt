@@ -1,6 +1,6 @@
--- Files that a crash inside a call of a stage never leaves, by the call's contract: each is one
--- that a wrong body would make possible, and that no crash before the call could leave. What is
--- assumed of a stage (`IsStage`, `Ready`) is what `create` and `save` promise of theirs.
+-- Files that a crash inside a call of a stage never leaves, according to the call's contract: each
+-- would be possible with a wrong body, and no crash before the call could leave it. The assumptions
+-- about a stage (`IsStage`, `Ready`) are guarantees of `create` and `save`.
 use Rattle.std.proofs.Common.{◌≡◌, ◌⊎◌, inl, inr, ℕ, ◌+◌, Bool, true, false, List, length}
 use Rattle.std.proofs.Common.{get_or, sym, ap, ◌∙◌, subst, arith}
 use Rattle.std.specs.Prelude.{not, Some, option_map, unwrap_or}

@@ -233,12 +233,12 @@ only : (seen : List ℕ) (left : List ℕ → Type 0) (calls : List Call) (c : L
 only seen left [] c was = was
 only seen left (call ∷ calls) c was = only (after seen call) (left_after seen left call) calls c was
 
--- the current moment is one of the moments since an earlier one
+-- the current moment is among those since an earlier moment
 pub counts_image : (first : List ℕ) (calls : List Call) (t : ℕ) (c : List ℕ) → t ≤ length calls
     → IsImage first calls c → WasImage first calls t c
 counts_image first calls t c le now = counts first (λ d. d ≡ first) calls t c le now
 
--- no later moment has begun since the current one
+-- among the moments since the current one there is no later moment
 pub only_image : (first : List ℕ) (calls : List Call) (c : List ℕ)
     → WasImage first calls (length calls) c → IsImage first calls c
 only_image first calls c was = only first (λ d. d ≡ first) calls c was

@@ -35,7 +35,7 @@ pub record CasesOfLaws : Type 0 where
   pub either : (bytes : List ℕ) (point next : Point) (parts more : List Portion)
       → EitherStands bytes → IsEither false 3 point next parts more bytes
       → ((g : ℕ) × Staged bytes g point parts) ⊎ ((g : ℕ) × Staged bytes g next more)
-  -- a text is that of one checkpoint in one version, and the checkpoint has no other text in that
+  -- a text belongs to one checkpoint in one version, and the checkpoint has no other text in that
   -- version
   pub text_of_one : (bytes : List ℕ) (v w : Version) (a b : Point) → IsTextOfOne
       → IsPointText v bytes a → IsPointText w bytes b → (v ≡ w) × (a ≡ b)

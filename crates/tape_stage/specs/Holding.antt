@@ -48,7 +48,7 @@ pub held_counts : (left : ℕ → List ℕ → Type 0) (leaves : List ℕ → Ty
     → LeftSince left leaves start bytes t c
 held_counts left leaves start bytes t c now = inr now
 
--- no later moment has begun since the current one
+-- among the moments since the current one there is no later moment
 pub held_only : (left : ℕ → List ℕ → Type 0) (leaves : List ℕ → Type 0) (start : ℕ)
     (bytes : List ℕ) (t : ℕ) (c : List ℕ) → (left t c → leaves c)
     → LeftSince left leaves start bytes t c → LeftTorn leaves start bytes c

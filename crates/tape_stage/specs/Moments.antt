@@ -5,7 +5,7 @@ use Rattle.tape_stage.specs.declared.disk.Disk.{Ghosts}
 use Rattle.tape_stage.specs.declared.disk.DiskFault.{DiskFault}
 use Rattle.tape_stage.specs.Disk.{Only}
 
--- contents that may be left now, or the same after a step
+-- contents that may be left now, or contents that a step changed
 abbrev pub After : (List ℕ → List ℕ → Type 0) → (List ℕ → Type 0) → List ℕ → Type 0
 After step may_leave c = may_leave c ⊎ ((d : List ℕ) × may_leave d × step d c)
 

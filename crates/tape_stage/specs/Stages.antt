@@ -97,7 +97,7 @@ abbrev pub Returns : {D : Type 0} {disk : Ghosts D} → Stage D disk → Point �
 Returns {D} {disk} stage back there = (bytes : List ℕ) × disk.may_leave stage.disk bytes
     × ((g : ℕ) × Staged bytes g back there)
 
--- each file that a crash now may leave represents something
+-- each file that a crash now may leave represents some checkpoint and parts
 abbrev pub Survives : {D : Type 0} {disk : Ghosts D} → Stage D disk → Type 0
 Survives {D} {disk} stage = (bytes : List ℕ) → disk.may_leave stage.disk bytes → (g : ℕ)
     × (point : Point) × (parts : List Portion) × Staged bytes g point parts
@@ -113,7 +113,7 @@ abbrev pub Returned : {D : Type 0} {disk : Ghosts D} → Stage D disk → ℕ �
 Returned {D} {disk} stage t back there = (bytes : List ℕ) × WasLeft stage t bytes
     × ((g : ℕ) × Staged bytes g back there)
 
--- each file that such a crash may have left represents something
+-- each file that such a crash may have left represents some checkpoint and parts
 abbrev pub Survived : {D : Type 0} {disk : Ghosts D} → Stage D disk → ℕ → Type 0
 Survived {D} {disk} stage t = (bytes : List ℕ) → WasLeft stage t bytes → (g : ℕ)
     × (point : Point) × (parts : List Portion) × Staged bytes g point parts
@@ -128,7 +128,7 @@ crashes_of {D} {disk} stage = record {
   survived = λ t. Survived stage t;
 }
 
--- the slot found is what the disk represents, with its parts, and the stage is ready
+-- the disk represents the slot found, with its parts, and the stage is ready
 pub record IsOpened {D : Type 0} (disk : Ghosts D) (found : Found) (old new : D) : Type 0 where
   pub parts : List Portion
   pub read : Staged (disk.seen old) found.generation found.point parts

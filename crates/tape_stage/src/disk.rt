@@ -157,11 +157,11 @@ pub trait Disk {
     /// The bytes that reads return are a possible result of a crash.
     ghost seen_now: { (disk : Self) → is_honest disk → may_leave disk (seen disk) };
 
-    /// The current moment is one of the moments since an earlier one.
+    /// The current moment is among those since an earlier moment.
     ghost counts_now: { (disk : Self) (t : ℕ) (c : List ℕ) → is_honest disk → t ≤ moment disk
         → may_leave disk c → left_since disk t c };
 
-    /// No later moment has begun since the current one.
+    /// Among the moments since the current one there is no later moment.
     ghost only_now: { (disk : Self) (c : List ℕ) → is_honest disk → left_since disk (moment disk) c
         → may_leave disk c };
 }

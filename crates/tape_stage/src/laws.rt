@@ -21,7 +21,7 @@ pub fn point_again(point: &Checkpoint) -> Result<Checkpoint, PointFault>
     read_point(&write_point(point))
 }
 
-/// A text is that of at most one checkpoint, in one version.
+/// A text belongs to at most one checkpoint, in one version.
 pub fn points_have_texts_of_their_own()
     ensures { IsTextOfOne }
 {}

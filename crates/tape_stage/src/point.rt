@@ -88,7 +88,7 @@ pub struct Fields {
 /// five characters; then `Field` with the first position of the first field that has a wrong
 /// character; then `Range` if no checkpoint has these fields.
 pub fn read_point(text: &[u8]) -> Result<Checkpoint, PointFault>
-    // The text read is that of the result, in one of the versions,
+    // A text that is read is the text of the result, in one of the versions,
     ensures found { IfOk result (λ c. (version : Version) × IsPointText version text.now c) }
     // every text of a checkpoint in one of the versions is read,
     ensures only { (version : Version) (c : Point) → IsPointText version text.now c → result

@@ -247,7 +247,7 @@ fn a_cut_forgets_what_was_read_ahead(rt: HostRuntime) {
     assert!(rt; gives(&mut disk, 5, b"Zg"));
 }
 
-/// Returns whether the same read of both disks returns the same.
+/// Returns whether a read of both disks has equal results.
 fn reads_agree<A: Disk, B: Disk>(one: &mut A, two: &mut B, place: u64, size: usize) -> bool {
     let (mut left, mut right) = ([1; 9_000], [1; 9_000]);
     let size = size.min(9_000);
@@ -255,7 +255,7 @@ fn reads_agree<A: Disk, B: Disk>(one: &mut A, two: &mut B, place: u64, size: usi
     first == read(two, place, &mut right[..size]) && left == right
 }
 
-/// Returns whether the same write to both disks returns the same.
+/// Returns whether a write to both disks has equal results.
 fn writes_agree<A: Disk, B: Disk>(
     one: &mut A,
     two: &mut B,
@@ -270,7 +270,7 @@ fn writes_agree<A: Disk, B: Disk>(
     write(one, place, bytes) == write(two, place, bytes)
 }
 
-/// Returns whether a call encoded by the given bytes returns the same on both disks.
+/// Returns whether a call encoded by the given bytes has equal results on both disks.
 fn calls_agree<A: Disk, B: Disk>(one: &mut A, two: &mut B, told: [u8; 8]) -> bool {
     let size = if told[0] < 12 {
         9_000

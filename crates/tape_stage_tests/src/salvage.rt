@@ -11,8 +11,8 @@ use tape_stage::{MemoryDisk, Salvage, StageFault};
 const FOURTEEN_2: &[u8; 80] =
     b"TPCK2ABC00100010001000000000000002R01D0000000PAYROLL          000000000000014   ";
 
-/// Returns whether the walk returns the given parts, each a complete record, and no others, and a
-/// second walk does so too.
+/// Returns whether the walk returns the given parts, each a complete record, and no others, and
+/// whether a second walk does the same.
 fn gives_parts(salvage: &mut Salvage<MemoryDisk>, parts: &[&[u8]]) -> bool {
     for _ in 0..2 {
         salvage.rewind();

@@ -192,8 +192,8 @@ fn acknowledged_after(alloc: Global, calls: u64) -> Option<u64> {
 /// The number of calls after which the disk stops, and the weight acknowledged then.
 ///
 /// Opening makes 6 calls: a sync, the length, both slots, the length, a cut and its sync. Putting a
-/// part makes 2. The first save makes 5, 3 of them syncs; each later save makes 6, since it closes
-/// a gate first. Rolling back makes 7, including its cut.
+/// part makes 2 calls. The first save makes 5 calls, of which 3 are syncs; each later save makes 6,
+/// since it closes a gate first. Rolling back makes 7 calls, including its cut.
 const WEIGHTS: &[(u64, u64)] = &[
     (14, 0),
     (15, 170),

@@ -83,7 +83,7 @@ not_rose : Rose 3 3 → ⊥
 not_rose (inl e) = absurd (omega (arith, e))
 not_rose (inr e) = absurd (omega (arith, e))
 
--- put_gives_up_for_memory: a record is refused for lack of memory, although no allocation of the
+-- put_gives_up_for_memory: a record is refused with `OutOfMemory`, although no allocation of the
 -- tapes failed
 put_gives_up_for_memory : (T : _) (L : _) (g : _) (d : _) (e : _) (κs : _) (a : _) (s : _)
     (before now : Failures) → put.Learnt-named T L g d e κs a (Err faults.OutOfMemory) s
@@ -94,8 +94,8 @@ put_gives_up_for_memory T L g d e κs a s before now l was is three same =
     (subst (λ f. Rose f.memory (g.failures s.0.now.out).memory) was (l.cause.1 refl)) in
     not_rose (subst (λ n. Rose 3 n) same (subst (λ n. Rose n now.memory) three rose))
 
--- failed_devices_told_as_memory: at the end of a file the device failed, but the fault is that of
--- memory
+-- failed_devices_told_as_memory: at the end of a file the device failed, but the fault is
+-- `OutOfMemory`
 failed_devices_told_as_memory : (T : _) (L : _) (g : _) (d : _) (e : _) (κs : _) (a : _) (s : _)
     → end_file.Learnt-named T L g d e κs a (Err faults.OutOfMemory) s
     → g.failures a.0.now.out ≡ record { device = 3; memory = 3 }
@@ -114,7 +114,7 @@ empty_record_passed_over T L g d e κs a s l same =
     = subst (λ w. room_left w < room_left a.0.now) same l.room in
     absurd (omega (arith, less))
 
--- place_taken_behind_the_labels: a file is refused for lack of memory although no allocation of the
+-- place_taken_behind_the_labels: a file is refused with `OutOfMemory` although no allocation of the
 -- tapes failed, but the tapes have changed
 place_taken_behind_the_labels : (T : _) (L : _) (g : _) (d : _) (e : _) (κs : _) (a : _) (s : _)
     (before now : Failures) → begin_file.Learnt-named T L g d e κs a (Err faults.OutOfMemory) s

@@ -46,7 +46,7 @@ mark_told_as_bad κs a s h tapes first place =
 
 -- ---- images
 
--- an empty list does not contain the image of a volume
+-- an empty list of images has no image of a volume
 no_images_of : (items : List TapeItem) (bs : List (List ℕ)) → bs ≡ []
     → AreImagesOf (items ∷ []) bs → ⊥
 no_images_of items [] e a = a

@@ -77,7 +77,7 @@ last_of file j s (t ∷ ss) =
     let x : Placed = record { file = file; sect = j; section = s } in
     (x ∷ h.0, h.1, ap (λ v. x ∷ v) h.2, h.3)
 
--- if a file has sections with blocks, the last section is one of them
+-- if a file has sections with blocks, the last section of the set belongs to it
 last_there : (before : List Placed) (file : ℕ) (ss : List Section) → (blocks_of_all ss ≡ [] → ⊥)
     → OfLast (before ++ numbered file 1 ss) (λ ys x. (x.file ≡ file) → ⊥) → ⊥
 last_there before file [] some other = some refl
@@ -109,7 +109,7 @@ one_there H vs capacity set_id file course d b w none =
     (λ ys x e f. w.is_open.steady.begins empty ys x e (f ∙ sym in_it.sequence))
 
 -- block_dropped_at_change: the volume is changed, but the block is not written on the next volume,
--- although the tapes contained what was passed
+-- although the tapes contained the data passed before
 block_dropped_at_change : (T : _) (L : _) (g : _) (d : _) (κs : _) (a : _) (s : _)
     (set_id : List ℕ) (dr : Draft) → write_block.Learnt-named T L g d κs a (Ok tt) s
     → IsOpen (g.holds a.0.now.out) a.1.1.0.now a.1.1.1.0 set_id a.1.0.now a.0.now.course dr

@@ -61,8 +61,8 @@ bare = record { holds = λ s t. t ≡ s.0; failures = λ s. s.1; asked = λ s v.
 
 -- tapes, and the counts of their failures
 pub record CasesOfTapes : Type 0 where
-  -- an item is appended to the current volume, a volume begins after the current one, and closing
-  -- ends it
+  -- an item is appended to the current volume, the next volume begins, and closing ends the current
+  -- volume
   pub takes : (after : Tapes) → Takes {E = ℕ} (bad ∷ []) (λ t. t ≡ UnderWay [] (mark ∷ []))
       (Ok tt) (λ t. t ≡ after) → UnderWay [] (mark ∷ bad ∷ []) ≡ after
   pub changes : (after : Tapes) → Changes {E = ℕ} [] (λ t. t ≡ UnderWay [] (mark ∷ [])) (Ok tt)
@@ -72,7 +72,8 @@ pub record CasesOfTapes : Type 0 where
   -- a refusal leaves the contents unchanged
   pub keeps : (after : Tapes) → Keeps {E = ℕ} (λ t. t ≡ Ended []) (Err 0) (λ t. t ≡ after)
       → Ended [] ≡ after
-  -- volume number 2 was requested with the second label; before the first volume none was requested
+  -- volume number 2 was requested with the second label; before the first volume no volume was
+  -- requested
   pub asked_second : (v w asked : Vol1) → WasAsked (λ u. u ≡ asked) (v ∷ w ∷ []) 2 → w ≡ asked
   pub none_asked : (volumes : List Vol1) → WasAsked (λ _. ⊥) volumes 0
   -- the current volume is the last of all volumes
@@ -176,7 +177,7 @@ pub record CasesOfSets : Type 0 where
       → ((opened_by id 2 head shape).head.set_id ≡ id)
       × ((opened_by id 2 head shape).head.sequence ≡ 2)
       × ((opened_by id 2 head shape).head.sect ≡ 1) × ((opened_by id 2 head shape).shape ≡ shape)
-  -- a record is appended to the others of the last file
+  -- a record is appended to the records of the last file
   pub put_last : (t u : Told) (r : List ℕ) → with_record (t ∷ u ∷ []) r
       ≡ t ∷ record { file = u.file; records = u.records ++ r ∷ [] } ∷ []
   -- there are as many files on the volumes as were passed, in order

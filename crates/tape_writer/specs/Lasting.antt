@@ -28,8 +28,7 @@ abbrev pub TapeLasts : {T : Type 0} → Ghosts T → Tape T → Tape T → Type 
 TapeLasts g old new = Lasting (g.holds old.out) (g.failures old.out) old.course.used
     (g.holds new.out) (g.failures new.out) new.course.used
 
--- after a call that succeeds, the current volume was requested with its own label, if this was so
--- before
+-- after a call that succeeds, the current volume was requested with its own label, if it was before
 abbrev pub StaysAsked : {T : Type 0} → Ghosts T → List Vol1 → Tape T
     → Result (Unit {0}) WriteFault → Tape T → Type 0
 StaysAsked g volumes old result new = WasAsked (g.asked old.out) volumes old.course.volume

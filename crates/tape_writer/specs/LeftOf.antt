@@ -38,9 +38,9 @@ abbrev pub IsLeftUnbegun : {T : Type 0} → (Tapes → Type 0) → SetState T �
     → Type 0
 IsLeftUnbegun H w fault told = (IsOfInput fault → ⊥) × IsLeftBehind H w told
 
--- The same for the files of the given inputs: the files before one of them were passed completely,
--- and that file did not begin, or a prefix of its records was passed. Makes no claim if the bytes
--- of one of these inputs are unknown.
+-- The state after a fault in one of the files of the given inputs: the files before one of them
+-- were passed completely, and that file did not begin, or a prefix of its records was passed. Makes
+-- no claim if the bytes of one of these inputs are unknown.
 pub record IsLeftIn {T : Type 0} (H : Tapes → Type 0) (w : SetState T) (G : Type 0)
     (fault : SetFault) (set_id : List ℕ) (told : List Told) (shape : Shape) (cut : Cut)
     (inputs : List (Head1 × Option (List ℕ))) : Type 0 where
@@ -63,8 +63,8 @@ IsLeftOfAll H w G fault set_id told shape cut inputs =
     IsLeftBehind H w (told ++ told_files set_id shape cut (length told + 1) fs)
     ⊎ IsLeftWhole H w (told ++ told_files set_id shape cut (length told + 1) fs))
 
--- The same for a set: a writer of the plan, to which nothing was passed before, wrote to tapes that
--- satisfy P and do not allocate.
+-- The state after a fault in a set: a writer of the plan, to which nothing was passed before, wrote
+-- to tapes that satisfy P and do not allocate.
 pub record IsLeftSet {T : Type 0} (H : T → Tapes → Type 0) (P : T → Type 0) (fault : SetFault)
     (plan : SetPlan) (cut : Cut) (inputs : List (Head1 × Option (List ℕ))) : Type 0 where
   pub writer : SetState T

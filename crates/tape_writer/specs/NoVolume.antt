@@ -34,8 +34,8 @@ pub record GaveUpIn {T : Type 0} (H : Tapes → Type 0) (w : SetState T) (set_id
       GaveUp H w (with_file set_id (told ++ told_files set_id shape cut (length told + 1) fs)
       input.0 shape) (records_of cut bytes)))
 
--- The same for a set: a writer of the plan, to which nothing was passed before, wrote to tapes that
--- satisfy P.
+-- No volume is left for a set: a writer of the plan, to which nothing was passed before, wrote to
+-- tapes that satisfy P.
 pub record GaveUpSet {T : Type 0} (H : T → Tapes → Type 0) (P : T → Type 0) (plan : SetPlan)
     (cut : Cut) (inputs : List (Head1 × Option (List ℕ))) : Type 0 where
   pub writer : SetState T

@@ -29,7 +29,7 @@ pub enum WriteFault {
     RecordLength,
     /// No file has begun, or the set has no file.
     NoFile,
-    /// A file has begun and has not ended.
+    /// The current file has not ended.
     FileBegun,
     /// The volume must be changed, but no volume is left.
     OutOfVolumes,

@@ -84,7 +84,7 @@ impl<S: ImageStore + Drop> ImageTapes<S> {
         OutFault::Device
     }
 
-    /// Returns true if there is a device for another volume. After a failed call there is none.
+    /// Returns true if there is a device for another volume. After a failed call no device is left.
     fn has_next(&self) -> bool
         ensures yes { OnTrue result ((self.now.failed ≡ 0) × (0 < S.left self.now.store)) }
         ensures no { OnFalse result ((0 < self.now.failed) ⊎ (S.left self.now.store ≡ 0)) }

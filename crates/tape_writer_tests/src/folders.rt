@@ -178,7 +178,7 @@ fn an_image_that_another_run_has(rt: HostRuntime) -> Result<(), Fail> {
 }
 
 /// The worked volume; the same again, which is refused; on two volumes, the second of which already
-/// exists; with a directory in the place of the first image; and in a missing directory.
+/// exists; with a directory instead of the first image; and in a missing directory.
 #[test]
 fn a_set_in_a_folder(rt: HostRuntime) -> Result<(), Fail> {
     let exists = Err(SystemFault::File(FileFault::Exists));

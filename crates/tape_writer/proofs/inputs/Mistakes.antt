@@ -102,7 +102,7 @@ line_gathered_to_its_end : (R : _) (L : _) (g : _) (d : _) (h : _) (κs : _) (a 
     → length s.0.now.record.items ≡ a.0.now.limit + 1 → ⊥
 line_gathered_to_its_end R L g d h κs a answer s l w = absurd (omega (arith, l.within, w))
 
--- memory_gives_out_with_room: the next record fits in the buffer, but a lack of memory is reported
+-- memory_gives_out_with_room: the next record fits in the buffer, but `OutOfMemory` is returned
 memory_gives_out_with_room : (R : _) (L : _) (g : _) (d : _) (h : _) (κs : _) (a : _) (s : _)
     (xs : List ℕ) (r : List ℕ) (rs : List (List ℕ))
     → next.Learnt-named R L g d h κs a (Err inputs.OutOfMemory) s

@@ -2,7 +2,7 @@
 //! nothing.
 ghost use Rattle.tape_writer.specs.RecordLaws.{LinesAreCut, PiecesAreCut, WholeIsOne};
 
-/// An input is cut into its lines at the line feeds; the last line may have none.
+/// An input is cut into lines at the line feeds; the last line may have no line feed.
 pub fn lines_are_cut()
     ensures { LinesAreCut }
 {}

@@ -62,8 +62,8 @@ impl<R: Read + Drop> Records<R> {
         self.record.as_slice()
     }
 
-    /// Reads the next record, and returns false if there is none. After the end it does not call
-    /// the reader again.
+    /// Reads the next record, and returns false if no record is left. After the end it does not
+    /// call the reader again.
     ///
     /// # Errors
     ///

@@ -1,4 +1,4 @@
--- The result is what is needed at the position that the reading reaches.
+-- The result is the part needed next at the position that the reading reaches.
 use Rattle.std.proofs.Common.{ap, ◌∙◌}
 use Rattle.tape_core.proofs.Steps.{position_reads}
 use Rattle.tape_set.specs.Position.{want_at}
