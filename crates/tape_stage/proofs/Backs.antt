@@ -209,7 +209,7 @@ module _ {D : Type 0} {disk : Ghosts D} where
       (λ before bytes was.
       in_stands old.in_second old.generation old.acknowledged acked bytes was)
 
-  -- a call that leaves the acknowledged data, or acknowledges the given data
+  -- a call that leaves the acknowledged data unchanged, or acknowledges the given data
   pub adds_this : (old new : Stage D disk) (acked parts front : List Portion) (next : Point)
       → disk.may_leave old.disk (disk.seen old.disk) → IsStage old acked parts
       → Passes disk old.disk new.disk

@@ -316,7 +316,7 @@ part_of_part xs held out start from rest n is fits o =
     ∙ take-take n rest (drop from (drop start xs)) fits
     ∙ ap (take n) (drop-drop from start xs)
 
--- some of the bytes from an offset are bytes from a later offset
+-- a slice of a slice is a slice from a later offset
 pub slice_of_slice : (xs held out : List ℕ) (start place n : ℕ)
     → take (start + length held - start) (drop start xs) ≡ held
     → start ≤ place → place - start ≤ length held → n ≤ length held - (place - start)

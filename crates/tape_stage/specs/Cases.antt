@@ -86,7 +86,7 @@ pub record CasesOfCrashes : Type 0 where
   pub held_lost : LeftTorn (λ c. c ≡ 1 ∷ []) 1 (7 ∷ []) (1 ∷ [])
   pub held_torn : LeftTorn (λ c. c ≡ 1 ∷ []) 1 (7 ∷ []) (1 ∷ 255 ∷ [])
   pub held_there : LeftTorn (λ c. c ≡ 1 ∷ []) 1 (7 ∷ []) (2 ∷ []) → ⊥
-  -- and leaves nothing if the disk itself leaves nothing
+  -- and a crash leaves nothing if the disk itself leaves nothing
   pub held_of_nothing : LeftTorn (λ c. ⊥) 0 (7 ∷ []) [] → ⊥
   -- a disk in memory that was cut from two bytes to one: a crash may leave both until a sync, and
   -- then only the one
@@ -146,8 +146,8 @@ pub record CasesOfMoments : Type 0 where
 
 -- ---- a checkpoint
 
--- a checkpoint inside a record that continues in block 7 of section 2, of which a part of 80 bytes
--- is staged
+-- a checkpoint inside a record that continues in block 7 of section 2; a part of 80 bytes of the
+-- record is staged
 abbrev pub worked_point : Point
 worked_point = record {
   set_id = codes "ABC001";
@@ -314,7 +314,7 @@ pub record CasesOfStages {D : Type 0} (g : Ghosts D) : Type 0 where
   pub failed_stays : (old new : Stage D g) → HasRefused old new Failed
       → (new ≡ old) × (old.failed ≡ true)
   pub full_stays : (old new : Stage D g) → HasRefused old new Full → new ≡ old
-  -- a stage whose disk fails had not failed before, and has the same weight
+  -- a stage fails when its disk fails, if it had not failed before, and keeps its weight
   pub device_ends : (old new : Stage D g) → HasRefused old new Device
       → (old.failed ≡ false) × (new.failed ≡ true) × (new.weight ≡ old.weight)
   -- a call succeeds only on a stage that had not failed, and its disk remains as honest as before,

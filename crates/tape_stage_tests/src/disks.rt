@@ -134,7 +134,7 @@ fn stops(disk: &mut MemoryDisk) -> bool {
     disk.len() == Ok(6) && write(disk, 0, b"X") && stands_still(disk)
 }
 
-/// Returns whether the disk that a crash left has not stopped, and can be stopped.
+/// Returns whether the disk that a crash left is running, and can be stopped.
 fn goes_on(mut disk: MemoryDisk) -> bool {
     let stands = disk.bytes() == b"\xffbcdef".as_slice() && disk.len() == Ok(6);
     disk.stop_after(0);

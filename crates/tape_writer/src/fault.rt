@@ -48,7 +48,8 @@ pub enum WriteFault {
 /// Why a set was not written completely.
 #[derive(Clone, Copy, Debug, PartialEq, Eq)]
 pub enum SetFault {
-    /// The set writer refused a call, or a record could not be passed to it for this reason.
+    /// The fault with which the set writer refused a call, or for which a record could not be
+    /// passed to it.
     Write(WriteFault),
     /// Reading from an input failed.
     ReadFailed,

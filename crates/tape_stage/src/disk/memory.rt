@@ -41,7 +41,7 @@ impl MemoryDisk {
         }
     }
 
-    /// Returns the contents, as reads return them.
+    /// Returns the contents that reads see.
     pub fn bytes(&self) -> &[u8]
         ensures { result.now ≡ memory_bytes self.now }
     {

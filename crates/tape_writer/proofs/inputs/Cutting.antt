@@ -90,7 +90,7 @@ piece_taken cut old new bytes ahead rest content taken ended same is grown all a
   λ no. grown ∙ ap (λ n. old ++ take n bytes) (all no),
 )
 
--- the same, with the cut of the reader
+-- one more piece, with the cut of the reader
 pub piece_more : (cut here : Cut) (all left next : Option (List ℕ)) (r new piece : List ℕ)
     (ended : Bool) → SoFar cut all left r → Consumes left next piece → here ≡ cut → ended ≡ false
     → Adds here r piece new ended × (ended ≡ false → new ≡ r ++ piece) → SoFar cut all next new
