@@ -51,8 +51,8 @@ spelling format p = head format p ++ p.bytes
 abbrev pub spellings : Format → List Portion → List ℕ
 spellings format parts = flat_map (spelling format) parts
 
--- a part that the format can encode: in F a whole record of exactly `rec_len` bytes, in D a whole
--- record, in S any part; the length of the unit has four digits
+-- a part that the format can encode: in F a whole record of exactly `rec_len` bytes; in D a whole
+-- record, and in S any part, if the length of the unit has at most four digits
 abbrev pub IsUnit : Format → ℕ → Portion → Type 0
 IsUnit Fixed rec_len p = (p.span ≡ Whole) × (length p.bytes ≡ rec_len)
 IsUnit Counted rec_len p = (p.span ≡ Whole) × (4 + length p.bytes < 10000)

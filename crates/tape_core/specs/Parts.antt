@@ -38,8 +38,8 @@ abbrev pub begun_before : FileForm → ℕ → Bool → List ℕ → Bool
 begun_before form zero begun block = begun
 begun_before form (suc part) begun block = goes_on_at form.format form.offset block
 
--- whether the block differs from the one whose first parts, as many as given, were delivered: it
--- has no further part, or the state of the record after them is not `begun`
+-- whether the block differs from the one of which the given number of parts were delivered: it has
+-- no further part, or the state of the record after them is not `begun`
 abbrev pub other_front : FileForm → ℕ → Bool → List ℕ → Bool
 other_front form zero begun block = false
 other_front form (suc part) begun block =

@@ -23,8 +23,8 @@ use Rattle.tape_set.proofs.Forms.{blocks_held, form_told, all_four_digits}
 
 -- ---- a block has no more parts than bytes
 
--- a unit has at least one byte: only in format F it has no head, and there a record is longer than
--- the padding
+-- a unit has at least one byte: only units of format F have no head, and their records are longer
+-- than the padding
 unit_some : (format : Format) (rec_len : ℕ) (p : Portion) (padding : List ℕ)
     → IsUnit format rec_len p → IsPadding format rec_len padding → 1 ≤ length (spelling format p)
 unit_some Fixed rec_len p padding h pad = omega (arith, h.1, pad.1)

@@ -97,7 +97,7 @@ second_file_not_tight = record {
       absurd (omega arith);
 }
 
--- ---- the end of a file has no room, although a block would
+-- ---- the end of a file does not fit, although a block would
 
 -- a spanned record of 121 bytes fills ten blocks of 18 bytes; on a volume of 1,083 bytes the end of
 -- the file after them would need 1,084, but one more block only 746
@@ -145,7 +145,7 @@ ended_on_second_tight = record {
   changes = (refl, tt);
 }
 
--- with one more byte the end of the file has room, so the file must end there
+-- with one more byte the end of the file fits, so the file must end there
 end_would_fit : OnlyChanges ended_on_second 1084 (span.shape ∷ [])
 end_would_fit = record {
   plain = (refl, (refl, tt));

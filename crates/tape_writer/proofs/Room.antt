@@ -123,7 +123,7 @@ taken_room vs cap course p q rest w spanned judged ends =
     ap (λ l. (vs - course.volume) * (cap + l)) length_is in
     omega (arith, product, size, size_push p.shape p.parts x, some, ends.within, length_is)
 
--- only in format S a record is unfinished
+-- a record can be unfinished only in format S
 pub begun_spanned : (shape : Shape) (p q r : Packing) (rest : List ℕ) (n : ℕ) → p.shape ≡ shape
     → p.closed ≡ false → (p.begun ≡ true → shape.format ≡ Spanned)
     → Offers p rest (BlockReady n) q → r ≡ emptied q → r.begun ≡ true → shape.format ≡ Spanned
