@@ -56,7 +56,7 @@ abbrev pub padding_tests : ℕ → List ℕ → List Test
 padding_tests at rest =
     test (is_none (first_other rest)) (at + place_of (first_other rest)) BadPadding ∷ []
 
--- The bytes begin with a head of the given length that ends with four digits. Their number is at
+-- The bytes begin with a head of the given length that ends with four digits. Their value is at
 -- least the length of the head, and at most the number of bytes left.
 abbrev pub count_tests : ℕ → ℕ → List ℕ → List Test
 count_tests head at rest =

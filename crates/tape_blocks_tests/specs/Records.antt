@@ -1,4 +1,4 @@
--- Packing of whole records, and of lists of them.
+-- Packing of whole records, and of lists of records.
 use Rattle.std.specs.Prelude.{ℕ, ◌≡◌, false, List, [], ◌∷◌, ◌++◌, map, length}
 use Rattle.std.specs.declared.alloc.Global.{Global}
 use Rattle.std.specs.declared.vec.Vec.{Vec}

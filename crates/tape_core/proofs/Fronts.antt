@@ -32,7 +32,7 @@ left_more set k good g e todo h t =
       fine = passes_push good g h.done e h.count h.fine t;
     }
 
--- the first of the remaining entries is the next entry
+-- the next entry is the first of those not yet read
 pub first_left : (set : FileSet) (k : ℕ) (good : List Bool) (e e' : Entry) (todo : List Entry)
     → Left set k good (e' ∷ todo) → slice_get (entries set k) (length good) ≡ Some e → e' ≡ e
 first_left set k good e e' todo h s =

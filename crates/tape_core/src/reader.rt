@@ -103,7 +103,8 @@ impl ReaderCore {
     /// needs no reel.
     pub fn mount(&mut self)
         ensures table { self.new ≡ Table.mount_of self.old }
-        // A reader with a position in a file of a set is at the start of a reading of any volume.
+        // A reader with a position in a file of a set is then at the start of a reading, whatever
+        // the volume.
         ensures begins { (set : FileSet) (k : ℕ) → IsAt set self.old
             → IsReading set self.old.position k [] self.new }
         // The same for a reel that does not belong to the set.

@@ -36,7 +36,7 @@ chain_behind : (xs ys : List Placed) → Chain GoesOn (xs ++ ys) → Chain GoesO
 chain_behind [] ys c = c
 chain_behind (x ∷ xs) ys c = chain_behind xs ys (chain_rest x (xs ++ ys) c)
 
--- of two consecutive sections of a file with numbers from j, the second is on the next volume
+-- the second of two consecutive sections of a file, numbered from j, is on the next volume
 next_volume : (file j : ℕ) (ss : List Section) (rest : List Placed) (i : ℕ) (s t : Section)
     → Chain GoesOn (numbered file j ss ++ rest) → slice_get ss i ≡ Some s
     → slice_get ss (i + 1) ≡ Some t → t.volume ≡ s.volume + 1

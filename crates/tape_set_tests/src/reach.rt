@@ -132,8 +132,8 @@ fn ends_file(section: &SectionLayout) -> bool
     first(section.trailer.as_slice(), 4) == b"EOF1".as_slice()
 }
 
-/// Returns the first of `blocks` blocks, from number `block`, that was not readable, or `blocks` if
-/// all were.
+/// Returns the number of the first unreadable block, from `block` to `blocks - 1`, or `blocks` if
+/// all of them were readable.
 #[tactic(auto, using(tape_set::proofs::Reaching::first_unread_most))]
 fn first_unread(good: &[bool], block: usize, blocks: usize) -> usize
     requires { block ≤ blocks }

@@ -72,10 +72,10 @@ pub record CasesOfCrashes : Type 0 where
   -- `NoMore` excludes new results of a crash, and `Only` excludes other files
   pub more_is_more : NoMore (λ c. c ≡ []) (λ c. Unit {0}) → ⊥
   pub other_is_other : Only [] (λ c. Unit {0}) → ⊥
-  -- the possible results of a crash after a step are the results of the step on the earlier ones
+  -- contents that are possible after a step come from the step on contents possible before it
   pub stepped : Follows (λ d c. (d ≡ []) × (c ≡ 7 ∷ [])) (λ c. c ≡ []) (λ c. c ≡ 7 ∷ [])
   pub not_stepped : Follows (λ d c. ⊥) (λ c. c ≡ []) (λ c. c ≡ []) → ⊥
-  -- results that a step allows are possible after it
+  -- contents that a step allows are possible after the step
   pub allowed : Allows (λ d c. (d ≡ []) × (c ≡ 7 ∷ [])) (λ c. c ≡ []) (λ c. c ≡ 7 ∷ [])
   pub not_allowed : Allows (λ d c. c ≡ 7 ∷ []) (λ c. c ≡ []) (λ c. c ≡ []) → ⊥
   pub allowed_of_nothing : Allows (λ d c. c ≡ 7 ∷ []) (λ c. ⊥) (λ c. ⊥)

@@ -22,15 +22,15 @@ pub record CutShort (n : ℕ) (old new : List ℕ) : Type 0 where
   pub no_longer : length new ≤ length old
   pub front : take n new ≡ take n old
 
--- each new result of a crash is an old result after a step
+-- each result of a crash on the new disk is a result on the old disk, changed by a step
 abbrev pub Follows : (List ℕ → List ℕ → Type 0) → (List ℕ → Type 0) → (List ℕ → Type 0) → Type 0
 Follows step old new = (c : List ℕ) → new c → (d : List ℕ) × old d × step d c
 
--- each old result after a step is a new result
+-- each result of a crash on the old disk, changed by a step, is a result on the new disk
 abbrev pub Allows : (List ℕ → List ℕ → Type 0) → (List ℕ → Type 0) → (List ℕ → Type 0) → Type 0
 Allows step old new = (d c : List ℕ) → old d → step d c → new c
 
--- there are no new results
+-- the new disk has no further results of a crash
 abbrev pub NoMore : (List ℕ → Type 0) → (List ℕ → Type 0) → Type 0
 NoMore old new = (c : List ℕ) → new c → old c
 

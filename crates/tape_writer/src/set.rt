@@ -32,9 +32,9 @@ const MOST_VOLUMES: usize = 9_999;
 /// have ended.
 ///
 /// Its contracts guarantee that the volumes are those of a valid file set: its files, in order,
-/// have the given heads and shapes and contain exactly the given records, and blocks and volumes
-/// have no unused space. No volume is longer than the capacity, including its end-of-medium marker,
-/// and no call changes a volume that has ended.
+/// have the given heads and shapes and contain exactly the given records, and a new block or volume
+/// begins only if the next item does not fit. No volume is longer than the capacity, including its
+/// end-of-medium marker, and no call changes a volume that has ended.
 #[derive(Drop)]
 pub struct SetWriter<T: TapeOut + Drop> {
     alloc: Global,

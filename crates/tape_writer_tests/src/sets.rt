@@ -46,7 +46,7 @@ pub(crate) fn volume(id: [u8; 6]) -> Vol1 {
     }
 }
 
-/// Returns a head; its set identifier and numbers are not those that are written.
+/// Returns a head whose set identifier and numbers the writer replaces.
 pub(crate) fn head() -> Head1 {
     Head1 {
         file_id: Field::of_bytes(*b"PAYROLL          "),

@@ -168,8 +168,7 @@ pub struct Refused<D, F> {
 }
 
 impl<D: Disk> Stage<D> {
-    /// Opens the stage on a disk, and removes the bytes after it. A crash may interrupt this too,
-    /// without loss.
+    /// Opens the stage on a disk, and removes the bytes after it. A crash may interrupt this too.
     ///
     /// # Errors
     ///

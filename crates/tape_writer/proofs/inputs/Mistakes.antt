@@ -183,8 +183,8 @@ empty_record_told_as_wrong_length T R LT LR g d e h f κs a s head l between one
     (subst (λ v. IsFilesFault a.1.0.now.capacity a.1.1.1.0 a.1.1.1.1.0 (length a.1.0.now.files) v
     (sets.Write write_faults.RecordLength)) one (l.due between))
 
--- read_failure_told_as_record_length: an input fails whose only record has a valid length, but a
--- wrong record length is reported
+-- read_failure_told_as_record_length: an input fails after its only record, which has a valid
+-- length, but a wrong record length is reported
 read_failure_told_as_record_length : (T : _) (R : _) (LT : _) (LR : _) (g : _) (d : _) (e : _) (h :
     _)
     (f : _) (κs : _) (a : _) (s : _) (head : Head1)

@@ -147,8 +147,8 @@ takes_more left image w (inr stopped) three there is size =
       | inr full ↦ absurd (omega (arith, full, size))
     ]
 
--- refusals_told_as_device: a set is refused as if the device had failed, although it has not and
--- devices are left
+-- refusals_told_as_device: a set is refused as if the device had failed, although it did not fail
+-- and devices are left
 refusals_told_as_device : (R : _) (S : _) (D : _) (LR : _) (LS : _) (LD : _) (g : _) (d : _)
     (h : _) (e : _) (i : _) (f : _) (j : _) (k : _) (κs : _) (a : _) (refused : _) (s : _)
     (w : Writer)
