@@ -16,7 +16,7 @@ use Rattle.tape_image.specs.Written.{AppendsFront}
 use Rattle.tape_run.proofs.ListLines.{lines_from-append}
 use Rattle.tape_run.proofs.ListedSoFar.{SoFar}
 
--- the bytes ys at an offset begin like this, and their listing, numbered from count on, begins with
+-- the bytes ys at an offset begin like this, and their listing, numbered from count, begins with
 -- the text
 pub record ListsNext (place count : ℕ) (ys text : List ℕ) : Type 0 where
   pub more : List TapeItem

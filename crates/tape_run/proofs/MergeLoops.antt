@@ -176,7 +176,7 @@ differs firsts olds nows a p old new now beside s asked some =
       wrote = s.wrote;
     }
 
--- ---- as the code finds it
+-- ---- in the form in which the code has it
 
 not_none : (t : Option TapeItem) → is_some t ≡ true → t ≢ None
 not_none None is = absurd (cc is)

@@ -1,4 +1,4 @@
--- The reading over items in their proper order.
+-- Reading items that are in their proper order.
 use Rattle.std.proofs.Common.{◌≡◌, ℕ, ◌+◌, Bool, true, false, List, [], ◌∷◌, ◌++◌, length, Option}
 use Rattle.std.proofs.Common.{Some, None, Ok, refl, ap, subst, ◌∙◌, arith, append-nil}
 use Rattle.std.specs.Prelude.{map, ◌==◌, not, if◌then◌else◌}
@@ -21,7 +21,7 @@ use Rattle.tape_run.specs.Passing.{phase_after, told_from}
 use Rattle.tape_set.specs.Lawful.{label_count}
 use Rattle.tape_run.proofs.NotedSoFar.{phase_after-append, told_from-append}
 
--- these items take one phase to another, and contain this
+-- these items lead from one phase to another, and contain these sections
 pub record Runs (p : Phase) (items : List TapeItem) (q : Phase) (ts : List Told) : Type 0 where
   pub after : phase_after p items ≡ q
   pub tells : told_from p items ≡ ts

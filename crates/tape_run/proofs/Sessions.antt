@@ -228,7 +228,7 @@ kept_restart old new n w k =
     ∙ at.note.of_set) (ap (λ (p : State). p.file) w.place ∙ at.note.of_file)
     (rw (w.notes, same) at.left)
 
--- a session of these, with so many readers that failed and so many refusals
+-- a session with these, with this many readers that failed and this many refusals
 abbrev pub session_of : State → List Portion → List Point → ℕ → ℕ → Seen
 session_of place parts notes failures refusals = record {
   place = place;
@@ -246,7 +246,7 @@ pub record GoesBack (n : ℕ) (point : Point) (old : Seen) (new : List Portion �
   pub went : WentBack n old (new parts)
   pub kept : IsKept (new parts)
 
--- a core went there, and the later notes were forgotten
+-- a core moved there, and the later checkpoints were dropped
 pub goes_back : (n : ℕ) (point : Point) (from place : State) (held : List Portion)
     (notes left : List Point) (failures before refusals : ℕ)
     → slice_get notes n ≡ Some point → KeepsNotes from [] notes held

@@ -5,7 +5,7 @@ use Rattle.std.specs.Prelude.{if◌then◌else◌}
 use Rattle.tape_run.specs.SurveyGaps.{is_found, gap_first}
 use Rattle.tape_run.specs.SurveyRead.{Found}
 
--- a number that was not found is passed
+-- a number that was not found is skipped
 pub gap_on : (d : Found) (set_id : List ℕ) (n : ℕ) → 0 < n → is_found d set_id n ≡ false
     → gap_first d set_id n ≡ gap_first d set_id (n - 1)
 gap_on d set_id zero some e = absurd (omega arith)

@@ -42,7 +42,7 @@ abbrev ShownIf : List TapeItem → Option Told → List (List ℕ) → Type 0
 ShownIf items None blocks = ⊤
 ShownIf items (Some t) blocks = t.1.state ≡ Good → ShownAs items t blocks
 
--- ---- where no data are read
+-- ---- while no data are read
 
 volume_as : (items : List TapeItem) (blocks : List (List ℕ)) (r : Result Vol1 LabelFault)
     → Stood (volume_with r) items → StoodAs (volume_with r) items blocks

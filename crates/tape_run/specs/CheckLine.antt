@@ -22,7 +22,7 @@ stop_text Marked = codes "MARKED"
 stop_text Physical = codes "PHYSICAL"
 stop_text (Fault fault) = stop_fault fault
 
--- the number of an image among those named
+-- the number of an image among those specified
 abbrev pub image_front : ℕ → List ℕ
 image_front n = codes "IMAGE " ++ decimal n ++ codes " "
 

@@ -15,7 +15,7 @@ use Rattle.tape_run.specs.Seen.{Seen, seen}
 use Rattle.tape_run.specs.Steps.{Reeled, Saved, WentBack}
 use Rattle.tape_run.specs.SessionState.{SessionState}
 
--- the session's position, with its parts
+-- the session's position, with the parts before it
 abbrev pub IsHere : Seen → Point → List Portion → Type 0
 IsHere s back there = (back ≡ saved s.place (weight_of s.parts)) × (there ≡ s.parts)
 
@@ -40,7 +40,7 @@ LastAlone now s = BringsLast now.returns s
     × ((t : ℕ) × (t ≤ now.moment) × BringsLast (now.returned t) s)
 
 -- What a crash leaves of a session between two of its states. Only the last checkpoint is left if
--- the session made one meanwhile, or if nothing else was left before. If it made none, and nothing
+-- the session has made one since, or if nothing else was left before. If it made none, and nothing
 -- else was left between a moment t and the start, nothing else is left since t. If something
 -- survived every crash before, it still does, now and at each moment since t.
 pub record KeepsLast {S : Type 0} (g : Ghosts S) (old : SessionState S) (held : List Portion)
@@ -115,7 +115,7 @@ abbrev pub IsOf : Seen → Point → List Portion → Type 0
 IsOf s back there = IsHere s back there ⊎ ((n : ℕ) × IsNoteOf n s back there)
 
 -- This is true of the session before the first of the steps, or after one that succeeded, with
--- readers that have this left. After a reader that does not know its bytes nothing is known.
+-- these bytes left to the readers. After a reader that does not know its bytes nothing is known.
 abbrev pub StoodAt : Seen → List Step → List (Option (List ℕ)) → List (Option (List ℕ)) → Point
     → List Portion → Type 0
 StoodAt s [] reels left back there = IsOf s back there

@@ -49,7 +49,7 @@ date_of (c ∷ ds) = if all_ascii_digits ds then in_century (century c) (number_
 abbrev pub two_digits : ℕ → List ℕ
 two_digits n = (if nat_lt n 10 then codes "0" else []) ++ decimal n
 
--- a date, as in 1985-04-23; spaces if there is none
+-- a date, such as 1985-04-23; spaces if there is none
 abbrev pub date_text : Option Date → List ℕ
 date_text (Some d) =
     decimal d.year ++ (codes "-" ++ (two_digits d.month ++ (codes "-" ++ two_digits d.day)))

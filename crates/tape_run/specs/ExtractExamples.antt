@@ -24,7 +24,7 @@ worked_parts =
 abbrev pub worked_want : ℕ → Want
 worked_want part = record { file = 9; sect = 1; block = 2; part = part }
 
--- a reel that is cut off in the item at byte 1,884
+-- a reel that is truncated in the item at byte 1,884
 abbrev pub worked_end : Option ReelAnswer
 worked_end = Some (record {
   answer = Useless ReelEnded;
@@ -32,7 +32,7 @@ worked_end = Some (record {
   blocks = 2;
 })
 
--- what is written and reported, worked out
+-- the records written and the lines reported, worked out
 pub record ExtractIsWorked : Type 0 where
   pub lines : output_of Lines worked_parts ≡ codes "AB\nCDE\n"
   pub raw : output_of Raw worked_parts ≡ codes "ABCDE"

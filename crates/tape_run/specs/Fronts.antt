@@ -12,7 +12,7 @@ abbrev pub FrontsAreMounts : Type 0
 FrontsAreMounts = (set : FileSet) (front rest : List ℕ) (h : MountEvent)
     → IsMountOf set (front ++ rest) h → (n : ℕ) × IsMountOf set front (cut n h)
 
--- So whichever readers failed, what was returned is a history too.
+-- So whichever readers failed, the returned bytes represent a history too.
 abbrev pub GivenIsHistory : Type 0
 GivenIsHistory = (set : FileSet) (notes : ℕ) (which : List Bool) (steps : List Step)
     (bytes given : List (List ℕ)) (left : List (Option (List ℕ))) (hs : List MountEvent)

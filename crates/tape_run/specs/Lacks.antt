@@ -31,7 +31,7 @@ good_end (Some e) = if is_good e.state then Some e.eof else None
 abbrev pub key_at : List ℕ → ℕ → ℕ → SectionKey
 key_at set_id file sect = record { set_id = set_id; file = file; sect = sect }
 
--- a section is missing if it is not known whether it ends its file; nothing is if it does;
+-- a section is missing if it is not known whether it ends its file; nothing is missing if it does;
 -- otherwise what is missing after it
 abbrev pub lack_by : Option Bool → ℕ → Option ℕ → Option ℕ
 lack_by None sect behind = Some sect
@@ -69,7 +69,8 @@ pub record IsFirstLack (c : List Told) (set_id : List ℕ) (file sect : ℕ) : T
   pub goes_on : GoesOnTo c set_id file sect
   pub lacks : sect ≤ 9999 → good_end (entry_at c (key_at set_id file sect)) ≡ None
 
--- What is missing of a file is its first section that is not good, and nothing is if all are good.
+-- The first section of a file that is not good is what is missing of it; nothing is missing if all
+-- are good.
 abbrev pub LackIsFirst : Type 0
 LackIsFirst = (c : List Told) (set_id : List ℕ) (file : ℕ)
     → MatchOption (lack_of c set_id file) (IsFoundWhole c set_id file) (IsFirstLack c set_id file)

@@ -66,7 +66,7 @@ label_text (labels.Trail1 label) = trail1_text label
 abbrev pub plain_text : List ℕ → List ℕ
 plain_text bytes = codes "BLOCK " ++ digits 5 (length bytes)
 
--- the text of what was read, otherwise the other text
+-- the text of the label that was read, otherwise the other text
 abbrev pub text_or : {T : Type 0} → Result T LabelFault → (T → List ℕ) → List ℕ → List ℕ
 text_or (Ok label) text other = text label
 text_or (Err _) text other = other

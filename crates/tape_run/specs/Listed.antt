@@ -71,7 +71,7 @@ FitsCause OutOfMemory fault before after old new =
     (fault.place ≡ 0) × (after ≡ before) × Keeps old new
 FitsCause _ fault before after old new = IfKnown before after (ListsToFault fault old new)
 
--- the fault comes where it should, for a reader with the bytes `before` and then `after`
+-- the fault is reported where it is, for a reader with the bytes `before` and then `after`
 abbrev pub FitsFault : Option (List ℕ) → Option (List ℕ) → Option (List ℕ) → Option (List ℕ)
     → ListFault → Type 0
 FitsFault before after old new (Image fault) = FitsCause fault.cause fault before after old new

@@ -11,9 +11,9 @@ use Rattle.tape_run.specs.Runs.{Runs, RunsUpTo}
 use Rattle.tape_run.specs.Seen.{Seen}
 
 -- The first `made` steps succeeded, with the first of the readers: `which` says which of these
--- failed, `unread` what they have left. If the remaining steps lead somewhere from here, all steps
--- lead there from the start. If the remaining ones stop, all stop, `made` steps later. Each state
--- of the session between the remaining steps is one between all steps.
+-- failed, and `unread` which bytes they have left. If the remaining steps lead somewhere from here,
+-- all steps lead there from the start. If the remaining steps stop, all steps stop, `made` steps
+-- later. Each state of the session between the remaining steps is one between all steps.
 pub record HasMade (made : ℕ) (which : List Bool) (old : Seen) (steps : List Step)
     (readers unread : List (Option (List ℕ))) (new : Seen) (left : List Step)
     (others : List (Option (List ℕ))) : Type 0 where

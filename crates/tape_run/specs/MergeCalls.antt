@@ -41,7 +41,7 @@ abbrev pub alone_in : ℕ → List (List TapeItem) → ℕ
 alone_in zero rs = 0
 alone_in (suc n) rs = alone_in n rs + one_if (witnesses_at n rs == 1)
 
--- the section's trailer label has another count
+-- the section's trailer label counts another number of blocks
 abbrev pub has_wrong_count : SectionState → ℕ
 has_wrong_count states.Good = 0
 has_wrong_count states.Bad = 0
@@ -67,7 +67,7 @@ pub record Counts (readings : List (List TapeItem)) (merged : List TapeItem) (m 
 
 -- ---- calls
 
--- 1 if the reading has the best item, readable
+-- 1 if the reading has the best item in readable form
 abbrev pub has_first : Verdict → ℕ
 has_first verdicts.First = 1
 has_first verdicts.Bad = 0
@@ -135,7 +135,7 @@ pub record HasWritten {R : Type 0} (firsts : List (Reading R)) (old new : Writer
   pub is : IsMerged fronts merged
   pub wrote : PutItems merged old new
 
--- what is so after each fault
+-- what is true after each fault
 abbrev pub FitsFault : {R : Type 0} → List (Reading R) → List (Reading R) → Writer → Writer
     → MergeFault → Type 0
 FitsFault firsts nows old new (faults.Differ n) = DiffersAt firsts nows n old new

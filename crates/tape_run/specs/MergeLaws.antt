@@ -8,13 +8,13 @@ use Rattle.tape_image.specs.Step.{TakesEnd, TakesFault}
 use Rattle.tape_run.specs.MergeSteps.{HasRead}
 use Rattle.tape_run.specs.Merging.{IsReadFrom, IsMerged, Differ}
 
--- To be a reading is an order of tapes: the longer and the better read ones are greater.
+-- To be a reading is an order of tapes: longer tapes, and tapes with fewer bad items, are greater.
 pub record ReadingsAreOrdered : Type 0 where
   pub itself : (t : List TapeItem) → IsReadFrom t t
   pub through : (r s t : List TapeItem) → IsReadFrom r s → IsReadFrom s t → IsReadFrom r t
   pub both : (r s : List TapeItem) → IsReadFrom r s → IsReadFrom s r → r ≡ s
 
--- Readings either make one tape together, or differ: there is no tape of which all are readings.
+-- Readings either combine to one tape, or differ: there is no tape of which all are readings.
 pub record MakeOneOrDiffer : Type 0 where
   pub either : (rs : List (List TapeItem)) → ((m : List TapeItem) × IsMerged rs m) ⊎ Differ rs
   pub apart : (rs : List (List TapeItem)) (m : List TapeItem) → IsMerged rs m → Differ rs → ⊥
@@ -26,7 +26,7 @@ abbrev pub longest : List (List TapeItem) → ℕ
 longest [] = 0
 longest (r ∷ rs) = max (length r) (longest rs)
 
--- The tape that they make is as long as the longest of them.
+-- The tape that they combine to is as long as the longest of them.
 abbrev pub AsLongAsLongest : Type 0
 AsLongAsLongest = (rs : List (List TapeItem)) (m : List TapeItem) → IsMerged rs m
     → length m ≡ longest rs
@@ -41,7 +41,7 @@ abbrev pub BadWhereAllBad : Type 0
 BadWhereAllBad = (rs : List (List TapeItem)) (m : List TapeItem) (j : ℕ) → IsMerged rs m
     → j < length m → (slice_get m j ≡ Some bad) ↔ AllBadAt j rs
 
--- each of these is a prefix of the one of the others at its place
+-- each of these is a prefix of the element at the same place among the others
 abbrev pub AreFronts : List (List TapeItem) → List (List TapeItem) → Type 0
 AreFronts [] [] = ⊤
 AreFronts (r ∷ rs) (s ∷ ss) = ((more : List TapeItem) × (s ≡ r ++ more)) × AreFronts rs ss
@@ -57,7 +57,7 @@ abbrev pub IsOneOf : List TapeItem → List (List TapeItem) → Type 0
 IsOneOf r [] = ⊥
 IsOneOf r (s ∷ ss) = (r ≡ s) ⊎ IsOneOf r ss
 
--- Neither the order of the readings matters, nor how often one is listed.
+-- Neither the order of the readings nor how often one is listed matters.
 abbrev pub OrderDoesNotMatter : Type 0
 OrderDoesNotMatter = (rs ss : List (List TapeItem)) (m : List TapeItem)
     → ((r : List TapeItem) → IsOneOf r rs → IsOneOf r ss)

@@ -43,7 +43,7 @@ cut n foreign_reel = foreign_reel
 cut n saves = saves
 cut n (restarts m) = restarts m
 
--- the position after a mount, from p
+-- the position after a mount, starting at p
 abbrev pub after_mount : FileSet → ℕ → Position → MountEvent → Position
 after_mount set file p (reads r) = far set file p r
 after_mount set file p _ = p

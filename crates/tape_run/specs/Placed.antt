@@ -24,22 +24,21 @@ pub record PlacedItem : Type 0 where
   pub from : ℕ
   pub behind : ℕ
 
--- From offset p on the bytes xs are these items, with gaps between them, up to offset q, and then
--- ys.
+-- From offset p on the bytes xs are these items, with gaps between them, up to offset q, followed
+-- by ys.
 abbrev pub Places : ℕ → List PlacedItem → ℕ → List ℕ → List ℕ → Type 0
 Places p [] q xs ys = (p ≡ q) × (xs ≡ ys)
 Places p (x ∷ more) q xs ys =
     (x.from ≡ p) × (mid : List ℕ) × TakesItem p x.item x.behind xs mid
     × Places x.behind more q mid ys
 
--- how many bytes of an image an item takes; a bad block does not say
+-- how many bytes of an image an item takes; not known for a bad block
 abbrev pub item_extent : TapeItem → Option ℕ
 item_extent (block bytes) = Some (block_extent (length bytes))
 item_extent bad = None
 item_extent mark = Some 4
 
--- how many bytes an item takes; for a bad block, all from the item before it on, with the gaps
--- there
+-- how many bytes an item takes; for a bad block, all bytes after the item before it, including gaps
 abbrev pub item_size : PlacedItem → ℕ
 item_size x = unwrap_or (item_extent x.item) (x.behind - x.from)
 

@@ -14,7 +14,7 @@ use Rattle.tape_core.specs.Stands.{inside_block}
 use Rattle.tape_core.specs.Place.{place_of}
 use Rattle.tape_run.specs.declared.reel_reader.Refused.{Refused}
 
--- an item that came has a size that items can have
+-- an item that was read has a size that items can have
 abbrev pub IsSized : Option TapeItem → Type 0
 IsSized None = ⊤
 IsSized (Some item) = IsTapeItem item

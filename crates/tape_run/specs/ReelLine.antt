@@ -38,7 +38,7 @@ reason_text SectionDiffers = codes "SECTION DIFFERS"
 reason_text (BadLabel fault) = codes "BAD LABEL " ++ decimal (label_faults.number fault)
 reason_text Broken = codes "BROKEN"
 
--- what ended a reading; the first two never do
+-- what ended a reading; the first two answers never end one
 abbrev pub answer_text : Answer → List ℕ
 answer_text Passed = codes "PASSED"
 answer_text Deliver = codes "DELIVER"

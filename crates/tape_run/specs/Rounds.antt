@@ -45,8 +45,8 @@ MadeProgress size core [] = ⊤
 MadeProgress size core (r ∷ rounds) = (length r.turns ≡ size) × (wanted r.behind ≢ None)
     × (wanted r.behind ≢ wanted core) × MadeProgress size r.behind rounds
 
--- After a pass there is no other one: nothing is missing, or the same as before it, or the lines of
--- another one have no numbers in 64 bits. This many lines precede the pass.
+-- No other pass follows: nothing is missing, or the same as before the pass, or line numbers are
+-- exhausted. This many lines precede the pass.
 abbrev pub IsEnough : ℕ → ℕ → Option Want → Option Want → Type 0
 IsEnough size lines before want = (want ≡ None) ⊎ ((want ≡ before)
     ⊎ (18446744073709551615 < lines + size + size))
@@ -67,7 +67,7 @@ GoesRound back core old rounds turns last new = (mid : Seen)
 -- ---- calls
 
 -- Complete passes were made, each recovered something, and a line was reported for each image of
--- each.
+-- each pass.
 pub record HasGone {S L R : Type 0} (g : Ghosts S) (size : ℕ) (gives : Mounting L R)
     (remaining : R → Option (List ℕ)) (back : Bool) (old new : SessionState S) (shelf left : L)
     (said says : Option (List ℕ)) (rounds : List Round) : Type 0 where

@@ -1,4 +1,4 @@
--- Which copy of a section is read, and what the copies say of the file.
+-- Which copy of a section is read, and what the copies say about the file.
 use Rattle.std.specs.Prelude.{◌≡◌, ℕ, ◌<◌, ◌≤◌, ◌==◌, ◌&&◌, not, max, Bool, false, if◌then◌else◌}
 use Rattle.std.specs.Prelude.{List, [], ◌∷◌, ◌++◌, Option, Some, None, is_some}
 use Rattle.std.specs.List.{AllByRecursion}
@@ -19,7 +19,7 @@ firsts sect last [] = []
 firsts sect last (c ∷ cs) = if is_considered sect last c then c ∷ firsts sect (Some c.image) cs
     else firsts sect last cs
 
--- the first of those with the greatest rank, if there is one
+-- the first of these with the greatest rank, if there is one
 abbrev pub IsBest : List SectionCopy → Option SectionCopy → Type 0
 IsBest cs None = cs ≡ []
 IsBest cs (Some b) = (front rest : List SectionCopy) × (cs ≡ front ++ b ∷ rest)

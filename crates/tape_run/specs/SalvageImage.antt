@@ -40,7 +40,7 @@ salvaged_from key most form s g [] = g
 salvaged_from key most form s g (x ∷ xs) =
     salvaged_from key most form (step s x).0 (salvaged_at form g (number_in key most s) x) xs
 
--- and the lines of these items
+-- and the lines reported for these items
 abbrev pub text_from : SectionKey → ℕ → Option FileForm → Expected → Salvaged → List TapeItem
     → List ℕ
 text_from key most form s g [] = []
@@ -72,8 +72,8 @@ pub record ReadsSection (before after : Option (List ℕ)) (start : Expected) (k
   pub all : is_ended ≡ false → (stop : ImageStop) × IfKnown before after (StopsBehind items stop)
   pub unended : is_ended ≡ false → closings key start items ≡ 0
 
--- Items of the image were read, so many of them data items of the section, and its blocks were
--- taken.
+-- Items of the image were read, among them this many data items of the section, and its blocks were
+-- processed.
 pub record RecoversSection {W : Type 0} (contents : W → Option (List ℕ))
     (before after : Option (List ℕ)) (start : Expected) (key : SectionKey) (most : ℕ)
     (form : Option FileForm) (old new : Recovery W) (said says : Option (List ℕ)) (read : ℕ)
@@ -88,8 +88,8 @@ pub record RecoversSection {W : Type 0} (contents : W → Option (List ℕ))
 
 -- ---- the rest of the image
 
--- If the data of the section end once on the image, and are not open at its end, then nothing more
--- is recovered from the items after the mark that ends them.
+-- If the data of the section end once on the image, and are not being read at its end, then nothing
+-- more is recovered from the items after the mark that ends them.
 abbrev pub RestHasNothing : Type 0
 RestHasNothing = (key : SectionKey) (most : ℕ) (form : Option FileForm) (start : Expected)
     (items rest : List TapeItem) (g : Salvaged) → EndsData start key items

@@ -1,4 +1,4 @@
--- What a survey says of an image. The text is for people, and may change.
+-- What a survey says about an image. The text is for people, and may change.
 use Rattle.std.specs.Prelude.{Bool, true, false, not, is_some, length, take, ◌-◌, ℕ, ◌==◌, ◌&&◌}
 use Rattle.std.specs.Prelude.{nat_le, nat_lt, map, if◌then◌else◌, List, [], ◌++◌, codes, decimal}
 use Rattle.std.specs.Prelude.{Option, Some, None, replicate}
@@ -61,7 +61,7 @@ files_text n =
     if n == 0 then [] else if n == 1 then codes ", 1 section"
     else codes ", " ++ (decimal n ++ codes " sections")
 
--- Each further fact follows the text between two facts.
+-- Each further fact is preceded by the text between two facts.
 
 -- how many blocks are unreadable
 abbrev pub bad_text : List ℕ → ℕ → List ℕ
@@ -69,7 +69,7 @@ bad_text between n =
     if n == 0 then [] else if n == 1 then between ++ codes "1 unreadable block"
     else between ++ (decimal n ++ codes " unreadable blocks")
 
--- if a volume label follows something else
+-- if a volume label follows another item
 abbrev pub late_text : List ℕ → Option ℕ → List ℕ
 late_text between None = []
 late_text between (Some n) = between ++ (codes "a VOL1 at item " ++ decimal n)
@@ -120,7 +120,7 @@ wanted_text wanted.Next = codes "is neither HDR1 nor a tape mark"
 wanted_text wanted.SecondMark = codes "is not a second tape mark"
 wanted_text wanted.End = codes "follows the end of the volume"
 
--- That the items begin with no volume label is said before.
+-- A missing volume label at the start is reported already.
 abbrev pub is_told : ExpectedItem → Bool
 is_told wanted.Volume = false
 is_told _ = true
@@ -218,7 +218,7 @@ sight_text (Some s) = opened_text s
 sight_text None = codes "not opened\n"
 
 -- the line of an image after its printed name, which has this length: the next column is the same
--- for all that have at most 24 bytes
+-- for all names of at most 24 bytes
 abbrev pub line_end : ℕ → Option ImageSurvey → List ℕ
 line_end named sight = replicate (24 - named) 32 ++ (codes "  " ++ sight_text sight)
 

@@ -16,11 +16,11 @@ damage_line sect entry =
     codes "        section " ++ (decimal sect ++ (codes " " ++ (damage_text entry.state
     ++ (codes " on " ++ (trimmed_text entry.volume ++ codes ": no good copy\n")))))
 
--- of one that was found, if it is damaged
+-- the line of a section that was found, if it is damaged
 abbrev pub found_line : ℕ → Entry → List ℕ
 found_line sect entry = if is_good entry.state then [] else damage_line sect entry
 
--- where to look for missing sections, if this is known of the one before them
+-- where to look for missing sections, if the section before them is known
 abbrev pub where_text : Option Entry → List ℕ
 where_text (Some before) = codes " missing, after volume " ++ trimmed_text before.volume
 where_text None = codes " not found"
@@ -31,14 +31,15 @@ missing_line first next before =
     codes "        section" ++ ((if nat_lt first (next - 1) then codes "s" else [])
     ++ (codes " " ++ (numbers_text first next ++ (where_text before ++ codes "\n"))))
 
--- of a file, from the first number after the last section that was found before the next one
+-- the missing sections of a file, from the first number after the last section found up to the next
+-- one found
 abbrev pub missing_text : List Told → List ℕ → ℕ → ℕ → ℕ → List ℕ
 missing_text c set_id file first next =
     if nat_lt first next
     then missing_line first next (entry_at c (key_at set_id file (first - 1)))
     else []
 
--- a section of which this is known, after the missing ones before it
+-- the lines of a section of which this is known, after those of the missing ones before it
 abbrev pub known_text : List Told → List ℕ → ℕ → ℕ → ℕ → Option Entry → List ℕ
 known_text c set_id file first sect (Some entry) =
     missing_text c set_id file first sect ++ found_line sect entry

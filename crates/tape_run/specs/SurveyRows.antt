@@ -47,7 +47,7 @@ seen_cells s =
     ++ head_cells s.glance.head ++ codes "\t" ++ count_cells s.glance ++ codes "\t"
     ++ stop_text s.stop
 
--- what it is, or that it was not opened
+-- what the image is, or that it was not opened
 abbrev pub sight_cells : Option ImageSurvey → List ℕ
 sight_cells (Some s) = seen_cells s
 sight_cells None = codes "NOT OPENED\t\t\t\t\t\t\t"

@@ -16,7 +16,7 @@ use Rattle.tape_run.specs.Passing.{Told, met_in}
 use Rattle.tape_run.specs.Noted.{noted_all}
 use Rattle.tape_run.specs.Lacks.{IsGoodAt, lack_of, found_all}
 
--- which section of the set it is
+-- which section of the set this is
 abbrev pub key_in : FileSet → Placed → SectionKey
 key_in set x = record { set_id = set.set_id; file = x.file; sect = x.sect }
 

@@ -51,11 +51,11 @@ behind_one = record {
 
 -- What the headline says of them.
 pub record DaysAreWorked : Type 0 where
-  -- One of four readers failed, whichever it was and wherever it did: the file is complete.
+  -- One of four readers failed, whichever and wherever it was: the file is complete.
   pub failed_reader : (s : Seen) (left : List (Option (List ℕ)))
       → IsRead (codes "ABC001") 1 four_reels twice left s → s.failures ≡ 1 → IsWhole s
   -- A part of volume 1 was refused, whichever it was, and then both volumes were read: the file is
-  -- complete, and no part is there twice.
+  -- complete, and no part is in it twice.
   pub refused_part : (old mid new : Seen) (n : ℕ) (cause : SinkFault)
       (left over : List (Option (List ℕ))) → IsStart (codes "ABC001") 1 old
       → HasStopped old (Reel ∷ []) (reel_1 ∷ []) left n (Sink cause) mid

@@ -24,7 +24,7 @@ use std::io::{Read, Write};
 
 /// Reports what is on the images: a line for each image, a line for each section in the order in
 /// which they were found first, a line for each file with a missing section, and a last line if
-/// sections were found and none is missing. Returns whether that is so.
+/// sections were found and none is missing. Returns whether all was found.
 ///
 /// Opens an image when its turn comes, reads it to its end or to a fault, and closes it. Reports
 /// and skips one that cannot be opened. Allocates the buffer of one image, what opening it takes,

@@ -232,7 +232,7 @@ pub fn write_records<S: PartWalk, W: Write>(
     Ok(())
 }
 
-/// The fault of a walk over a sink.
+/// Returns the fault of a walk over a sink.
 pub fn walk_fault(cause: SinkFault) -> EngineFault
     ensures { result ≡ EngineFault.Run (RunFault.Sink cause) }
 {
@@ -254,7 +254,7 @@ pub fn write_part<W: Write>(out: &mut W, part: Part<'_>, form: Form) -> Result<(
     write_text(out, record_end(form))
 }
 
-/// The terminator of each record.
+/// Returns the terminator of each record.
 fn record_end(form: Form) -> &'static [u8]
     ensures { result.now ≡ record_end form }
 {

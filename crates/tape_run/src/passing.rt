@@ -163,7 +163,7 @@ pub(crate) fn step(phase: Phase, item: Item<'_>) -> (Phase, Option<Told>)
     }
 }
 
-/// The section that an item completes, if any.
+/// Returns the section that an item completes, if any.
 pub(crate) fn told_in(phase: &Phase, item: Item<'_>) -> Option<Told>
     ensures { result ≡ (step phase.now (tape_item item.entry)).1 }
 {

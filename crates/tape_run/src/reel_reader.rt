@@ -183,8 +183,8 @@ fn refused_point(before: &Checkpoint, after: &Checkpoint, part: u32, begun: bool
 }
 
 impl<S: PartSink> ReelReader<S> {
-    /// Processes one event: passes it to the core, and puts what this delivers. If a part is
-    /// refused, the core's position becomes that part.
+    /// Processes one event: passes it to the core, and puts the parts that this delivers. If a part
+    /// is refused, the core's position becomes that part.
     fn take(&mut self, event: Event<'_>) -> Result<Answer, SinkFault>
         requires sized { IsSized (arrival event) }
         ensures file { self.new.core.file ≡ self.old.core.file }

@@ -131,10 +131,9 @@ impl<S: PartSink> Session<S> {
         self.reel_reader.sink
     }
 
-    /// Reads a reel up to the first item after which no other one of the reel can say anything of
-    /// the file. The parts of each block that the file needs go to the sink, one by one, from the
-    /// expected part on. If the file is complete nothing is read. Allocates only the image reader's
-    /// buffer.
+    /// Reads a reel up to the first item after which no other item of the reel can affect the file.
+    /// The parts of each block that the file needs go to the sink, one by one, from the expected
+    /// part on. If the file is complete, nothing is read. Allocates only the image reader's buffer.
     ///
     /// A fault of the image, or a reader that failed, ends the reading and is part of the result;
     /// what was read before it counts.
@@ -189,7 +188,7 @@ impl<S: PartSink> Session<S> {
         let mut image = ImageReader::over(buffer, device);
         self.reel_reader.core.mount();
         let read = self.reel_reader.read(&mut image);
-        // The rest of the reader is its caller's again.
+        // The caller gets back the rest of the reader.
         image.into_device();
         match read {
             Ok(answer) => {
@@ -251,7 +250,7 @@ impl<S: PartSink> Session<S> {
     }
 
     /// Adds a checkpoint of the session's position to its list only, and stores nothing in the
-    /// sink: for a sink that a crash leaves as it is, such as one that was just opened.
+    /// sink: for a sink that already has this state durably, such as one that was just opened.
     ///
     /// # Errors
     ///
@@ -336,7 +335,7 @@ impl<S: PartSink> Session<S> {
     }
 }
 
-/// A count of readers that failed, after one more, which failed or did not.
+/// Returns a count of failed readers after one more reader, which failed or did not.
 fn counted(failures: u64, failed: bool) -> u64
     ensures { result ≡ counted failed failures }
 {

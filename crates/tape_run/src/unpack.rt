@@ -177,7 +177,7 @@ fn add_files(
     Ok(())
 }
 
-/// Adds the files of the set at a place to those of the sets before it.
+/// Adds the files of the set at an index to those of the sets before it.
 fn add_place(
     files: &mut Vec<SetFile>,
     findings: &Findings,
@@ -196,7 +196,7 @@ fn add_place(
     Ok(())
 }
 
-/// The files of these sets.
+/// Returns the files of these sets.
 fn files_of_sets(
     alloc: Global,
     findings: &Findings,
@@ -211,7 +211,7 @@ fn files_of_sets(
     Ok(files)
 }
 
-/// The files of all sets that were found.
+/// Returns the files of all sets that were found.
 fn files_of(alloc: Global, findings: &Findings) -> Result<Vec<SetFile>, AllocError>
     ensures { IfOk result (λ files. files.items ≡ files_of findings.now) }
 {

@@ -48,14 +48,14 @@ const FIRST: Reel<'_> = Reel::Section(
     "EOV1PAYROLL          ABC00100010001000100 00000 00000 000001",
 );
 
-/// The worked image, cut inside its last data block.
+/// The worked image, truncated inside its last data block.
 const CUT_OFF: ImageStop = ImageStop::Fault(ImageFault {
     place: 1884,
     cause: ImageCause::Truncated,
 });
 
-/// A name; images, how many items each has, and how it ends; the lines of the catalogue; and what
-/// is missing.
+/// A name; images, how many items each has, and how it ends; the lines of the catalogue; and the
+/// missing sections.
 type Row<'a> = (
     &'a str,
     &'a [(Reel<'a>, u32, ImageStop)],
@@ -138,7 +138,7 @@ const ROWS: &[Row<'_>] = &[
     ),
 ];
 
-/// Returns whether this is reported of the image.
+/// Returns whether this is reported about the image.
 fn adds(
     alloc: Global,
     catalogue: &mut Catalogue,
@@ -194,7 +194,7 @@ fn reports(
     Ok(are_lines(report.lines.as_slice(), lines) && lacks)
 }
 
-/// Returns whether all of this is reported of the images of a row.
+/// Returns whether all of this is reported about the images of a row.
 fn is_told(alloc: Global, row: &Row<'_>) -> Result<bool, Fail> {
     let (_, images, lines, lacks) = row;
     let mut catalogue = Catalogue::new(alloc);
@@ -217,8 +217,8 @@ fn images_and_sections_are_told(rt: HostRuntime) -> Result<(), Fail> {
     Ok(())
 }
 
-/// Returns how many sections there are, and whether only the one after them is missing, if all that
-/// a file can have were added, each of which continues.
+/// Adds all sections that a file can have, each of which continues. Returns how many sections there
+/// are, and whether only the one after them is missing.
 fn of_all_sections(alloc: Global) -> Result<(usize, bool), Fail> {
     let mut catalogue = Catalogue::new(alloc);
     for number in 1..10000u16 {

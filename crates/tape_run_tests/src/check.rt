@@ -179,7 +179,7 @@ fn third_section(alloc: Global) -> Result<Image, AllocError> {
     one_section(alloc, header, trailer)
 }
 
-/// File 2 of set XYZ001 is there, and file 1 was not found; the section in the middle of file 1 of
+/// File 2 of set XYZ001 was found, and file 1 was not; the section in the middle of file 1 of
 /// ABC001 is missing.
 #[test]
 fn two_sets(rt: HostRuntime) -> Result<(), Fail> {
@@ -271,7 +271,7 @@ ALL SECTIONS FOUND
     check_one(&rt, unprinted(rt.alloc())?, true, lines)
 }
 
-/// Items after the second mark are counted, and their sections are not found.
+/// Items after the second mark are counted, but sections among them are not found.
 #[test]
 fn items_behind_the_second_mark(rt: HostRuntime) -> Result<(), Fail> {
     let lines = "IMAGE 1 14 PHYSICAL
@@ -281,7 +281,7 @@ ALL SECTIONS FOUND
     check_one(&rt, with_items_behind(rt.alloc())?, true, lines)
 }
 
-/// A reader that returns this many bytes, one per call, and then fails.
+/// Returns a reader that returns this many bytes, one per call, and then fails.
 fn dribble(bytes: &[u8], left: usize) -> Dribble<'_> {
     Dribble {
         bytes,

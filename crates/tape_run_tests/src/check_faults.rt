@@ -17,7 +17,7 @@ ALL SECTIONS FOUND
 
 const WRITE_FAILED: Result<bool, EngineFault> = Err(EngineFault::WriteFailed);
 
-/// What a check of the worked image returns with this writer.
+/// Returns the result of a check of the worked image with this writer.
 fn check_worked<W: Write>(
     alloc: Global,
     writer: &mut W,

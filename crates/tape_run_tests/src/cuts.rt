@@ -19,8 +19,8 @@ fn blocks_before(cut: usize) -> u16 {
     }
 }
 
-/// What is expected after the first bytes of the volume: the next block, or, once the trailer label
-/// that ends at 932 was read, the next section.
+/// Returns what is expected after the first bytes of the volume: the next block, or, once the
+/// trailer label that ends at 932 was read, the next section.
 fn awaited(cut: usize) -> Option<Want> {
     if cut >= 932 {
         return wanted(2, 0);
@@ -77,7 +77,7 @@ fn at_each_length(rt: HostRuntime) -> Result<(), Fail> {
     Ok(())
 }
 
-/// A reader of the first bytes, which then fails; of all bytes, if there are fewer.
+/// Returns a reader of the first bytes, which then fails; of all bytes, if there are fewer.
 fn failing_behind(whole: &[u8], left: usize) -> Dribble<'_> {
     Dribble {
         bytes: whole,

@@ -19,7 +19,7 @@ use tape_set::Want;
 /// What `extract` answers.
 type Answer = Result<Option<Want>, EngineFault>;
 
-/// The images, on a shelf.
+/// Returns the images, in a list.
 pub fn shelf_of<R: Read + Drop>(
     alloc: Global,
     images: &mut [Option<R>],
@@ -31,7 +31,7 @@ pub fn shelf_of<R: Read + Drop>(
     Ok(shelf)
 }
 
-/// File 1 or another one of the set ABC001, from these images.
+/// File 1 or another file of the set ABC001, from these images.
 fn run<R: Read + Drop, W: Write, P: Write>(
     alloc: Global,
     file: u16,
@@ -61,7 +61,7 @@ fn gives<H: Abort + AllocGlobal, R: Read + Drop>(
     Ok(())
 }
 
-/// The lines over these images, from which something is still missing.
+/// The lines for these images, which do not complete the file.
 fn wants<H: Abort + AllocGlobal, R: Read + Drop>(
     rt: &H,
     file: u16,
@@ -76,12 +76,12 @@ fn wants<H: Abort + AllocGlobal, R: Read + Drop>(
     Ok(())
 }
 
-/// What is reported for images none of which completes file 1.
+/// The report for images none of which completes file 1.
 fn reports<H: Abort + AllocGlobal>(rt: &H, image: Image, lines: &str) -> Result<(), Fail> {
     wants(rt, 1, &mut [Some(image.bytes.as_slice())], lines)
 }
 
-/// The same of two images.
+/// The same for two images.
 fn reports_both<H: Abort + AllocGlobal>(
     rt: &H,
     first: Image,
@@ -150,7 +150,7 @@ fn sections_that_lack_others(rt: HostRuntime) -> Result<(), Fail> {
     reports_both(&rt, long_first(rt.alloc())?, long_first(rt.alloc())?, lines)
 }
 
-/// How much of the worked image there is, and what is reported of it.
+/// How much of the worked image there is, and what is reported about it.
 const CUTS: &[(usize, &str)] = &[
     (2288, "REEL 1 REEL ENDED IMAGE 1 1884\nAWAITS 1 1 2\n"),
     (1885, "REEL 1 REEL ENDED IMAGE 1 1884\nAWAITS 1 1 2\n"),
@@ -167,7 +167,7 @@ fn reels_that_are_cut_off(rt: HostRuntime) -> Result<(), Fail> {
     completes(&rt, cut(rt.alloc(), 2292)?, lines)
 }
 
-/// Volumes of one block: the labels and the block, and what is reported of them.
+/// Volumes of one block: the labels and the block, and what is reported about them.
 const GIVE_NOTHING: &[(&str, &str, &[u8], &str)] = &[
     (
         "HDR1PAYROLL          XYZ00100010001000100 00000 00000 000000",
@@ -269,7 +269,7 @@ fn a_reader_that_fails(rt: HostRuntime) -> Result<(), Fail> {
     wants(&rt, 1, &mut [Some(dribble)], lines)
 }
 
-/// What `extract` of the worked file answers to these writers.
+/// Returns the result of `extract` for the worked file with these writers.
 fn extract_worked(alloc: Global, out: &mut Narrow, report: &mut Narrow) -> Result<Answer, Fail> {
     let image = payroll(alloc)?;
     let images = &mut [Some(image.bytes.as_slice())];
@@ -280,7 +280,7 @@ fn extract_worked(alloc: Global, out: &mut Narrow, report: &mut Narrow) -> Resul
 const SAID: &[u8] = b"REEL 1 COMPLETE\nCOMPLETE 25\n";
 
 /// How many bytes the writers of the file and of the report accept, and whether they can be
-/// flushed; and how much is reported and written then.
+/// flushed; and how much is then reported and written.
 const NARROW: &[(usize, bool, usize, bool, usize, usize)] = &[
     (100, true, 100, true, 16, 100),
     (2025, false, 100, true, 16, 2025),
@@ -306,7 +306,7 @@ fn writers_that_fail(rt: HostRuntime) -> Result<(), Fail> {
     Ok(())
 }
 
-/// The last block of the last file, from this part on.
+/// Returns the last block of the last file, from this part on.
 fn last_block(part: u32) -> Want {
     Want {
         file: 9999,

@@ -77,7 +77,7 @@ enum Engine {
     Extract,
 }
 
-/// Reads the two images of a shelf.
+/// Reads the two images of a list.
 fn read(alloc: Global, engine: Engine, shelf: &mut Lender<'_>) -> Result<(), Fail> {
     let mut report = Vec::new(alloc);
     match engine {

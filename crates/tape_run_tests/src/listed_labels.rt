@@ -14,7 +14,7 @@ fn check<H: Abort + AllocGlobal>(rt: &H, image: &Image, line: &str) -> Result<()
     Ok(())
 }
 
-/// An image of one label: its beginning, followed by another byte.
+/// Returns an image of one label: its beginning, followed by another byte.
 fn image_of(alloc: Global, front: &[u8], filler: u8) -> Result<Image, AllocError> {
     let mut image = Image::new(alloc);
     image.label_of(front, filler)?;

@@ -55,7 +55,7 @@ fn one_byte_a_call(rt: HostRuntime) -> Result<(), Fail> {
     check(&rt, &mut reader, WORKED)
 }
 
-/// No bytes, an end word, a mark and a gap, each alone.
+/// No bytes; an end-of-medium marker, a mark and a gap, each alone.
 const LITTLE: &[(&[u8], &str)] = &[
     (&[], "END PHYSICAL\n"),
     (&[0xFF; 4], "END MARKED\n"),

@@ -33,7 +33,7 @@ impl Place<Narrow> for Name {
 }
 
 /// How much of the worked image there is, how many bytes of its records are accepted, whether they
-/// can be flushed, and whether their name is free; what is returned and reported then, and how many
+/// can be flushed, and whether their name is free; what is then returned and reported, and how many
 /// bytes have the name.
 type Row<'a> = (
     usize,
@@ -53,7 +53,7 @@ const THIRD: Option<Want> = Some(Want {
     part: 0,
 });
 
-/// A record could not be written when the parts of its block came.
+/// A record could not be written when the parts of its block arrived.
 const REFUSED: Result<Option<Want>, EngineFault> = Err(EngineFault::Run(RunFault::Sink(
     SinkFault::Device,
 )));

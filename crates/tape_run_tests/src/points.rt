@@ -1,4 +1,4 @@
-//! Notes, restarts and resumed sessions.
+//! Checkpoints, rollbacks and resumed sessions.
 use crate::image::{front, holds_long, long_first, long_second, set_id};
 use crate::scripts::{Do, Reel, Script, each_goes};
 use crate::sessions::begun;
@@ -16,13 +16,13 @@ const NO_NOTE: Stopped = Stopped {
     fault: RunFault::NoSuchPoint,
 };
 
-/// A third reel is asked for in step 2, and there are two readers.
+/// A third reel is requested in step 2, and there are two readers.
 const NO_THIRD_REEL: Stopped = Stopped {
     step: 2,
     fault: RunFault::TooFewReels,
 };
 
-/// The same of a second reel.
+/// The same for a second reel.
 const NO_SECOND_REEL: Stopped = Stopped {
     step: 1,
     fault: RunFault::TooFewReels,
@@ -106,7 +106,7 @@ fn a_resumed_session_goes_on(rt: HostRuntime) -> Result<(), Fail> {
     Ok(())
 }
 
-/// Returns whether the file is read whole from both volumes.
+/// Returns whether the complete file is read from both volumes.
 fn is_whole(alloc: Global, first: &[u8], second: &[u8]) -> Result<bool, CoreFault> {
     let (session, made) = read_file(alloc, set_id(), 1, TWO, &mut [first, second])?;
     Ok(made == Ok(()) && session.want().is_none() && holds_long(session.sink(), 23))

@@ -8,13 +8,13 @@ use tape_core::{CoreFault, MemorySink, PartSink, Refusing, SinkFault};
 use tape_run::{RunFault, Session, Step, Stopped, run};
 use tape_set::Want;
 
-/// A session over a sink in memory that refuses the call with this number, counted from 0.
+/// Returns a session over a sink in memory that refuses the call with this number, counted from 0.
 fn refusing(alloc: Global, call: usize) -> Result<Session<Refusing<MemorySink>>, CoreFault> {
     let sink = Refusing::new(MemorySink::new(alloc), call);
     Session::new(alloc, set_id(), 1, sink)
 }
 
-/// A part of a block of section 1 of file 1.
+/// Returns a part of a block of section 1 of file 1.
 fn part_of(block: u32, part: u32) -> Option<Want> {
     Some(Want {
         file: 1,
@@ -47,7 +47,7 @@ fn has(session: &Session<Refusing<MemorySink>>, count: u8, want: Option<Want>) -
 fn completes(alloc: Global, whole: &[u8], refused: u8) -> Result<bool, Fail> {
     let mut session = refusing(alloc, refused as usize)?;
     let failed = run(&mut session, ONE, &mut [whole], &mut []) == failed_at(0);
-    // Ten records are in a block.
+    // A block contains ten records.
     let place = part_of((refused / 10) as u32, (refused % 10) as u32);
     let stopped = failed && has(&session, refused, place);
     run(&mut session, ONE, &mut [whole], &mut [])?;
@@ -66,7 +66,7 @@ fn each_put_refused_in_turn(rt: HostRuntime) -> Result<(), Fail> {
     Ok(())
 }
 
-/// The same for both volumes of the long record, of which the first has 22 parts.
+/// The same for both volumes of the long record, the first of which has 22 parts.
 fn completes_long(alloc: Global, volumes: [&[u8]; 2], refused: usize) -> Result<bool, Fail> {
     let mut session = refusing(alloc, refused)?;
     let steps = [Step::Reel, Step::Reel];
@@ -88,7 +88,7 @@ fn each_put_of_a_long_record_refused_in_turn(rt: HostRuntime) -> Result<(), Fail
 }
 
 /// Two readings of the worked volume, the first of them cut, with a checkpoint before each, and a
-/// third after a restart.
+/// third reading after a rollback.
 const SCRIPT: &[Step] = &[
     Step::Save,
     Step::Reel,
@@ -98,7 +98,8 @@ const SCRIPT: &[Step] = &[
     Step::Reel,
 ];
 
-/// How many calls the script makes: 1 for each save and the restart, 20 puts, 5 puts, and 25 again.
+/// How many calls of the sink the script makes: 1 for each save and the rollback, 20 puts, 5 puts,
+/// and 25 again.
 const CALLS: usize = 53;
 
 /// How the script ends if this call is refused: in the step that makes it. In a rollback the sink
@@ -119,8 +120,8 @@ fn end_at(call: usize) -> Result<(), Stopped> {
 }
 
 /// Returns whether the script stops in the step of the refused call, and one more reel completes
-/// the file: the sink contains what precedes the position, and nothing is put twice. After the last
-/// call it is complete.
+/// the file: the sink contains the parts before the position, and nothing is put twice. After the
+/// last call the file is complete.
 fn completes_script(alloc: Global, whole: &[u8], refused: usize) -> Result<bool, Fail> {
     let mut session = refusing(alloc, refused)?;
     let mut reels = [front(whole, 1884), whole, whole];

@@ -34,7 +34,7 @@ impl<'a> ImageSource<&'a [u8]> for Kept<'a> {
     }
 }
 
-/// The worked volume, with its first or its second block unreadable.
+/// Returns the worked volume, with its first or its second block unreadable.
 fn bad_at(alloc: Global, bad: u8) -> Result<Image, AllocError> {
     volume(
         alloc,

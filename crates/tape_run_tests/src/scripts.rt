@@ -1,4 +1,4 @@
-//! Sessions, step by step: what is read of which image, the answer, and the state afterwards.
+//! Sessions, step by step: what is read from which image, the answer, and the state afterwards.
 use crate::answers::{defaced, with_reserved_word};
 use crate::copies::without_a_mark;
 use crate::image::{
@@ -22,9 +22,9 @@ pub enum Reel<'a> {
     Worked,
     /// This many of its first bytes.
     Cut(usize),
-    /// The worked file in five blocks, of which this one is bad (5: none is), with this trailer.
+    /// The worked file in five blocks, one of which is bad (5 means none), with this trailer.
     Five(u8, &'a str),
-    /// The first bytes of that, with five good blocks and their count.
+    /// The first bytes of this volume, with five good blocks and their count.
     FiveCut(usize),
     /// A volume with this many blocks of one byte, and this trailer.
     Blocks(u32, &'a str),
@@ -57,7 +57,7 @@ pub type Wanted = Option<(u16, u32)>;
 #[derive(Clone, Copy)]
 pub enum Do<'a> {
     /// This reel is read, with this answer, without a fault, and this many blocks of it are
-    /// delivered; this is missing then.
+    /// delivered; this is missing afterwards.
     Reads(Reel<'a>, Answer, u32, Wanted),
     /// The same, with a fault of the image.
     Breaks(Reel<'a>, ReelAnswer, Wanted),
@@ -144,7 +144,7 @@ fn stands_so(session: &Session<MemorySink>, file: u16, step: Do<'_>) -> bool {
     }
 }
 
-/// The answer of a reel that was read without a fault.
+/// Returns the answer of a reel that was read without a fault.
 fn of_no_fault(answer: Answer, blocks: u32) -> ReelAnswer {
     ReelAnswer {
         answer,
@@ -177,7 +177,7 @@ fn wants(session: &Session<MemorySink>, file: u16, wanted: Wanted) -> bool {
     session.want() == want
 }
 
-/// The reel's answer.
+/// Returns the reel's answer.
 fn answers(
     alloc: Global,
     session: &mut Session<MemorySink>,
@@ -199,7 +199,7 @@ fn runs(
     Ok(run(session, steps, readers.as_mut_slice(), &mut []))
 }
 
-/// Returns whether these steps over two reels leave this much of each.
+/// Returns whether these steps over two reels leave this many bytes of each.
 fn leaves(
     alloc: Global,
     session: &mut Session<MemorySink>,
@@ -216,7 +216,7 @@ fn leaves(
     })
 }
 
-/// The images of these reels.
+/// Returns the images of these reels.
 fn images_of(alloc: Global, reels: &[Reel<'_>]) -> Result<Vec<Image>, AllocError> {
     let mut images = Vec::new(alloc);
     for reel in reels {
@@ -225,7 +225,7 @@ fn images_of(alloc: Global, reels: &[Reel<'_>]) -> Result<Vec<Image>, AllocError
     Ok(images)
 }
 
-/// A reader of each image.
+/// Returns a reader of each image.
 fn readers_of<'a>(alloc: Global, images: &'a [Image]) -> Result<Vec<&'a [u8]>, AllocError> {
     let mut readers = Vec::new(alloc);
     for image in images {
@@ -234,7 +234,7 @@ fn readers_of<'a>(alloc: Global, images: &'a [Image]) -> Result<Vec<&'a [u8]>, A
     Ok(readers)
 }
 
-/// The image of a reel.
+/// Returns the image of a reel.
 pub fn image_of(alloc: Global, reel: Reel<'_>) -> Result<Image, AllocError> {
     match reel {
         Reel::Worked => cut(alloc, 2484),

@@ -1,4 +1,4 @@
-//! The files that are on the images of a shelf, by their names.
+//! The files on images, by their names.
 use crate::image::{HDR1, Image, payroll};
 use crate::sections::{first_of_two, one_section, second_of_two};
 use crate::volumes::EOF_ONE;
@@ -43,7 +43,7 @@ fn found<H: Abort + AllocGlobal>(
     Ok(())
 }
 
-/// The third file of a set, alone on its volume.
+/// Returns the third file of a set, alone on its volume.
 fn third(alloc: Global) -> Result<Image, AllocError> {
     one_section(
         alloc,

@@ -1,4 +1,4 @@
--- What is done if the system refuses something.
+-- What the program does if the system refuses something.
 use Rattle.std.specs.Prelude.{Bool, true, false, not, Result, Ok, Err}
 use Rattle.std.specs.declared.io.ErrorKind.{ErrorKind}
 use Rattle.std.specs.declared.io.ErrorKind.TheVariants.{NotFound, PermissionDenied}

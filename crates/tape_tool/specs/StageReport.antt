@@ -53,7 +53,7 @@ pub record Gives (point : Point) (ending : StageEnding) (form : Form)
   pub wrote : Appends out written (output_of form parts)
   pub told : Appends said says (told_with point ending (length (join parts).records))
 
--- A prefix of them was, and of the lines.
+-- A prefix of these records was written, or all of them and a prefix of the lines.
 pub record GivesFront (point : Point) (ending : StageEnding) (form : Form)
     (out written said says : Option (List ℕ)) (parts : List Portion) : Type 0 where
   pub wrote : AppendsFront out written (output_of form parts)
@@ -70,14 +70,14 @@ pub record Shows (read : List ℕ) (form : Form) (out written said says : Option
   pub wanted : want ≡ want_at point.file point.position
   pub gives : Gives point (ending_of point None) form out written said says parts
 
--- what is reported if a stage was opened: a failed write, or its device, since the parts are read
+-- the faults after a stage was opened: a failed write, or its device, since the parts are read
 -- again
 abbrev pub EndsInPart : ToolFault → Type 0
 EndsInPart fault = (fault ≡ File WriteFailed) ⊎ (fault ≡ Stage Device)
 
--- A fault ended it. Either no stage was opened and nothing was written; NoPoint is reported only if
--- there is no stage, and Full and Failed never. Or a prefix of what was to be written was, and the
--- fault is a failed write or the device.
+-- A fault ended the run. Either no stage was opened and nothing was written; NoPoint is reported
+-- only if there is no stage, and Full and Failed never. Or a prefix of the output was written, and
+-- the fault is a failed write or the device.
 pub data StopsShowing (read : List ℕ) (form : Form) (out written said says : Option (List ℕ))
     (fault : ToolFault) : Type 0 where
   unopened : (cause : StageFault) → fault ≡ Stage cause → (SaysNone cause → HoldsNone read)
@@ -101,9 +101,9 @@ pub record ShowsDamaged (read : List ℕ) (form : Form) (out written said says :
   pub ends : ending ≡ ending_of point broken
   pub gives : Gives point ending form out written said says parts
 
--- A fault ended it. Either nothing was opened and nothing written; NoPoint is reported only if
--- nothing remains, and BadFrame, Full and Failed never. Or a prefix of what was to be written was,
--- and the fault is a failed write or the device.
+-- A fault ended the run. Either nothing was opened and nothing written; NoPoint is reported only if
+-- nothing remains, and BadFrame, Full and Failed never. Or a prefix of the output was written, and
+-- the fault is a failed write or the device.
 pub data StopsSalvaging (read : List ℕ) (form : Form) (out written said says : Option (List ℕ))
     (fault : ToolFault) : Type 0 where
   nothing : (cause : StageFault) → fault ≡ Stage cause → (SaysNone cause → RemainsNone read)

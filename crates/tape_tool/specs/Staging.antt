@@ -55,7 +55,7 @@ pub record GoesOn {D : Type 0} {disk : Ghosts D} (set_id : List ℕ) (file : ℕ
   pub of_file : IsOfFile set_id file point
   pub stands : StandsAt point parts session
 
--- What the fault says of the bytes that were read: that they represent nothing, or that they
+-- What the fault says about the bytes that were read: that they represent nothing, or that they
 -- represent a checkpoint of another file or set.
 abbrev pub Says : List ℕ → ℕ → List ℕ → StagingFault → Type 0
 Says set_id file read (faults.Stage fault) = SaysNone fault → HoldsNone read

@@ -1,5 +1,5 @@
--- What the arguments of a command line ask for, by what the parser found: a row for each argument
--- and each option of a command, with its texts.
+-- What the arguments of a command line ask for, according to what the parser found: a row for each
+-- argument and each option of a command, with its texts.
 use Rattle.std.specs.Prelude.{◌≡◌, ◌≢◌, ◌⊎◌, ◌<◌, ◌≤◌, ◌^◌, ℕ, Bool, true, false, codes}
 use Rattle.std.specs.Prelude.{List, [], ◌∷◌, ◌++◌, map, length, replicate, if◌then◌else◌}
 use Rattle.std.specs.Prelude.{◌-◌, ⊤, Option, Some, None, IfSome, option_map, unwrap_or}
@@ -44,14 +44,14 @@ text_in rows word = unwrap_or (first_of word rows) []
 abbrev pub texts_in : List Row → List ℕ → List (List ℕ)
 texts_in rows word = unwrap_or (all_of word rows) []
 
--- This number of so many bits is there: it is the value of decimal digits, with or without a plus
--- sign before them.
+-- A number of this many bits was specified: it is the value of decimal digits, with or without a
+-- plus sign before them.
 abbrev pub IsNumber : ℕ → List Row → List ℕ → ℕ → Type 0
 IsNumber bits rows word n = (text : List ℕ) × (one_of word rows ≡ Some text)
     × IsNumeral 10 (without_leading_plus text)
     × (digits_value 10 (without_leading_plus text) ≡ n) × (n < 2 ^ bits)
 
--- some number of so many bits is there
+-- some number of this many bits
 abbrev pub IsSomeNumber : ℕ → List Row → List ℕ → Type 0
 IsSomeNumber bits rows word = (n : ℕ) × IsNumber bits rows word n
 
@@ -288,7 +288,7 @@ name_of verbs.Write = codes "write"
 name_of verbs.Merge = codes "merge"
 name_of verbs.Compare = codes "compare"
 
--- The order is that of the command with this name, and asks for what its rows say.
+-- The request is that of the command with this name, and contains what its rows say.
 abbrev pub IsOrderOf : List ℕ → List Row → Order → Type 0
 IsOrderOf name rows (orders.List order) = (name ≡ codes "list") × AsksToList rows order
 IsOrderOf name rows (orders.Check named) = (name ≡ codes "check") × NamesInput rows named
@@ -302,7 +302,7 @@ IsOrderOf name rows (orders.Write order) = (name ≡ codes "write") × AsksToWri
 IsOrderOf name rows (orders.Merge order) = (name ≡ codes "merge") × AsksToMerge rows order
 IsOrderOf name rows (orders.Compare named) = (name ≡ codes "compare") × NamesImages rows named
 
--- what is to be done by the command that the parser found, if it found one
+-- what the command that the parser found is asked to do, if it found one
 abbrev pub IsOrderIn : Option (List ℕ × List Row) → Order → Type 0
 IsOrderIn None order = ⊥
 IsOrderIn (Some met) order = IsOrderOf met.0 met.1 order

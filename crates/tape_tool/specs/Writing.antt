@@ -13,7 +13,8 @@ record_length Fixed None block offset = 0
 record_length Counted None block offset = min (block - offset) 9999
 record_length Spanned None block offset = 0
 
--- There is no such shape: only blocks of D are padded, and a record of format F has a byte.
+-- There is no such shape: only blocks of D are padded, and a record of format F has at least one
+-- byte.
 abbrev pub IsNoShape : Format → ℕ → Bool → Type 0
 IsNoShape format length pad_full =
     ((pad_full ≡ true) × (format ≢ Counted)) ⊎ ((format ≡ Fixed) × (length ≡ 0))

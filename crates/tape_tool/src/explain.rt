@@ -62,7 +62,7 @@ impl fmt::Display for FaultSite<'_> {
 }
 
 impl<'a> FaultSite<'a> {
-    /// The kind of the site, and its name.
+    /// Returns the kind of the site, and its name.
     fn named(&self) -> (&'static str, &'a str) {
         match *self {
             FaultSite::Unknown | FaultSite::Volume(_, _, _) | FaultSite::Listed(_) => ("", ""),
@@ -102,7 +102,7 @@ impl fmt::Display for Explanation<'_> {
     }
 }
 
-/// The site of a fault: the directory of `unpack` has a stage for each file.
+/// Returns the site of a fault: the directory of `unpack` has a stage for each file.
 fn site_of<'a>(fault: ToolFault, site: FaultSite<'a>) -> FaultSite<'a> {
     let is_stage = matches!(
         fault,
@@ -114,7 +114,7 @@ fn site_of<'a>(fault: ToolFault, site: FaultSite<'a>) -> FaultSite<'a> {
     }
 }
 
-/// Whether the fault is one of the file being worked on.
+/// Returns whether the fault is one of the file being worked on.
 fn is_at(fault: ToolFault, site: FaultSite<'_>) -> bool {
     match (fault, site) {
         (ToolFault::Run(_), FaultSite::Stage(_)) => true,
@@ -138,7 +138,7 @@ pub fn text_of(fault: ToolFault, site: FaultSite<'_>) -> &'static str {
     }
 }
 
-/// The text of an image's fault.
+/// Returns the text of an image's fault.
 fn image_text(fault: ImageFault) -> &'static str {
     let is_first = fault.place == 0;
     match fault.cause {
@@ -149,7 +149,7 @@ fn image_text(fault: ImageFault) -> &'static str {
     }
 }
 
-/// The texts for faults of a file, by its site.
+/// Returns the texts for faults of a file, by its site.
 fn files_at(site: FaultSite<'_>) -> &'static [&'static str] {
     match site {
         FaultSite::Stdin | FaultSite::Image(_) | FaultSite::Listed(_) => FILE_OF_IMAGE,
@@ -165,7 +165,7 @@ fn files_at(site: FaultSite<'_>) -> &'static [&'static str] {
     }
 }
 
-/// The text of the fault with this number, from 1.
+/// Returns the text of the fault with this number, from 1.
 fn nth(texts: &'static [&'static str], number: u8) -> &'static str {
     match texts.get(usize::from(number).saturating_sub(1)) {
         Some(text) => *text,

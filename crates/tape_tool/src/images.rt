@@ -62,7 +62,7 @@ pub fn names_of<'t, 'a: 't, R: Runtime + AllocGlobal>(
     }
 }
 
-/// The text of a list.
+/// Returns the text of a list.
 fn read_list<R: Runtime + AllocGlobal>(rt: &R, list: List<'_>) -> Result<String, Refusal> {
     match String::from_utf8(bytes_of(rt, list)?) {
         Err(error) => {
@@ -80,13 +80,13 @@ fn read_list<R: Runtime + AllocGlobal>(rt: &R, list: List<'_>) -> Result<String,
     }
 }
 
-/// Whether a list of lines begins with a byte order mark, or a line of it ends with a carriage
-/// return.
+/// Returns whether a list of lines begins with a byte order mark, or a line of it ends with a
+/// carriage return.
 fn is_of_windows(text: &str) -> bool {
     text.starts_with('\u{FEFF}') || text.contains("\r\n") || text.ends_with('\r')
 }
 
-/// The bytes of a list.
+/// Returns the bytes of a list.
 fn bytes_of<R: Runtime + AllocGlobal>(rt: &R, list: List<'_>) -> Result<Vec<u8>, Refusal> {
     let Some(path) = list.file else {
         return read_all(rt.alloc(), &mut rt.reader());
@@ -110,7 +110,7 @@ fn read_all<D: Read>(alloc: Global, device: &mut D) -> Result<Vec<u8>, Refusal>
     }
 }
 
-/// The number of the name at this offset of a list, from 1, counting empty ones.
+/// Returns the number of the name at this offset of a list, from 1, counting empty ones.
 fn number_at(list: &[u8], null: bool, place: usize) -> usize {
     let end = end_of(null);
     let mut number = 1usize;
@@ -161,14 +161,14 @@ fn pieces_of(alloc: Global, text: &str, null: bool) -> Result<Vec<&str>, AllocEr
     text.split(end_of(null)).collect(alloc)
 }
 
-/// The terminator of each name in a list.
+/// Returns the terminator of each name in a list.
 fn end_of(null: bool) -> char
     ensures { result ≡ end_byte null }
 {
     if null { '\0' } else { '\n' }
 }
 
-/// An allocation was refused.
+/// Returns the fault of an allocation that was refused.
 fn no_memory() -> Refusal {
     Refusal::Faulted(OUT_OF_MEMORY)
 }

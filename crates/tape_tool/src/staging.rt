@@ -59,7 +59,7 @@ pub fn open_session<D: Disk + Drop>(
     // On any disk it is a session of this file.
     ensures file { IfOk result (λ session.
         (session.core.set_id ≡ set_id) × (session.core.file ≡ file)) }
-    // What a fault says of the bytes is true.
+    // If a fault says something about the bytes, that is true.
     ensures says { D.is_honest disk → (D.length_of disk ≡ 0 → ⊥)
         → IfErr result (λ refused. Says set_id file (D.seen disk) refused.fault) }
     ensures number { D.length_of disk ≡ 0 → IfErr result

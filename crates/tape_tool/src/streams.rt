@@ -30,7 +30,7 @@ pub fn keep_numbers<R: Host>(rt: &R) -> Result<Vec<File>, ToolFault> {
                     return Err(OUT_OF_MEMORY);
                 }
             }
-            // No number is free, so no file gets one.
+            // No number is free, so no file gets one of these.
             Err(error) if error.raw_os_error() == Some(EMFILE) => break,
             Err(_) => return Err(ToolFault::File(FileFault::NotOpened)),
         }

@@ -64,7 +64,7 @@ pub fn flag_of(matches: &ArgMatches<'_>, name: &str) -> bool
     matches.get_flag(name)
 }
 
-/// The form that was requested.
+/// Returns the form that was requested.
 pub fn form_of(matches: &ArgMatches<'_>) -> Form
     ensures { IsForm (rows_of (found_of matches.now)) result }
 {
@@ -74,7 +74,7 @@ pub fn form_of(matches: &ArgMatches<'_>) -> Form
     }
 }
 
-/// Whether the argument means a stream.
+/// Returns whether the argument means a stream.
 pub fn is_dash(word: &str) -> bool
     ensures value { result ≡ bytes_eq word.now (codes "-") }
     ensures is { IsTrue result ↔ (word.now ≡ codes "-") }
@@ -90,7 +90,7 @@ pub fn is_read_twice(matches: &ArgMatches<'_>) -> bool
     most < count_dashes(matches.get_strs("IMAGE").unwrap_or(&[]))
 }
 
-/// Returns how many images may be standard input, beside this list.
+/// Returns how many images may be standard input, given this list.
 fn inputs_beside(list: Option<&str>) -> usize
     ensures { result ≡ inputs_beside (option_map (λ l. l.now) list.entry) }
 {
@@ -107,8 +107,8 @@ fn count_dashes(words: &[&str]) -> usize
     words.iter().filter(|word| is_dash(**word)).count()
 }
 
-/// Returns the one text, if there is one. Several are a usage error, and so is a stream; each has
-/// its message.
+/// Returns the only text, if there is one. Several texts are a usage error, and so is a stream;
+/// each error has its own message.
 pub fn at_most_one<'a>(
     texts: &[&'a str],
     dash: &'static str,
@@ -164,7 +164,7 @@ pub fn named_once<'a>(
     named(alloc, matches, command_spec, too_many)
 }
 
-/// The list that the arguments name, if they do.
+/// Returns the list that the arguments name, if they do.
 fn list_of<'a>(matches: &ArgMatches<'a>) -> Option<List<'a>>
     ensures { IsListIn (rows_of (found_of matches.now)) result }
 {
@@ -308,7 +308,7 @@ fn order_with<'a>(alloc: Global, verb: Verb, words: &ArgMatches<'a>) -> Result<O
     })
 }
 
-/// The command with this name.
+/// Returns the command with this name.
 fn verb_of(name: &str) -> Option<Verb>
     ensures some { IfSome result (λ verb. name.now ≡ name_of verb) }
     ensures none { IfNone result ((verb : Verb) → name.now ≢ name_of verb) }

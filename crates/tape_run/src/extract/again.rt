@@ -27,7 +27,7 @@ use tape_set::Want;
 ///
 /// # Errors
 ///
-/// The errors are those of `extract_to`.
+/// The errors of `extract_to`.
 pub fn extract_in_passes<S: PartWalk, R: Read + Drop, L: ImageSource<R>, W: Write, P: Write>(
     session: &mut Session<S>,
     images: &mut L,
@@ -80,7 +80,7 @@ fn read_rounds<S: PartSink, R: Read + Drop, L: ImageSource<R>, P: Write>(
             return Ok(());
         }
         lines += count as u64;
-        // The lines of another pass would have no numbers.
+        // Another pass would need line numbers above the greatest one.
         if u64::MAX - lines < count as u64 {
             return Ok(());
         }

@@ -57,7 +57,7 @@ pub fn write_parts<S: PartWalk, W: Write>(
     write_rest(sink, front.records, form, out)
 }
 
-/// Writes the parts of the sink from the first on, as long as each of them ends a record.
+/// Writes the parts of the sink from the first one, as long as each of them ends a record.
 fn write_front<S: PartWalk, W: Write>(
     sink: &mut S,
     form: Form,

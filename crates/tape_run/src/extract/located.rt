@@ -202,7 +202,7 @@ fn read_on<S: PartSink, R: Read + Drop>(
     Ok(None)
 }
 
-/// Whether a reading completed a section.
+/// Returns whether a reading completed a section.
 fn ends_section(answer: &ReelAnswer) -> bool
     ensures yes { OnTrue result (EndsSection answer.now.answer) }
     ensures no { OnFalse result (answer.now.answer ≢ Answer.Complete) }

@@ -1,4 +1,4 @@
-//! `extract` without a stage: the records are written while the images are read.
+//! `extract` without a stage: writes the records while it reads the images.
 
 ghost use Rattle.std.specs.Prelude.{◌≡◌, ◌≢◌, ℕ, List, Option, None, OnOk, IfOk, OnErr, IfErr};
 ghost use Rattle.tape_run.specs.Causes.{IsExtractFault};
@@ -17,10 +17,10 @@ use tape_set::Want;
 
 /// The name that an output is given once it is complete.
 pub trait Place<W: Write> {
-    /// What has the name, if this is known.
+    /// The output that has the name, if this is known.
     ghost stands: { Self → Option (List ℕ) };
 
-    /// Gives the output this name, and nothing else.
+    /// Gives the output this name, and changes nothing else.
     ///
     /// # Errors
     ///

@@ -42,7 +42,7 @@ impl SectionEnd {
     }
 }
 
-/// Writes which items after those that are believed may be blocks, if there are some.
+/// Writes that items after the reliable ones may be blocks of the section, if there are any.
 fn write_unsure<P: Write>(
     report: &mut P,
     sect: u16,
@@ -151,7 +151,7 @@ impl<W: Write> Recovery<W> {
         Ok(())
     }
 
-    /// Reports what is missing of the blocks of a section, of which so many were read again.
+    /// Reports what is missing of the blocks of a section, if this many were read again.
     fn end_blocks<P: Write>(
         &mut self,
         copy: &SectionCopy,
@@ -171,7 +171,7 @@ impl<W: Write> Recovery<W> {
         }
     }
 
-    /// Reports what is missing after the blocks of a section, of which so many were read again, and
+    /// Reports what is missing after the blocks of a section, if this many were read again, and
     /// returns how the section ended.
     pub fn end_section<P: Write>(
         &mut self,

@@ -15,7 +15,7 @@ use tape_blocks::BlockFault;
 /// Room for the longest line.
 pub type Line = ArrayVec<u8, 192>;
 
-/// Adds a space and a number.
+/// Appends a space and a number.
 fn put_number(line: &mut Line, number: u64)
     requires room { array_vec_len line.old ≤ 171 }
     ensures items { line.new.items ≡ line.old.items ++ number_text number }
@@ -25,8 +25,8 @@ fn put_number(line: &mut Line, number: u64)
     put_decimal(line, number);
 }
 
-/// Returns the line of a gap: the blocks `first` to `last` of the section are missing after so many
-/// records.
+/// Returns the line of a gap: the blocks `first` to `last` of the section are missing after this
+/// many records.
 pub fn gap_line(sect: u16, first: u32, last: u32, records: u64) -> Line
     ensures { result.items ≡ gap_line sect first last records }
 {
@@ -79,7 +79,7 @@ pub fn no_form_line(sect: u16, records: u64) -> Line
     line
 }
 
-/// Returns the line of a block that was read and holds no records in the file's form.
+/// Returns the line of a block that was read but contains no records in the file's form.
 pub fn refused_line(sect: u16, block: u32, fault: &BlockFault, records: u64) -> Line
     ensures { result.items ≡ refused_line sect block fault.now records }
 {
@@ -107,7 +107,7 @@ pub fn torn_line(sect: u16, block: u32, records: u64) -> Line
     line
 }
 
-/// Returns the line of a section whose trailer label counts other blocks than there are.
+/// Returns the line of a section whose trailer label counts a different number of blocks.
 pub fn count_line(sect: u16, label: u32, seen: u32) -> Line
     ensures { result.items ≡ count_line sect label seen }
 {
@@ -120,7 +120,7 @@ pub fn count_line(sect: u16, label: u32, seen: u32) -> Line
     line
 }
 
-/// Returns the line of items that may be blocks of the section or not.
+/// Returns the line of items that may or may not be blocks of the section.
 pub fn unsure_line(sect: u16, first: u32, last: u32) -> Line
     ensures { result.items ≡ unsure_line sect first last }
 {
@@ -146,7 +146,7 @@ pub fn section_line(sect: u16, image: usize, blocks: u32) -> Line
     line
 }
 
-/// Returns the last line: how many records were written, and whether they are all.
+/// Returns the last line: how many records were written, and whether these are all.
 pub fn last_line(whole: bool, records: u64) -> Line
     ensures { result.items ≡ last_line whole records }
 {

@@ -56,7 +56,8 @@ pub fn recover_sections<W: Write, R: Read + Drop, L: ImageSource<R>, P: Write>(
     }
 }
 
-/// The form in which a section's blocks are read: the section's own, otherwise that of the file.
+/// Returns the form in which a section's blocks are read: the section's own, otherwise that of the
+/// file.
 fn form_for(content: Content, own: Option<Known>, known: Option<Known>) -> Option<Known>
     ensures { result ≡ form_for content own known }
 {
@@ -67,7 +68,7 @@ fn form_for(content: Content, own: Option<Known>, known: Option<Known>) -> Optio
     }
 }
 
-/// Whether blocks can be read in this form. Blocks as they are need none.
+/// Returns whether blocks can be read in this form. To be copied unchanged, blocks need no form.
 fn has_form(content: Content, form: &Option<Known>) -> bool
     ensures { result ≡ has_form content form.now }
 {

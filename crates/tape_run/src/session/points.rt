@@ -1,4 +1,4 @@
-//! Whether the last checkpoint has the session's position.
+//! Comparisons of checkpoints with the session's position.
 
 ghost use Rattle.std.specs.Prelude.{◌≡◌, ◌≢◌};
 ghost use Rattle.std.specs.Bool.{OnTrue, OnFalse};

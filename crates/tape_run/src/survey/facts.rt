@@ -110,7 +110,7 @@ impl fmt::Display for BadText {
     }
 }
 
-/// A volume label that follows something else.
+/// A volume label that follows another item.
 #[derive(Clone, Copy)]
 struct LateText(&'static str, Option<u32>);
 
@@ -201,7 +201,7 @@ impl fmt::Display for LeftText {
     }
 }
 
-/// Whether to say what was expected; that no volume label was found is said before.
+/// Returns whether to say what was expected: a missing volume label is reported already.
 fn is_told(wanted: ExpectedItem) -> bool
     ensures { result ≡ is_told wanted }
 {
@@ -260,7 +260,7 @@ impl fmt::Display for FaultText {
     }
 }
 
-/// A fault with this number at this offset, and what the image probably is.
+/// Appends a fault with this number at this offset, and what the image probably is.
 #[derive(Clone, Copy)]
 struct FaultAt(&'static str, u8, u64, &'static str);
 
@@ -273,7 +273,7 @@ impl fmt::Display for FaultAt {
     }
 }
 
-/// Whether nothing of it reads as an image.
+/// Returns whether no item of it can be read, so that it is probably not an image.
 pub(super) fn is_no_image(fault: &ImageFault) -> bool
     ensures { result ≡ is_no_image fault.now }
 {

@@ -39,7 +39,7 @@ fn is_other(first: &Head1, second: &Head1) -> bool
         || first.generation != second.generation
 }
 
-/// What is known of a file after one more of its labels.
+/// Returns what is known of a file after one more of its labels.
 fn note_of(files: &Files, key: &FileKey, head: Head1) -> FileNote
     ensures { result ≡ note_of (lookup (same_file key.now) files.now.entries) head }
 {

@@ -10,7 +10,7 @@ use super::view::{ImageSurvey, is_end, is_ended};
 use crate::section::ImageStop;
 use std::fmt;
 
-/// How many columns a name has at least.
+/// The minimum width of a name in columns.
 const NAME: usize = 24;
 
 /// Returns the state of a volume, padded to a column.
@@ -55,7 +55,7 @@ fn state_of(sight: &ImageSurvey) -> &'static str
     }
 }
 
-/// Spaces after a name of this length, so that the next column is the same for all.
+/// The spaces after a name of this length, so that the next column is the same for all.
 #[derive(Clone, Copy)]
 struct Spaces(usize);
 

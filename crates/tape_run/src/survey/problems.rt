@@ -60,7 +60,7 @@ impl fmt::Display for Numbers {
     }
 }
 
-/// Where to look for missing sections, if this is known of the one before them.
+/// Where to look for missing sections, if the section before them is known.
 #[derive(Clone, Copy)]
 struct Where(Option<Entry>);
 
@@ -119,7 +119,7 @@ fn add_missing(
     append(alloc, texts, MissingLine { numbers, before })
 }
 
-/// What is known of the section before this one.
+/// Returns what is known of the section before this one.
 fn before_of(sections: &Sections, key: &SectionKey) -> Option<Entry>
     ensures { result ≡ entry_at sections.now.entries
         (key_at key.now.set_id key.now.file (key.now.sect - 1)) }
@@ -175,7 +175,7 @@ fn add_section(
     }
 }
 
-/// Whether no trailer label of a section was found.
+/// Returns whether no trailer label of a section was found.
 fn is_cut(state: SectionState) -> bool
     ensures { result ≡ is_cut state }
 {

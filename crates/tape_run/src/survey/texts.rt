@@ -146,7 +146,7 @@ fn add_place(
     Ok(())
 }
 
-/// The texts for sets, in the order in which they were found first.
+/// Returns the texts for sets, in the order in which they were found first.
 fn texts_of(
     alloc: Global,
     findings: &Findings,
@@ -183,7 +183,7 @@ fn add_row(rows: &mut Vec<u8>, sections: &Sections, place: usize) -> Result<(), 
     Ok(())
 }
 
-/// A row for each section.
+/// Returns a row for each section.
 fn rows_of(alloc: Global, sections: &Sections) -> Result<Vec<u8>, AllocError>
     ensures { IfOk result (λ rows. rows.items ≡ flat_map section_row sections.now.entries) }
 {
@@ -194,7 +194,7 @@ fn rows_of(alloc: Global, sections: &Sections) -> Result<Vec<u8>, AllocError>
     Ok(rows)
 }
 
-/// What precedes the sets.
+/// Returns what precedes the sets.
 pub(crate) fn sections_text(
     alloc: Global,
     wording: Wording,
@@ -208,7 +208,7 @@ pub(crate) fn sections_text(
     }
 }
 
-/// The texts for all sets that were found.
+/// Returns the texts for all sets that were found.
 pub(crate) fn sets_text(
     alloc: Global,
     findings: &Findings,

@@ -65,7 +65,7 @@ impl Model for Findings {
     } };
 }
 
-/// Whether the volume ended.
+/// Returns whether the volume ended.
 pub(crate) fn is_ended(course: LabelOrder) -> bool
     ensures { result ≡ is_ended course }
 {
@@ -75,7 +75,7 @@ pub(crate) fn is_ended(course: LabelOrder) -> bool
     }
 }
 
-/// Whether nothing was found.
+/// Returns whether nothing was found.
 fn is_none(file: Option<u16>) -> bool
     ensures { result ≡ is_none file }
 {
@@ -85,7 +85,7 @@ fn is_none(file: Option<u16>) -> bool
     }
 }
 
-/// Whether the image does not stop by a fault.
+/// Returns whether the image does not end with a fault.
 pub(crate) fn is_end(stop: ImageStop) -> bool
     ensures { result ≡ is_end stop }
 {
@@ -96,14 +96,14 @@ pub(crate) fn is_end(stop: ImageStop) -> bool
 }
 
 impl ImageSurvey {
-    /// Whether the items are a complete volume in its order, whose files can be read.
+    /// Returns whether the items are a complete volume in its order, whose files can be read.
     pub(crate) fn is_whole(&self) -> bool
         ensures { result ≡ is_whole_sight self.now }
     {
         is_ended(self.glance.course) && is_none(self.glance.unread) && is_end(self.stop)
     }
 
-    /// Whether they are such a volume, and none of its sections is damaged.
+    /// Returns whether they are such a volume, and none of its sections is damaged.
     pub(crate) fn is_sound(&self) -> bool
         ensures { result ≡ is_sound self.now }
     {
@@ -148,7 +148,7 @@ impl Findings {
         Ok(Some(sight))
     }
 
-    /// The same for an image that was opened, whatever of it remains unread.
+    /// Does the same for an image that was opened, however many of its bytes are left.
     fn read_items<R: Read>(&mut self, reader: &mut R) -> Result<ImageSurvey, RunFault>
         ensures fault { IsOkUnless result faults.OutOfMemory }
         ensures ok { IfOk result (λ sight. ViewsItems (R.remaining reader.old)
@@ -169,13 +169,13 @@ impl Findings {
             self.images,
             &mut image,
         );
-        // The rest of the reader is its caller's again.
+        // The caller gets back the rest of the reader.
         image.into_device();
         viewed
     }
 }
 
-/// Looks at the items of an image of which nothing was read yet, and adds what is found in them.
+/// Processes the items of an image of which nothing was read yet, and adds what is found in them.
 fn view_items<R: Read>(
     sections: &mut Sections,
     files: &mut Files,
@@ -224,7 +224,7 @@ fn view_items<R: Read>(
     }
 }
 
-/// Adds what an item says, and returns what is expected next.
+/// Adds what is known from an item, and returns what is expected next.
 fn take_behind(sections: &mut Sections, phase: &Phase, item: Item<'_>) -> Result<Phase, RunFault>
     requires { blocks_of phase.now < most_blocks }
     ensures fault { IsOkUnless result faults.OutOfMemory }

@@ -1,4 +1,4 @@
-//! The system's message about a file with a fault.
+//! The system's message for a fault of a file.
 use super::FaultSite;
 use crate::fault::{FileFault, ToolFault};
 use crate::write::run::split;
@@ -33,7 +33,7 @@ pub fn reason_of<R: Runtime>(rt: &R, fault: ToolFault, site: FaultSite<'_>) -> O
     }
 }
 
-/// Returns why there is nothing at this path.
+/// Returns why the lookup of this path finds nothing.
 fn not_there<R: Runtime>(rt: &R, path: &str) -> Option<io::Error> {
     fs::metadata(rt, path).err()
 }

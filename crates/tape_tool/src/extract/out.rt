@@ -32,7 +32,7 @@ const FRONT: usize = 148;
 /// How an output is to be written, and the file found under its name before.
 #[derive(Clone, Copy)]
 pub enum Way {
-    /// To a new file, which takes the name once it is complete.
+    /// To a new file, which gets the name when it is complete.
     Renamed(Option<FileId>),
     /// The same, for a name that does not exist: it is never written in place.
     New,

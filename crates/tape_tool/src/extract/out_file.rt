@@ -29,7 +29,7 @@ impl<'a, R: Host> OutFile<'a, R> {
         }
     }
 
-    /// Returns the reason why it could not be created, if it could not.
+    /// Returns the reason why the file could not be created, if it could not.
     pub fn refused(&self) -> Option<FileFault> {
         self.refused
     }

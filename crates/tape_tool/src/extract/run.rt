@@ -124,8 +124,8 @@ fn on_stage<'a, R: Host, P: Write>(
     end
 }
 
-/// A draft of the output, if it is written that way and its directory accepts new files. `None` if
-/// the output is written in place.
+/// Returns a draft of the output, if it is written that way and its directory accepts new files.
+/// `None` if the output is written in place.
 pub fn draft_of<'a, R: Host>(
     rt: &'a R,
     out: &'a str,
@@ -211,7 +211,7 @@ fn into_draft<R: Host, P: Write>(
     name.ended(end)
 }
 
-/// A session whose records go to this file.
+/// Returns a session whose records go to this file.
 fn session_into<F: Write + Drop>(
     alloc: Global,
     task: &Task<'_>,
@@ -226,7 +226,7 @@ fn session_into<F: Write + Drop>(
     }
 }
 
-/// The result: a part that could not be kept was a record that could not be written.
+/// Returns the result: if a part could not be stored, a record could not be written.
 fn end_as_written(answer: Result<Option<Want>, EngineFault>) -> End {
     match answer {
         Err(EngineFault::Run(RunFault::Sink(SinkFault::Device))) => {
@@ -306,7 +306,7 @@ fn written_to<R: Host, S: PartWalk + Drop, W: Write, P: Write>(
 }
 
 /// Recovers a file from the images that have its sections, and prints the last line if it is
-/// complete. The last image stays open and is read on.
+/// complete. The last image stays open, so that the next file can continue there.
 pub fn extract_whole<'a, R: Host, P: Write>(
     rt: &'a R,
     task: &Task<'a>,
@@ -336,7 +336,7 @@ pub fn extract_whole<'a, R: Host, P: Write>(
     name.ended(end)
 }
 
-/// The result if the file is complete.
+/// Returns the result if the file is complete.
 fn end_reported(reported: Result<(), WriteFailed>) -> End {
     match reported {
         Ok(()) => End::Done,

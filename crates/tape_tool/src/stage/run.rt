@@ -80,7 +80,7 @@ fn show_disk<'a, R: Host>(
     }
 }
 
-/// The same, with the records written to the draft.
+/// Does the same, with the records written to the draft.
 fn show_drafted<R: Host>(
     rt: &R,
     order: &StageOrder<'_>,
@@ -95,7 +95,7 @@ fn show_drafted<R: Host>(
     draft.name.ended(end)
 }
 
-/// The same, with the records written to the file with the output's name.
+/// Does the same, with the records written to the file with the output's name.
 fn show_in_place<R: Host>(
     rt: &R,
     order: &StageOrder<'_>,

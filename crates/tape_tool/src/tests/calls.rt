@@ -23,19 +23,19 @@ pub fn end_of<H: Host>(rt: &H, line: &str) -> Result<End, Fail> {
     Ok(perform(rt, words.as_slice()).end)
 }
 
-/// The line ends like this.
+/// The call with this line ends like this.
 pub fn ends<H: Host + Abort>(rt: &H, line: &str, wanted: End) -> Result<(), Fail> {
     let end = end_of(rt, line)?;
     assert!(rt; end == wanted, "{line}: {end:?}");
     Ok(())
 }
 
-/// The line ends with this fault.
+/// The call with this line ends with this fault.
 fn fails<H: Host + Abort>(rt: &H, line: &str, fault: ToolFault) -> Result<(), Fail> {
     ends(rt, line, End::Faulted(fault))
 }
 
-/// Each line ends as the table says.
+/// Each call with one of these lines ends as the table says.
 pub fn each_ends<H: Host + Abort>(rt: &H, cases: &[(&str, End)]) -> Result<(), Fail> {
     for (line, wanted) in cases {
         ends(rt, line, *wanted)?;
@@ -43,7 +43,7 @@ pub fn each_ends<H: Host + Abort>(rt: &H, cases: &[(&str, End)]) -> Result<(), F
     Ok(())
 }
 
-/// Each line ends with the fault beside it.
+/// Each call with one of these lines ends with the fault beside it.
 pub fn each_fails<H: Host + Abort>(rt: &H, cases: &[(&str, ToolFault)]) -> Result<(), Fail> {
     for (line, fault) in cases {
         fails(rt, line, *fault)?;
@@ -51,7 +51,7 @@ pub fn each_fails<H: Host + Abort>(rt: &H, cases: &[(&str, ToolFault)]) -> Resul
     Ok(())
 }
 
-/// None of these lines names anything that exists.
+/// None of these lines names an existing file.
 pub fn each_is_wrong<H: Host + Abort>(rt: &H, lines: &[&str]) -> Result<(), Fail> {
     for line in lines {
         ends(rt, line, End::WrongWords)?;
@@ -62,9 +62,9 @@ pub fn each_is_wrong<H: Host + Abort>(rt: &H, lines: &[&str]) -> Result<(), Fail
 /// A step of a test: an action and its expected result.
 #[derive(Clone, Copy)]
 pub enum Step<'a> {
-    /// The program is called with this line, and ends like this.
+    /// A call of the program with this line, and how it ends.
     Ends(&'a str, End),
-    /// The program is called with this line, and ends with this fault.
+    /// A call of the program with this line, and the fault with which it ends.
     Fails(&'a str, ToolFault),
     /// Creates a directory.
     Folder(&'a str),
@@ -214,7 +214,7 @@ fn is_missing<H: Runtime + AllocGlobal>(rt: &H, path: &str) -> bool {
     fs::read(rt, path).is_err()
 }
 
-/// The line followed by this many names of images that do not exist.
+/// Returns the line followed by this many names of images that do not exist.
 pub fn with_images(alloc: Global, line: &str, count: u16) -> Result<String, AllocError> {
     let mut line = line.to_string(alloc)?;
     for _ in 0..count {

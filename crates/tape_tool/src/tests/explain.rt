@@ -13,7 +13,7 @@ use tape_run::RunFault;
 use tape_stage::StageFault;
 use tape_writer::Prefix;
 
-/// Whether the text has one to three lines of at most 79 columns, none of them empty.
+/// Returns whether the text has one to three lines of at most 79 columns, none of them empty.
 fn fits(text: &str) -> bool {
     let count = text.lines().count();
     let narrow = text

@@ -16,7 +16,7 @@ use std::time::{Clock, Duration};
 /// The contents of standard input: an image of one mark.
 const STANDARD_INPUT: &[u8] = b"\0\0\0\0\xff\xff\xff\xff";
 
-/// The end of the path of an image that accepts no byte.
+/// The end of the path of an image that accepts no bytes.
 const FULL: &str = "/FUL001.tap";
 
 /// What the system refuses, or does in addition.
@@ -27,7 +27,7 @@ pub enum Odd<'a> {
     Look(&'a str, ErrorKind),
     /// What has this name is not opened, for this reason.
     Open(&'a str, ErrorKind),
-    /// A file gets no second name, for this reason.
+    /// No file gets a second name, for this reason.
     Link(ErrorKind),
     /// No file gets another name.
     Rename,
@@ -48,7 +48,7 @@ struct FakeSystem<'a> {
     out: &'a RefCell<String>,
     told: &'a RefCell<String>,
     /// The paths that were opened, each followed by a space, or by a question mark and a space if
-    /// opening failed.
+    /// opening it failed.
     opened: &'a RefCell<String>,
 }
 
@@ -64,7 +64,7 @@ impl FakeSystem<'_> {
         }
     }
 
-    /// Does what the test says when this path is opened.
+    /// Does what the test specifies when this path is opened.
     fn open(&self, path: &str) -> io::Result<()> {
         match self.odd {
             Odd::Open(name, kind) if path == name => Err(io::Error::from(kind)),
@@ -256,7 +256,7 @@ pub struct Seen {
 }
 
 impl Seen {
-    /// Returns whether this was the result; what was opened is compared or not.
+    /// Returns whether this was the result; the list of opened files is compared if requested.
     pub fn comes_to(&self, status: u8, out: &str, told: &str, opened: Option<&str>) -> bool {
         let is_opened = match opened {
             Some(paths) => self.opened.as_str() == paths,
@@ -266,12 +266,12 @@ impl Seen {
     }
 }
 
-/// Calls the program with a line; standard output accepts what is printed, or nothing.
+/// Calls the program with a line; standard output accepts everything, or nothing.
 pub fn called(rt: &HostRuntime, line: &str, takes: bool) -> Result<Seen, Fail> {
     called_oddly(rt, line, takes, Odd::Nothing)
 }
 
-/// The same, on a system with this peculiarity.
+/// Does the same, on a system with this peculiarity.
 pub fn called_oddly(rt: &HostRuntime, line: &str, takes: bool, odd: Odd<'_>) -> Result<Seen, Fail> {
     let words = words_of(rt.alloc(), line)?;
     let out = RefCell::new(String::new(rt.alloc()));
@@ -287,7 +287,7 @@ pub fn called_oddly(rt: &HostRuntime, line: &str, takes: bool, odd: Odd<'_>) -> 
         opened: &opened,
     });
     let opened = opened.into_inner();
-    // First of all the numbers of the standard streams are checked.
+    // First, the numbers of the standard streams are checked.
     let Some(opened) = opened.as_str().strip_prefix("/ ") else {
         return Err(Fail::from("the root is opened first"));
     };

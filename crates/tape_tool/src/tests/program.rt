@@ -148,7 +148,7 @@ fn statuses_and_fault_lines(rt: HostRuntime) {
     }
 }
 
-/// Without arguments for this reason a run ends like this, with this message.
+/// A run without arguments ends like this for this reason, with this message.
 fn is_without_words<H: Abort + AllocGlobal>(rt: &H, kind: ErrorKind, wanted: End, text: &str) {
     let streams = Streams::new(rt.alloc(), true);
     let end = without_words(&streams, kind);
@@ -165,7 +165,7 @@ and rename it, or use 'tape list < NAME'\n";
     is_without_words(&rt, ErrorKind::OutOfMemory, no_memory, "");
 }
 
-/// A line that asks for nothing ends like this, with or without a message.
+/// A line that requests nothing ends like this, with or without a message.
 fn is_refused<H: Abort + AllocGlobal>(
     rt: &H,
     line: &str,
@@ -194,7 +194,7 @@ const REFUSED: &[(&str, bool, End)] = &[
     ("lost", false, End::WrongWords),
 ];
 
-/// Help that could not be written is an error; a usage error stays one even if its message could
+/// Help that could not be written is an error; a usage error remains one even if its message could
 /// not be written.
 #[test]
 fn help_not_written(rt: HostRuntime) -> Result<(), Fail> {

@@ -142,7 +142,7 @@ const ROWS: &[Row<'_>] = &[
         "",
         None,
     ),
-    // An image that accepts nothing, and an output through a link for a file without records.
+    // An image that accepts nothing, and a file without records whose output is a link.
     (
         "write . FUL 100000 ONE=seen_one.txt",
         1,
@@ -221,14 +221,15 @@ const READERS: &[(&str, &str, &str)] = &[
     ("unpack many", "many.names ", ""),
 ];
 
-/// Whether 300 images were tried, after what was opened first, and this is printed last.
+/// Returns whether opening 300 images was tried, after these files were opened, and this text is
+/// printed last.
 fn looks_for_all(seen: &Seen, first: &str, last: &str) -> bool {
     let (opened, out) = (seen.opened.as_str(), seen.out.as_str());
     let looked_for = opened.len() == first.len() + 300 * "lost.tap? ".len();
     seen.status == 3 && opened.starts_with(first) && looked_for && out.ends_with(last)
 }
 
-/// A call with this line, 256 further images and those of a list.
+/// Makes a call with this line, 256 further images and those of a list.
 fn called_with_all(rt: &HostRuntime, line: &str) -> Result<Seen, Fail> {
     let mut line = with_images(rt.alloc(), line, 256)?;
     line.push_str(" --files-from many.names")?;

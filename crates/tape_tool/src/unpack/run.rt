@@ -70,7 +70,7 @@ fn unpack_images<R: Host>(rt: &R, order: &Unpack<'_>, names: &[&str]) -> End {
     }
 }
 
-/// Refuses what is not a directory. An image in its place was named without a directory before it.
+/// Refuses anything but a directory: if it is an image, DIR was forgotten.
 fn is_folder<R: Host>(rt: &R, path: &str) -> Result<(), Refusal> {
     match fs::metadata(rt, path) {
         Ok(found) if found.is_dir() => Ok(()),
@@ -219,8 +219,8 @@ fn unpacked<R: Host>(
     }
 }
 
-/// Recovers a file: if all its sections are intact, from the images that have these, in one reading
-/// of each; any other file, and one that was not complete then, on its stage, pass by pass. The
+/// Recovers a file. If all its sections are intact, reads the images that have these once. Any
+/// other file, and one that is still incomplete then, is recovered on its stage, in passes. The
 /// last line of both is remembered.
 fn gather<R: Host>(
     rt: &R,
@@ -247,7 +247,7 @@ fn gather<R: Host>(
         let end = extract_whole(rt, &at_once, images, &mut shelf.mounted, locations, last);
         if end != End::Incomplete {
             if end != End::Done {
-                // Nothing is proved of an image that a fault left open.
+                // Nothing is proved about an image that a fault left open.
                 shelf.mounted = None;
             }
             return end;

@@ -80,7 +80,7 @@ fn plain(found: Metadata) -> Result<Option<Metadata>, Refusal> {
     }
 }
 
-/// An allocation was refused.
+/// Returns the fault of an allocation that was refused.
 fn no_memory() -> Refusal {
     Refusal::Faulted(OUT_OF_MEMORY)
 }

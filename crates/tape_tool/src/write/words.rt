@@ -142,7 +142,7 @@ fn has_path(word: &str) -> bool
     word.contains('=')
 }
 
-/// The error for options that exclude each other.
+/// Returns the error for options that exclude each other.
 fn wrong(order: &WriteOrder<'_>) -> Option<&'static str>
     ensures some { IfSome result (λ _. (order.now.folder.now ≡ []) ⊎ IsAtOdds order.now) }
     ensures folder { IfNone result (order.now.folder.now ≡ [] → ⊥) }
@@ -159,7 +159,7 @@ fn wrong(order: &WriteOrder<'_>) -> Option<&'static str>
     }
 }
 
-/// The format with this name. Any other name means D.
+/// Returns the format with this name. Any other name means D.
 fn format_of(name: &str) -> Format
     ensures fixed { (result ≡ Format.Fixed) ↔ (name.now ≡ codes "F") }
     ensures counted { name.now ≡ codes "D" → result ≡ Format.Counted }
