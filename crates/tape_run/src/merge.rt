@@ -26,9 +26,9 @@ use tape_image::{ImageWriteFault, ImageWriter};
 pub struct Merged {
     /// How many items it has.
     pub items: u64,
-    /// How many of these are bad.
+    /// How many of these items are bad.
     pub bad: u64,
-    /// How many of these only one reading has in readable form.
+    /// How many of these items only one reading has in readable form.
     pub alone: u64,
     /// How many file sections have another number of blocks than their trailer label says, as
     /// `check` finds them.
@@ -115,8 +115,8 @@ fn ask_all<R: Read>(
 /// Reads the readings side by side, item by item, and writes the tape that they make together.
 ///
 /// `best` and `other` hold the item under way: the best one that was read, and one that differs
-/// from it. At a difference every reading was asked for its item, and `verdict` of each says how
-/// that compares.
+/// from it. At a difference every reading was asked for its item, and its `verdict` says how the
+/// item compares.
 ///
 /// # Errors
 ///

@@ -47,14 +47,14 @@ impl Met {
         (self.key, entry)
     }
 
-    /// Returns whether this is its trailer label.
+    /// Returns whether `trail` is the section's trailer label.
     pub(crate) fn closes(&self, trail: &Trail1) -> bool
         ensures { result ≡ closes self.now trail.now }
     {
         trail.head.sect == self.key.sect && trail.head.sequence == self.key.file
     }
 
-    /// Returns the section's state, if its trailer label has this count.
+    /// Returns the section's state, if its trailer label counts `count` blocks.
     fn state_by(&self, count: u32) -> SectionState
         ensures { result ≡ state_by self.now count }
     {

@@ -35,14 +35,14 @@ use tape_set::Position;
 pub struct ReelAnswer {
     /// The last answer of the reading: the one that ended it.
     pub answer: Answer,
-    /// The fault of the image that ended the reading, if there was one.
+    /// The fault of the image that ended the reading, if any.
     pub fault: Option<ImageFault>,
     /// How many blocks of the file were delivered.
     pub blocks: u32,
 }
 
 impl ReelAnswer {
-    /// Creates an outcome with these three values.
+    /// Creates an outcome from its three values.
     pub(crate) fn new(answer: Answer, fault: Option<ImageFault>, blocks: u32) -> ReelAnswer
         ensures answer { result.answer ≡ answer }
         ensures fault { result.fault ≡ fault }
@@ -77,8 +77,8 @@ pub struct Refused {
     pub begun: bool,
 }
 
-/// Puts the parts of a checked block, from this one on. `begun` says whether a record is unfinished
-/// before it.
+/// Puts the parts of a checked block from part `first` on. `begun` says whether a record is
+/// unfinished before it.
 pub fn put_parts<S: PartSink>(
     sink: &mut S,
     shape: &Shape,
@@ -167,7 +167,8 @@ fn part_of(position: Position) -> u32
     }
 }
 
-/// Returns the checkpoint at a refused part of the block that was delivered between these two.
+/// Returns the checkpoint at part `part`, which was refused, of the block that was delivered
+/// between the checkpoints `before` and `after`.
 fn refused_point(before: &Checkpoint, after: &Checkpoint, part: u32, begun: bool) -> Checkpoint
     requires waits { is_finished before.now.position ≡ false }
     requires from { part_of before.now.position ≤ part }

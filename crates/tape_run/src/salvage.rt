@@ -1,4 +1,4 @@
-//! `salvage`: recovers what is readable of a file that no image has completely.
+//! `salvage`: recovers the readable parts of a file that no image has completely.
 
 ghost use Rattle.std.specs.Prelude.{◌≡◌, ◌<◌, ◌⊎◌, Bool, Option, Some, List, ℕ, option_map, OnOk};
 ghost use Rattle.std.specs.Prelude.{OnErr, IfOk, IfErr};
@@ -29,7 +29,7 @@ use std::io::{Read, Write};
 use tape_blocks::Form;
 use tape_label::Field;
 
-/// What is recovered of each block.
+/// The form in which blocks are recovered.
 #[derive(Clone, Copy)]
 pub enum Content {
     /// Its records, in the form that the labels record.
@@ -41,7 +41,7 @@ pub enum Content {
 /// Which file is recovered, and how it is written.
 #[derive(Clone, Copy)]
 pub struct SalvageTask {
-    /// What is recovered of each block.
+    /// Whether records or blocks are recovered.
     pub set_id: Field<6>,
     /// The file's number in its set.
     pub file: u16,
@@ -51,9 +51,9 @@ pub struct SalvageTask {
     pub form: Form,
 }
 
-/// Recovers what is readable of a file from images, writes it to `out`, and reports each gap.
-/// Returns whether nothing is missing. When everything is written, `out` gets its name from
-/// `place`, and then the last line is reported.
+/// Recovers the readable parts of a file from images, writes them to `out`, and reports each gap.
+/// Returns whether nothing is missing. After everything is written, gives `out` its name, and
+/// reports the last line.
 ///
 /// Each image is read twice: once to find the copies of the file's sections on it, and again if a
 /// section is read from it. Allocates a buffer for one image, a row for each copy of a section, and

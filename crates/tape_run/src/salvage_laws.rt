@@ -13,7 +13,7 @@ pub fn whole_records_are_recovered()
     ensures { RecoversWhole }
 {}
 
-/// If no block is missing, these are all parts of the file.
+/// If no block is missing, all parts of the file are recovered.
 pub fn all_records_are_recovered()
     ensures { AllWhole }
 {}
@@ -42,7 +42,7 @@ pub fn volumes_are_recovered()
     ensures { RecoversFromVolume }
 {}
 
-/// What was recovered remains a prefix of everything that is recovered.
+/// Recovered records remain a prefix of the result, whatever follows.
 pub fn recovered_records_stay()
     ensures { FirstStays }
 {}
@@ -53,8 +53,8 @@ pub fn never_less_than_up_to_the_gap()
     ensures { NeverLess }
 {}
 
-/// The parts of a file are written as `extract` writes them, so a file of which nothing is missing
-/// is the same, byte for byte.
+/// The parts of a file are written as `extract` writes them, so a file without missing blocks is
+/// the same, byte for byte.
 pub fn parts_are_written_as_extracted()
     ensures { WritesOutput }
 {}

@@ -59,8 +59,8 @@ impl<S> Model for Session<S> {
 }
 
 impl<S: PartSink + Drop> Session<S> {
-    /// Creates a session at the start of a file of the set with this identifier, over an empty
-    /// sink. Does not allocate.
+    /// Creates a session at the start of file `file` of the set with identifier `set_id`, over an
+    /// empty sink. Does not allocate.
     ///
     /// # Errors
     ///
@@ -117,7 +117,7 @@ impl<S: PartSink> Session<S> {
         Session::over(alloc, core, sink)
     }
 
-    /// Returns the sink, with what was delivered.
+    /// Returns the sink, with the parts delivered so far.
     pub fn sink(&self) -> &S
         ensures { result.now ≡ self.now.sink }
     {
@@ -136,7 +136,7 @@ impl<S: PartSink> Session<S> {
     /// part on. If the file is complete, nothing is read. Allocates only the image reader's buffer.
     ///
     /// A fault of the image, or a reader that failed, ends the reading and is part of the result;
-    /// what was read before it counts.
+    /// items read before it count.
     ///
     /// # Errors
     ///
@@ -250,7 +250,7 @@ impl<S: PartSink> Session<S> {
     }
 
     /// Adds a checkpoint of the session's position to its list only, and stores nothing in the
-    /// sink: for a sink that already has this state durably, such as one that was just opened.
+    /// sink: for a sink in which this state is already durable, such as one that was just opened.
     ///
     /// # Errors
     ///
@@ -279,13 +279,13 @@ impl<S: PartSink> Session<S> {
         self.notes.len()
     }
 
-    /// Rolls back to the checkpoint with this number, counted from 0: the sink is cut to its
-    /// contents at that time, and the later checkpoints are dropped. Does not allocate.
+    /// Rolls back to checkpoint `n`, counted from 0: cuts the sink to its contents at that time,
+    /// and drops the later checkpoints. Does not allocate.
     ///
     /// # Errors
     ///
-    /// Returns `NoSuchPoint` if there are not that many checkpoints; `Sink` if the sink refused.
-    /// Both leave the session unchanged; a sink that returned `Device` must be opened again.
+    /// Returns `NoSuchPoint` if there are at most `n` checkpoints; `Sink` if the sink refused. Both
+    /// leave the session unchanged; a sink that returned `Device` must be opened again.
     pub fn restart(&mut self, n: usize) -> Result<(), RunFault>
         ensures ok { OnOk result (IfSeen S.PartSink self.old (λ old. IsKept old
             → IsSeen S.PartSink self.new (λ new. IsKept new × WentBack n old new))) }
@@ -320,7 +320,7 @@ impl<S: PartSink> Session<S> {
         Ok(())
     }
 
-    /// Returns what is missing next of the file, or `None` exactly if it is complete.
+    /// Returns the next missing part of the file, or `None` exactly if the file is complete.
     pub fn want(&self) -> Option<Want>
         ensures { result ≡ want_at (rest_of self.now.core).file (rest_of self.now.core).position }
     {

@@ -177,8 +177,8 @@ pub fn write_text<W: Write>(writer: &mut W, text: &[u8]) -> Result<(), WriteFail
 ///
 /// # Errors
 ///
-/// Returns `WriteFailed` as `write_text` does, and for a line of more than 1,024 bytes, which does
-/// not occur.
+/// Returns `WriteFailed` like `write_text`, and for a line of more than 1,024 bytes, which does not
+/// occur.
 pub fn write_line<W: Write, D: Display>(writer: &mut W, line: &D) -> Result<(), WriteFailed>
     ensures ok { OnOk result (IfSome (D.output line.now) (λ text.
         Appends (W.contents writer.old) (W.contents writer.new) text)) }

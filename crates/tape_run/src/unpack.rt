@@ -27,7 +27,7 @@ use tape_set::Sequence;
 pub enum Heading {
     /// They are of different files: the labels differ, or complete copies of a section do.
     Differs,
-    /// They are of one file, with this file identifier.
+    /// They belong to one file, with this file identifier.
     Named(Field<17>),
 }
 
@@ -42,13 +42,13 @@ pub struct SetFile {
     pub lacks: bool,
 }
 
-/// What was found on the images.
+/// The findings of `unpack` on its images.
 #[derive(Drop)]
 pub struct FoundFiles {
     /// The files of which a label was found: set by set in the order in which the sets were found
     /// first, and by their numbers.
     pub files: Sequence<SetFile>,
-    /// What each image is and how far it was read, or `None` if it was not opened.
+    /// For each image what it is and how far it was read, or `None` if it was not opened.
     pub images: Sequence<Option<ImageSurvey>>,
     /// Whether every image was read completely: each was opened, and is a volume from its label to
     /// its end, in formats that are read.
@@ -122,7 +122,7 @@ pub fn set_of(sight: &Option<ImageSurvey>) -> Option<Field<6>>
     }
 }
 
-/// Returns what the header labels of a file say, given what is known of it and whether complete
+/// Returns what the header labels of a file's number show, given its record and whether complete
 /// copies of a section differ.
 fn heading_of(note: &FileNote, disputed: bool) -> Heading
     ensures { result ≡ heading_of note.now disputed }
@@ -196,7 +196,7 @@ fn add_place(
     Ok(())
 }
 
-/// Returns the files of these sets.
+/// Returns the files of the given sets.
 fn files_of_sets(
     alloc: Global,
     findings: &Findings,

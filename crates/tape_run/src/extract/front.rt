@@ -17,12 +17,12 @@ use std::io::Write;
 use tape_blocks::Form;
 use tape_core::{PartWalk, SinkFault};
 
-/// What was written of the parts of a sink in the first walk.
+/// The records written during the first walk over the parts of a sink.
 #[derive(Clone, Copy)]
 pub struct Front {
     /// How many parts were written, each of which is a record.
     pub records: u64,
-    /// Whether these are all parts.
+    /// Whether the sink has no other parts.
     pub all: bool,
 }
 
@@ -129,7 +129,7 @@ fn write_rest<S: PartWalk, W: Write>(
     Ok(records)
 }
 
-/// Begins the walk after this many parts.
+/// Begins the walk after the first `count` parts.
 fn pass_parts<S: PartWalk>(sink: &mut S, count: u64) -> Result<(), SinkFault>
     ensures ok { OnOk result ((first rest : List Portion) → S.holds sink.old (first ++ rest)
         → length first ≡ count → S.ahead sink.new rest) }

@@ -13,7 +13,7 @@ use tape_core::{Answer, Reason};
 use tape_image::ImageFault;
 use tape_set::Want;
 
-/// The line of the image with this number: the answer of its reading, or that it was not opened.
+/// The line about an image: its number, and the answer of its reading, or that it was not opened.
 #[derive(Clone, Copy)]
 pub struct ReelLine {
     pub number: u64,
@@ -87,7 +87,7 @@ impl fmt::Display for ReasonText {
     }
 }
 
-/// The fault of the image that ended a reading, if one did.
+/// The fault of the image that ended a reading, if any.
 #[derive(Clone, Copy)]
 struct EndText(Option<ImageFault>);
 
@@ -109,7 +109,8 @@ impl fmt::Display for EndText {
 /// The length of the longest last line.
 pub type ReportLine = ArrayString<256>;
 
-/// Returns the last line: what is missing, or that the file is complete, with this many records.
+/// Returns the last line: the missing part, or that the file is complete, with the number of its
+/// records.
 pub fn last_line(want: Option<Want>, records: u64) -> ReportLine
     ensures { result.bytes ≡ last_line want records }
 {
@@ -130,8 +131,8 @@ fn complete_line(records: u64) -> ReportLine
     line
 }
 
-/// Returns what is missing of the file: its number, the section, the block, and the part if it is
-/// not 0.
+/// Returns the last line of an incomplete file: the file's number, the missing section and block,
+/// and the part if it is not 0.
 fn awaits_line(want: &Want) -> ReportLine
     ensures { result.bytes ≡ awaits_line want.now }
 {

@@ -71,7 +71,7 @@ impl Candidate {
         self.kind = Kind::Nothing;
     }
 
-    /// Returns whether any item would be as good: there is none yet, or a bad one.
+    /// Returns whether any item would be at least as good: there is no item yet, or a bad one.
     fn is_less(&self) -> bool
         ensures { result ≡ is_less self.now }
     {
@@ -105,8 +105,8 @@ impl Candidate {
         }
     }
 
-    /// Returns whether another item can be at the same place of one tape: one of the two is bad, or
-    /// they are equal, or there is no item yet.
+    /// Returns whether `item` can be at the same place of one tape as the candidate: one of the two
+    /// is bad, they are equal, or there is no candidate yet.
     fn agrees(&self, item: Item<'_>) -> bool
         ensures { IsTrue result ↔ agrees self.now (tape_item item.entry) }
     {
@@ -151,7 +151,7 @@ impl Candidate {
         Ok(true)
     }
 
-    /// Writes the item, if there is one. Returns whether there is one.
+    /// Writes the item and returns true; returns false if there is no item.
     pub(crate) fn put<W: Write + Drop>(
         &self,
         out: &mut ImageWriter<W>,

@@ -16,14 +16,14 @@ use crate::text::{Text, put, put_decimal};
 use std::alloc::{AllocError, Global};
 use std::io::Read;
 
-/// What was read from an image in parallel with others.
+/// The items read from an image in parallel with others.
 #[derive(Clone, Copy)]
 pub(crate) struct ReadingLine {
     /// How many items.
     pub items: u64,
-    /// How many of these are bad.
+    /// How many of these items are bad.
     pub bad: u64,
-    /// How it stopped, if it did.
+    /// How the reading stopped, if it did.
     pub stop: Option<ImageStop>,
 }
 
@@ -57,7 +57,7 @@ pub(crate) struct HasLine {
     pub from: u64,
 }
 
-/// Returns the line for what was read of the reading with this number, without its name.
+/// Returns the line about reading `number`, without its name.
 pub(crate) fn reading_text(number: usize, reading: &ReadingLine) -> Text
     ensures { result.items ≡ reading_text number reading.now }
 {
@@ -96,7 +96,7 @@ pub(crate) fn with_name(alloc: Global, text: &[u8], name: &str) -> Result<Vec<u8
     Ok(line)
 }
 
-/// Returns the line of the merged image.
+/// Returns the line about the merged image.
 pub(crate) fn merged_line(merged: &Merged, end: MergedEnd) -> Text
     ensures { result.items ≡ merged_line merged.now end }
 {
@@ -126,7 +126,7 @@ fn merged_end(end: MergedEnd) -> &'static [u8]
     }
 }
 
-/// Appends how many sections have a wrong count, if any do.
+/// Appends the number of sections with a wrong count, unless it is 0.
 fn put_miscounted(line: &mut Text, sections: u64)
     requires room { array_vec_len line.old ≤ 200 }
     ensures items { line.new.items ≡ line.old.items ++ miscounted_text sections }
@@ -141,7 +141,7 @@ fn put_miscounted(line: &mut Text, sections: u64)
     }
 }
 
-/// Returns the line of the first item at which readings differ.
+/// Returns the line about the first item at which readings differ.
 pub(crate) fn differ_line(item: u64) -> Text
     ensures { result.items ≡ differ_line item }
 {
@@ -152,7 +152,7 @@ pub(crate) fn differ_line(item: u64) -> Text
     line
 }
 
-/// Returns the line for the item that the reading with this number has there, without its name.
+/// Returns the line about the item of reading `number` at the difference, without its name.
 pub(crate) fn has_text(number: usize, has: &HasLine) -> Text
     ensures { result.items ≡ has_text number has.now }
 {
@@ -184,7 +184,7 @@ fn put_kind(line: &mut Text, kind: ItemKind)
     }
 }
 
-/// Returns what was read of a reading.
+/// Returns the numbers of items of a reading, and how it stopped.
 pub(crate) fn line_of<R: Read>(reading: &Reading<'_, R>) -> ReadingLine
     ensures { result ≡ line_of reading.now }
 {

@@ -43,7 +43,7 @@ pub enum MergeEnd {
 pub enum MergeStop {
     /// The image with this number, counted from 0, could not be opened.
     NotOpened(usize),
-    /// The merged image would be longer than an image may be: it has this many bytes so far.
+    /// The merged image would be longer than an image may be: it has this number of bytes so far.
     TooLong(u64),
     OutOfMemory,
     /// The merged image or the report could not be written.
@@ -244,7 +244,7 @@ fn report_readings<R: Read, P: Write>(
     Ok(())
 }
 
-/// Reports the item that each reading has where they differ, if it has one there.
+/// Reports the item of each reading at the difference, unless the reading has none there.
 fn report_items<R: Read, P: Write>(
     alloc: Global,
     readings: &[Reading<'_, R>],

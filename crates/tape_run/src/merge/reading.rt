@@ -1,4 +1,4 @@
-//! A reading of a tape: an image, and what was read of it.
+//! A reading of a tape: an image, and the items read from it so far.
 
 ghost use Rattle.std.specs.Prelude.{◌≡◌, IfOk, OnOk};
 ghost use Rattle.tape_image.specs.Reader.{tape_item};
@@ -14,9 +14,9 @@ use tape_image::{ImageFault, ImageReader, Item};
 /// How the item of one reading compares with those of the readings before it.
 #[derive(Clone, Copy, Debug, PartialEq, Eq)]
 pub enum Verdict {
-    /// It is the first one that could be read, or equals that one.
+    /// It is the first item that could be read, or equal to it.
     First,
-    /// It is the first one that differs, or equals that one.
+    /// It is the first item that differs, or equal to it.
     Bad,
     /// It is the first one that differs, or equals that.
     Second,
@@ -24,21 +24,21 @@ pub enum Verdict {
     Third,
     /// There is none: the reading ended.
     Ended,
-    /// There is none: the reading stopped at this fault.
+    /// There is no item: the reading stopped at this fault.
     Failed(ImageFault),
 }
 
-/// An image that is read in parallel with others, and what was read of it.
+/// An image that is read in parallel with others, and the items read from it so far.
 #[derive(Drop)]
 pub struct Reading<'r, R: Read> {
     pub image: ImageReader<'r, R>,
     /// How many items were read.
     pub items: u64,
-    /// How many of these are bad.
+    /// How many of these items are bad.
     pub bad: u64,
     /// The byte offset at which the last of them begins, including an erase gap before it.
     pub from: u64,
-    /// How many bytes the last of them has, if it is a block; 0 otherwise.
+    /// The number of bytes of the last item, or 0 if it is not a block.
     pub length: u64,
     /// How its current item compares.
     pub verdict: Verdict,

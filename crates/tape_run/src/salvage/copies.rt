@@ -44,7 +44,7 @@ impl SectionCopy {
         }
     }
 
-    /// Returns what is expected at the first item of the image when the section is read from it. If
+    /// Returns what is expected at the first item of the image if the section is read from it. If
     /// its HDR1 was not read, its data are found by their place.
     pub fn start(&self) -> Expected
         ensures { result ≡ start_of self.now }
@@ -152,7 +152,7 @@ fn copies_in_items<R: Read>(
     }
 }
 
-/// Returns whether it is a section of this file.
+/// Returns whether the section belongs to file `file` of the set.
 fn is_of(set_id: &Field<6>, file: u16, section: &OpenSection, closed: &Option<Closing>) -> bool
     ensures { result ≡ is_of set_id.now file (section.now, closed.now) }
 {
@@ -173,7 +173,7 @@ fn skip_of(read: u64, section: &OpenSection) -> Option<u64>
     }
 }
 
-/// Adds a section, if one was found and it belongs to the file; `read` items of the image were read
+/// Adds the section that was found, if it belongs to the file; `read` is the number of items read
 /// before the one that ended it.
 fn add_copy(
     copies: &mut Vec<SectionCopy>,
@@ -231,7 +231,7 @@ struct Choice {
 }
 
 impl Choice {
-    /// Returns whether a copy is one of this section and the first on its image.
+    /// Returns whether `copy` is a copy of section `sect`, and the first one on its image.
     fn is_considered(&self, sect: u16, copy: &SectionCopy) -> bool
         ensures { result ≡ is_considered sect self.now.last copy.now }
     {
@@ -244,7 +244,7 @@ impl Choice {
         }
     }
 
-    /// Chooses this copy if it is better than the best so far.
+    /// Chooses `copy` if it is better than the best copy so far.
     fn better(self, copy: &SectionCopy) -> Choice
         ensures best { (cs : List SectionCopy) → IsBest cs self.best
             → IsBest (cs ++ copy.now ∷ []) result.best }
@@ -257,7 +257,7 @@ impl Choice {
         }
     }
 
-    /// Considers one more copy, if it is one of this section and the first on its image.
+    /// Considers `copy`, if it is a copy of section `sect` and the first one on its image.
     fn with(self, sect: u16, copy: &SectionCopy) -> Choice
         ensures { (cs : List SectionCopy) → IsChoice sect cs self.best self.last
             → IsChoice sect (cs ++ copy.now ∷ []) result.best result.last }
@@ -269,7 +269,7 @@ impl Choice {
     }
 }
 
-/// Returns the copy with the greater rank, or the first of two with the same rank.
+/// Returns the copy with the greater rank, or `best` if both have the same rank.
 fn better_of(best: &Option<SectionCopy>, copy: &SectionCopy) -> SectionCopy
     ensures { (cs : List SectionCopy) → IsBest cs best.now
         → IsBest (cs ++ copy.now ∷ []) (Some result) }
@@ -285,8 +285,8 @@ fn better_of(best: &Option<SectionCopy>, copy: &SectionCopy) -> SectionCopy
     }
 }
 
-/// Returns the copy of this section from which to read. If the section is on an image more than
-/// once, only the first copy is considered, since that is the one that `recover_section` reads.
+/// Returns the best copy of section `sect`. If the section is on an image more than once, only the
+/// first copy is considered, since that is the one that `recover_section` reads.
 pub fn best_copy(copies: &[SectionCopy], sect: u16) -> Option<SectionCopy>
     ensures { IsBest (firsts sect None copies.now) result }
 {

@@ -116,8 +116,9 @@ impl<W: Write> Mender<W> {
         self.out
     }
 
-    /// Processes the next block: writes its records, or the block as it is if no form is given.
-    /// Returns why the block contains no records in this form; it then counts as missing.
+    /// Processes the next block: writes its records, or the block unchanged if `form` is `None`.
+    /// Returns the reason if the block contains no records in this form; the block then counts as
+    /// missing.
     ///
     /// # Errors
     ///

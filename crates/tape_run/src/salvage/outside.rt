@@ -9,7 +9,7 @@ use crate::section::SectionKey;
 use tape_label::{Head1, Kind, LabelFault, Trail1};
 use tape_set::label_count;
 
-/// Returns the section with this first label.
+/// Returns the section that begins with first label `head`.
 fn section_by(head: Head1) -> OpenSection
     ensures { result ≡ Walk.section_by head }
 {
@@ -28,7 +28,8 @@ fn section_by(head: Head1) -> OpenSection
     }
 }
 
-/// Returns what is expected after a block at which a section may begin; `other` if it does not.
+/// Returns what is expected after a block at which a section may begin; `other` if no section
+/// begins.
 pub fn begun_by(read: Result<Head1, LabelFault>, other: Expected) -> Expected
     ensures { result ≡ Walk.begun_by read other }
 {
@@ -69,8 +70,8 @@ impl UnnamedItems {
         }
     }
 
-    /// Returns what is expected after a block that may be the trailer label of a section with these
-    /// data: it is, if it counts as many blocks.
+    /// Returns what is expected after a block that may be the trailer label of a section with the
+    /// items so far as its data: it is, if it counts as many blocks.
     pub fn named_by(
         self,
         read: Result<Trail1, LabelFault>,
@@ -98,8 +99,8 @@ impl UnnamedItems {
     }
 }
 
-/// Returns what is expected after an item outside of sections that begins none, with this many tape
-/// marks before it. Only after exactly one mark may the item be the first of a section's data.
+/// Returns what is expected after an item outside of sections that begins no section, with `marks`
+/// tape marks before it. Only after exactly one mark may the item be the first of a section's data.
 pub fn unnamed_after(marks: u8, is_read: bool) -> Expected
     ensures { result ≡ Walk.unnamed_after marks
         (if is_read then Walk.one_read else Walk.one_unreadable) }
@@ -110,7 +111,7 @@ pub fn unnamed_after(marks: u8, is_read: bool) -> Expected
     Expected::Outside(0)
 }
 
-/// Returns what is expected after a block outside of sections, with this many tape marks before it.
+/// Returns what is expected after a block outside of sections, with `marks` tape marks before it.
 pub fn outside_by(marks: u8, kind: Option<Kind>, head: Result<Head1, LabelFault>) -> Expected
     ensures { result ≡ Walk.outside_by marks kind head }
 {

@@ -23,7 +23,7 @@ use tape_blocks::{BlockFault, Form};
 use tape_core::Known;
 use tape_image::Item;
 
-/// Processes the data items of sections, and reports what is missing.
+/// Processes the data items of sections, and reports missing blocks.
 #[derive(Drop)]
 pub struct Recovery<W> {
     pub mender: Mender<W>,
@@ -33,7 +33,7 @@ pub struct Recovery<W> {
     pub missing: bool,
 }
 
-/// Writes the line of a gap, if there is one. `next` is the first block after it.
+/// Writes the line about the gap before block `next`, if there is a gap.
 fn write_gap<P: Write>(
     report: &mut P,
     sect: u16,
@@ -53,7 +53,7 @@ fn write_gap<P: Write>(
     }
 }
 
-/// Writes that a record is left out because of a gap before this block, if `is` is true.
+/// Writes that a record is left out because of a gap before block `number`, if `is` is true.
 fn write_torn<P: Write>(
     report: &mut P,
     is: bool,
@@ -71,7 +71,7 @@ fn write_torn<P: Write>(
     Ok(())
 }
 
-/// Writes why a block contains no records, if there is a fault.
+/// Writes the reason why block `number` yielded no records, if there is one.
 fn write_refused<P: Write>(
     report: &mut P,
     sect: u16,
@@ -113,7 +113,7 @@ impl<W: Write> Recovery<W> {
         self.mender.into_out()
     }
 
-    /// Reports the gap that ends before the block `next`, if there is one.
+    /// Reports the gap that ends before block `next`, if there is one.
     pub fn end_gap<P: Write>(
         &mut self,
         sect: u16,
@@ -129,8 +129,8 @@ impl<W: Write> Recovery<W> {
         Ok(())
     }
 
-    /// Records that something is missing from this block on, and reports the unfinished record that
-    /// is left out, if there is one.
+    /// Records that something is missing from block `number` on, and reports the unfinished record
+    /// that is left out, if there is one.
     pub fn tear<P: Write>(
         &mut self,
         sect: u16,
@@ -153,7 +153,7 @@ impl<W: Write> Recovery<W> {
         Ok(())
     }
 
-    /// Records and reports that a trailer label counts another number of blocks, if one does.
+    /// Records and reports the count in a trailer label, if it is wrong.
     pub fn take_count<P: Write>(
         &mut self,
         sect: u16,

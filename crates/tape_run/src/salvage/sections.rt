@@ -68,7 +68,7 @@ fn form_for(content: Content, own: Option<Known>, known: Option<Known>) -> Optio
     }
 }
 
-/// Returns whether blocks can be read in this form. To be copied unchanged, blocks need no form.
+/// Returns whether blocks can be read in this form. Blocks that are copied unchanged need no form.
 fn has_form(content: Content, form: &Option<Known>) -> bool
     ensures { result ≡ has_form content form.now }
 {

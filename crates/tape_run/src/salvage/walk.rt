@@ -66,10 +66,10 @@ pub enum Expected {
     Over,
     /// More items outside of sections, up to a tape mark, or a section's first label.
     Unnamed(UnnamedItems),
-    /// The trailer label of a section with these data, or what follows a tape mark outside of
-    /// sections.
+    /// The trailer label of a section with these items as its data, or what follows a tape mark
+    /// outside of sections.
     UnnamedTrailer(UnnamedItems),
-    /// This many items, and then the data of this section.
+    /// A number of items, and then the data of a section.
     Skipping(u64, OpenSection),
 }
 
@@ -86,7 +86,7 @@ pub struct Closing {
 pub type FoundSection = (OpenSection, Option<Closing>);
 
 impl OpenSection {
-    /// Counts one more data item. No image has so many items that the count overflows.
+    /// Counts one more data item. The count cannot overflow, since an image has fewer items.
     fn with_item(self) -> OpenSection
         ensures { result ≡ Walk.with_item self }
     {
@@ -136,7 +136,7 @@ impl OpenSection {
         }
     }
 
-    /// Returns whether this is its trailer label.
+    /// Returns whether `trail` is the section's trailer label.
     fn closes(&self, trail: &Trail1) -> bool
         ensures { result ≡ Walk.closes self.now trail.now }
     {
@@ -174,7 +174,7 @@ fn second_by(section: OpenSection, kind: Option<Kind>, read: Result<Head2, Label
     }
 }
 
-/// Returns what is expected after a block in place of a section's trailer label that is not this
+/// Returns what is expected after a block, other than the section's trailer label, in place of that
 /// label.
 fn unclosed_by(
     section: OpenSection,
@@ -205,7 +205,8 @@ fn closed_by(
     }
 }
 
-/// Returns what is expected before this many items and then the data of this section.
+/// Returns what is expected before `items` items that are skipped, followed by the data of the
+/// section.
 pub fn skipping(items: u64, section: OpenSection) -> Expected
     ensures { result ≡ Walk.skipping items section }
 {
@@ -215,7 +216,7 @@ pub fn skipping(items: u64, section: OpenSection) -> Expected
     Expected::Skipping(items, section)
 }
 
-/// Returns what is expected after a block, with the section that ended there.
+/// Returns what is expected after a block, and the section that ended there, if any.
 fn block_step(expected: Expected, bytes: &[u8]) -> (Expected, Option<FoundSection>)
     ensures { result ≡ Walk.step expected (block bytes.now) }
 {
@@ -242,7 +243,7 @@ fn block_step(expected: Expected, bytes: &[u8]) -> (Expected, Option<FoundSectio
     }
 }
 
-/// Returns what is expected after a tape mark, with the section that ended there.
+/// Returns what is expected after a tape mark, and the section that ended there, if any.
 fn mark_step(expected: Expected) -> (Expected, Option<FoundSection>)
     ensures { result ≡ Walk.step expected mark }
 {
@@ -261,7 +262,7 @@ fn mark_step(expected: Expected) -> (Expected, Option<FoundSection>)
     }
 }
 
-/// Returns what is expected after an unreadable item, with the section that ended there.
+/// Returns what is expected after an unreadable item, and the section that ended there, if any.
 fn bad_step(expected: Expected) -> (Expected, Option<FoundSection>)
     ensures { result ≡ Walk.step expected bad }
 {
@@ -285,7 +286,7 @@ fn bad_step(expected: Expected) -> (Expected, Option<FoundSection>)
     }
 }
 
-/// Returns what is expected after an item, and the section that ended there, if one did.
+/// Returns what is expected after an item, and the section that ended there, if any.
 pub fn step(expected: Expected, item: Item<'_>) -> (Expected, Option<FoundSection>)
     ensures { result ≡ Walk.step expected (tape_item item.entry) }
 {

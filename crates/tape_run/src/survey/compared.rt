@@ -1,4 +1,4 @@
-//! What a survey says of sections with more than one complete copy.
+//! The report of a survey on sections with more than one complete copy.
 ghost use Rattle.std.specs.Prelude.{◌≡◌, ◌<◌, ◌+◌, ◌++◌, length, take, map, IfOk, OnOk};
 ghost use Rattle.tape_run.specs.SurveyCompared.{section_front, row_front, name_at};
 ghost use Rattle.tape_run.specs.SurveyCompared.{agreed_text, conflict_text, verdict_text, other_name};
@@ -37,7 +37,7 @@ fn agreed_text(copies: u32) -> Text
     text
 }
 
-/// Appends the name of the image with this number.
+/// Appends the name of image number `image`.
 #[tactic(auto, using(crate::proofs::SurveyCompared::is_name, crate::proofs::SurveyCompared::no_name))]
 fn add_name(
     alloc: Global,
@@ -74,7 +74,7 @@ fn add_conflict(
     Ok(())
 }
 
-/// Appends what is reported of the copies of a section.
+/// Appends the result of comparing the copies of a section.
 fn add_verdict(
     alloc: Global,
     line: &mut Vec<u8>,
@@ -90,7 +90,7 @@ fn add_verdict(
     }
 }
 
-/// Returns the line of a section.
+/// Returns the line about a section.
 fn copy_line(
     alloc: Global,
     names: &[&str],
@@ -123,7 +123,7 @@ fn row_front(key: &SectionKey, copies: u32) -> Text
     text
 }
 
-/// Appends the name of the image with a copy that differs, if there is one.
+/// Appends the name of the image whose copy differs, if any.
 fn add_other(
     alloc: Global,
     row: &mut Vec<u8>,
@@ -150,7 +150,7 @@ fn verdict_cell(differs: bool) -> &'static [u8]
     }
 }
 
-/// Returns the row of a section.
+/// Returns the row for a section.
 fn copy_row(
     alloc: Global,
     names: &[&str],

@@ -40,8 +40,8 @@ fn february(year: u16) -> u16
     if is_leap(year) { 29 } else { 28 }
 }
 
-/// Returns the date of a day, counted from the first one of the last months of a year, which have
-/// these numbers of days.
+/// Returns the date of day number `day` of the last months of a year, which have the given numbers
+/// of days.
 fn in_months(lengths: &[u16], year: u16, day: u16) -> Option<Date>
     ensures { result ≡ in_months lengths.now year day }
 {
@@ -80,7 +80,7 @@ fn in_century(first: Option<u16>, digits: u64) -> Option<Date>
     }
 }
 
-/// Returns the date that six characters of a label represent, if they are a date.
+/// Returns the date in the six characters of a label, if they are a date.
 fn date_of(field: &Field<6>) -> Option<Date>
     ensures { result ≡ date_of field.now }
 {
@@ -93,7 +93,7 @@ fn date_of(field: &Field<6>) -> Option<Date>
     }
 }
 
-/// The date of a label, such as 1985-04-23, or spaces if it has none.
+/// The date of a label, for example 1985-04-23, or spaces if there is none.
 #[derive(Clone, Copy)]
 pub(crate) struct DateText<'a>(pub(crate) &'a Field<6>);
 

@@ -63,7 +63,7 @@ pub(crate) fn digest_in(digest: u64, phase: &Phase, item: Item<'_>) -> u64
     }
 }
 
-/// Returns the same after a block.
+/// Returns the digest after a block.
 fn digest_at(digest: u64, phase: &Phase, block: &[u8]) -> u64
     ensures { result ≡ digest_at digest phase.now block.now }
 {
@@ -73,7 +73,7 @@ fn digest_at(digest: u64, phase: &Phase, block: &[u8]) -> u64
     }
 }
 
-/// Returns the same after a tape mark: data begin after the mark that ends the headers.
+/// Returns the digest after a tape mark: data begin after the mark that ends the headers.
 fn digest_past(digest: u64, phase: &Phase) -> u64
     ensures { result ≡ digest_past digest phase.now }
 {

@@ -28,7 +28,7 @@ pub enum First {
     Volume(Vol1),
     /// A volume label in EBCDIC.
     Ebcdic,
-    /// Another block, of this length.
+    /// Another block, of the given length.
     Block(u64),
     /// An unreadable block.
     Bad,
@@ -90,7 +90,7 @@ fn is_ebcdic(block: &[u8]) -> bool
     block.len() == 80 && &block[..4] == b"\xE5\xD6\xD3\xF1".as_slice()
 }
 
-/// Returns what an image with this first item begins with.
+/// Returns what an image begins with whose first item is `item`.
 fn first_of(item: Item<'_>) -> First
     ensures { result ≡ first_of (tape_item item.entry) }
 {
@@ -101,7 +101,7 @@ fn first_of(item: Item<'_>) -> First
     }
 }
 
-/// Returns what an image with this first block begins with.
+/// Returns what an image begins with whose first block is `bytes`.
 fn first_block(bytes: &[u8]) -> First
     ensures { result ≡ first_block bytes.now }
 {
@@ -111,7 +111,7 @@ fn first_block(bytes: &[u8]) -> First
     }
 }
 
-/// Returns the same for a block that is not a supported volume label.
+/// Returns what an image begins with whose first block is not a supported volume label.
 fn first_other(bytes: &[u8]) -> First
     ensures { result ≡ first_other bytes.now }
 {
@@ -121,7 +121,7 @@ fn first_other(bytes: &[u8]) -> First
     First::Block(bytes.len() as u64)
 }
 
-/// Returns what an image begins with, given the item with this number.
+/// Returns what an image begins with, after its item `number`.
 fn first_with(first: &First, number: u32, item: Item<'_>) -> First
     ensures { result ≡ first_with first.now number (tape_item item.entry) }
 {
@@ -171,7 +171,7 @@ fn head_at(phase: &Phase, bytes: &[u8]) -> Option<Head1>
     }
 }
 
-/// Returns the header label that a block is, if it is one.
+/// Returns the header label in a block, if it is one.
 fn head_of(bytes: &[u8]) -> Option<Head1>
     ensures { result ≡ head_of bytes.now }
 {
@@ -181,7 +181,7 @@ fn head_of(bytes: &[u8]) -> Option<Head1>
     }
 }
 
-/// Returns the file of which this item is an unsupported `HDR2`.
+/// Returns the number of the file whose unsupported `HDR2` the item is, if it is one.
 fn unread_in(phase: &Phase, item: Item<'_>) -> Option<u16>
     ensures { result ≡ unread_in phase.now (tape_item item.entry) }
 {
@@ -191,7 +191,7 @@ fn unread_in(phase: &Phase, item: Item<'_>) -> Option<u16>
     }
 }
 
-/// Returns the file of which this block is an unsupported `HDR2`.
+/// Returns the number of the file whose unsupported `HDR2` the block is, if it is one.
 fn unread_at(phase: &Phase, bytes: &[u8]) -> Option<u16>
     ensures { result ≡ unread_at phase.now bytes.now }
 {
@@ -201,7 +201,7 @@ fn unread_at(phase: &Phase, bytes: &[u8]) -> Option<u16>
     }
 }
 
-/// Returns the same, if a second label of this file is expected.
+/// Returns `file` if the block is an unsupported `HDR2`; a second label of that file is expected.
 fn unread_by(file: u16, bytes: &[u8]) -> Option<u16>
     ensures { result ≡ unread_by file (kind_at bytes.now) bytes.now }
 {
@@ -211,7 +211,7 @@ fn unread_by(file: u16, bytes: &[u8]) -> Option<u16>
     }
 }
 
-/// Returns the file, if this `HDR2` of it is unsupported.
+/// Returns `file` if the `HDR2` is unsupported.
 fn unread_head(file: u16, bytes: &[u8]) -> Option<u16>
     ensures { result ≡ unread_with file (head2_at bytes.now) }
 {
@@ -231,7 +231,7 @@ fn is_bad(item: Item<'_>) -> bool
     }
 }
 
-/// Returns 1 if this is true, otherwise 0.
+/// Returns 1 if `so` is true, otherwise 0.
 pub(crate) fn one_if(so: bool) -> u32
     ensures exact { result ≡ one_if so }
     ensures most { result ≤ 1 }
@@ -239,7 +239,7 @@ pub(crate) fn one_if(so: bool) -> u32
     if so { 1 } else { 0 }
 }
 
-/// Returns how many sections a header label begins, if there is one.
+/// Returns 1 if there is a header label, otherwise 0.
 fn one_head(head: &Option<Head1>) -> u32
     ensures exact { result ≡ one_head head.now }
     ensures most { result ≤ 1 }
@@ -260,7 +260,7 @@ pub(crate) fn or_else<T: Copy>(first: Option<T>, second: Option<T>) -> Option<T>
     }
 }
 
-/// Returns what is known of a section that was found, if one was.
+/// Returns the entry of the section that was found, if any.
 fn line_in(told: &Option<Told>) -> Option<SectionLine>
     ensures { result ≡ line_in told.now }
 {
@@ -270,7 +270,7 @@ fn line_in(told: &Option<Told>) -> Option<SectionLine>
     }
 }
 
-/// Returns the same if the section is damaged.
+/// Returns the entry of the section that was found, if it is damaged.
 fn damage_in(told: &Option<Told>) -> Option<SectionLine>
     ensures { result ≡ damage_in told.now }
 {
@@ -319,8 +319,7 @@ pub(crate) fn look(
     }
 }
 
-/// Returns the number of the first volume label after the first item, given the item with this
-/// number.
+/// Returns the number of the first volume label after the first item, after item `number`.
 fn late_with(late: Option<u32>, number: u32, item: Item<'_>) -> Option<u32>
     ensures { result ≡ late_with late number (tape_item item.entry) }
 {

@@ -1,4 +1,4 @@
-//! The line of an image in a survey.
+//! The line about an image in a survey.
 ghost use Rattle.std.specs.Prelude.{◌≡◌, Some, replicate};
 ghost use Rattle.tape_run.specs.SurveyLine.{volume_state, empty_state, state_of, opened_text};
 ghost use Rattle.tape_run.specs.SurveyLine.{line_end};
@@ -55,7 +55,7 @@ fn state_of(sight: &ImageSurvey) -> &'static str
     }
 }
 
-/// The spaces after a name of this length, so that the next column is the same for all.
+/// The spaces after a name of a given length, which align the next column.
 #[derive(Clone, Copy)]
 struct Spaces(usize);
 
@@ -70,7 +70,7 @@ impl fmt::Display for Spaces {
     }
 }
 
-/// The state of an image and what it is, each fact after the first on a line of its own.
+/// The state of an image and its description, with each fact after the first on a separate line.
 #[derive(Clone, Copy)]
 struct OpenedText<'a>(&'a ImageSurvey);
 
@@ -84,7 +84,7 @@ impl fmt::Display for OpenedText<'_> {
     }
 }
 
-/// The line of an image after its name, which has this length.
+/// The line about an image after its name, with the length of the name.
 #[derive(Clone, Copy)]
 pub(crate) struct LineEnd<'a>(pub(crate) usize, pub(crate) &'a Option<ImageSurvey>);
 

@@ -1,4 +1,4 @@
-//! The rows of a survey, for scripts, with a tab between columns.
+//! The rows of a survey, for scripts, with tab-separated columns.
 ghost use Rattle.std.specs.Prelude.{◌≡◌, ◌≤◌, ◌+◌, ◌++◌, length, decimal, codes, option_map};
 ghost use Rattle.arrayvec.specs.ArrayVec.{array_vec_len};
 ghost use Rattle.tape_run.specs.SurveyRows.{whole_cell, volume_cell, head_cells, count_cells};
@@ -81,7 +81,7 @@ fn whole_cell(whole: bool) -> &'static [u8]
     if whole { b"WHOLE" } else { b"PARTIAL" }
 }
 
-/// Appends the volume, if there is a volume label first.
+/// Appends the volume, if the first item is a volume label.
 fn put_volume(text: &mut Text, first: &First)
     requires room { array_vec_len text.old ≤ 20 }
     ensures items { text.new.items ≡ text.old.items ++ volume_cell first.now }
@@ -122,7 +122,7 @@ fn put_counts(text: &mut Text, glance: &ImageSummary)
     put_count(text, glance.bad);
 }
 
-/// Returns the row of a section.
+/// Returns the row for a section.
 pub(crate) fn section_row(key: &SectionKey, entry: &Entry) -> Text
     ensures { result.items ≡ section_row (key.now, entry.now) }
 {
@@ -163,7 +163,7 @@ fn eof_cell(eof: bool) -> &'static [u8]
     if eof { b"EOF" } else { b"" }
 }
 
-/// Returns the row of a file.
+/// Returns the row for a file.
 pub(crate) fn file_row(findings: &Findings, set_id: Field<6>, file: u16) -> Text
     ensures { result.items ≡ file_row findings.now set_id file }
 {
@@ -183,7 +183,7 @@ pub(crate) fn file_row(findings: &Findings, set_id: Field<6>, file: u16) -> Text
     text
 }
 
-/// Appends what is known of a file by its labels.
+/// Appends the facts about a file that its labels state.
 fn put_known(text: &mut Text, note: Option<&FileNote>)
     requires room { array_vec_len text.old ≤ 100 }
     ensures items { text.new.items
@@ -200,7 +200,7 @@ fn put_known(text: &mut Text, note: Option<&FileNote>)
     }
 }
 
-/// Appends what is reported of a file.
+/// Appends the state of a file.
 fn put_standing(text: &mut Text, standing: &Standing)
     requires room { array_vec_len text.old ≤ 160 }
     ensures items { text.new.items ≡ text.old.items ++ standing_cells standing.now }
@@ -216,7 +216,7 @@ fn put_standing(text: &mut Text, standing: &Standing)
     }
 }
 
-/// Appends a section in this state, and a volume.
+/// Appends the state of a section, its number, and a volume.
 fn put_wanted(text: &mut Text, state: &[u8], sect: u16, volume: &Field<6>)
     requires room { array_vec_len text.old ≤ 160 }
     requires short { length state.now ≤ 7 }

@@ -1,4 +1,4 @@
-//! What a survey says of sets and their files.
+//! The part of a survey about sets and their files.
 ghost use Rattle.std.specs.Prelude.{◌≡◌, ◌<◌, ◌+◌, ◌++◌, ◌&&◌, length, take};
 ghost use Rattle.std.specs.Prelude.{IfOk, OnOk, Some, is_some, option_map};
 ghost use Rattle.tape_run.specs.Lacks.{entry_at, found_all};
@@ -24,20 +24,20 @@ use std::alloc::{AllocError, Global};
 use std::fmt;
 use tape_label::Field;
 
-/// What is reported of a file.
+/// The state of a file.
 #[derive(Clone, Copy)]
 pub(crate) enum Standing {
     /// All its sections are complete.
     Complete,
     /// This section was found, and no copy of it is complete.
     Damaged(u16, Entry),
-    /// This section is missing; the one before it is on this volume.
+    /// This section is missing; the section before it is on this volume.
     Behind(u16, Field<6>),
     /// This section is missing, and the one before it is not known.
     Missing(u16),
 }
 
-/// Returns what is missing of a file that does not have this section.
+/// Returns the state of a file whose first missing section is `sect`.
 fn wanted_at(sections: &Sections, set_id: Field<6>, file: u16, sect: u16) -> Standing
     ensures { result ≡ wanted_at sections.now.entries set_id file sect }
 {
@@ -63,7 +63,7 @@ fn behind_at(sections: &Sections, before: &SectionKey, sect: u16) -> Standing
     }
 }
 
-/// Returns what is reported of a file.
+/// Returns the state of a file.
 pub(crate) fn standing_of(sections: &Sections, set_id: Field<6>, file: u16) -> Standing
     ensures { result ≡ standing_of sections.now.entries set_id file }
 {
@@ -91,7 +91,7 @@ impl fmt::Display for Number {
     }
 }
 
-/// What is known of a file by its labels.
+/// The facts about a file that its labels state.
 #[derive(Clone, Copy)]
 struct Known(Option<FileNote>);
 
@@ -125,7 +125,7 @@ fn file_word(mixed: bool, disputed: bool, complete: bool) -> &'static str
     }
 }
 
-/// The first line of a file.
+/// The first line about a file.
 #[derive(Clone, Copy)]
 struct HeadLine {
     file: u16,
@@ -155,8 +155,8 @@ pub(crate) fn is_mixed(note: Option<&FileNote>) -> bool
     }
 }
 
-/// Appends the lines of a file: its state, and then what is damaged or missing unless it is
-/// complete.
+/// Appends the lines about a file: its state and, unless it is complete, its damaged and missing
+/// sections.
 pub(crate) fn add_lines(
     texts: &mut Vec<u8>,
     findings: &Findings,
@@ -171,7 +171,7 @@ pub(crate) fn add_lines(
     add_rest(texts, findings, set_id, file, complete)
 }
 
-/// Appends the first line of a file.
+/// Appends the first line about a file.
 fn add_head(
     texts: &mut Vec<u8>,
     findings: &Findings,
@@ -193,7 +193,7 @@ fn add_head(
     append(findings.alloc, texts, line)
 }
 
-/// Appends what is damaged or missing of a file unless it is complete.
+/// Appends the lines about the damaged and missing sections of a file, unless it is complete.
 fn add_rest(
     texts: &mut Vec<u8>,
     findings: &Findings,
@@ -242,7 +242,7 @@ fn sure_files(findings: &Findings, set_id: Field<6>, greatest: u16) -> u32
     sure
 }
 
-/// The line of a set.
+/// The line about a set.
 #[derive(Clone, Copy)]
 struct SetLine {
     set_id: Field<6>,
@@ -260,7 +260,7 @@ impl fmt::Display for SetLine {
     }
 }
 
-/// Appends the line of a set with this greatest number of a file.
+/// Appends the line about a set whose greatest file number is `files`.
 pub(crate) fn add_set_line(
     texts: &mut Vec<u8>,
     findings: &Findings,

@@ -38,7 +38,7 @@ fn add_known(
     }
 }
 
-/// Appends the heading of a set with this greatest number of a file.
+/// Appends the heading of a set whose greatest file number is `greatest`.
 fn add_front(
     texts: &mut Vec<u8>,
     findings: &Findings,
@@ -162,7 +162,7 @@ fn texts_of(
     Ok(texts)
 }
 
-/// Appends the row of a section.
+/// Appends the row for a section.
 fn put_row(rows: &mut Vec<u8>, key: &SectionKey, entry: &Entry) -> Result<(), AllocError>
     ensures { OnOk result (rows.new.items ≡ rows.old.items ++ section_row (key.now, entry.now)) }
 {
@@ -170,7 +170,7 @@ fn put_row(rows: &mut Vec<u8>, key: &SectionKey, entry: &Entry) -> Result<(), Al
     rows.extend_from_slice(&row)
 }
 
-/// Appends the row of the section at an index.
+/// Appends the row for the section at index `place`.
 fn add_row(rows: &mut Vec<u8>, sections: &Sections, place: usize) -> Result<(), AllocError>
     requires { place < length sections.now.entries }
     ensures { OnOk result (rows.old.items ≡ flat_map section_row (take place sections.now.entries)

@@ -32,7 +32,7 @@ pub struct ImageSurvey {
     pub stop: ImageStop,
 }
 
-/// What was found on the images of a survey.
+/// The findings of a survey on its images.
 #[derive(Drop)]
 pub(crate) struct Findings {
     pub(crate) alloc: Global,
@@ -127,7 +127,7 @@ impl Findings {
         }
     }
 
-    /// Reads an image to its end or to a fault, if it was opened, and adds what is found on it.
+    /// Reads an image to its end or to a fault, if it was opened, and adds its sections and labels.
     pub(crate) fn read<R: Read + Drop>(
         &mut self,
         image: Option<R>,
@@ -175,7 +175,7 @@ impl Findings {
     }
 }
 
-/// Processes the items of an image of which nothing was read yet, and adds what is found in them.
+/// Processes the items of an image of which nothing was read yet, and adds its sections and labels.
 fn view_items<R: Read>(
     sections: &mut Sections,
     files: &mut Files,
@@ -224,7 +224,7 @@ fn view_items<R: Read>(
     }
 }
 
-/// Adds what is known from an item, and returns what is expected next.
+/// Adds the section that an item completes, and returns what is expected next.
 fn take_behind(sections: &mut Sections, phase: &Phase, item: Item<'_>) -> Result<Phase, RunFault>
     requires { blocks_of phase.now < most_blocks }
     ensures fault { IsOkUnless result faults.OutOfMemory }
@@ -235,7 +235,7 @@ fn take_behind(sections: &mut Sections, phase: &Phase, item: Item<'_>) -> Result
     take(sections, *phase, item)
 }
 
-/// Adds the section that is being read when the items end, if there is one.
+/// Adds the section that is being read when the items end, if any.
 fn close_behind(sections: &mut Sections, phase: &Phase) -> Result<(), RunFault>
     ensures fault { IsOkUnless result faults.OutOfMemory }
     ensures ok { OnOk result (sections.new.entries

@@ -31,9 +31,9 @@ pub fn unpack_outcome_text(outcome: UnpackOutcome) -> &'static [u8]
     }
 }
 
-/// Returns the line of a file: its set, its number, its outcome, and the path of its records or of
-/// its stage if there is one. A question mark replaces each unprintable byte of the set identifier,
-/// and each byte of the path that would break the line.
+/// Returns the line about a file: its set, its number, its outcome, and the path of its records or
+/// of its stage if there is one. A question mark replaces each unprintable byte of the set
+/// identifier, and each byte of the path that would break the line.
 ///
 /// # Errors
 ///
@@ -68,7 +68,7 @@ fn file_front(set_id: &Field<6>, file: u16) -> Text
     text
 }
 
-/// Appends a path, if there is one.
+/// Appends a space and the path, if there is one.
 fn put_path(alloc: Global, line: &mut Vec<u8>, path: &str) -> Result<(), AllocError>
     ensures { IfOk result (λ _. line.new.items ≡ line.old.items ++ path_text path.now) }
 {
