@@ -43,7 +43,7 @@ slice_at : (taken rest : List TapeItem) (x : TapeItem)
 slice_at [] rest x = refl
 slice_at (y ∷ taken) rest x = slice_at taken rest x
 
--- an item of a mount under way was processed: the position matches the parts again that it delivers
+-- an item of a mount under way was processed: the position agrees with the parts delivered
 placed_behind : (core : State) (x : TapeItem) (set : FileSet) (held : List Portion) (p : Position)
     (xs : List TapeItem) (i : ℕ) (h : MountEvent) → IsPlaced set (rest_of core) held
     → Both set p xs i h (Some x) core (step_of core (Some x))

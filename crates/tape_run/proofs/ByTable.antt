@@ -148,7 +148,7 @@ led_to_end old mid new held now items xs same core parts e = record {
   parts = parts ∙ ap (λ (z : List TapeItem). held ++ delivered_parts old z) (sym e);
 }
 
--- ---- what is preserved from reel to reel
+-- ---- preserved properties, from reel to reel
 
 mounted_resting : (phase : Phase) (p : Position) → mounted (resting phase) p ≡ mounted phase p
 mounted_resting Broken p = refl

@@ -1,4 +1,5 @@
--- Why records were not written: the cause of one call, after others none of which was refused.
+-- The causes for which records were not written: the cause of one call, if no call before it was
+-- refused.
 use Rattle.std.proofs.Common.{◌≡◌, ◌<◌, ℕ, suc, ◌+◌, List, [], ◌∷◌, ◌++◌, length, take}
 use Rattle.std.proofs.Common.{Bool, true, false, Result, Ok, Err, OnOk, IfErr}
 use Rattle.std.proofs.Common.{refl, sym, ap, inl, inr, subst, ◌∙◌, arith}
@@ -52,7 +53,7 @@ calm_then g old mid new a b = record {
       let (now, has, still) = a.kept held was kept in b.kept now has still;
 }
 
--- a call after others none of which was refused
+-- a call, if no call before it was refused
 pub then_fails : {S : Type 0} (g : Ghosts S) (back : Bool) (fault : EngineFault)
     (old mid new : SessionState S) → IsCalm g old mid → ExtractFails g back fault mid new
     → ExtractFails g back fault old new
@@ -102,7 +103,7 @@ calm_saved g old new point calm notes ok = record {
       let (now, has, (keeps, saved)) = ok held was in (now, has, keeps kept);
 }
 
--- the checkpoints up to one of them are not an empty list
+-- the list of checkpoints up to one of them is not empty
 none_taken : (n : ℕ) (notes : List Point) → take (n + 1) notes ≡ [] → notes ≡ []
 none_taken n [] e = refl
 none_taken n (c ∷ notes) e = absurd (

@@ -1,4 +1,4 @@
--- What a crash leaves of a session.
+-- The states that a crash leaves of a session.
 use Rattle.std.proofs.Common.{◌≡◌, ℕ, List, [], ◌∷◌, ◌++◌, Option, Some, None, sym, subst}
 use Rattle.std.proofs.Common.{slice_get, inl}
 use Rattle.tape_blocks.specs.Block.{Portion}

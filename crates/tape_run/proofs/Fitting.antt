@@ -10,7 +10,7 @@ pub on_err_map : {T E : Type 0} (r : Result T E) (P Q : Type 0) → (P → Q) �
 on_err_map (Ok x) P Q f h = tt
 on_err_map (Err e) P Q f h = f h
 
--- what follows a part that ends its record
+-- the text after a part that ends its record
 pub end_behind : (b : Bool) (end : List ℕ) → b ≡ false → (if b then [] else end) ≡ end
 end_behind true end e = absurd (cc)
 end_behind false end e = refl

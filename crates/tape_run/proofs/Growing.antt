@@ -6,8 +6,8 @@ use Rattle.tape_core.specs.Weight.{IsFront}
 use Rattle.tape_run.proofs.Crashes.{adds_then}
 use Rattle.tape_run.proofs.Notes.{front_trans}
 
--- Whatever list of parts one of them contains, the other contains a list that begins with it and
--- satisfies this.
+-- Whatever list of parts one of the sinks contains, the other contains a list that begins with it
+-- and satisfies the relation.
 abbrev pub Grows : (List Portion → Type 0) → (List Portion → Type 0)
     → (List Portion → List Portion → Type 0) → Type 0
 Grows old new P = (held : List Portion) → old held

@@ -73,7 +73,7 @@ item_at xs taken rest item e =
 
 -- ---- a core over the items so far
 
--- The start, for an image of which nothing was read.
+-- The start, with no item of the image read.
 pub none_taken : (core : State) (held : List Portion) (left : Option (List ℕ)) (place : ℕ)
     → place ≡ 0 → IfKnown left left (SoFar core core held held place)
 none_taken core held left place first =
@@ -255,7 +255,7 @@ faults_there old mid new held now p bytes ys zs fault same s t =
               (TakesFault-begins 0 s.items fault bytes zs all e) b);
         })
 
--- What is known of the bytes, without those that are left.
+-- The facts about the known bytes, without the bytes that are left.
 known_so : (all left next : Option (List ℕ)) (P Q : List ℕ → List ℕ → Type 0)
     (R : List ℕ → Type 0) → ((xs ys zs : List ℕ) → P xs ys → Q ys zs → R xs)
     → IfKnown all left P → IfKnown left next Q → IfSome all R
@@ -263,7 +263,7 @@ known_so all left next P Q R f a b =
     known_all all next (λ xs zs. R xs) R (λ xs zs r. r)
     (known_then all left next P Q (λ xs zs. R xs) f a b)
 
--- The same for what the remaining bytes tell about all of them.
+-- The same facts, expressed by the bytes that are left.
 known_by : (all left next : Option (List ℕ)) (P Q : List ℕ → List ℕ → Type 0)
     (R : Option (List ℕ) → List ℕ → Type 0)
     → ((xs ys zs : List ℕ) → P xs ys → Q ys zs → R (Some zs) xs)
@@ -273,7 +273,7 @@ known_by (Some xs) None next P Q R f a b = absurd a
 known_by (Some xs) (Some ys) None P Q R f a b = absurd b
 known_by (Some xs) (Some ys) (Some zs) P Q R f a b = f xs ys zs a b
 
--- The reading ended with what the reader returned.
+-- The reading ended with the reader's result.
 pub reads_image : (core : State) (held : List Portion) (all : Option (List ℕ))
     (old next : Reader) (told : Result (Option TapeItem) ImageFault) {mid new : State}
     {now then : List Portion} {answer : Answer} {fault : Option ImageFault}

@@ -1,4 +1,4 @@
--- What remains unchanged in a catalogue when sections are added.
+-- The parts of a catalogue that adding sections does not change.
 use Rattle.std.proofs.Common.{◌≡◌, ◌⊎◌, inl, inr, ℕ, Bool, true, false, List, [], ◌∷◌, ◌++◌, refl}
 use Rattle.std.proofs.Common.{sym, ap, subst, ◌∙◌, append_assoc, append-nil, arith, ⊎_elim}
 use Rattle.std.specs.Prelude.{map, if◌then◌else◌, ◌==◌, ◌&&◌, not}
@@ -50,7 +50,7 @@ keeps_places old (t ∷ ts) =
 same_nat : (m n : ℕ) → (m == n) ≡ true → m ≡ n
 same_nat m n e = grind (arith, nat_tests, e)
 
--- keys that are found to be equal are the same
+-- keys that compare as equal are equal
 pub one_key : (a b : SectionKey) → same_key a b ≡ true → a ≡ b
 one_key a b e =
     let (ids, numbers) =

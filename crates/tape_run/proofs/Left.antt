@@ -1,4 +1,4 @@
--- What a crash leaves of a session in which a step failed.
+-- The states that a crash leaves of a session in which a step failed.
 use Rattle.std.proofs.Common.{◌≡◌, ◌⊎◌, ℕ, ◌+◌, Bool, true, List, [], length, Some, slice_get}
 use Rattle.std.proofs.Common.{refl, sym, ap, subst, ◌∙◌, inl, inr, arith}
 use Rattle.tape_blocks.specs.Block.{Portion}

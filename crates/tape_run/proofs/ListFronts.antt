@@ -73,7 +73,7 @@ after_none left place count within ys is =
       listed = refl;
     }
 
--- the line of an item comes next
+-- the line about an item comes next
 pub after_item : (left next : Option (List ℕ)) (place q count : ℕ) (item : TapeItem)
     → q ≤ image_limit → IfKnown left next (TakesItem place item q) → (ys : List ℕ) → left ≡ Some ys
     → ListsNext place count ys (line_of (count + 1) item)

@@ -65,7 +65,7 @@ put_file [] set_id file = refl
 put_file (x ∷ xs) set_id file =
     put_here x xs set_id file (bytes_eq set_id x.0) refl (put_file xs set_id file)
 
--- what is missing of one more file
+-- the missing sections of one more file
 pub lack_behind : (c : List Told) (set_id : List ℕ) (file left : ℕ) → 0 < left
     → file_lacks c set_id file left
     ≡ one_lack set_id file (lack_of c set_id file) ++ file_lacks c set_id (file + 1) (left - 1)
@@ -74,7 +74,7 @@ lack_behind c set_id file (suc n) some =
     let one : n ≡ suc n - 1 = omega arith in
     ap (λ m. one_lack set_id file (lack_of c set_id file) ++ file_lacks c set_id (file + 1) m) one
 
--- what is missing of the files from this one on, after what is missing of it was added
+-- the missing sections of the files from this one on, after those of this file were added
 pub lack_added : (c : List Told) (set_id : List ℕ) (old new goal : List Lack) (before greatest : ℕ)
     → before < greatest
     → new ≡ old ++ one_lack set_id (before + 1) (lack_of c set_id (before + 1))
@@ -96,7 +96,7 @@ pub lacks_all : (c : List Told) (set_id : List ℕ) (new goal : List Lack) (file
 lacks_all c set_id new goal file left none was =
     sym (append-nil new) ∙ ap (λ n. new ++ file_lacks c set_id file n) (sym none) ∙ was
 
--- what is missing of the files of the set at an index
+-- the missing sections of the files of the set at an index
 pub set_added : (c : List Told) (sets : List SetFiles) (old new : List Lack) (i : ℕ) (x : SetFiles)
     → Some x ≡ slice_get sets i → new ≡ old ++ file_lacks c x.0 1 x.1
     → old ≡ set_lacks c (take i sets) → new ≡ set_lacks c (take (i + 1) sets)

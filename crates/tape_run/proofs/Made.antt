@@ -192,7 +192,7 @@ stops_here made which old mid new steps left rest step readers unread others beh
     (h.stops [] behind 0 fault new
     (rw e (record { step = step; at = refl; mid = mid; runs = (refl, refl); fails = f })))))
 
--- ---- what is written about the readers
+-- ---- the results recorded for the readers
 
 -- if nothing is written
 pub writes_none : (used : ℕ) (row : List Bool) → WritesFrom used [] row row used

@@ -23,8 +23,8 @@ use Rattle.tape_run.proofs.MergeVerdicts.{counts_first, stops_none, next_other}
 -- ---- readings at a place of a tape
 
 -- What is known of readings that were asked for the item after these, and agreed: the best item so
--- far, of which tapes that makes a reading if other readings are of these tapes too, how many
--- readings have it, and that there is none only if every reader has stopped.
+-- far; that they are readings of every tape of which the other readings, and the best item, are
+-- readings; how many readings have it; and that there is no item only if every reader has stopped.
 pub record HaveCandidate {R : Type 0} (firsts nows : List (Reading R)) (rs : List (List TapeItem))
     (m : List TapeItem) (best now beside : Option TapeItem) (others : List TapeItem → Type 0)
     : Type 0 where
@@ -175,7 +175,7 @@ all_best (f ∷ firsts) (o ∷ olds) (n ∷ nows) (r ∷ rs) m best now beside o
     }
 all_best _ _ _ _ m best now beside others h at reads least asked so = absurd h
 
--- ---- readings one of which does not agree
+-- ---- readings of which at least one does not agree
 
 -- a reading that was asked consists of the same items, or of one more
 record HasMore {R : Type 0} (f n : Reading R) (r : List TapeItem) (k : ℕ)
@@ -261,7 +261,7 @@ have_more (f ∷ firsts) (o ∷ olds) (n ∷ nows) (r ∷ rs) k best now other b
     }
 have_more _ _ _ _ k best now other beside h at is_other asked = absurd h
 
--- what is known if one did not agree
+-- the facts known if one reading did not agree
 pub record HaveDiffered {R : Type 0} (firsts nows : List (Reading R)) (rs : List (List TapeItem))
     (k : ℕ) (end last : Option TapeItem) (others : List TapeItem → Type 0) : Type 0 where
   pub readings : List (List TapeItem)

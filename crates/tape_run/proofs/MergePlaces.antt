@@ -57,8 +57,8 @@ reads_best m r best x a e h =
     reads_one_more r m x (joined best x) e (reads_short r m (best_items best) e h)
     (item_met best x a)
 
--- the better of the two is a reading of each tape of which both the earlier best item and the
--- reading with the item are readings
+-- a reading with the better of the two items is a reading of each tape of which both the earlier
+-- best item and the reading with the item are readings
 pub best_least : (m r t : List TapeItem) (best : Option TapeItem) (x : TapeItem)
     → length r ≡ length m → IsReadFrom (m ++ best_items best) t → IsReadFrom (r ++ x ∷ []) t
     → IsReadFrom (m ++ joined best x ∷ []) t

@@ -31,7 +31,7 @@ drop_one {A} (y ∷ xs) (suc n) x lt is =
     drop_one xs n x (omega arith) is
     ∙ ap (λ (l : List A). x ∷ l) (ap (λ k. drop k (y ∷ xs)) (sym next))
 
--- The lines of these were reported; together with those of the others that will be all.
+-- The lines of these readings were reported; the lines of the others will complete the report.
 abbrev pub ReportsFirst : {A : Type 0} → (ℕ → A → List ℕ) → ℕ → List A → Option (List ℕ)
     → Option (List ℕ) → Type 0
 ReportsFirst line number xs old mid = (new : Option (List ℕ))
@@ -66,7 +66,7 @@ item_none o number name is = ap (λ (o : Option HasLine). item_line o number nam
 
 -- ---- how the merged image ends
 
--- After some readings: none of them ended in a way that would change the answer.
+-- After some readings, none of which ended in a way that would change the answer.
 pub record EndsSoFar {R : Type 0} (items : ℕ) (number : ℕ) (all : List (Reading R))
     (end : MergedEnd) : Type 0 where
   pub no_marked : SomeEnds items endings.Marked all

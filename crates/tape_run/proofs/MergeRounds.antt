@@ -9,7 +9,7 @@ use Rattle.tape_run.specs.declared.merge.reading.Verdict.TheVariants as verdicts
 use Rattle.tape_run.specs.MergeSteps.{Asked, AskedAll}
 use Rattle.tape_run.specs.MergeCalls.{has_first, firsts_in}
 
--- this many readings were asked, and of these this many have the best item; the others were not
+-- the number of readings asked so far, and how many of them have the best item; the others were not
 -- asked
 abbrev pub AskedFirst : {R : Type 0} → ℕ → List (Reading R) → List (Reading R) → Option TapeItem
     → Option TapeItem → Option TapeItem → Option TapeItem → ℕ → Type 0

@@ -1,4 +1,4 @@
--- What the verdicts mean after all readings were asked: which items are equal.
+-- The meaning of the verdicts after all readings were asked: which items are equal.
 use Rattle.std.proofs.Common.{◌≡◌, ◌≢◌, ◌⊎◌, inl, inr, List, [], ◌∷◌, ◌++◌, Option, Some, None}
 use Rattle.std.proofs.Common.{Bool, true, false, refl, sym, ap, subst, ◌∙◌}
 use Rattle.tape_image.specs.Tape.{TapeItem, block, bad, mark}

@@ -192,7 +192,7 @@ module _ (sect b k : ℕ) where
           (omega arith) (first_unread_most gs b (length s.blocks) (grind (arith, nat_tests)))
           (omega arith) (λ c. stop_up_to_behind c s) (both_better (length s.blocks) gs hs w)
 
-  -- the same for a section with these items before its data
+  -- the same for a section, given the items before its data
   section_longer : (s : Section) (there : Bool) (es : List Entry) (gs hs : List Bool)
       → IsWithin gs hs
       → IsUpTo (cond (there && passes gs es) (moved here sect b s (drop (length es) gs)) here) (cond

@@ -229,7 +229,7 @@ module _ (set : FileSet) (file : ℕ) (s : Reading) (lawful : GoesOnOnNext set) 
       far_passed (t + 1) 0 0 v false g
       (ap (λ (y : Bool). y && passes s.good (before_data set file (t + 1) v)) off)
 
-  -- what is not further than where it began, and not less far, is equal to it
+  -- a position that is not further than its start, and not less far, is equal to it
   stayed : (p q : Position) → far set file p s ≡ p → IsUpTo p q → IsUpTo q (far set file p s)
       → IsUpTo (far set file q s) (far set file p s)
   stayed p q e below on =

@@ -1,4 +1,4 @@
--- Answers that the contracts of a session exclude: each would be given by a wrong body.
+-- Wrong answers that the contracts of a session exclude.
 use Rattle.std.proofs.Common.{◌≡◌, ℕ, ◌+◌, ◌≤◌, List, [], ◌∷◌, length, true, false, refl, sym, ap}
 use Rattle.std.proofs.Common.{◌∙◌, subst, arith, inl, inr}
 use Rattle.std.specs.Prelude.{Option, Some, None, Ok, Err, slice_get, IfSome}
@@ -27,7 +27,7 @@ use Rattle.tape_run.proofs.session.Session.restart.Reads as restart
 use Rattle.tape_run.proofs.session.Session.save.Reads as save
 use Rattle.tape_run.proofs.session.Session.want.Reads as want
 
--- ---- where a session begins, and what it needs
+-- ---- the start of a session, and the part that it needs
 
 -- first_file_always: a session of file 2 begins file 1.
 first_file_always : (S : _) (LS : _) (g : _) (d : _) (w : _) (κs : _) (a : _) (session : _) (s : _)
@@ -59,7 +59,7 @@ resumed_at_start S LS g d κs a z s l five start =
     = ap (λ p. p.position) (l.resumed []).place in
     absurd (let n : 0 ≡ 5 = ap block_of (sym start ∙ e ∙ five) in omega arith)
 
--- nothing_wanted: a file of which nothing was read is reported as complete.
+-- nothing_wanted: a file is reported as complete before anything of it was read.
 nothing_wanted : (S : _) (LS : _) (g : _) (d : _) (κs : _) (a : _) (s : _)
     → want.Learnt S LS g d κs a None s → a.0.now.core.position ≡ Awaits 1 0 0 → ⊥
 nothing_wanted S LS g d κs a s h start =
@@ -143,7 +143,7 @@ restart_keeps_later_notes S LS g d κs a s note l was both set file light first 
     absurd (omega (arith, n, first, all))
 
 -- restart_keeps_later_parts: at a checkpoint with weight 10 the sink still contains parts with
--- weight 20. Each session satisfies what is assumed of its checkpoints (`kept` of `Session::new`).
+-- weight 20. The assumption about checkpoints is true of every session (`kept` of `Session::new`).
 restart_keeps_later_parts : (S : _) (LS : _) (g : _) (d : _) (κs : _) (a : _) (s : _)
     (held : List Portion) (point : Point) → restart.Learnt-named S LS g d κs a (Ok tt) s
     → g.holds a.0.now.sink held → IsKept (seen g a.0.now held)

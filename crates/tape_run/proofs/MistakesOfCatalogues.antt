@@ -1,4 +1,4 @@
--- Answers that the contracts of a catalogue exclude: each would be given by a wrong body.
+-- Wrong answers that the contracts of a catalogue exclude.
 use Rattle.std.proofs.Common.{◌≡◌, ℕ, List, [], ◌∷◌, ◌++◌, length, map, true, false, sym, ap}
 use Rattle.std.proofs.Common.{◌∙◌, subst, arith, codes}
 use Rattle.std.specs.Prelude.{Option, Some, None, Ok, MatchOption}
@@ -97,7 +97,7 @@ replaced_entry_put_last R LR h d κs a line s x y again l old one two new =
 
 -- ---- which sections items contain
 
--- a section of file 1 of which this many blocks were found
+-- a section of file 1, with the number of blocks found
 abbrev met : List ℕ → List ℕ → ℕ → Met
 met set_id volume blocks =
     let key : SectionKey = record { set_id = set_id; file = 1; sect = 1 } in
@@ -155,7 +155,7 @@ bad_section_called_good κs a z s id volume head h of by w =
     (told_so κs a z s (record (met id volume 5) { bad = true }) (trailer head 1 5) h of by) in
     absurd (cc e)
 
--- what is expected after a block
+-- the phase expected after a block
 behind_block : (κs : _) (a : _) (z : _) (s : _) (phase : Phase) (bytes : List ℕ)
     → step.Learnt κs a z s → a.0 ≡ phase → tape_item a.1.0 ≡ block bytes
     → z ≡ passing.step phase (block bytes)
@@ -202,7 +202,7 @@ section_under_way_forgotten κs a s m h at =
     let e : None ≡ Some (cut m) = h ∙ ap passing.under_way at in
     absurd (cc e)
 
--- ---- what was found and what is missing
+-- ---- found and missing sections
 
 -- the section that is returned as missing is the first one
 is_first : (κs : _) (a : _) (s : _) (sect : ℕ) → lacking.Learnt κs a (Some sect) s

@@ -1,5 +1,4 @@
--- Answers to a fault while records are written that the contracts exclude: each would be given by a
--- wrong body.
+-- Wrong answers to a fault while records are written that the contracts exclude.
 use Rattle.std.proofs.Common.{◌≡◌, ◌<◌, ◌+◌, true, false, List, inl, inr, arith, sym, ◌∙◌}
 use Rattle.std.specs.Prelude.{Err}
 use Rattle.tape_blocks.specs.Block.{Portion}

@@ -1,4 +1,4 @@
--- Answers that the contracts of the engines exclude: each would be given by a wrong body.
+-- Wrong answers that the contracts of the engines exclude.
 use Rattle.std.proofs.Common.{◌≡◌, ℕ, List, [], ◌∷◌, ◌++◌, length, true, false, refl}
 use Rattle.std.proofs.Common.{ap, ◌∙◌, sym, subst, arith, codes}
 use Rattle.std.specs.Prelude.{Bool, Option, Some, None, Ok, slice_index, map, option_map}
@@ -52,7 +52,7 @@ output_flushed_while_something_is_wanted : (S : _) (R : _) (L : _) (W : _) (P : 
     → (s.1.1.1.0.now ≡ a.1.1.1.0.now → ⊥) → ⊥
 output_flushed_while_something_is_wanted = partial_output_written
 
--- one image: something of it was read, unless nothing is missing
+-- one image, of which something was read unless nothing is missing
 one_turn : {L R : Type 0} (gives : Mounting L R) (remaining : R → Option (List ℕ)) (shelf left : L)
     (turns : List Turn) (want : Want) → AreTurns gives remaining shelf 0 turns left
     → ((image : Option R) (next : L) → gives shelf 0 image next → image ≡ None)
@@ -183,7 +183,7 @@ one_absent gives remaining shelf left (r ∷ []) (image, next, gave, is, rest) o
     ap (λ x. x ∷ []) (is ∙ ap (option_map remaining) (absent image next gave))
 one_absent gives remaining shelf left (r ∷ s ∷ rest) are one absent = absurd (omega (arith, one))
 
--- the text of that report
+-- the text of this report
 text_of_none : {L R : Type 0} (size : L → ℕ) (gives : Mounting L R)
     (remaining : R → Option (List ℕ)) (shelf left : L) (old contents : Option (List ℕ))
     (text : List ℕ) (found : _) → Reports size gives remaining shelf left old contents found

@@ -1,4 +1,4 @@
--- Answers that the contract of listing excludes: each would be given by a wrong body.
+-- Wrong answers that the contract of listing excludes.
 use Rattle.std.proofs.Common.{◌≡◌, ℕ, List, [], ◌∷◌, length, sym}
 use Rattle.std.proofs.Common.{ap, ◌∙◌, subst, arith, codes}
 use Rattle.std.specs.Prelude.{Some, Ok, Err, slice_index}

@@ -1,5 +1,4 @@
--- Answers that the contract of a listing with offsets excludes: each would be given by a wrong
--- body.
+-- Wrong answers that the contract of a listing with offsets excludes.
 use Rattle.std.proofs.Common.{◌≡◌, ℕ, List, [], ◌∷◌, ◌++◌, length, map, sym, refl}
 use Rattle.std.proofs.Common.{ap, ◌∙◌, subst, arith, codes}
 use Rattle.std.proofs.lemmas.List.{length-map}
@@ -21,7 +20,7 @@ use Rattle.tape_run.proofs.list_places.list_places_to.Reads as list_places_to
 abbrev behind_gap : PlacedItem
 behind_gap = record { item = mark; from = 0; behind = 8 }
 
--- this many items are read from bytes that encode this one and then end
+-- the number of items read from bytes that encode this item and then end
 same_items : (items : List PlacedItem) (x : PlacedItem) (bytes rest ys left : List ℕ)
     (at q place end : ℕ) (ending : _) → Places 0 items at bytes rest
     → TakesEnd at [] ending place rest left → Places 0 (x ∷ []) q bytes ys

@@ -1,4 +1,4 @@
--- Answers that the contracts of complete readings exclude: each would be given by a wrong body.
+-- Wrong answers that the contracts of complete readings exclude.
 use Rattle.std.proofs.Common.{◌≡◌, ◌⊎◌, inl, inr, ℕ, List, [], ◌∷◌, ◌++◌, map, Bool, true, false}
 use Rattle.std.proofs.Common.{refl, sym, ap, ◌∙◌, subst, arith, codes, length, append-nil}
 use Rattle.std.specs.Prelude.{Option, Some, None, Ok, IsSome, replicate}
@@ -43,8 +43,8 @@ to_a_front set file bytes foreign_reel m = refl
 to_a_front set file bytes saves (xs, end, stop, b, m) = absurd m
 to_a_front set file bytes (restarts n) (xs, end, stop, b, m) = absurd m
 
--- whatever a reader returns of its bytes is a copy of a volume of the set or a foreign reel: this
--- is true of the image of a volume, since each prefix of it is a reading that was cut there
+-- the bytes that a reader returns are a copy of a volume of the set or a foreign reel: this is true
+-- of the image of a volume, since each prefix of it is a truncated reading
 abbrev GivesMounts : FileSet → List ℕ → Type 0
 GivesMounts set bytes =
     (failed : Bool) (left : Option (List ℕ)) (given : List ℕ) → IsGiven failed bytes left given

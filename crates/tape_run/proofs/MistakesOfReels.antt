@@ -1,4 +1,4 @@
--- Answers that the contract of `Session::reel` excludes: each would be given by a wrong body.
+-- Wrong answers that the contract of `Session::reel` excludes.
 use Rattle.std.proofs.Common.{◌≡◌, ◌⊎◌, inl, inr, ℕ, ◌+◌, ◌≤◌, List, [], ◌∷◌, ◌++◌, length, refl}
 use Rattle.std.proofs.Common.{sym, ap, ◌∙◌, subst, arith, length-append, append_assoc, append-nil}
 use Rattle.std.specs.Prelude.{Option, Some, None, Ok}
@@ -26,7 +26,7 @@ use Rattle.tape_run.specs.Reels.{Reads, ReadsReel, EndedByItem, EndedByMedium, E
 use Rattle.tape_run.specs.Reels.{answers_to, delivered_by}
 use Rattle.tape_run.proofs.session.Session.reel.Reads as reel
 
--- the answer of a reel that is read from this position on, if the reader tells its bytes
+-- the answer of a reel that is read from this position on, if the reader knows its bytes
 read_from : (old : State) (p : Position) (before after : Option (List ℕ)) (bytes left : List ℕ)
     (answer : ReelAnswer)
     → IfKnown before after (λ xs ys. Reads old.position old xs ys answer)
@@ -156,12 +156,12 @@ marked_first set_id x items e on = goes (subst
 abbrev marks : List TapeItem
 marks = mark ∷ mark ∷ []
 
--- the first item of these
+-- the first of these items
 abbrev front_item : List TapeItem → TapeItem
 front_item [] = mark
 front_item (x ∷ xs) = x
 
--- a reading that continued after these items of the image continued after none of them
+-- if the reading continued after these items of the image, there are none of them
 none_before : (set_id : List ℕ) (items more : List TapeItem)
     → AllByRecursion GoesOn (answers_to (mounted set_id) items) → marks ≡ items ++ more
     → items ≡ []
@@ -169,7 +169,7 @@ none_before set_id [] more on e = refl
 none_before set_id (x ∷ items) more on e =
     absurd (marked_first set_id x items (sym (ap front_item e)) on)
 
--- the second mark was not taken
+-- the second mark was not read
 second_stays : (set_id bytes : List ℕ) (items : List TapeItem) (answer : ReelAnswer) (end : ℕ)
     (stop : Stop) → length bytes ≤ image_limit → Begins 0 bytes marks end stop
     → answer.fault ≡ None

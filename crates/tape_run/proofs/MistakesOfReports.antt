@@ -1,5 +1,4 @@
--- Answers that the contracts of writers and of the lines of reports exclude: each would be given by
--- a wrong body.
+-- Wrong answers that the contracts of writers and of the lines of reports exclude.
 use Rattle.std.proofs.Common.{◌≡◌, [], length, sym, ap, ◌∙◌, subst, arith, codes}
 use Rattle.std.specs.Prelude.{Some, None, Ok, slice_index}
 use Rattle.std.specs.Fmt.{digits}
@@ -17,7 +16,7 @@ use Rattle.tape_run.specs.ReelLine.{reel_line}
 
 -- ---- writing
 
--- taking_nothing_is_success: a device that accepted nothing of a text is reported to contain all of
+-- taking_nothing_is_success: a device that accepted no byte of a text is reported to contain all of
 -- it
 taking_nothing_is_success : (W : _) (L : _) (h : _) (e : _) (κs : _) (a : _) (s : _)
     → write_text.Learnt-named W L h e κs a (Ok tt) s → a.1.0.now ≡ codes "MARK"

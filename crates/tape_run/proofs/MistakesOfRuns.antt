@@ -1,4 +1,4 @@
--- Answers that the contract of a run excludes: each would be given by a wrong body.
+-- Wrong answers that the contract of a run excludes.
 use Rattle.std.proofs.Common.{◌≡◌, ℕ, List, [], ◌∷◌, ◌++◌, map, Bool, true, false, sym, ap, ◌∙◌}
 use Rattle.std.proofs.Common.{subst, arith, codes, length}
 use Rattle.std.specs.Prelude.{Option, Some, Ok, slice_get, option_map}
@@ -151,8 +151,8 @@ script_notes_in_the_list_alone S R LS LR g d h e κs a s held there older l was 
 
 -- ---- what is delivered
 
--- the parts of a sink to which the worked reels were read from the start of file 1, as in a new
--- session, by readers none of which failed
+-- the parts of a sink after the worked reels were read from the start of file 1, as in a new
+-- session, and no reader failed
 worked_parts : (S : _) (R : _) (LS : _) (LR : _) (g : _) (d : _) (h : _) (e : _) (κs : _) (a : _)
     (s : _) (held : List Portion)
     → run.Learnt-named S R LS LR g d h e κs a (Ok tt) s
@@ -181,8 +181,8 @@ delivers_nothing S R LS LR g d h e κs a s l empty fresh steps known none one th
     none one there) in
     absurd (omega (arith, n))
 
--- section_delivered_twice: volume 1 was mounted four times, and at its second mount the first part
--- of its section was delivered again.
+-- section_delivered_twice: volume 1 was mounted four times, and the first part of its section was
+-- delivered again at its second mount.
 section_delivered_twice : (S : _) (R : _) (LS : _) (LR : _) (g : _) (d : _) (h : _) (e : _) (κs : _)
     (a : _) (s : _) (more : List Portion) → run.Learnt-named S R LS LR g d h e κs a (Ok tt) s
     → g.holds a.0.now.sink [] → IsStart (codes "ABC001") 1 (seen g a.0.now [])

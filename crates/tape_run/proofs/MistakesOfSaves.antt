@@ -118,7 +118,7 @@ HoldsOne holds = (xs ys : List Portion) → holds xs → holds ys → xs ≡ ys
 abbrev at_first : Stopped
 at_first = record { step = 0; fault = faults.Sink Device }
 
--- how the failed step failed, if it is the first one
+-- the reason why the failed step failed, if it is the first one
 first_fails : (which : List Bool) (old new : Seen) (step : Step) (is steps : List Step)
     (are left over : List (Option (List ℕ))) (fault : RunFault) → is ≡ step ∷ steps → are ≡ left
     → RunsUpTo which old is are over 0 fault new → Fails step left fault old new

@@ -19,7 +19,7 @@ use Rattle.tape_run.specs.Runs.{RunsUpTo, Fails}
 use Rattle.tape_run.specs.Seen.{Seen, KeepsNotes}
 use Rattle.tape_run.proofs.script.run.Reads as run
 
--- what `run` requires of checkpoints is true if there are none
+-- the requirement of `run` on checkpoints is satisfied if there are none
 pub kept_without : (place : State) (held : List Portion) (notes : List Point) → notes ≡ []
     → KeepsNotes place [] notes held
 kept_without place held notes none =
@@ -29,7 +29,7 @@ kept_without place held notes none =
 abbrev stopped : ℕ → RunFault → Stopped
 stopped n fault = record { step = n; fault = fault }
 
--- the step with this number failed, given these steps and readers
+-- the step with this number failed, given the steps and the readers
 abbrev StopsAt : List Step → List (Option (List ℕ)) → Step → ℕ → RunFault → Type 0
 StopsAt steps left step n fault = (mid : Seen) × (new : Seen)
     × (slice_get steps n ≡ Some step)

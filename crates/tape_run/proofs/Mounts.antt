@@ -1,4 +1,4 @@
--- The reader during a mount: a copy with what follows it, or a foreign reel.
+-- The reader during a mount: of a copy and the items after it, or of a foreign reel.
 use Rattle.std.proofs.Common.{◌≡◌, ◌≢◌, ◌⊎◌, inl, inr, ℕ, zero, suc, ◌+◌, ◌<◌, ◌≤◌, Bool, cond}
 use Rattle.std.proofs.Common.{List, [], ◌∷◌, ◌++◌, length, take, drop, Option, Some, refl, sym, ap}
 use Rattle.std.proofs.Common.{subst, ◌∙◌, arith, length-append}
@@ -29,8 +29,8 @@ use Rattle.tape_run.specs.Mount.{cut, after_mount}
 use Rattle.tape_run.specs.Puts.{IsChecked}
 use Rattle.tape_run.specs.Under.{is_under}
 
--- One item of a mount that began at p: the state matches again after the parts that the step
--- delivered, and after a final answer no further item of the mount changes the position.
+-- One item of a mount that began at p: the state agrees with the parts that the step delivered, and
+-- after a final answer no further item of the mount changes the position.
 pub record Took (set : FileSet) (p : Position) (h : MountEvent) (item : Option TapeItem)
     (answer : Answer) (old new : State) : Type 0 where
   pub at : IsAt set new
@@ -72,7 +72,7 @@ take_whole zero (g ∷ gs) h = absurd (omega (arith, h))
 take_whole (suc n) [] h = refl
 take_whole (suc n) (g ∷ gs) h = ap (λ (l : List Bool). g ∷ l) (take_whole n gs (omega (arith, h)))
 
--- The item at an index, and what follows it.
+-- The item at an index, and the items after it.
 record ItemAt (xs : List TapeItem) (i : ℕ) : Type 0 where
   pub item : TapeItem
   pub there : slice_get xs i ≡ Some item

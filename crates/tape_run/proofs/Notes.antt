@@ -73,7 +73,8 @@ notes_push set file front [] c parts s h = (parts, h, s, front_self parts)
 notes_push set file front (d ∷ ds) c parts s (ps, a, t, rest) =
     (ps, a, t, notes_push set file ps ds c parts s rest)
 
--- The n-th checkpoint is valid for a prefix, and the checkpoints up to it are those of this prefix.
+-- The n-th checkpoint is valid for a prefix of the parts, and the checkpoints up to it are the
+-- checkpoints of this prefix.
 pub record NoteAt (set : FileSet) (file : ℕ) (front : List Portion) (notes : List Point)
     (n : ℕ) (c : Point) (parts : List Portion) : Type 0 where
   pub ps : List Portion

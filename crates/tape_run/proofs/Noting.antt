@@ -20,7 +20,7 @@ noted_here s c some last is = (
   (last ∙ ap Some is, front_self s.parts, refl),
 )
 
--- and if it has another position, it does not
+-- and if its position is different, it does not
 pub noted_elsewhere : (s : Seen) (c : Point)
     → slice_get s.notes (length s.notes - 1) ≡ Some c → (c ≡ saved s.place (weight_of s.parts) → ⊥)
     → HasNotedHere s → ⊥
@@ -34,7 +34,7 @@ noted_elsewhere s c last other (n, count, (is, front, weighs)) =
 pub none_noted : (s : Seen) → s.notes ≡ [] → HasNotedHere s → ⊥
 none_noted s none (n, count, is) = absurd (omega (arith, count, ap length none))
 
--- a consequence of an answer holds where the answer is returned
+-- a consequence of an answer is true where the answer is returned
 pub true_map : (t : Bool) (A B : Type 0) → (A → B) → OnTrue t A → OnTrue t B
 true_map true A B f a = f a
 true_map false A B f a = a

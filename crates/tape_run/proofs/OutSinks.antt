@@ -36,7 +36,7 @@ regroup : (t b bytes end : List ℕ) → t ++ ((b ++ bytes) ++ end) ≡ (t ++ b)
 regroup t b bytes end = ap (λ x. t ++ x) (append_assoc b bytes end)
     ∙ sym (append_assoc t b (bytes ++ end))
 
--- One more part: what the parts join to, how many records ended, and whether one is unfinished.
+-- One more part: the joined records, how many of them ended, and whether one is unfinished.
 pub record Grows (form : Form) (old new : Joined) (p : Portion) : Type 0 where
   pub text : text_of form new ≡ text_of form old ++ part_text form p
   pub count : length new.records ≡ with_end (leaves p.span) (length old.records)
@@ -90,7 +90,7 @@ grows_by form ps p false ends =
       begins = ap (λ (j : Joined). is_some j.rest) is ∙ sym ends;
     }
 
--- After one more part the text has grown by what that part adds.
+-- One more part extends the text by the bytes of that part, and a terminator if it ends its record.
 pub grows : (form : Form) (ps : List Portion) (p : Portion)
     → Grows form (join ps) (join (ps ++ p ∷ [])) p
 grows form ps p = grows_by form ps p (leaves p.span) refl

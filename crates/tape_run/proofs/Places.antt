@@ -175,7 +175,7 @@ delivered_at set x old new held parts first bytes k d a b is known holds from =
     ∙ ap (λ (l : List Portion). held ++ drop first l) all)) in
     record { at = b; all = sym next }
 
--- A part of it was refused.
+-- A part of the block was refused.
 pub refused_at : (set : FileSet) (x : TapeItem) (old new : State) (held parts : List Portion)
     (first n : ℕ) (bytes : List ℕ) (k : FileForm)
     → Delivers set x old new → IsPlaced set old held → IsAt set new

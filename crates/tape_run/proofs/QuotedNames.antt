@@ -1,4 +1,4 @@
--- Names as they are printed: nothing of them is hidden, and no two are printed in the same way.
+-- Names as they are printed: no character is hidden, and different names are printed differently.
 use Rattle.std.proofs.Common.{◌≡◌, ◌≢◌, ℕ, ◌+◌, ◌*◌, ◌/◌, ◌%◌, ◌<◌, Bool, true, false}
 use Rattle.std.proofs.Common.{List, [], ◌∷◌, ◌++◌, refl, sym, ap, subst, ◌∙◌, arith}
 use Rattle.std.proofs.Common.{chars, encode_utf8_all, length}

@@ -19,7 +19,7 @@ use Rattle.tape_run.specs.RecordFront.{EachEnds, WritesFront}
 use Rattle.tape_image.proofs.Pieces.{front_more, front_behind}
 use Rattle.tape_run.proofs.Streams.{with_end, ends, count_ends, ends_few}
 
--- ---- what is written for such parts
+-- ---- the text written for such parts
 
 one_text : (form : Form) (p : Portion) (ps : List Portion) → leaves p.span ≡ false
     → output_of form (p ∷ ps) ≡ part_text form p ++ output_of form ps
@@ -162,7 +162,7 @@ front_all form count old new parts f =
           ∙ sym (front_text form f.first f.rest f.each) ∙ ap (output_of form) (sym f.are)) f.wrote,
     )
 
--- and then the rest was written, or a prefix of it
+-- and then the rest of the text was written, or a prefix of it
 pub rest_written : (form : Form) (count records : ℕ) (all : Bool) (old mid new : Option (List ℕ))
     (parts : List Portion) (f : WritesFront form count all old mid parts)
     → (records ≡ length (join (f.first ++ f.rest)).records)
@@ -185,7 +185,7 @@ rest_failed form count all old mid new parts f wrote =
 
 -- ---- a walk that skips the parts
 
--- This many of these parts are still to be skipped, and then the others come.
+-- Some of the parts are still to be skipped, followed by the others.
 pub record Passes (ahead : List Portion → Type 0) (left : ℕ) (rest : List Portion) : Type 0 where
   pub before : List Portion
   pub is_ahead : ahead (before ++ rest)

@@ -268,7 +268,7 @@ stops_round {S} {L} {R} gs size count before gives remaining back
           told says) lines stopped;
     })
 
--- whether this was the last pass, by what is missing
+-- whether this was the last pass, from the part that is missing
 pub enough_by : (size lines : ℕ) (before want b w : Option Want) → b ≡ before → w ≡ want
     → (w ≡ None) ⊎ (w ≡ b) → IsEnough size lines before want
 enough_by size lines before want b w is_b is_w (inl none) = inl (sym is_w ∙ none)

@@ -19,9 +19,9 @@ use Rattle.tape_run.specs.SessionState.{SessionState}
 use Rattle.tape_run.proofs.Crashes.{stood_here}
 use Rattle.tape_run.proofs.Made.{made_none, made_more, all_made}
 
--- The first n steps succeeded, in a session whose sink contained these parts before: what its sink
--- contains now, what the steps did, what a crash leaves, and whether that is only the last
--- checkpoint.
+-- The first n steps succeeded, in a session whose sink contained these parts before: the current
+-- contents of its sink, the effects of the steps, the states that a crash leaves, and whether these
+-- are only the last checkpoint.
 pub record HasCome {S : Type 0} (g : Ghosts S) (which : List Bool) (old : SessionState S)
     (held : List Portion) (steps : List Step) (readers : List (Option (List ℕ))) (n : ℕ)
     (new : SessionState S) (unread others : List (Option (List ℕ))) : Type 0 where
@@ -52,7 +52,7 @@ none_made {held = held} was kept = record {
   brings = λ is. absurd (cc);
 }
 
--- what the next step adds to the states that a crash may leave
+-- the states that a crash may leave after the next step, in addition to the earlier ones
 pub adds_more : {S : Type 0} {g : Ghosts S} {which : List Bool} {old mid : SessionState S}
     {held : List Portion} {steps : List Step} {readers unread others : List (Option (List ℕ))}
     {n : ℕ} {new : Crashes}
@@ -108,7 +108,7 @@ now_unread {g = g} {which = which} {old = old} {new = new} {held = held} {steps 
     {readers = readers} {others = others} {n = n} is e come =
     subst (λ u. HasCome g which old held steps readers n new u others) (sym e) come
 
--- what a crash leaves so far, for readers with these unread bytes
+-- the states that a crash leaves so far, for readers with these unread bytes
 pub adds_so_far : {S : Type 0} {g : Ghosts S} {which : List Bool} {old new : SessionState S}
     {held : List Portion} {steps : List Step} {readers others : List (Option (List ℕ))} {n : ℕ}
     {R : Type 0} (remaining : R → Option (List ℕ)) (used : ℕ) (reels : List R)
@@ -153,7 +153,7 @@ taken_then steps n step here used is =
     ap (λ m. m + reels_in (step ∷ [])) is ∙ sym (reels_then (take n steps) (step ∷ []))
     ∙ ap reels_in (sym (take-add n 1 steps ∙ ap (λ rest. take n steps ++ take 1 rest) here))
 
--- what follows the readers used before, and the next one
+-- the readers after those used before and the next one
 pub stays_behind : {R : Type 0} (used more : ℕ) (old mid new : List R)
     → drop used mid ≡ drop used old → drop (used + more) new ≡ drop (used + more) mid
     → drop (used + more) new ≡ drop (used + more) old

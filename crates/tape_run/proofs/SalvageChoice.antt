@@ -58,7 +58,7 @@ more sect last (x ∷ cs) c b e =
     (λ l f. more sect l cs c b f) e in
     record { first = h.0; image = h.1 }
 
--- it is the first, or comes after one that is no worse, or is better
+-- the copy is the first one, or comes after one that is no worse, or is better
 pub first_best : (cs : List SectionCopy) (c : SectionCopy) → IsBest cs None
     → IsBest (cs ++ c ∷ []) (Some c)
 first_best cs c none = ([], [], ap (λ (l : List SectionCopy). l ++ c ∷ []) none, tt, tt)
@@ -114,14 +114,14 @@ takes_copy sect cs c best new last on h better =
       at = sym m.image;
     }
 
--- ---- what is found among the copies
+-- ---- the sections found among the copies
 
 pub last_more : (cs : List SectionCopy) (c : SectionCopy)
     → last_section (cs ++ c ∷ []) ≡ max (last_section cs) c.section.key.sect
 last_more [] c = omega arith
 last_more (d ∷ cs) c = let r = last_more cs c in omega (arith, r)
 
--- one more of these copies
+-- one more copy of the section
 taken_more : {X : Type 0} (xs : List X) (place : ℕ) (x z : X) → place < length xs
     → x ≡ get_or xs place z → take (place + 1) xs ≡ take place xs ++ x ∷ []
 taken_more xs place x z within is =

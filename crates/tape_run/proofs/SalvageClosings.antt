@@ -176,7 +176,7 @@ module _ (key : SectionKey) where
       (not_one b c none)
       ∙ none_gathered (step s x).0 n xs (rest_none key b c none)
 
-  -- this many data items were read if the reading ends at the mark after them
+  -- the number of data items read, if the reading ends at the mark after them
   items_counted : (items more all : List TapeItem) (n : ℕ) → all ≡ items ++ more
       → EndsData (Outside 0) key items → closings key (Outside 0) all ≡ 1
       → gathered length_at (Outside 0) 0 all ≡ n
@@ -219,7 +219,7 @@ module _ (key : SectionKey) where
       items_counted items more (read_volume ls (before ++ r ∷ rest)) n splits ends z.once
       w.walk.gives
 
--- what is recovered from such a reading
+-- the records recovered from such a reading
 pub reading_salvaged : (key : SectionKey) (form : FileForm) (set_id : List ℕ) (volumes : ℕ)
     (v : Volume) (ls : Labels) (before : List SectionRead) (r : SectionRead)
     (rest : List SectionRead) (g : Salvaged) (items more : List TapeItem) → IsVolume v

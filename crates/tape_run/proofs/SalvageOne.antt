@@ -93,7 +93,7 @@ module _ {W L R : Type 0} (contents : W → Option (List ℕ)) (gives : Mounting
   abbrev can_read : SectionCopy → Bool
   can_read c = has_form content (form_of c)
 
-  -- what is recovered of a section without items, whether or not its blocks can be read
+  -- the result for a section without items, whether or not its blocks can be read
   abbrev WithoutItems : ℕ → SectionCopy → Bool → Recovery W → Recovery W → Option (List ℕ)
       → Option (List ℕ) → Type 0
   WithoutItems sect c b old new said says = Recovers contents old new said says

@@ -94,7 +94,7 @@ may_after ((false, b) ∷ ls) = refl
 
 -- ---- the section during the walk
 
--- after these labels before its data, the first of which is its second label or follows it
+-- after labels before the data, the first of which is the second label or follows it
 unfoldable pub headed : OpenSection → Labels → OpenSection
 headed u [] = u
 headed u ((true, b) ∷ ls) = headed u ls

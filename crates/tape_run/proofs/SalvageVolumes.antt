@@ -1,4 +1,4 @@
--- The walk over a volume of a valid set, and what is recovered from it.
+-- The walk over a volume of a valid set, and the records recovered from it.
 use Rattle.std.proofs.Common.{◌≡◌, ℕ, Bool, true, false, List, [], ◌∷◌, ◌++◌, length, Some, Ok}
 use Rattle.std.proofs.Common.{Result, Err, refl, sym, ap, subst, ◌∙◌, append_assoc}
 use Rattle.std.specs.List.{AllByRecursion}

@@ -16,18 +16,17 @@ use Rattle.tape_run.specs.SalvageRecords.{mended_by, begun_at, judged_at}
 use Rattle.tape_run.specs.SalvageWhole.{Blocks, parts_of_block, parts_with, all_parts, whole_from}
 use Rattle.tape_run.specs.SalvageWhole.{piece_after, IsBlock, RecoversWhole, AllWhole}
 
--- What a part shows about the unfinished record with these parts so far, all of which were read or
--- not.
+-- The meaning of a part for the unfinished record, whose parts so far were all read or not.
 pub data Follows (p : Piece) (begun : Bool) (front : List Portion) (all : Bool) : Type 0 where
-  -- nothing is missing of it
+  -- no part of the unfinished record is missing
   on : p.torn ≡ false → p.begun ≡ begun → p.front ≡ front → all ≡ true → Follows p begun front all
-  -- something is missing of it
+  -- a part of the unfinished record is missing
   within : p.torn ≡ true → p.front ≡ [] → begun ≡ true → all ≡ false → Follows p begun front all
   -- no record is unfinished after something that is missing
   behind : p.torn ≡ true → p.front ≡ [] → begun ≡ false → front ≡ [] → all ≡ true
       → Follows p begun front all
 
--- what is recovered after further parts, and what is still to come
+-- the records recovered after further parts, and those still to come
 record Gives (p q : Piece) (front : List Portion) (all end : Bool)
     (xs rest : List (Bool × Portion)) : Type 0 where
   later : List Portion
@@ -246,7 +245,7 @@ split_order begun end (x ∷ xs) ys (c, o) =
     let more = split_order (leaves x.span) end xs ys o in
     (more.0, (c, more.1), more.2)
 
--- what is recovered from blocks, after what was recovered before
+-- the records recovered from further blocks follow those recovered earlier
 pub given_of : (form : FileForm) (p : Piece) (begun all end : Bool) (front : List Portion)
     (bs : Blocks)
     → AllByRecursion (IsBlock form) bs → InOrder begun (all_parts bs) end

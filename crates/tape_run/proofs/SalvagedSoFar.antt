@@ -1,4 +1,4 @@
--- What was recovered after some items of an image.
+-- The records recovered after some items of an image.
 use Rattle.std.proofs.Common.{◌≡◌, ℕ, List, [], ◌∷◌, ◌++◌, Option, Some, None}
 use Rattle.std.proofs.Common.{true, false, refl, sym, ap, subst, ◌∙◌, append-nil}
 use Rattle.std.proofs.Common.{append_assoc, arith, ◌+◌, ◌&&◌, Bool}
@@ -182,7 +182,7 @@ placed None left q items h = tt
 placed (Some xs) None q items h = absurd h
 placed (Some xs) (Some ys) q items h = (q, ys, h)
 
--- the mark that ends the section's data is not one of them
+-- the mark that ends the section's data is not a data item
 pub read_at_mark : (key : SectionKey) (s : Expected) → is_in key s ≡ true
     → read_in key s ≡ read_in key (step s mark).0
 read_at_mark key (Data u) is = refl
@@ -272,7 +272,7 @@ at_fault contents all left next p fault origin key most form expected old new sa
       recovers = s.recovers;
     }
 
--- an item was processed as the one with its number
+-- an item was processed under its number
 pub numbered : {W : Type 0} (contents : W → Option (List ℕ)) (key : SectionKey) (most : ℕ)
     (form : Option FileForm) (expected : Expected) (n : Option ℕ) (item : TapeItem)
     (mid new : Recovery W) (says now : Option (List ℕ)) → n ≡ number_in key most expected

@@ -57,7 +57,7 @@ pub runs_trailers : (v : List ℕ) (hs : List (List ℕ))
 runs_trailers v [] = runs_nil (Trailers v)
 runs_trailers v (h ∷ hs) = let r = runs_trailers v hs in record { after = r.after; tells = r.tells }
 
--- a section of which this many blocks were found, none of them bad
+-- a section with the number of its blocks found so far, none of them bad
 abbrev pub whole_met : List ℕ → SectionKey → ℕ → Met
 whole_met v key n = record { volume = v; key = key; blocks = n; bad = false }
 

@@ -1,4 +1,5 @@
--- What the last items are, by what is expected next: the labels of a section, its data, or its end.
+-- The last items read, according to what is expected next: the labels of a section, its data, or
+-- its end.
 use Rattle.std.proofs.Common.{◌≡◌, ℕ, suc, Bool, true, false, List, [], ◌∷◌, ◌++◌, length, Option}
 use Rattle.std.proofs.Common.{Some, None, Result, Ok, Err, refl, ap, ◌∙◌, arith, append_assoc}
 use Rattle.std.proofs.Common.{append-nil, length-append}
@@ -50,8 +51,8 @@ pub record Labelled (items : List TapeItem) (met : Met) : Type 0 where
   pub none : met.blocks ≡ 0
   pub good : met.bad ≡ false
 
--- the last items are a section's labels, a mark and its data, none of which is bad unless this says
--- so, and what follows
+-- the last items are a section's labels, a mark and its data, none of which is bad if `good` is
+-- true, and the items after them
 pub record Filled (items : List TapeItem) (met : Met) (behind : List TapeItem) : Type 0 where
   pub volume : BeginsVolume items met.volume
   pub before : List TapeItem

@@ -228,7 +228,7 @@ kept_restart old new n w k =
     ∙ at.note.of_set) (ap (λ (p : State). p.file) w.place ∙ at.note.of_file)
     (rw (w.notes, same) at.left)
 
--- a session with these, with this many readers that failed and this many refusals
+-- a session in this state, with its numbers of failed readers and of refusals
 abbrev pub session_of : State → List Portion → List Point → ℕ → ℕ → Seen
 session_of place parts notes failures refusals = record {
   place = place;

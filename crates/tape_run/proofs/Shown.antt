@@ -1,4 +1,4 @@
--- Texts that Display shows, and what is written of them.
+-- Texts shown by Display, and the bytes written of them.
 use Rattle.std.proofs.Common.{◌≡◌, ℕ, List, Option, Some, None, subst}
 use Rattle.std.specs.Prelude.{Result, Ok, Err, OnOk, OnErr, IfSome}
 

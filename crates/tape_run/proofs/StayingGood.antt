@@ -1,4 +1,4 @@
--- What is good in a catalogue remains good, and what is reported as good becomes good.
+-- Sections that are good in a catalogue remain good, and sections reported as good become good.
 use Rattle.std.proofs.Common.{◌≡◌, ℕ, Bool, true, false, List, [], ◌∷◌, Option, Some, None, refl}
 use Rattle.std.proofs.Common.{ap, ◌∙◌, arith}
 use Rattle.std.specs.Prelude.{if◌then◌else◌, ◌==◌, ◌&&◌, not}

@@ -39,8 +39,7 @@ count_ends begun [] = refl
 count_ends begun (p ∷ ps) =
     count_by (leaves p.span) (content_after begun p.bytes) ps (λ b. count_ends b ps)
 
--- the text of these parts that is still to be written: nothing after the last part that ends a
--- record
+-- the text of the parts that is still to be written: none after the last part that ends a record
 abbrev pub still : Bool → List ℕ → List ℕ
 still true text = text
 still false text = []
@@ -162,7 +161,7 @@ count_ended ahead after count parts c gives =
 -- ---- writing
 
 -- The records that end before the parts still to come have been written, with the bytes of the next
--- one so far, and this many are left.
+-- record so far; the last value counts the records that are left.
 pub record Streams (form : Form) (ahead : List Portion → Type 0)
     (left : ℕ) (old new : Option (List ℕ)) (parts : List Portion) : Type 0 where
   pub rest : List Portion

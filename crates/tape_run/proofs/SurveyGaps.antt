@@ -14,7 +14,7 @@ gap_on d set_id (suc n) some e =
     ap (λ b. if b then suc (suc n) else gap_first d set_id n) e
     ∙ ap (gap_first d set_id) one
 
--- and one that was found is the last of those before
+-- and a number that was found is the last one before
 pub gap_here : (d : Found) (set_id : List ℕ) (n : ℕ) → 0 < n → is_found d set_id n ≡ true
     → gap_first d set_id n ≡ n + 1
 gap_here d set_id zero some e = absurd (omega arith)

@@ -1,4 +1,4 @@
--- Where the items of an image leave the order of a volume.
+-- The item at which an image leaves the order of a volume.
 use Rattle.std.proofs.Common.{◌≡◌, ℕ, ◌+◌, Bool, true, false, List, [], ◌∷◌, ◌++◌, length}
 use Rattle.std.proofs.Common.{refl, sym, ap, subst, ◌∙◌, arith, append_assoc}
 use Rattle.tape_image.specs.Tape.{TapeItem, block, bad, mark}

@@ -28,7 +28,7 @@ use Rattle.tape_run.proofs.SectionsMet.{Stood, begins_more, shown_more, filled_f
 use Rattle.tape_run.proofs.SectionsMet.{filled_more, filled_closed, state_good, shown_as, map_push}
 use Rattle.tape_run.proofs.ShownSections.{stands_on, told_if}
 
--- the data found so far are these blocks, unless one is bad
+-- the data found so far are these blocks, unless one of them is bad
 abbrev Same : (p : Phase) (items : List TapeItem) (blocks : List (List ℕ)) → Stood p items → Type 0
 Same (Data met) items blocks h = met.bad ≡ false → h.content ≡ map block blocks
 Same (Trailer met) items blocks h = met.bad ≡ false → h.content ≡ map block blocks

@@ -1,4 +1,4 @@
--- What the items of an image are, by how far they follow the order of a volume.
+-- The structure of the items of an image, by how far they follow the order of a volume.
 use Rattle.std.proofs.Common.{◌≡◌, ℕ, Bool, true, false, List, [], ◌∷◌, ◌++◌, Option, Some}
 use Rattle.std.proofs.Common.{None, Result, Ok, Err, refl, sym, ap, ◌∙◌, append_assoc, append-nil}
 use Rattle.std.specs.Prelude.{⊤, ◌≢◌, map, if◌then◌else◌}
@@ -85,7 +85,7 @@ pub record Marked (items : List TapeItem) : Type 0 where
   pub begun : IsBegun before []
   pub stands : items ≡ before ++ mark ∷ []
 
--- what the items are in this phase and on this course
+-- the structure of the items in a phase, for a label order
 abbrev pub At : Phase → LabelOrder → List TapeItem → Type 0
 At p (Leaves n w) items = ⊤
 At Volume Follows items = items ≡ []

@@ -281,7 +281,7 @@ all_stand g p before (x ∷ xs) h =
           (append_assoc before (x ∷ []) xs) rest.1,
     )
 
--- if the course is Ended, the items are a volume
+-- if the label order is Ended, the items are a volume
 ended_at : (p : Phase) (items : List TapeItem) → At p Ended items → IsVolumeInOrder items
 ended_at Over items h = h
 ended_at _ items h = absurd h

@@ -1,4 +1,4 @@
--- What a reel reader does with an item of a mount under way, by its core's answer.
+-- The effect on a reel reader of an item of a mount under way, by its core's answer.
 use Rattle.std.proofs.Common.{◌≡◌, ◌≢◌, ◌+◌, ◌<◌, ◌≤◌, ◌++◌, ℕ, List, length, take, drop, Option}
 use Rattle.std.proofs.Common.{Some, sym, ap, subst, ◌∙◌}
 use Rattle.tape_blocks.specs.Block.{Portion, Holds}

@@ -22,7 +22,7 @@ use Rattle.tape_run.specs.Checked.{Reel, AddsImages, summary_of}
 use Rattle.tape_run.specs.WholeReels.{AreWholeCopies, IsListedGood, WholeSetIsTold}
 use Rattle.tape_run.specs.WholeReels.{IsShownOn, GoodWasSeen}
 
--- after complete copies the catalogue is the one that they make
+-- after complete copies the catalogue contains the sections of these copies
 copies_read : (set : FileSet) (reels : List Reel) (lines : List (Option ImageLine)) (ks : List ℕ)
     (c d : List Told) → AddsImages reels lines c d → AreWholeCopies set reels lines ks
     → d ≡ behind_copies set c ks
@@ -137,7 +137,7 @@ shown_behind reel reels told s = record {
   shown = s.shown;
 }
 
--- every section that is good after some images was good before, or one of them shows it
+-- a section that is good after some images was good before, or one of these images shows it
 seen : (reels : List Reel) (lines : List (Option ImageLine)) (c d : List Told) (told : Told)
     → AddsImages reels lines c d → StandsIn d told → told.1.state ≡ Good
     → StandsIn c told ⊎ IsShownOn reels told

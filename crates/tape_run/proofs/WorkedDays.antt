@@ -57,7 +57,7 @@ each (suc k) P (now, later) more zero = now
 each (suc k) P (now, later) more (suc n) =
     each k (λ m. P (suc m)) later (λ m le. more (suc m) (omega (arith, le))) n
 
--- the position after volume 1, from the start, if n items of it were read, in a block at a part
+-- the position after volume 1 was read up to n items, from the start, as a part of a block
 abbrev behind_1 : ℕ → ℕ → Position
 behind_1 n part = at_part part (far worked_set 1 start (reading 1 (take n (replicate 11 true))))
 
@@ -82,7 +82,7 @@ completes =
 
 -- ---- a reader that failed
 
--- the events, with the k-th of them, counted from 0, cut after n items
+-- the events; event k, counted from 0, is cut after n items
 abbrev cut_one : ℕ → ℕ → List MountEvent → List MountEvent
 cut_one k n [] = []
 cut_one zero n (h ∷ hs) = cut n h ∷ hs

@@ -1,5 +1,5 @@
--- Answers that the contracts of the program's functions exclude: each would be given by a wrong
--- body. This file has ends, faults and stages.
+-- Wrong answers that the contracts of the program's functions exclude. This file has ends, faults
+-- and stages.
 use Rattle.std.proofs.Common.{◌≡◌, ◌+◌, ℕ, [], length, true, false, refl, sym, ap, ◌∙◌}
 use Rattle.std.proofs.Common.{subst, arith}
 use Rattle.std.proofs.Math.Nat.{min-eq_left}

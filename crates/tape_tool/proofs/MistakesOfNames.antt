@@ -1,4 +1,4 @@
--- Answers that the contract of `all_names` excludes: each would be given by a wrong body.
+-- Wrong answers that the contract of `all_names` excludes.
 use Rattle.std.proofs.Common.{◌≡◌, ℕ, List, [], ◌∷◌, ◌++◌, length, map, Bool, false, sym, ap, ◌∙◌}
 use Rattle.std.proofs.Common.{arith, codes}
 use Rattle.std.proofs.lemmas.List.{length-map}

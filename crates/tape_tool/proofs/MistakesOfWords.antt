@@ -1,5 +1,4 @@
--- Answers that the contracts of the commands' arguments exclude: each would be given by a wrong
--- body.
+-- Wrong answers that the contracts of the commands' arguments exclude.
 use Rattle.std.proofs.Common.{◌≡◌, ℕ, Bool, true, false, List, [], ◌∷◌, length, ap, sym, ◌∙◌}
 use Rattle.std.proofs.Common.{Option, Some, None, subst, arith, codes}
 use Rattle.std.specs.Prelude.{Ok, IfSome, map, option_map, slice_index, unwrap_or}

@@ -33,19 +33,19 @@ pub enum Kind {
     Number(u64, u64),
     /// One or more texts.
     Texts,
-    /// One or more texts, unless this option is present.
+    /// One or more texts; none if a certain option is present.
     TextsOr(&'static str),
     /// Any number of texts.
     AnyTexts,
     /// An option without a value.
     Flag,
-    /// An option with a text, whose value help shows under this name.
+    /// An option with a text; help shows this name for the text.
     FlagOf(&'static str),
     /// An option with a text, which help calls so.
     TextOption(&'static str),
-    /// An option with a number, up to this one, and its default.
+    /// An option with a number: the greatest value, and the default.
     NumberOption(u64, &'static [&'static str]),
-    /// An option whose value help shows under this name, with these possible values and a default.
+    /// An option with one of several values: the name that help shows, the values, and the default.
     NameOption(&'static str, &'static [&'static str], &'static [&'static str]),
 }
 
@@ -156,7 +156,7 @@ pub fn mistake(alloc: Global, command_spec: &CommandSpec, text: &str) -> Error
     }
 }
 
-/// Returns the same for a value that is not accepted; the message contains the value before the
+/// Returns the usage error for a value that is not accepted; the message shows the value before the
 /// text.
 pub fn wrong_value(alloc: Global, command_spec: &CommandSpec, value: &str, text: &str) -> Error
     ensures { RefusedFor ⊤ result }
@@ -167,7 +167,7 @@ pub fn wrong_value(alloc: Global, command_spec: &CommandSpec, value: &str, text:
     }
 }
 
-/// Returns the same, if there is memory for it.
+/// Returns the usage error, unless there is no memory for it.
 fn told(alloc: Global, command_spec: &CommandSpec, text: &str) -> Result<Error, AllocError>
     ensures { IfOk result (λ error. kind_of error ≡ ErrorKind.ValueValidation) }
 {

@@ -1,4 +1,4 @@
-//! Explanations of faults, printed after the line of the fault if `--explain` asks for them.
+//! Explanations of faults, printed after the line of the fault if `--explain` is given.
 mod files;
 mod reason;
 
@@ -22,17 +22,17 @@ pub enum FaultSite<'a> {
     Lines,
     /// The image on standard input.
     Stdin,
-    /// The image at this path.
+    /// The image at a path.
     Image(&'a str),
-    /// The image of the volume with this number in this directory.
+    /// The image of a volume, by its directory and number.
     Volume(&'a str, Prefix, u16),
-    /// The input that this argument of `write` names.
+    /// The input of `write` that an argument names.
     Input(&'a str),
-    /// The images that `write` writes into this directory.
+    /// The images that `write` writes into a directory.
     Images(&'a str),
-    /// The list of images in this file, or on standard input.
+    /// The list of images in a file, or on standard input.
     List(Option<&'a str>),
-    /// The image with this number in a list.
+    /// The image with a number in a list.
     Listed(usize),
     /// Where the records of a file go.
     Out(&'a str),
@@ -123,7 +123,7 @@ fn is_at(fault: ToolFault, site: FaultSite<'_>) -> bool {
     }
 }
 
-/// Returns the explanation: what happened, what was kept, and what to do next.
+/// Returns the explanation: what happened, what was saved, and what to do next.
 pub fn text_of(fault: ToolFault, site: FaultSite<'_>) -> &'static str {
     match fault {
         ToolFault::Image(_) if matches!(site, FaultSite::New(_) | FaultSite::Lines) =>
@@ -138,7 +138,7 @@ pub fn text_of(fault: ToolFault, site: FaultSite<'_>) -> &'static str {
     }
 }
 
-/// Returns the text of an image's fault.
+/// Returns the explanation of an image's fault.
 fn image_text(fault: ImageFault) -> &'static str {
     let is_first = fault.place == 0;
     match fault.cause {
@@ -165,7 +165,7 @@ fn files_at(site: FaultSite<'_>) -> &'static [&'static str] {
     }
 }
 
-/// Returns the text of the fault with this number, from 1.
+/// Returns the explanation of fault `number`, counted from 1.
 fn nth(texts: &'static [&'static str], number: u8) -> &'static str {
     match texts.get(usize::from(number).saturating_sub(1)) {
         Some(text) => *text,
@@ -173,7 +173,7 @@ fn nth(texts: &'static [&'static str], number: u8) -> &'static str {
     }
 }
 
-/// The stage of the file at which `unpack` ended, by the line of that file.
+/// The stage of the file at which `unpack` ended, from the line about that file.
 const STAGE_OF_FAILED: &str = "the path reported as FAILED, with .stage after it";
 
 // The texts for each kind of fault, in the order of its numbers.

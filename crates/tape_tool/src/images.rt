@@ -29,7 +29,7 @@ pub struct Named<'a> {
 /// A list of names.
 #[derive(Clone, Copy)]
 pub struct List<'a> {
-    /// Its file, unless it is standard input.
+    /// The list's file, unless the list is standard input.
     pub file: Option<&'a str>,
     /// Whether each name ends with a NUL instead of a line feed.
     pub null: bool,
@@ -41,7 +41,7 @@ pub struct List<'a> {
 /// # Errors
 ///
 /// Returns `Faulted` with `NotOpened` or `ReadFailed` if the list could not be read to its end, or
-/// with `OutOfMemory`; `NoText` if it is not UTF-8; `Words` if a line contains a NUL, and if no
+/// with `OutOfMemory`; `NoText` if it is not UTF-8; `Words` if a line contains a NUL, or if no
 /// image is named.
 pub fn names_of<'t, 'a: 't, R: Runtime + AllocGlobal>(
     rt: &R,
@@ -110,7 +110,7 @@ fn read_all<D: Read>(alloc: Global, device: &mut D) -> Result<Vec<u8>, Refusal>
     }
 }
 
-/// Returns the number of the name at this offset of a list, from 1, counting empty ones.
+/// Returns the number, counted from 1, of the name at offset `place` of a list; empty names count.
 fn number_at(list: &[u8], null: bool, place: usize) -> usize {
     let end = end_of(null);
     let mut number = 1usize;
@@ -140,7 +140,7 @@ pub fn all_names<'a>(
     Ok(names)
 }
 
-/// Appends a piece to the names, if it is not empty.
+/// Appends a piece to the names, unless it is empty.
 fn push_name<'a>(names: &mut Vec<&'a str>, piece: &'a str) -> Result<(), AllocError>
     ensures name { is_name piece.now ≡ true
         → OnOk result (names.new.items ≡ names.old.items ++ piece.entry ∷ []) }
@@ -175,7 +175,7 @@ fn no_memory() -> Refusal {
 
 /// Returns the names in the order in which the images of a file are read: first those on which its
 /// sections begin, in the order of the sections, and then all others in the order of their names;
-/// of these, unless `all`, only images of the set. No name comes twice.
+/// of these only images of the set, unless `all` is true. No name occurs twice.
 pub fn in_reading_order<'n>(
     alloc: Global,
     names: &[&'n str],
@@ -203,7 +203,7 @@ pub fn in_reading_order<'n>(
     Ok(order)
 }
 
-/// Adds the name with this number, unless it was added before.
+/// Adds name number `at`, unless it was added before.
 fn take_name<'n>(
     order: &mut Vec<&'n str>,
     taken: &mut Vec<bool>,
@@ -236,7 +236,7 @@ pub struct Images<'a, R> {
 }
 
 impl<'a, R: Runtime + AllocGlobal> Images<'a, R> {
-    /// Creates the images with these names. None is opened yet.
+    /// Creates the source of the images named `names`. None is opened yet.
     pub fn new(rt: &'a R, names: &'a [&'a str]) -> Images<'a, R> {
         Images { rt, names }
     }
@@ -289,13 +289,13 @@ impl<R: Host> Read for ImageBytes<R> {
 pub struct ImagesOrInput<'a, R> {
     rt: &'a R,
     names: &'a [&'a str],
-    /// The number of the image that is standard input, if one is.
+    /// The number of the image that is standard input, if any.
     input: Option<usize>,
 }
 
 impl<'a, R: Host> ImagesOrInput<'a, R> {
-    /// Creates the images with these names, which begin with those of the arguments. The first `-`
-    /// among the arguments means standard input; in a list it is the name of a file.
+    /// Creates the source of the images named `names`, the first `named` of which are arguments.
+    /// The first `-` among the arguments means standard input; in a list it is the name of a file.
     pub fn new(rt: &'a R, names: &'a [&'a str], named: &Named<'_>) -> ImagesOrInput<'a, R> {
         ImagesOrInput {
             rt,
@@ -304,7 +304,7 @@ impl<'a, R: Host> ImagesOrInput<'a, R> {
         }
     }
 
-    /// Opens the image with this number, or standard input. Returns `None` if it cannot be opened.
+    /// Opens image `number`, or standard input. Returns `None` if it cannot be opened.
     fn open(&self, number: usize) -> Option<ImageBytes<R>> {
         let name = self.names.get(number)?;
         if self.input == Some(number) {

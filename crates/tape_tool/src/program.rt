@@ -60,7 +60,7 @@ impl End {
     }
 }
 
-/// Returns how a command with this result ends.
+/// Returns how a command ends that had this result.
 pub fn end_of(done: Result<(), ToolFault>) -> End
     ensures { result ≡ end_of done }
 {
@@ -81,7 +81,7 @@ pub fn check_end(checked: Result<bool, EngineFault>) -> End
     }
 }
 
-/// Returns how `extract` ends with this result: what is still missing of the file, if anything.
+/// Returns how `extract` ends, given the part of the file that is still missing, if any.
 pub fn extract_end(answer: Result<Option<Want>, EngineFault>) -> End
     ensures { result ≡ extract_end answer }
 {
@@ -92,7 +92,7 @@ pub fn extract_end(answer: Result<Option<Want>, EngineFault>) -> End
     }
 }
 
-/// Returns how `stage` ends with this result: what is still missing of the file, if anything.
+/// Returns how `stage` ends, given the part of the file that is still missing, if any.
 pub fn stage_end(answer: Result<Option<Want>, ToolFault>) -> End
     ensures { result ≡ stage_end answer }
 {
@@ -103,8 +103,7 @@ pub fn stage_end(answer: Result<Option<Want>, ToolFault>) -> End
     }
 }
 
-/// Returns how `stage --damaged` ends with this result: with success only if nothing is missing or
-/// damaged.
+/// Returns how `stage --damaged` ends: with success only if nothing is missing or damaged.
 pub fn damaged_end(answer: Result<StageEnding, ToolFault>) -> End
     ensures { result ≡ damaged_end answer }
 {
@@ -137,8 +136,8 @@ fn help_end(printed: bool) -> End
     }
 }
 
-/// Returns how a run ends that has no arguments, for this reason: out of memory, or arguments that
-/// are not text.
+/// Returns how a run ends that could not get its arguments, because memory ran out or they are not
+/// text.
 pub fn no_words_end(kind: io::ErrorKind) -> End
     ensures { result ≡ no_words_end kind }
 {
@@ -300,7 +299,7 @@ pub fn refuse<R: Print + Eprint>(rt: &R, error: &clap::Error) -> End
     words_end(kind, printed)
 }
 
-/// Ends a command that is not started, for this reason.
+/// Ends a command that is not started, for the given reason.
 pub fn end_refused<R>(rt: &R, command_spec: &CommandSpec, refusal: Refusal) -> End
 where
     R: Print + Eprint + AllocGlobal,

@@ -1,5 +1,5 @@
--- Answers that the contracts of a walk over records exclude, and those of what a session requires
--- before it is read: each would be returned by a wrong body.
+-- Wrong answers that the contracts of a walk over records exclude, and those of what a session
+-- requires before it is read.
 use Rattle.std.proofs.Common.{◌≡◌, true, false, List, [], ◌∷◌, length, ap, ◌∙◌, subst, arith}
 use Rattle.std.proofs.Common.{codes, ◌<◌, inl, inr}
 use Rattle.std.specs.Prelude.{Some, Ok, Err}

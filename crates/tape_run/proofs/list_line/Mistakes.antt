@@ -1,4 +1,4 @@
--- Answers that the contracts of the pieces of a line exclude: each would be given by a wrong body.
+-- Wrong answers that the contracts of the pieces of a line exclude.
 use Rattle.std.proofs.Common.{◌≡◌, [], ◌++◌, false, sym, ap, ◌∙◌, arith, codes}
 use Rattle.std.specs.Prelude.{slice_index}
 use Rattle.tape_label.specs.declared.values.Head1.{Head1}

@@ -1,4 +1,4 @@
--- Answers that the contracts of a reel reader exclude: each would be given by a wrong body.
+-- Wrong answers that the contracts of a reel reader exclude.
 use Rattle.std.proofs.Common.{◌≡◌, ℕ, List, [], ◌∷◌, ◌++◌, length, drop, Bool, true}
 use Rattle.std.proofs.Common.{false, sym, ap, ◌∙◌, subst, arith, length-append}
 use Rattle.std.specs.Prelude.{Some, Ok, ◌==◌, ◌&&◌, if◌then◌else◌}

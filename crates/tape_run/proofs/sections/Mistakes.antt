@@ -1,5 +1,4 @@
--- Answers that the contracts about the records of sections exclude: each would be returned by a
--- wrong body.
+-- Wrong answers that the contracts about the records of sections exclude.
 use Rattle.std.proofs.Common.{◌≡◌, ◌<◌, sym, ap, ◌∙◌, arith}
 use Rattle.std.specs.Prelude.{not, ◌&&◌, if◌then◌else◌, Ok, Some, None}
 use Rattle.indexmap.specs.IndexMap.{spare}

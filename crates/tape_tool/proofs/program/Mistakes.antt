@@ -1,4 +1,4 @@
--- An answer that the contract of obtaining the arguments excludes: a wrong body would give it.
+-- A wrong answer that the contract of obtaining the arguments excludes.
 use Rattle.std.proofs.Common.{◌≡◌}
 use Rattle.std.specs.Prelude.{Err}
 use Rattle.tape_tool.specs.declared.program.End.TheVariants as ends

@@ -1,4 +1,4 @@
--- Answers that the contract of finding the command excludes: each would be given by a wrong body.
+-- Wrong answers that the contract of finding the command excludes.
 use Rattle.std.proofs.Common.{◌≡◌, [], Err, ap, arith, codes, subst}
 use Rattle.std.specs.Prelude.{Ok, Some, slice_index}
 use Rattle.clap.specs.Words.{kind_of, subcommand_rows_of}

@@ -1,4 +1,4 @@
--- Answers that the contracts of `write` exclude: each would be given by a wrong body.
+-- Wrong answers that the contracts of `write` exclude.
 use Rattle.std.proofs.Common.{◌≡◌, ◌==◌, ℕ, ◌+◌, Bool, true, false, [], ◌∷◌, ◌++◌, length, ap}
 use Rattle.std.proofs.Common.{sym, ◌∙◌, subst, arith, codes, lit<, length-append, List, refl, None}
 use Rattle.std.proofs.Common.{inl, inr}

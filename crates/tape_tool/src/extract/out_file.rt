@@ -18,7 +18,7 @@ pub struct OutFile<'a, R: Host> {
 }
 
 impl<'a, R: Host> OutFile<'a, R> {
-    /// Returns the file at this path, which is not touched yet.
+    /// Returns the file at `path`, without touching it.
     pub fn new(rt: &'a R, path: &'a str, before: Option<FileId>) -> OutFile<'a, R> {
         OutFile {
             rt,

@@ -23,11 +23,11 @@ const FULL: &str = "/FUL001.tap";
 #[derive(Clone, Copy)]
 pub enum Odd<'a> {
     Nothing,
-    /// Looking up this name fails in this way.
+    /// Looking up a name fails with an error.
     Look(&'a str, ErrorKind),
-    /// What has this name is not opened, for this reason.
+    /// Opening a name fails with an error.
     Open(&'a str, ErrorKind),
-    /// No file gets a second name, for this reason.
+    /// Giving a file a second name fails with an error.
     Link(ErrorKind),
     /// No file gets another name.
     Rename,
@@ -56,7 +56,7 @@ struct FakeSystem<'a> {
 pub const MINE: &[u8] = b"mine";
 
 impl FakeSystem<'_> {
-    /// Makes looking up this path fail, if the test says so.
+    /// Makes looking up `path` fail, if the test says so.
     fn look(&self, path: &str) -> io::Result<()> {
         match self.odd {
             Odd::Look(name, kind) if path == name => Err(io::Error::from(kind)),
@@ -64,7 +64,7 @@ impl FakeSystem<'_> {
         }
     }
 
-    /// Does what the test specifies when this path is opened.
+    /// Does what the test specifies for opening `path`.
     fn open(&self, path: &str) -> io::Result<()> {
         match self.odd {
             Odd::Open(name, kind) if path == name => Err(io::Error::from(kind)),
@@ -256,7 +256,8 @@ pub struct Seen {
 }
 
 impl Seen {
-    /// Returns whether this was the result; the list of opened files is compared if requested.
+    /// Returns whether the call had this result; compares the list of opened files if `opened` is
+    /// given.
     pub fn comes_to(&self, status: u8, out: &str, told: &str, opened: Option<&str>) -> bool {
         let is_opened = match opened {
             Some(paths) => self.opened.as_str() == paths,
@@ -271,7 +272,7 @@ pub fn called(rt: &HostRuntime, line: &str, takes: bool) -> Result<Seen, Fail> {
     called_oddly(rt, line, takes, Odd::Nothing)
 }
 
-/// Does the same, on a system with this peculiarity.
+/// Calls the program with a line, on a system with a peculiarity.
 pub fn called_oddly(rt: &HostRuntime, line: &str, takes: bool, odd: Odd<'_>) -> Result<Seen, Fail> {
     let words = words_of(rt.alloc(), line)?;
     let out = RefCell::new(String::new(rt.alloc()));

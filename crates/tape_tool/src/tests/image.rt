@@ -20,7 +20,7 @@ impl Image {
         }
     }
 
-    /// Returns the first bytes of this image.
+    /// Returns the image truncated to its first `length` bytes.
     pub fn cut(mut self, length: usize) -> Image {
         self.bytes.truncate(length);
         self
@@ -71,8 +71,8 @@ impl Image {
     }
 }
 
-/// Returns the 25 records of the worked volume, each followed by these bytes. Record i is i in four
-/// digits and 76 spaces.
+/// Returns the 25 records of the worked volume, each followed by the bytes `behind`. Record i is i
+/// in four digits and 76 spaces.
 pub fn payroll(alloc: Global, behind: &[u8]) -> Result<Vec<u8>, AllocError> {
     let mut bytes = Vec::new(alloc);
     for number in 1..26u8 {

@@ -13,7 +13,8 @@ use tape_blocks::Form;
 use tape_label::Field;
 use tape_stage::{MemoryDisk, StageFault};
 
-/// Returns the stage of a volume on which this block of five records is unreadable; with 9 none is.
+/// Returns the stage of a volume of five blocks of records, block `bad` of which is unreadable (9
+/// means none).
 fn staged(alloc: Global, bad: usize) -> Result<Option<MemoryDisk>, AllocError> {
     let image = damaged(alloc, bad)?;
     let disk = MemoryDisk::new(alloc);

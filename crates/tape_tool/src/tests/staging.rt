@@ -15,8 +15,8 @@ use tape_stage::{BufferedFile, MemoryDisk, Refused, Stage, StageFault, buffered_
 /// A session over the stage in a file.
 type FileSession = Session<Stage<BufferedFile<File>>>;
 
-/// Runs one day: the session is opened, reads the reel with an unreadable block, and is saved.
-/// Returns the disk, and what is missing next.
+/// Runs one day: opens the session, reads the reel with an unreadable block, and saves. Returns the
+/// disk, and what is missing next.
 fn read(
     alloc: Global,
     disk: MemoryDisk,

@@ -25,7 +25,7 @@ const AT_ONCE: &[Step<'_>] = &[
     Step::Holds("unpacked/ABC001.1.PAYROLL", b"kept"),
 ];
 
-/// Damaged copies, one a day: the last one alone does not have what the others contributed.
+/// Damaged copies, one a day: the last one alone does not have all that the others contributed.
 const DAY_BY_DAY: &[Step<'_>] = &[
     Step::Folder("days"),
     Step::PutDamaged("day1.tap", 1),

@@ -98,7 +98,7 @@ const SAID: &[(&str, i32, &str)] = &[
     ),
 ];
 
-/// The line ends with this status and text.
+/// Fails unless the call with this line ends with this status and message.
 fn is_answered<H: Abort + AllocGlobal>(
     rt: &H,
     line: &str,

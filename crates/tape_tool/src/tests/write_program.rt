@@ -39,7 +39,7 @@ const FOLDER: &[Step<'_>] = &[
     ),
 ];
 
-/// Inputs that would be destroyed, or that are not plain files, are found before anything is
+/// Inputs that would be destroyed, or that are not regular files, are found before anything is
 /// written.
 const UNFIT: &[Step<'_>] = &[
     Step::Put("apart.txt", b"AB\n"),

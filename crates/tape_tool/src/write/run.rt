@@ -45,7 +45,7 @@ fn write_set<'a, R: Host>(
     write_files(rt, &plan, files.as_mut_slice())
 }
 
-/// Writes these files to volumes, and reports the volumes.
+/// Writes the files to volumes, and reports the volumes.
 fn write_files<R: Host>(
     rt: &R,
     plan: &FolderPlan<'_>,
@@ -119,7 +119,7 @@ fn check_ids<'a>(order: &WriteOrder<'a>, site: &mut FaultSite<'a>) -> Result<(),
     Ok(())
 }
 
-/// Returns the head of the file that this argument names.
+/// Returns the head of the file that argument `word` names.
 fn head_for(word: &str) -> Result<Head1, ToolFault> {
     let (id, _) = split(word);
     match Field::new(id) {
@@ -171,7 +171,7 @@ fn find_inputs<'r, 'a: 'r, R: Runtime + AllocGlobal>(
     Ok(inputs)
 }
 
-/// Returns the input that this argument names.
+/// Returns the input that argument `word` names.
 fn input_of<'a, R: Runtime>(
     rt: &'a R,
     word: &'a str,

@@ -1,4 +1,4 @@
--- Answers that the contract about the last pass excludes: each would be given by a wrong body.
+-- Wrong answers that the contract about the last pass excludes.
 use Rattle.std.proofs.Common.{◌≡◌, true, false, refl, inl, inr}
 use Rattle.std.specs.Prelude.{Some}
 use Rattle.tape_run.proofs.extract.again.is_enough.Reads as is_enough

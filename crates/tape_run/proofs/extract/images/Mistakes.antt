@@ -1,5 +1,4 @@
--- Answers that the contracts of a pass exclude, and those of the calls after a reel: each would be
--- returned by a wrong body.
+-- Wrong answers that the contracts of a pass exclude, and those of the calls after a reel.
 use Rattle.std.proofs.Common.{◌≡◌, ◌+◌, length, ap, ◌∙◌, sym, arith, subst, true, false, Bool}
 use Rattle.std.proofs.Common.{ℕ, List, [], ◌∷◌, ◌++◌, refl, codes}
 use Rattle.std.specs.Prelude.{Ok, Option, Some, None, map, slice_get, slice_index, ◌<◌}

@@ -1,5 +1,4 @@
--- Answers that the contract of reading a file section by section excludes: each would be returned
--- by a wrong body.
+-- Wrong answers that the contract of reading a file section by section excludes.
 use Rattle.std.proofs.Common.{◌≡◌, ◌≢◌, [], false}
 use Rattle.std.specs.Prelude.{Ok}
 use Rattle.tape_set.specs.declared.position.Position.TheVariants.{Finished}

@@ -1,5 +1,4 @@
--- An answer that the contract of how far items follow the order excludes: a wrong body would give
--- it.
+-- A wrong answer that the contract of how far items follow the order excludes.
 use Rattle.std.proofs.Common.{ℕ, List}
 use Rattle.tape_run.specs.declared.passing.Phase.TheVariants.{Next, Over}
 use Rattle.tape_run.specs.declared.survey.course.LabelOrder.TheVariants.{Ended}

@@ -1,4 +1,4 @@
--- An answer that the contract about labels of different files excludes: a wrong body would give it.
+-- A wrong answer that the contract about labels of different files excludes.
 use Rattle.std.proofs.Common.{◌≡◌, ◌∙◌, ℕ, List, sym, ap, codes, true, false}
 use Rattle.tape_label.specs.declared.values.Head1.{Head1}
 use Rattle.tape_run.specs.SurveyFiles as files

@@ -1,4 +1,4 @@
--- Answers that the contract about complete images excludes: wrong bodies would give them.
+-- Wrong answers that the contract about complete images excludes.
 use Rattle.std.proofs.Common.{◌≡◌, ◌∙◌, ℕ, Bool, true, false, Option, Some, None, sym, ap}
 use Rattle.std.specs.Prelude.{◌&&◌}
 use Rattle.tape_image.specs.declared.item.ImageFault.{ImageFault}

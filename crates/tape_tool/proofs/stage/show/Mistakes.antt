@@ -1,4 +1,4 @@
--- Answers that the contracts of the pieces of `stage` exclude: each would be given by a wrong body.
+-- Wrong answers that the contracts of the pieces of `stage` exclude.
 use Rattle.std.proofs.Common.{◌≡◌, ℕ, List, [], ◌∷◌, ◌++◌, length, ap, ◌∙◌, subst, sym, codes}
 use Rattle.std.proofs.Common.{arith}
 use Rattle.std.specs.Prelude.{Some, None, Ok, Err, slice_index}
