@@ -53,7 +53,7 @@ calm_then g old mid new a b = record {
       let (now, has, still) = a.kept held was kept in b.kept now has still;
 }
 
--- a call, if no call before it was refused
+-- a call after others none of which was refused
 pub then_fails : {S : Type 0} (g : Ghosts S) (back : Bool) (fault : EngineFault)
     (old mid new : SessionState S) → IsCalm g old mid → ExtractFails g back fault mid new
     → ExtractFails g back fault old new

@@ -26,7 +26,7 @@ AreRead gives remaining whole shelf (s ∷ ss) last = IsPartOf s
     ⊎ ((number : ℕ) × (device : _) × (next : _) × gives shelf number (Some device) next
     × (s.whole ≡ remaining device) × AreRead gives remaining s.whole next ss last))
 
--- one more stretch, from the open image or from one that the source yielded
+-- one more stretch, of the image that was mounted or of one that the shelf gave
 pub read_more : {L R : Type 0} (gives : Mounting L R) (remaining : R → Option (List ℕ))
     (whole : Option (List ℕ)) (shelf : L) (ss : List Stretch) (mid next : L) (s : Stretch)
     → AreRead gives remaining whole shelf ss mid → IsPartOf s
@@ -92,7 +92,7 @@ are_from gives remaining whole shelf (s ∷ ss) mid last
 
 -- ---- calls
 
--- Stretches were read so far, and this image is open afterwards.
+-- Stretches were read so far, and this image is mounted then.
 pub record ReadSoFar {S L R : Type 0} (g : Ghosts S) (gives : Mounting L R)
     (remaining : R → Option (List ℕ)) (session now : SessionState S) (shelf left : L)
     (whole : Option (List ℕ)) (after : Option (Mounted R)) : Type 0 where
@@ -147,7 +147,7 @@ more_read {S} {L} {R} g gives remaining session mid new shelf left next whole im
     of (inl (same, left)) = inl (p.of_image ∙ same, left)
     of (inr (number, device, gave, same)) = inr (number, device, gave, p.of_image ∙ same)
 
--- a section was read, and its image stays open
+-- a section was read, and its image stays mounted
 pub section_read : {S L R : Type 0} (g : Ghosts S) (gives : Mounting L R)
     (remaining : R → Option (List ℕ)) (session mid new : SessionState S) (shelf left next : L)
     (whole : Option (List ℕ)) (held after : Option (Mounted R))
@@ -164,7 +164,7 @@ section_read g gives remaining session mid new shelf left next whole held after 
 section_read g gives remaining session mid new shelf left next whole held after s
     (inr (inr (number, gave, same, none))) some = absurd (some none)
 
--- No further stretch is read.
+-- What was read so far is all.
 pub sections_read : {S L R : Type 0} (g : Ghosts S) (gives : Mounting L R)
     (remaining : R → Option (List ℕ)) (locations : List Located) (complete : Bool)
     (session now : SessionState S) (shelf left last : L) (whole : Option (List ℕ))
@@ -240,7 +240,7 @@ read_some g gives remaining session mid new shelf left next whole held after s
 read_some g gives remaining session mid new shelf left next whole held after s
     (inr (inr (number, gave, same, none))) some = absurd (some none)
 
--- the section of the expected part
+-- the section of what is expected
 abbrev pub wanted_sect : Option Want → ℕ
 wanted_sect None = 0
 wanted_sect (Some want) = want.sect

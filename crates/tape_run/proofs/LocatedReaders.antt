@@ -200,7 +200,7 @@ held_front (Some bytes) (Some left) core answer key waits set file ends r =
     passes_front core bytes left answer key waits set file ends
     (reads_waits core.position core bytes left answer waits r)
 
--- the items before the position of the open image, if its bytes are known
+-- what the image that was mounted left: its front, where its bytes are known
 abbrev pub front_of : (whole had : Option (List ℕ)) (key : FileKey)
     → IfKnown whole had (PassesTo key) → List TapeItem
 front_of None had key p = []

@@ -120,7 +120,7 @@ goes_on firsts olds nows a b p q have old mid new now beside x s asked none many
       wrote = put_one_more s.merged old mid new x s.wrote put;
     }
 
--- there was no item: all readings have stopped
+-- there was none: all have stopped
 pub ends : {R : Type 0} (firsts olds nows : List (Reading R)) (a : Merged) (p : Phase)
     (old mid new : Writer) (now beside : Option TapeItem) → SoFar firsts olds a p old mid
     → AskedAll olds nows None now None beside → beside ≡ None → now ≡ None → new ≡ mid

@@ -26,7 +26,7 @@ use Rattle.tape_run.specs.Reels.{Reads, ReadsReel, EndedByItem, EndedByMedium, E
 use Rattle.tape_run.specs.Reels.{answers_to, delivered_by}
 use Rattle.tape_run.proofs.session.Session.reel.Reads as reel
 
--- the answer of a reel that is read from this position on, if the reader knows its bytes
+-- the answer of a reel that is read from this position on, if the reader tells its bytes
 read_from : (old : State) (p : Position) (before after : Option (List ℕ)) (bytes left : List ℕ)
     (answer : ReelAnswer)
     → IfKnown before after (λ xs ys. Reads old.position old xs ys answer)
@@ -169,7 +169,7 @@ none_before set_id [] more on e = refl
 none_before set_id (x ∷ items) more on e =
     absurd (marked_first set_id x items (sym (ap front_item e)) on)
 
--- the second mark was not read
+-- the second mark was not taken
 second_stays : (set_id bytes : List ℕ) (items : List TapeItem) (answer : ReelAnswer) (end : ℕ)
     (stop : Stop) → length bytes ≤ image_limit → Begins 0 bytes marks end stop
     → answer.fault ≡ None

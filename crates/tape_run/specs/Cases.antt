@@ -49,7 +49,7 @@ pub record CasesOfMounts : Type 0 where
   -- each reading of a volume, complete or cut, with any unreadable items, is a mount of it
   pub readings : (set : FileSet) (r : Reading) → IsReadingOf set r
       → IsMount set (as_read (items set r.volume) r.good) (reads r)
-  -- after a complete volume of which only data blocks are bad anything may follow
+  -- after a complete volume, of which only data blocks are bad, any items may follow
   pub more_behind : (set : FileSet) (r : Reading) (more : List TapeItem) → IsReadingOf set r
       → length r.good ≡ length (items set r.volume) → passes r.good (entries set r.volume) ≡ true
       → IsMount set (as_read (items set r.volume) r.good ++ more) (reads r)
@@ -72,7 +72,7 @@ pub record CasesOfMounts : Type 0 where
 
 -- ---- histories
 
--- two positions, and a course whose checkpoints are at both
+-- two positions, and a position history with checkpoints at both
 abbrev pub two_notes : Course
 two_notes = record { at = awaiting 2 0; notes = start ∷ awaiting 1 1 ∷ [] }
 
@@ -107,7 +107,7 @@ pub record CasesOfHistories : Type 0 where
 
 -- bytes, readers that failed, and their count
 pub record CasesOfGiven : Type 0 where
-  -- a reader that failed returned exactly what it no longer has
+  -- a reader that failed returned exactly the bytes that it no longer has
   pub no_other : (left : Option (List ℕ)) → IsGiven true (1 ∷ 2 ∷ []) left (2 ∷ []) → ⊥
   pub front : IsGiven true (1 ∷ 2 ∷ []) (Some (2 ∷ [])) (1 ∷ [])
   pub no_less : (given : List ℕ) → IsGiven true (1 ∷ 2 ∷ []) (Some (2 ∷ [])) given
@@ -156,7 +156,7 @@ pub record CasesOfVolumes : Type 0 where
 
 -- ---- sessions
 
--- sessions, and what was read of a file
+-- sessions, and the items read of a file
 pub record CasesOfSessions : Type 0 where
   pub its_course : (s : Seen) (c : Point) → s.notes ≡ c ∷ []
       → course_of s ≡ record { at = s.place.position; notes = c.position ∷ [] }
@@ -197,7 +197,8 @@ pub record CasesOfSessions : Type 0 where
 
 -- single steps
 pub record CasesOfMade : Type 0 where
-  -- if the reader failed, it returned what it no longer has; parts and checkpoints are unchanged
+  -- if the reader failed, it returned the bytes that it no longer has; parts and checkpoints are
+  -- unchanged
   pub was_reeled : (bytes : List ℕ) (left : Option (List ℕ)) (failed : Bool) (old new : Seen)
       (r : Reeled bytes left failed old new) → IsGiven failed bytes left r.given
       × (new.failures ≡ counted failed old.failures) × (new.notes ≡ old.notes)
@@ -234,8 +235,8 @@ pub record CasesOfMade : Type 0 where
       × IsFront new.parts old.parts × (weight_of new.parts ≡ w.point.staged)
       × (new.notes ≡ take 2 old.notes) × (new.failures ≡ old.failures)
       × (new.refusals ≡ old.refusals)
-  -- The step with the reported number is the one that failed, and those before it succeeded, each
-  -- with its reader. There is no such step after the last one.
+  -- The step with the reported number failed, and those before it succeeded, each with its reader.
+  -- There is no such step after the last one.
   pub second_was_not : (old new : Seen) (fault : RunFault) (bytes : List ℕ) (l : Option (List ℕ))
       → RunsUpTo (true ∷ []) old (Reel ∷ Reel ∷ Save ∷ []) (Some bytes ∷ []) (l ∷ []) 1 fault new
       → (mid : Seen) × Reeled bytes l true old mid
@@ -282,8 +283,8 @@ pub record CasesOfMade : Type 0 where
 
 -- ---- crashes
 
--- what a crash leaves, and consecutive runs: after a crash at moment 4, and after one at any moment
--- up to 4
+-- the states that a crash leaves, and consecutive runs: after a crash at moment 4, and after one at
+-- any moment up to 4
 abbrev pub came_by : List Portion → Point → Crashes
 came_by ps c = record {
   returns = λ back there. ⊥;
@@ -294,7 +295,7 @@ came_by ps c = record {
 }
 
 pub record CasesOfCrashes : Type 0 where
-  -- a place of a course is its position, or one of its checkpoints
+  -- a place of a position history is its position, or one of its checkpoints
   pub its_place : (p q : Position) → IsPlaceOf (record { at = p; notes = [] }) q → q ≡ p
   pub noted_place : IsPlaceOf two_notes (awaiting 1 1)
   -- a session without checkpoints leaves its position, with its parts

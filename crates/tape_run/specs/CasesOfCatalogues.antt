@@ -1,5 +1,5 @@
--- Examples for the definitions of a catalogue, and of reports of what is on reels. They are the
--- contract of the call `laws::cases`.
+-- Examples for the definitions of a catalogue, and of reports on reels. They are the contract of
+-- the call `laws::cases`.
 use Rattle.std.specs.Prelude.{◌≡◌, ◌<◌, ◌≤◌, ◌+◌, ℕ, zero, suc, Bool, true, false, List, [], ◌∷◌}
 use Rattle.std.specs.Prelude.{◌++◌, length, map, Option, Some, None, codes}
 use Rattle.std.specs.List.{AllByRecursion, flat_map}
@@ -53,7 +53,7 @@ met file sect eof state = (
 abbrev pub lack : ℕ → ℕ → Lack
 lack file sect = record { set_id = codes "ABC001"; file = file; sect = sect }
 
--- what is added to a catalogue, and what is missing from it
+-- sections that are added to a catalogue, and sections missing from it
 pub record CasesOfCatalogues : Type 0 where
   pub line : line_of (met 1 2 true Bad) ≡ record {
     set_id = codes "ABC001";
@@ -74,7 +74,7 @@ pub record CasesOfCatalogues : Type 0 where
   pub other_file : noted (met 1 1 false Good ∷ []) (met 2 1 true Good)
       ≡ met 1 1 false Good ∷ met 2 1 true Good ∷ []
   pub all : noted_all [] (met 1 1 true Cut ∷ met 1 1 true Good ∷ []) ≡ met 1 1 true Good ∷ []
-  -- if nothing is known of a file, its first section is missing
+  -- if no section of a file is known, its first section is missing
   pub nothing_known : (id : List ℕ) (file sect : ℕ) → IsFirstLack [] id file sect → sect ≡ 1
   pub nothing_found : (id : List ℕ) (file : ℕ) → IsFoundWhole [] id file → ⊥
   -- the sections before the missing one are good and continue, and it is not good
@@ -83,8 +83,8 @@ pub record CasesOfCatalogues : Type 0 where
   pub first_goes_on : (c : List Told) (id : List ℕ) (file : ℕ) (f : IsFoundWhole c id file)
       → 1 < f.sect → good_end (entry_at c (key_at id file 1)) ≡ Some false
   pub no_good : (key : SectionKey) → IsGoodAt [] key → ⊥
-  -- what is missing: the section after one that continues, one that is not good, and each file
-  -- before the last one found
+  -- the missing sections: the one after a section that continues, one that is not good, and the
+  -- first of each file before the last file found
   pub next_lacks : lacks (met 1 1 false Good ∷ []) ≡ lack 1 2 ∷ []
   pub bad_lacks : lacks (met 1 1 true Bad ∷ []) ≡ lack 1 1 ∷ []
   pub count_lacks : lacks (met 1 1 true Count ∷ []) ≡ lack 1 1 ∷ []
@@ -100,7 +100,7 @@ pub record CasesOfCatalogues : Type 0 where
   pub first_good : (t : Told) → t.1.state ≡ Good → GoodIsShown [] [] (t ∷ [])
       → Shown [] t.0 t.1
 
--- what an image adds, and what its items show
+-- the sections that an image adds, and those that its items show
 pub record CasesOfImages : Type 0 where
   pub ends_at : (place : ℕ) (xs ys : List ℕ) → TakesEnd 0 [] endings.Physical place xs ys
       → StopsBehind [] Physical xs ys
@@ -164,7 +164,7 @@ pub record CasesOfCopies : Type 0 where
 
 -- of reports of images
 pub record CasesOfReports : Type 0 where
-  -- the report contains what was read, and what was found follows from the sections
+  -- the report lists the sections that were read, and its result follows from these
   pub report : (reels : List Reel) (text : List ℕ) (found : Bool) (r : IsReport reels text found)
       → AddsImages reels r.lines [] r.sections
       × (text ≡ image_lines 1 r.lines ++ summary r.sections) × (found ≡ found_all r.sections)
@@ -194,6 +194,6 @@ pub record CasesOfReports : Type 0 where
       × AddsImages r.first r.lines [] r.sections
   pub first_mounted : (a b : Option (Option (List ℕ))) (left : List (Option (Option (List ℕ))))
       → AreMounted Took (IsReel (λ x. x)) (a ∷ b ∷ []) 0 (a ∷ []) left → left ≡ None ∷ b ∷ []
-  -- no other fault occurs than a failed write or lack of memory
+  -- the only faults are a failed write and lack of memory
   pub other_fault : IsCheckFault (Run NoSuchPoint) → ⊥
   pub faults : IsCheckFault WriteFailed × IsCheckFault (Run OutOfMemory)

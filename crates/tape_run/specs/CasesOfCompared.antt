@@ -50,7 +50,7 @@ pub record CasesOfCompared : Type 0 where
   pub agreed : is_agreed (both 7).conflicts ≡ true
   pub in_conflict : dispute_at (both 8) (file_key (codes "ABC001") 1) ≡ Some 1
   pub other_file : dispute_at (both 8) (file_key (codes "ABC001") 2) ≡ None
-  -- what is reported of these copies
+  -- the result of comparing these copies
   pub alone : copies_text Words [] ((key_at (codes "ABC001") 1 2, first) ∷ []) ≡ []
   pub line : copies_text Words [] ((key_at (codes "ABC001") 1 2, copy_note (Some first) 1 3 7) ∷ [])
       ≡ codes "ABC001 file 1 section 2: good, 2 copies agree\n"

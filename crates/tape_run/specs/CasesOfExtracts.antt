@@ -230,7 +230,7 @@ pub record CasesOfOutputs : Type 0 where
       (s : StopsListed session behind shelf left form out now said says) → (length s.more ≤ 1)
       × AppendsFront said says
       (reel_lines 1 (map answer_of s.turns ++ s.more) ++ last_line s.want s.records)
-  -- the last line describes the session, if any of it was reported
+  -- the last line, if any of it was reported, describes the session
   pub last_line_tells : (p : Seen) (want : Option Want) (records : ℕ)
       → p.place.position ≡ Finished → TellsEnd ⊥ want records p
       → (want ≡ None) × (records ≡ length (join p.parts).records)
@@ -261,7 +261,7 @@ pub record CasesOfOutputs : Type 0 where
       (out now said says : Known) (s : StopsListedNow session shelf left form out now said says)
       → (length s.turns + length s.more ≤ length shelf)
       × AreFirstTurns Took (λ r. r) shelf s.turns left
-  -- and the output was not touched, or the file is complete and a prefix of it was written
+  -- and the output was not touched, or the file is complete and a prefix of its records was written
   pub output_stopped : (session behind : Listed) (shelf left : Readers) (form : Form)
       (out now said says : Known)
       → session.notes ≡ [] → StopsListed session behind shelf left form out now said says
@@ -271,7 +271,7 @@ pub record CasesOfOutputs : Type 0 where
       (out now said says : Known)
       → StopsListedNow session shelf left form out now said says → (now ≡ out)
       ⊎ ((s : Seen) × (s.place.position ≡ Finished) × (now ≡ Some (output_of form s.parts)))
-  -- what a sink that writes its parts has received
+  -- the parts that a sink that writes them has received
   pub taken : (form : Form) (out : Known) (weight records : ℕ) (begun failed : Bool)
       (parts : List Portion)
       → HasTaken (λ (w : Known). w) form out weight records begun failed parts

@@ -116,7 +116,7 @@ pub record CasesOfRounds : Type 0 where
       × AppendsFront said says
       (reel_lines 1 (map answer_of (turns_of s.rounds ++ s.turns) ++ s.more)
       ++ last_line s.want s.records)
-  -- and the output was not touched, or the file is complete and a prefix of it was written
+  -- and the output was not touched, or the file is complete and a prefix of its records was written
   pub again_output : (session behind : Listed) (shelf left : Readers) (form : Form)
       (out now said says : Known)
       (s : StopsAgainListed session behind shelf left form out now said says)

@@ -1,5 +1,5 @@
--- Examples for the definitions of saves, and of what a crash leaves of a session. They are the
--- contract of the call `laws::cases`.
+-- Examples for the definitions of saves, and of the states that a crash leaves of a session. They
+-- are the contract of the call `laws::cases`.
 use Rattle.std.specs.Prelude.{◌≡◌, ◌≤◌, ◌⊎◌, ℕ, List, [], ◌∷◌, length, true, false}
 use Rattle.tape_blocks.specs.Block.{Portion}
 use Rattle.tape_set.specs.declared.position.Position.TheVariants.{Finished}
@@ -16,7 +16,7 @@ use Rattle.tape_core.specs.Stands.{weight_of}
 use Rattle.tape_core.specs.Table.{saved}
 use Rattle.tape_core.specs.Weight.{IsFront}
 
--- a sink of which a crash leaves one checkpoint and these parts, and that contains any parts
+-- a sink that contains any parts, and of which a crash leaves one checkpoint and these parts
 abbrev pub brings : List Portion → Point → Point → List Portion → Type 0
 brings ps c back there = (back ≡ c) × (there ≡ ps)
 
@@ -58,7 +58,7 @@ holding_none crashes = record {
   crashes = crashes;
 }
 
--- what a crash leaves of a session that was saved
+-- the states that a crash leaves of a session that was saved
 pub record CasesOfSaved : Type 0 where
   -- of two checkpoints, the first is left with its own parts, or only the last is left
   pub first_note : (s : Seen) (c d back : Point) (there : List Portion) → s.notes ≡ c ∷ d ∷ []
@@ -74,7 +74,7 @@ pub record CasesOfSaved : Type 0 where
       → old.notes ≡ [] → new.notes ≡ c ∷ []
       → KeepsLast (weighing (comes_now ps)) old held new now
       → (new.sink ≡ c) × IsFront ps now
-  -- if none was made, the one that was the only one left still is
+  -- if no checkpoint was made, the only one left before is still left
   pub none_on_the_way : (old new : SessionState Point) (held now ps : List Portion) (c : Point)
       → old.notes ≡ c ∷ [] → new.notes ≡ c ∷ [] → old.sink ≡ c → IsFront ps held
       → weight_of ps ≡ c.staged → KeepsLast (weighing (comes_now ps)) old held new now

@@ -19,11 +19,11 @@ use Rattle.tape_run.specs.WholeSet.{AreAllGood, key_in}
 
 -- single sections
 pub record CasesOfSections : Type 0 where
-  -- of two copies that are not good the one found first is kept
+  -- if two copies are not good, the one found first is kept
   pub first_stays : noted (met 1 1 false Cut ∷ []) (met 1 1 true Bad) ≡ met 1 1 false Cut ∷ []
   -- each file up to the greatest number is examined, whichever was found last
   pub last_file : lacks (met 3 1 true Good ∷ met 1 1 true Good ∷ []) ≡ lack 2 1 ∷ []
-  -- if all of them are good, so is this one
+  -- if all of them are good, so is the given one
   pub all_good : (set : FileSet) (c : List Told) (x : Placed) → AreAllGood set c (x ∷ [])
       → IsGoodAt c (key_in set x)
   -- after memory ran out, the sections in a prefix of the items were added

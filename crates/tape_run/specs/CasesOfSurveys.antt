@@ -127,7 +127,7 @@ pub record CasesOfGlances : Type 0 where
   -- a mark as the first item leaves the order at once
   pub mark_first : course_of (mark ∷ []) ≡ Leaves 1 wanted.Volume
   pub bad_first : course_of (bad ∷ mark ∷ []) ≡ Leaves 1 wanted.Volume
-  -- a volume of its label and two marks is blank; with one mark it has not ended
+  -- a volume with its label and two marks is blank; with one mark it has not ended
   pub blank : (v : List ℕ) → course_with Follows 2 (phases.Labels v) mark phases.Over ≡ Blank
   pub blank_ends : course_with Blank 3 phases.Over mark phases.Over ≡ Ended
   pub one_mark : (b : List ℕ)
@@ -136,7 +136,7 @@ pub record CasesOfGlances : Type 0 where
   pub ends : (v : List ℕ) → course_with Follows 12 (phases.Next v) mark phases.Over ≡ Ended
   pub behind_the_end : (x : TapeItem)
       → course_with Ended 13 phases.Over x phases.Over ≡ Leaves 13 wanted.End
-  -- what is expected where the items leave the order
+  -- the item expected where the order of a volume is left
   pub no_section : (v : List ℕ)
       → course_with Follows 2 (phases.Labels v) bad phases.Over ≡ Leaves 2 wanted.Section
   pub no_second : (m : Met)
@@ -177,7 +177,7 @@ pub record CasesOfWholes : Type 0 where
   pub noted : note_at (with_head [] first_week) (file_key (codes "BCK001") 1)
       ≡ Some (record { head = first_week; differs = false })
   pub not_noted : note_at (with_head [] first_week) (file_key (codes "BCK001") 2) ≡ None
-  -- what is reported about a file
+  -- the report on a file
   pub complete : standing_of (met 1 1 true Good ∷ []) (codes "ABC001") 1 ≡ Complete
   pub damaged : standing_of (met 1 1 true Bad ∷ []) (codes "ABC001") 1
       ≡ Damaged 1 (met 1 1 true Bad).1
@@ -194,8 +194,8 @@ pub record CasesOfWholes : Type 0 where
   pub not_good : is_all (found_with true (met 1 1 true Good ∷ met 1 2 true Bad ∷ []) [] no_copies)
       ≡ false
   pub disputed : is_all (found_with true (met 1 1 true Good ∷ []) [] in_dispute) ≡ false
-  -- the date of a label, in years with and without a leap day; there is none if the label has no
-  -- valid date
+  -- the date of a label, in years with and without a leap day; no date if the label has no valid
+  -- one
   pub day : date_of (codes " 85113") ≡ Some (date 1985 4 23)
   pub last_day : date_of (codes " 85365") ≡ Some (date 1985 12 31)
   pub leap_day : date_of (codes "000060") ≡ Some (date 2000 2 29)
@@ -207,7 +207,7 @@ pub record CasesOfWholes : Type 0 where
   pub trimmed : trimmed_text (codes "A B   ") ≡ codes "A B"
   pub all_spaces : trimmed_text (codes "      ") ≡ []
 
--- the order of a volume, and what is reported about it
+-- the order of a volume, and the report on it
 pub record CasesOfSurveys : Type 0 where
   -- a section has labels with the numbers of one section, and a volume has its label and its
   -- sections
@@ -271,7 +271,7 @@ pub record CasesOfSurveys : Type 0 where
   pub tells : (y : Wording) (reel : Reel) (name : List ℕ) (c d : Found)
       (old new : Option (List ℕ)) (t : TellsSight y reel name c d old new) → IsViewed reel t.0 c d
       × Appends old new (image_text y name t.0)
-  -- what follows the images is printed if no image is left
+  -- the text after the images is printed if no image is left
   pub summary_last : (y : Wording) (names : List (List ℕ)) (d : Found)
       → summary_at y names true d ≡ summary y names d
   pub no_summary_before : (y : Wording) (names : List (List ℕ)) (d : Found)
@@ -301,7 +301,7 @@ pub record CasesOfSurveys : Type 0 where
       × AreViewed Took (λ r. r) shelf 0 s.sights nothing_found s.left s.found
       × AppendsFront old new
       (image_texts y names s.sights ++ summary_at y names (length s.sights == length names) s.found)
-  -- what a caller can conclude from the laws about image summaries
+  -- conclusions that a caller can draw from the laws about image summaries
   pub left_there : LeavesThere → (items : List TapeItem) (n : ℕ) (w : ExpectedItem)
       → course_of items ≡ Leaves n w → IsFirstAstray items n
   pub ended_there : EndedIsVolume → (items : List TapeItem) → course_of items ≡ Ended

@@ -54,8 +54,7 @@ pub record IsCalm {S : Type 0} (g : Ghosts S) (old new : SessionState S) : Type 
   pub notes : new.notes ≡ [] → old.notes ≡ []
   pub kept : IfSeen g old (λ was. IsKept was → IsSeen g new (λ is. IsKept is))
 
--- a write failed before, a record is unfinished, or the requested form is not the one that was
--- written
+-- a write failed before, a record is unfinished, or another form was written than is requested
 abbrev pub CannotEnd : Bool → Bool → Form → Form → Type 0
 CannotEnd failed begun form asked = (failed ≡ true) ⊎ (begun ≡ true) ⊎ (form ≢ asked)
 

@@ -16,7 +16,7 @@ use Rattle.tape_run.specs.CheckLine.{image_line, image_lines, section_line, lack
 use Rattle.tape_image.specs.Written.{AppendsFront}
 use Rattle.tape_run.specs.Reeling.{Mounting, AreMounted}
 
--- an image: none if it was not opened, otherwise the bytes of its reader, if these are known
+-- an image: `None` if it was not opened, otherwise the bytes of its reader, if known
 abbrev pub Reel : Type 0
 Reel = Option (Option (List ℕ))
 
@@ -47,8 +47,8 @@ abbrev pub summary_of : List SectionLine → List Lack → Bool → List ℕ
 summary_of listed lacking found =
     flat_map section_line listed ++ flat_map lack_line lacking ++ last_line found
 
--- What follows the lines of images: the sections that were found, the first missing section of each
--- file, and the last line if sections were found and none is missing.
+-- The text after the lines of images: the sections that were found, the first missing section of
+-- each file, and the last line if sections were found and none is missing.
 abbrev pub summary : List Told → List ℕ
 summary d = summary_of (map line_of d) (lacks d) (found_all d)
 

@@ -1,4 +1,4 @@
--- What a crash leaves of a session.
+-- The states that a crash leaves of a session.
 use Rattle.std.specs.Prelude.{◌≡◌, ◌⊎◌, ℕ, ◌+◌, ◌≤◌, List, [], ◌∷◌, length, Option, Some}
 use Rattle.std.specs.Prelude.{None, slice_get, ⊤, Bool, true, false}
 use Rattle.tape_blocks.specs.Block.{Portion}
@@ -39,10 +39,10 @@ abbrev pub LastAlone : Crashes → Seen → Type 0
 LastAlone now s = BringsLast now.returns s
     × ((t : ℕ) × (t ≤ now.moment) × BringsLast (now.returned t) s)
 
--- What a crash leaves of a session between two of its states. Only the last checkpoint is left if
--- the session has made one since, or if nothing else was left before. If it made none, and nothing
--- else was left between a moment t and the start, nothing else is left since t. If something
--- survived every crash before, it still does, now and at each moment since t.
+-- The states that a crash leaves of a session, between two states of the session. Only the last
+-- checkpoint is left if the session has made one since, or if nothing else was left before. If it
+-- made none, and nothing else was left between a moment t and the start, nothing else is left since
+-- t. If something survived every crash before, it still does, now and at each moment since t.
 pub record KeepsLast {S : Type 0} (g : Ghosts S) (old : SessionState S) (held : List Portion)
     (new : SessionState S) (now : List Portion) : Type 0 where
   pub last : (length new.notes ≡ length old.notes
@@ -94,8 +94,8 @@ abbrev pub BringsNoMore : {S : Type 0} → Ghosts S → S → S → Type 0
 BringsNoMore g old new = (parts : List Portion) → g.holds old parts
     → AddsNothing (g.crashes old) (g.crashes new)
 
--- The session is unchanged, except perhaps its sink. That has the same contents, and a crash leaves
--- no more of it.
+-- The session is unchanged, except perhaps for its sink, which has the same contents and of which a
+-- crash leaves no more than before.
 pub record IsWalked {S : Type 0} (g : Ghosts S) (old new : SessionState S) : Type 0 where
   pub core : new.core ≡ old.core
   pub notes : new.notes ≡ old.notes

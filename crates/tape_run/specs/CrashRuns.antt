@@ -18,7 +18,7 @@ use Rattle.tape_run.specs.Given.{AreGivenBy}
 use Rattle.tape_run.specs.Headline.{HasRun}
 use Rattle.tape_run.specs.Crash.{StoodAt}
 
--- the position of the course, or one of its checkpoints
+-- the position of the history, or one of its checkpoints
 abbrev pub IsPlaceOf : Course → Position → Type 0
 IsPlaceOf c p = (p ≡ c.at) ⊎ ((n : ℕ) × (slice_get c.notes n ≡ Some p))
 
@@ -61,8 +61,8 @@ pub record IsResumed (c : Point) (ps : List Portion) (s : Seen) : Type 0 where
   pub notes : s.notes ≡ []
   pub failures : s.failures ≡ 0
 
--- Each run was resumed at what the crash before it left: either what existed when the run began, or
--- what the crash left of that run.
+-- Each run was resumed at the state that the crash before it left: either the state that existed
+-- when the run began, or one that the crash left of that run.
 abbrev pub Outlives : Point → List Portion → List CrashRun → Point → List Portion → Type 0
 Outlives c ps [] back there = (back ≡ c) × (there ≡ ps)
 Outlives c ps (life ∷ lives) back there =
@@ -72,8 +72,8 @@ Outlives c ps (life ∷ lives) back there =
     ⊎ ComesBack life.began life.steps life.done life.bytes life.left life.given mid front)
     × Outlives mid front lives back there)
 
--- If only this checkpoint with these parts was left before, then either that is left now, or what a
--- crash leaves of a run of these steps.
+-- If only this checkpoint with these parts was left before, then either that is left now, or a
+-- state that a crash leaves of a run of these steps.
 abbrev pub LivesOn : Point → List Portion → List Step → List (List ℕ) → List (Option (List ℕ))
     → Returns → Returns → Type 0
 LivesOn c ps steps bytes left old new = OnlyThis c ps old → (back : Point) (there : List Portion)
@@ -88,7 +88,7 @@ AreHistories set (life ∷ lives) [] = ⊥
 AreHistories set (life ∷ lives) (hs ∷ hss) = IsHistory set 0 life.done life.given hs
     × AreHistories set lives hss
 
--- Across any number of crashes what is left is valid.
+-- Across any number of crashes the state that is left is valid.
 abbrev pub StandsAcrossCrashes : Type 0
 StandsAcrossCrashes = (set : FileSet) (c : Point) (ps : List Portion) (lives : List CrashRun)
     (hss : List (List MountEvent)) (back : Point) (there : List Portion) → IsLawful set

@@ -40,7 +40,7 @@ abbrev pub in_century : Option ℕ → ℕ → Option Date
 in_century (Some first) n = in_year (first + n / 1000) (n % 1000)
 in_century None n = None
 
--- the date that the six characters of a label are, if they are one
+-- the date in the six characters of a label, if they are a date
 abbrev pub date_of : List ℕ → Option Date
 date_of [] = None
 date_of (c ∷ ds) = if all_ascii_digits ds then in_century (century c) (number_of ds) else None

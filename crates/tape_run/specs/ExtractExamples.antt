@@ -20,7 +20,7 @@ worked_parts =
     ∷ record { span = Last; bytes = codes "E" }
     ∷ record { span = First; bytes = codes "F" } ∷ []
 
--- block 2 of the first section of file 9, of which this many parts were delivered
+-- block 2 of the first section of file 9, after the given number of its parts was delivered
 abbrev pub worked_want : ℕ → Want
 worked_want part = record { file = 9; sect = 1; block = 2; part = part }
 

@@ -41,8 +41,8 @@ pub record Ends (spares : Bool) (first : State) (old : Seen) (turns : List Turn)
   pub wanted : want ≡ want_at now.place.file now.place.position
   pub is_written : IsWritten want records form out written now.parts
 
--- The last line was reported, with what is missing or how many records the file has; and if nothing
--- is missing the records of the parts that the sink contains were written.
+-- The last line was reported, with the missing part or the number of records in the file; and if
+-- nothing is missing, the records of the sink's parts were written.
 pub record EndsFile {S : Type 0} (g : Ghosts S) (session : SessionState S) (form : Form)
     (out written said says : Option (List ℕ)) (want : Option Want) : Type 0 where
   pub wanted : want ≡ want_at session.core.file session.core.position
@@ -50,8 +50,8 @@ pub record EndsFile {S : Type 0} (g : Ghosts S) (session : SessionState S) (form
   pub line : Appends said says (last_line want records)
   pub is_written : IfSeen g session (λ is. IsWritten want records form out written is.parts)
 
--- The last line reports what a session at this position needs, or how many records its parts have;
--- if less of the line was reported, either is possible.
+-- The last line reports the part that a session at this position needs, or the number of records of
+-- its parts; if less of the line was reported, either is possible.
 abbrev pub TellsEnd : Type 0 → Option Want → ℕ → Seen → Type 0
 TellsEnd less want records now = less ⊎ ((want ≡ want_at now.place.file now.place.position)
     × (want ≡ None → records ≡ length (join now.parts).records))
@@ -70,8 +70,8 @@ pub record StopsAtEnd {S W : Type 0} (g : Ghosts S) (session : SessionState S) (
       × AppendsFront (contents out) (contents written) (output_of form is.parts)))
 
 -- Images were read in their order, all of them or up to the one that completed the file; a line was
--- reported for each, and a last one with what is missing or how many records the file has; and the
--- session with the sink's parts ended like this.
+-- reported for each, and a last one with the missing part or the number of records in the file; and
+-- the session with the sink's parts ended like this.
 pub record Extracts {S L R : Type 0} (g : Ghosts S) (size : L → ℕ) (gives : Mounting L R)
     (remaining : R → Option (List ℕ)) (old new : SessionState S) (shelf left : L) (form : Form)
     (out written said says : Option (List ℕ)) (want : Option Want) : Type 0 where

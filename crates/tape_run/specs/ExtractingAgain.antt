@@ -22,8 +22,8 @@ use Rattle.tape_run.specs.SessionState.{SessionState}
 
 -- Images were read pass by pass: passes that recovered something, and a last one, of all images or
 -- up to the one that completed the file. A line was reported for each image of each pass, numbered
--- continuously, and a last one with what is missing or how many records the file has; and over all
--- passes the session ended as it would over images that are specified that often.
+-- continuously, and a last one with the missing part or the number of records in the file; and over
+-- all passes the session ended as it would over images that are specified that often.
 pub record ExtractsAgain {S L R : Type 0} (g : Ghosts S) (size : L → ℕ) (gives : Mounting L R)
     (remaining : R → Option (List ℕ)) (old new : SessionState S) (shelf left : L) (form : Form)
     (out written said says : Option (List ℕ)) (want : Option Want) : Type 0 where

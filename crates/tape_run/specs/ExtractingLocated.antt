@@ -47,8 +47,7 @@ pub record PassesTo (key : FileKey) (bytes left : List ℕ) : Type 0 where
   pub walks : Walks 0 bytes front at left
   pub passed : ArePassed key front
 
--- The open image, if there is one, has these bytes, and later files' sessions continue where its
--- reader is.
+-- The open image, if any, has these bytes, and later files' sessions continue where its reader is.
 abbrev pub IsHeld : {R : Type 0} → (R → Option (List ℕ)) → Option (Mounted R) → Option (List ℕ)
     → Type 0
 IsHeld remaining None whole = ⊤
@@ -56,8 +55,8 @@ IsHeld remaining (Some m) whole = IfKnown whole (remaining m.device) (PassesTo m
 
 -- ---- what a session reads
 
--- What a session read of an image: the bytes of the image, the items before those that it read, the
--- bytes that the reader then had and those that it has left, and whether it failed.
+-- One reading of an image by a session: the bytes of the image, the items before those that it
+-- read, the bytes that the reader then had and those that it has left, and whether it failed.
 pub record Stretch : Type 0 where
   pub whole : Option (List ℕ)
   pub front : List TapeItem
@@ -65,12 +64,13 @@ pub record Stretch : Type 0 where
   pub left : Option (List ℕ)
   pub failed : Bool
 
--- The image begins with the items before, and the reader had what follows them.
+-- The image begins with the items before the reading, and the reader had the rest.
 abbrev pub IsPartOf : Stretch → Type 0
 IsPartOf s = IfKnown s.whole s.had (λ bytes rest. (at : ℕ) × Walks 0 bytes s.front at rest)
 
--- The session went where the table leads over the whole image: over the items before, and those of
--- the bytes that the reader returned, all that it had or, if it failed, what it no longer has.
+-- The session went where the table leads over the whole image: over the items before the reading,
+-- and those of the bytes that the reader returned (all the bytes that it had or, if it failed,
+-- those that it no longer has).
 pub record ReadsOn (s : Stretch) (old new : Seen) : Type 0 where
   pub given : List ℕ
   pub is_given : IfKnown s.whole s.had (λ bytes had. IsGiven s.failed had s.left given)

@@ -6,8 +6,8 @@ use Rattle.tape_run.specs.Mount.{MountEvent, IsMountOf, cut}
 use Rattle.tape_run.specs.History.{IsHistory}
 use Rattle.tape_run.specs.Given.{AreGivenBy}
 
--- The prefix of a reel that a reader returned before it failed is a mount: of the same volume, up
--- to some item, or foreign.
+-- The part of a reel that a reader returned before it failed is a mount: of a prefix of the same
+-- volume, or of a foreign reel.
 abbrev pub FrontsAreMounts : Type 0
 FrontsAreMounts = (set : FileSet) (front rest : List ℕ) (h : MountEvent)
     → IsMountOf set (front ++ rest) h → (n : ℕ) × IsMountOf set front (cut n h)

@@ -1,4 +1,4 @@
--- Where the reader's table leads a run, for any reels: this does not refer to a set.
+-- Where the reader's table leads a run, for any reels, without reference to a set.
 use Rattle.std.specs.Prelude.{◌≡◌, ℕ, ◌+◌, List, [], ◌∷◌, ◌++◌, take, Option, Some, None, slice_get}
 use Rattle.std.specs.Prelude.{⊤}
 use Rattle.tape_blocks.specs.Block.{Portion}
@@ -50,8 +50,8 @@ over_save t = record {
   notes = t.notes ++ record { place = t.place; parts = t.parts } ∷ [];
 }
 
--- after a rollback to checkpoint n, if there is one, with no reading under way: the later
--- checkpoints are dropped
+-- after a rollback to checkpoint n, if it exists, with no reading under way: the later checkpoints
+-- are dropped
 abbrev pub back_to : Lead → ℕ → Option Noted → Lead
 back_to t n None = t
 back_to t n (Some note) = record {
@@ -91,7 +91,7 @@ pub record StandsThere (t : Lead) (s : Seen) : Type 0 where
   pub parts : s.parts ≡ t.parts
   pub notes : AreNoted [] t.notes s.notes s.parts
 
--- The steps lead a session to where the table leads, whatever the items of its reels are.
+-- The steps lead a session to where the table leads, for any items of its reels.
 abbrev pub LeadsBy : Seen → List Step → List (List ℕ) → Seen → Type 0
 LeadsBy old steps given new = (t : Lead) (reels : List (List TapeItem)) → AreItems given reels
     → StandsThere t old → StandsThere (lead t steps reels) new

@@ -1,4 +1,4 @@
--- Definitions to believe, with those that they import from the crates below: what is read, in this
+-- Definitions to believe, with those that they import from the crates below; read them in this
 -- order.
 pub mod SessionState
 pub mod Seen
@@ -45,7 +45,7 @@ pub mod Listed
 pub mod ListExamples
 pub mod Placed
 pub mod PlacedExamples
--- Reports of what is on reels: definitions to believe, in this order.
+-- Reports on reels: definitions to believe, in this order.
 pub mod CheckLine
 pub mod Checked
 pub mod WholeReels
@@ -97,7 +97,7 @@ pub mod MergeNow
 -- Laws of those.
 pub mod MergeLaws
 pub mod MergedCopies
--- What is recovered of a file that no image has completely: definitions to believe, in this order.
+-- Recovering a file that no image has completely: definitions to believe, in this order.
 pub mod SalvageWalk
 pub mod SalvageCopies
 pub mod SalvageRecords

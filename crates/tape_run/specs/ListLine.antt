@@ -43,7 +43,7 @@ head1_text head = codes "HDR1 " ++ head_text head
 abbrev pub trail_name : Bool → List ℕ
 trail_name eof = if eof then codes "EOF1 " else codes "EOV1 "
 
--- the same as a header, and the number of blocks
+-- the same fields as in a header, and the number of blocks
 abbrev pub trail1_text : Trail1 → List ℕ
 trail1_text label =
     trail_name label.eof ++ head_text label.head ++ codes " " ++ digits 6 label.blocks

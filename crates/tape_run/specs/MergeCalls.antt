@@ -92,7 +92,7 @@ abbrev pub RefusesCandidate : Option TapeItem → ImageWriteFault → Writer →
 RefusesCandidate None fault old new = ⊥
 RefusesCandidate (Some x) fault old new = Refuses x fault old new
 
--- the item was written, if there is one
+-- the item was written, unless there is none
 abbrev pub Puts : Option TapeItem → Bool → Writer → Writer → Type 0
 Puts None some old new = (some ≡ false) × (new ≡ old)
 Puts (Some x) some old new = (some ≡ true) × PutItem x old new
@@ -135,7 +135,7 @@ pub record HasWritten {R : Type 0} (firsts : List (Reading R)) (old new : Writer
   pub is : IsMerged fronts merged
   pub wrote : PutItems merged old new
 
--- what is true after each fault
+-- the properties after each fault
 abbrev pub FitsFault : {R : Type 0} → List (Reading R) → List (Reading R) → Writer → Writer
     → MergeFault → Type 0
 FitsFault firsts nows old new (faults.Differ n) = DiffersAt firsts nows n old new

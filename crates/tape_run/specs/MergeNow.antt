@@ -47,7 +47,7 @@ pub record IsMissing {L R : Type 0} (gives : Mounting L R) (shelf left : L) (num
 
 -- ---- the merged image
 
--- a reading of this many items reached this end of the medium
+-- a reading with this number of items reached the given end of the medium
 abbrev pub SomeEnds : {R : Type 0} → ℕ → Ending → List (Reading R) → Type 0
 SomeEnds items ending [] = ⊥
 SomeEnds items ending (r ∷ rs) =

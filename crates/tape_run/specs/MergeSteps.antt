@@ -140,7 +140,7 @@ pub data Answered (old new : Reader) (verdict : Verdict) (len : ℕ)
   without : Stopped old new → StopsAs verdict new.status → now ≡ best → beside ≡ other
       → Answered old new verdict len best now other beside
 
--- the count increased by this many, if it can: it never exceeds its greatest value
+-- the count increased by n, but never exceeds its greatest value
 abbrev pub RisesBy : ℕ → ℕ → ℕ → Type 0
 RisesBy old more new = old + more ≤ 18446744073709551615 → new ≡ old + more
 
@@ -206,7 +206,7 @@ pub record HasTaken {R : Type 0} (first now : Reading R) (taken : List TapeItem)
   pub bad : RisesBy first.bad (bads taken) now.bad
   pub last : TookLast first now taken
 
--- each of the readings consists of these items
+-- each reading consists of the items in its list
 abbrev pub HaveTaken : {R : Type 0} → List (Reading R) → List (Reading R) → List (List TapeItem)
     → Type 0
 HaveTaken [] [] [] = ⊤
@@ -228,7 +228,7 @@ AreUpTo number (n ∷ nows) (r ∷ readings) =
     × AreUpTo number nows readings
 AreUpTo number _ _ = ⊥
 
--- The meaning of the verdict on a reading of these items: how the last one compares with the best
+-- The meaning of the verdict on a reading of these items: how the last item compares with the best
 -- one and the other one, or how the reading stopped.
 abbrev pub Judges : Verdict → Status → List TapeItem → Option TapeItem → Option TapeItem → Type 0
 Judges verdicts.First status items best other = (status ≡ going) × (x : TapeItem)

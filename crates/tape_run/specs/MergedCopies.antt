@@ -28,8 +28,8 @@ abbrev pub AreWithin : List Reading → Reading → Type 0
 AreWithin [] s = ⊤
 AreWithin (r ∷ rs) s = IsWithin r.good s.good × AreWithin rs s
 
--- The merged items of copies of a volume are a copy of it, with a reading in which each item was
--- read well that was read well in one of theirs.
+-- The merged items of copies of a volume are a copy of it, with a reading in which an item was read
+-- well if it was in one of the copies.
 abbrev pub MergedIsCopy : Type 0
 MergedIsCopy = (set : FileSet) (k : ℕ) (images : List (List TapeItem)) (rs : List Reading)
     (merged : List TapeItem) → IsSome (nth set.volumes k) → AreCopies set k images rs

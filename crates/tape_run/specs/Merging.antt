@@ -1,4 +1,4 @@
--- Readings of one tape, and the shortest tape of which all of them are readings.
+-- Readings of one tape, and the least tape of which all of them are readings.
 use Rattle.std.specs.Prelude.{◌≡◌, ◌⊎◌, List, [], ◌∷◌, ⊤}
 use Rattle.tape_image.specs.Tape.{TapeItem, bad}
 
@@ -18,8 +18,8 @@ abbrev pub AreReadFrom : List (List TapeItem) → List TapeItem → Type 0
 AreReadFrom [] tape = ⊤
 AreReadFrom (r ∷ rs) tape = IsReadFrom r tape × AreReadFrom rs tape
 
--- The tape that the readings combine to is the least one of which all of them are readings: it is
--- itself a reading of every such tape.
+-- The merged tape: the least tape of which every reading is a reading. That is, it is itself a
+-- reading of every such tape.
 pub record IsMerged (readings : List (List TapeItem)) (merged : List TapeItem) : Type 0 where
   pub all : AreReadFrom readings merged
   pub least : (tape : List TapeItem) → AreReadFrom readings tape → IsReadFrom merged tape

@@ -26,7 +26,7 @@ is_good Cut = false
 abbrev pub better : Entry → Entry → Entry
 better old new = if is_good new.state && not (is_good old.state) then new else old
 
--- what is kept of a section, if this was known of it
+-- the entry that is kept for a section with a known entry
 abbrev pub kept : Option Entry → Entry → Entry
 kept None new = new
 kept (Some old) new = better old new

@@ -7,11 +7,11 @@ use Rattle.tape_run.specs.Added.{Adds, AddsInPart}
 use Rattle.tape_run.specs.Checked.{Reel, IsReport}
 use Rattle.tape_run.specs.Passing.{Told}
 
--- none of these entries belongs to this section
+-- none of these entries belongs to the section
 abbrev pub AreOthers : SectionKey → List Told → Type 0
 AreOthers key c = AllByRecursion (λ t. t.0 ≢ key) c
 
--- no two of these entries belong to one section
+-- no two of these entries belong to the same section
 abbrev pub HasOneEach : List Told → Type 0
 HasOneEach [] = ⊤
 HasOneEach (t ∷ ts) = AreOthers t.0 ts × HasOneEach ts

@@ -30,7 +30,7 @@ abbrev pub PlacedAreFirst : Type 0
 PlacedAreFirst = (items : List PlacedItem) (p q : ℕ) (xs ys : List ℕ) → Places p items q xs ys
     → Walks p xs (map (λ x. x.item) items) q ys
 
--- bytes are this many items in only one way
+-- bytes encode this number of items in only one way
 abbrev pub OnePlaces : Type 0
 OnePlaces = (items others : List PlacedItem) (p q r : ℕ) (xs ys zs : List ℕ)
     → Places p items q xs ys → Places p others r xs zs → length items ≡ length others

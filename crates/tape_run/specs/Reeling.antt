@@ -64,7 +64,7 @@ IsTurn remaining image turn = ⊥
 abbrev pub Mounting : Type 0 → Type 0 → Type 1
 Mounting L R = L → ℕ → Option R → L → Type 0
 
--- The reader with this number is removed from a list, if there is one.
+-- The reader with a given number is removed from a list, if it is there.
 abbrev pub Took : {R : Type 0} → Mounting (List (Option R)) R
 Took readers number image left =
     (image ≡ get_or readers number None) × (left ≡ set readers number None)
@@ -146,7 +146,8 @@ Follows back spares core old (Some o ∷ turns) last new = (next : State) × (be
     × ReadsAndNotes back spares core old o next behind
     × Follows back spares next behind turns last new
 
--- The step after a reel, for a session with this many checkpoints, if there is one.
+-- The step after a reel, for a session with the given number of checkpoints; `None` if no step
+-- follows.
 abbrev pub step_behind : Bool → Bool → Bool → ℕ → List Step
 step_behind back false true notes = Save ∷ []
 step_behind back false false notes = []
@@ -217,8 +218,8 @@ pub record Takes {S R : Type 0} (g : Ghosts S) (remaining : R → Option (List �
   pub follows : Carries g back old new
       (λ was is. Follows back spares old.core was (turn ∷ []) new.core is)
 
--- This many images were read in their order, all of them or up to the one that completed the file,
--- and a line was reported for each, after the given number of earlier lines.
+-- The given number of images was read in order, all of them or up to the one that completed the
+-- file, and a line was reported for each, after the given number of earlier lines.
 pub record TakesAll {S L R : Type 0} (g : Ghosts S) (size before : ℕ) (gives : Mounting L R)
     (remaining : R → Option (List ℕ)) (back spares : Bool) (old new : SessionState S) (shelf left : L)
     (said says : Option (List ℕ)) : Type 0 where
@@ -236,8 +237,8 @@ abbrev pub IsReported : ℕ → Option (List ℕ) → Option (List ℕ) → Type
 IsReported number said says = (more : List (Option ReelAnswer)) × (length more ≤ 1)
     × AppendsFront said says (reel_lines number more)
 
--- The session is here, and its sink contains these parts; and a crash leaves only its last
--- checkpoint, if it has made one since its old state or only that was left before.
+-- The session's position is here, and its sink contains these parts; and a crash leaves only its
+-- last checkpoint, if it has made one since its old state or only that was left before.
 abbrev pub StoodSaved : {S : Type 0} → Ghosts S → SessionState S → List Portion → SessionState S → Seen → Type 0
 StoodSaved g old held new now = (parts : List Portion) × g.holds new.sink parts
     × (now ≡ seen g new parts) × KeepsLast g old held new parts

@@ -1,4 +1,4 @@
--- What the steps of a run do, one after another.
+-- The effects of the steps of a run, one after another.
 use Rattle.std.specs.Prelude.{◌≡◌, ℕ, Bool, List, [], ◌∷◌, length, map, take, drop, Option, Some}
 use Rattle.std.specs.Prelude.{None, slice_get, ⊤, ◌⊎◌}
 use Rattle.tape_set.specs.Layout.{FileSet}

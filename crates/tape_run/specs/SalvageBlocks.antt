@@ -1,5 +1,4 @@
--- The data items of a section, processed one after another, and what is reported about missing
--- blocks.
+-- The data items of a section, processed one after another, and the report on missing blocks.
 use Rattle.std.specs.Prelude.{◌≡◌, ℕ, ◌-◌, ◌||◌, Bool, true, false, if◌then◌else◌, List, [], ◌++◌}
 use Rattle.std.specs.Prelude.{is_some, Option, Some, None}
 use Rattle.std.specs.Io.KnownBytes.{Appends}
@@ -58,7 +57,7 @@ with_block_text sect form n b g =
     ++ (torn_text (is_cut form g.piece b) sect n g.piece.records
     ++ refused_text sect n (found_fault form g.piece b) g.piece.begun g.piece.records)
 
--- an item was read: the data item with this number of the section, or an item that is not one of
+-- an item was read: the data item of the section with this number, or an item that is not one of
 -- its data
 abbrev pub salvaged_at : Option FileForm → Salvaged → Option ℕ → TapeItem → Salvaged
 salvaged_at form g None x = g
@@ -72,7 +71,7 @@ text_at sect form g (Some n) (block b) = with_block_text sect form n b g
 text_at sect form g (Some n) bad = without_block_text sect n g
 text_at sect form g (Some n) mark = []
 
--- what a recovery has written, buffered and recorded
+-- the records that a recovery has written and buffered, and its gaps
 pub record HasSalvaged {W : Type 0} (contents : W → Option (List ℕ)) (start : Start)
     (r : Recovery W) (g : Salvaged) : Type 0 where
   pub piece : HasPiece contents start r.mender g.piece

@@ -18,8 +18,8 @@ use Rattle.tape_run.specs.SalvageWalk.{FoundSection, FoundAt, sections_in, skipp
 abbrev pub is_of : List ℕ → ℕ → FoundSection → Bool
 is_of set_id file t = bytes_eq t.0.key.set_id set_id && (t.0.key.file == file)
 
--- how many items of the image precede its data, if its HDR1 was not read; its items end after this
--- many
+-- the number of items of the image that precede its data, if its HDR1 was not read, given the
+-- number of items before its end
 abbrev pub skip_of : ℕ → OpenSection → Option ℕ
 skip_of place u = option_map (λ n. place - n - u.blocks) u.after
 
@@ -39,7 +39,7 @@ of_file set_id file image (t ∷ ts) =
     if is_of set_id file t.1 then copy_of image t ∷ of_file set_id file image ts
     else of_file set_id file image ts
 
--- What is expected at the first item of a copy's image when the section is read from it. If its
+-- The phase expected at the first item of a copy's image if the section is read from it. If its
 -- HDR1 was not read, its data are found by their place.
 abbrev pub start_of : SectionCopy → Expected
 start_of c = start_by c.skip c.section

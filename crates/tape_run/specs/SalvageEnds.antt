@@ -1,4 +1,4 @@
--- What is reported after the blocks of a section.
+-- The report at the end of the blocks of a section.
 use Rattle.std.specs.Prelude.{ℕ, ◌-◌, ◌&&◌, ◌||◌, nat_lt, Bool, true, if◌then◌else◌, List, []}
 use Rattle.std.specs.Prelude.{◌++◌, Option, Some, None, is_some}
 use Rattle.tape_run.specs.declared.salvage.copies.SectionCopy.{SectionCopy}
@@ -13,7 +13,7 @@ use Rattle.tape_run.specs.SalvageBlocks.{Salvaged, gap_text, torn_text}
 abbrev pub without_rest : Salvaged → Salvaged
 without_rest g = record { piece = torn g.piece; gap = g.gap; missing = true }
 
--- the line of the unfinished record that is left out, if there is one
+-- the line about the unfinished record that is left out, if any
 abbrev pub rest_text : ℕ → ℕ → Salvaged → List ℕ
 rest_text sect n g = torn_text g.piece.begun sect n g.piece.records
 
@@ -75,7 +75,8 @@ abbrev pub stopped_text : ℕ → ℕ → Salvaged → List ℕ
 stopped_text sect n g = gap_text sect g.gap n g.piece.records
     ++ (rest_text sect n g ++ open_gap_line sect n g.piece.records)
 
--- after a copy of which this many data items were read again: all the reliable ones, or fewer
+-- after a copy of which the given number of data items was read again: all the reliable ones, or
+-- fewer
 abbrev pub read_again : ℕ → SectionCopy → Salvaged → Salvaged
 read_again n c g = if nat_lt n (believed c) then stopped g else ended c c.closed g
 

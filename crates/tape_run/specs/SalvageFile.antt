@@ -1,5 +1,5 @@
--- What is recovered of a file from readings of the volumes of a valid set, each section from one
--- reading.
+-- The records recovered of a file from readings of the volumes of a valid set, each section from
+-- one reading.
 use Rattle.std.specs.Prelude.{◌≡◌, ℕ, Bool, true, false, List, [], ◌∷◌, ◌++◌, length, Option, Some}
 use Rattle.std.specs.Prelude.{None}
 use Rattle.std.specs.List.{AllByRecursion}
@@ -72,7 +72,7 @@ abbrev pub blocks_of : List SectionRead → Blocks
 blocks_of [] = []
 blocks_of (r ∷ rs) = r.blocks ++ blocks_of rs
 
--- what is recovered of a file from its sections
+-- the records recovered of a file from its sections
 abbrev pub file_after : Option FileForm → List Taken → Salvaged
 file_after known ts = after_all Records known ts none_salvaged
 
@@ -101,7 +101,7 @@ RecoversFile = (set_id : List ℕ) (volumes : ℕ) (known : Option FileForm) (fo
     → (g.piece.done ≡ whole_parts (parts_with bs))
     × (g.missing ≡ false → g.piece.done ≡ all_parts bs)
 
--- Nothing is left out before the first block that was not read: the records so far, with the
+-- No record is left out before the first block that was not read: the records so far, with the
 -- unfinished one, are all parts of these blocks, and they remain a prefix whatever follows.
 abbrev pub RecoversUpToGap : Type 0
 RecoversUpToGap = (set_id : List ℕ) (volumes : ℕ) (known : Option FileForm) (form : FileForm)

@@ -7,7 +7,7 @@ use Rattle.tape_blocks.specs.Numbers.{cause_number}
 abbrev pub number_text : ℕ → List ℕ
 number_text n = codes " " ++ decimal n
 
--- these blocks of the section are missing after this many records
+-- blocks of the section are missing after the given number of records
 abbrev pub gap_line : ℕ → ℕ → ℕ → ℕ → List ℕ
 gap_line sect first last records =
     codes "GAP" ++ number_text sect ++ number_text first ++ number_text last

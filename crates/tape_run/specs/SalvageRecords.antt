@@ -120,7 +120,7 @@ pub record IsPiece (start : Start) (now : Option (List ℕ)) (form : Form) (unfi
   pub tears : torn ≡ p.torn
   pub none : p.begun ≡ false → p.front ≡ []
 
--- what a mender has written and buffered
+-- the records that a mender has written and buffered
 abbrev pub HasPiece : {W : Type 0} → (W → Option (List ℕ)) → Start → Mender W → Piece → Type 0
 HasPiece contents start m p =
     IsPiece start (contents m.out) m.form m.unfinished.items m.records m.begun m.torn p

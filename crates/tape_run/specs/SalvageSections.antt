@@ -1,5 +1,5 @@
--- What is recovered of a section of a valid set of which HDR1, the trailer label and the tape marks
--- were read; any of its blocks, and any of its other labels, may be unreadable.
+-- The records recovered of a section of a valid set of which HDR1, the trailer label and the tape
+-- marks were read; any of its blocks, and any of its other labels, may be unreadable.
 use Rattle.std.specs.Prelude.{◌≡◌, ◌⊎◌, ℕ, nat_lt, Bool, true, false, if◌then◌else◌, List, []}
 use Rattle.std.specs.Prelude.{◌∷◌, ◌++◌, length, Some, Err}
 use Rattle.std.specs.List.{AllByRecursion}
@@ -46,8 +46,8 @@ abbrev pub labels_of : Labels → List (List ℕ)
 labels_of [] = []
 labels_of (l ∷ ls) = l.1 ∷ labels_of ls
 
--- what was read of a section: which of the labels after HDR1, of the blocks, and of the labels
--- after the trailer label
+-- which labels and blocks of a section were read: of the labels after HDR1, of the blocks, and of
+-- the labels after the trailer label
 pub record SectionRead : Type 0 where
   pub placed : Placed
   pub headers : Labels
@@ -97,14 +97,14 @@ MayBegin (Outside n) = nat_lt n 2 ≡ true
 MayBegin Next = Unit {0}
 MayBegin _ = ⊥
 
--- what is expected after a section, if these of its trailer labels were read
+-- the phase expected after a section, if these of its trailer labels were read
 abbrev pub after_trailers : Labels → Expected
 after_trailers [] = Next
 after_trailers ((true, b) ∷ ls) = after_trailers ls
 after_trailers ((false, b) ∷ ls) = Outside 1
 
--- From a section of a valid set exactly the records of the blocks that were read are recovered,
--- after what was recovered before. Then another section may begin.
+-- From a section of a valid set exactly the records of the blocks that were read are recovered, in
+-- addition to earlier ones. Then another section may begin.
 abbrev pub RecoversSectionOf : Type 0
 RecoversSectionOf = (set_id : List ℕ) (volumes : ℕ) (r : SectionRead) (form : FileForm)
     (key : SectionKey) (s : Expected) (g : Salvaged)
@@ -149,8 +149,8 @@ read_volume ls rs = read_labels ls ++ (read_sections rs ++ (mark ∷ []))
 abbrev pub AreLabels : Volume → Labels → Type 0
 AreLabels v ls = labels_of ls ≡ v.vol1 ∷ v.labels
 
--- From a volume exactly the records of the section's blocks that were read are recovered, after
--- what was recovered before, whichever other sections precede and follow it.
+-- From a volume exactly the records of the section's blocks that were read are recovered, in
+-- addition to earlier ones, whichever other sections precede and follow it.
 abbrev pub RecoversFromVolume : Type 0
 RecoversFromVolume = (set_id : List ℕ) (volumes : ℕ) (v : Volume) (ls : Labels)
     (before : List SectionRead) (r : SectionRead) (rest : List SectionRead) (form : FileForm)

@@ -107,7 +107,7 @@ abbrev pub MountsIf : {L R : Type 0} → Bool → Mounting L R → (R → Option
 MountsIf true gives remaining c shelf left items = MountsCopy gives remaining c shelf left items
 MountsIf false gives remaining c shelf left items = (left ≡ shelf) × (items ≡ None)
 
--- the image of the section's copy was opened, if it has one and its blocks can be read
+-- the image of the section's copy was opened, if the section has a copy and its blocks can be read
 abbrev pub MountsTaken : {L R : Type 0} → Mounting L R → (R → Option (List ℕ)) → Content
     → Option FileForm → Option SectionCopy → L → L → Option (List TapeItem) → Type 0
 MountsTaken gives remaining content known None shelf left items = (left ≡ shelf) × (items ≡ None)
@@ -165,7 +165,7 @@ all_text content known sect (t ∷ ts) g = taken_text content known sect t.copy 
 abbrev pub GoOn : Content → Option FileForm → List Taken → Type 0
 GoOn content known = AllByRecursion (λ t. end_of_taken content known t.copy t.items ≢ FileEnds)
 
--- how the last of these sections ended; a file has a first section
+-- how the last of these sections ended; a file has at least one section
 abbrev pub last_end : Content → Option FileForm → List Taken → SectionEnd
 last_end content known [] = Continues
 last_end content known (t ∷ []) = end_of_taken content known t.copy t.items

@@ -33,7 +33,7 @@ use Rattle.tape_run.specs.declared.salvage.walk.Expected.TheVariants.{Skipping}
 abbrev pub FoundSection : Type 0
 FoundSection = OpenSection × Option Closing
 
--- one more data item; no image has so many items that the count overflows
+-- one more data item; the count cannot overflow, since an image has fewer items
 abbrev pub with_item : OpenSection → OpenSection
 with_item u = record u { blocks = min (u.blocks + 1) 4294967295 }
 
@@ -138,7 +138,7 @@ named_by r t = record (section_by t.head) {
   after = Some 2;
 }
 
--- after a block in place of the trailer label of these items; the label counts them
+-- after a block in place of the trailer label of these items; the label counts the items
 abbrev pub unnamed_by : UnnamedItems → Result Trail1 LabelFault → Result Head1 LabelFault → Expected
 unnamed_by r (Ok t) h =
     if t.blocks == label_count r.items
@@ -146,8 +146,8 @@ unnamed_by r (Ok t) h =
     else begun_by h (Unnamed one_read)
 unnamed_by r (Err _) h = begun_by h (Unnamed one_read)
 
--- after one item outside of sections that begins none; only a tape mark before it may be the one
--- before a section's data
+-- after one item outside of sections that begins no section; only the tape mark before it may be
+-- the one before a section's data
 abbrev pub unnamed_after : ℕ → UnnamedItems → Expected
 unnamed_after marks r = if marks == 1 then Unnamed r else Outside 0
 
@@ -178,7 +178,7 @@ outside_bad marks =
 abbrev pub skipping : ℕ → OpenSection → Expected
 skipping n u = if n == 0 then Data u else Skipping n u
 
--- what is expected after an item, and the section that ended there, if one did
+-- the phase expected after an item, and the section that ended there, if any
 abbrev pub step : Expected → TapeItem → Expected × Option FoundSection
 step (Outside n) (block b) = (outside_by n (kind_at b) (head1_at b), None)
 step (Outside n) bad = (outside_bad n, None)
@@ -218,12 +218,13 @@ open_section (Trailer u) = Some (u, None)
 open_section (Trailers u k) = Some (u, Some k)
 open_section _ = None
 
--- what is expected after these items
+-- the phase expected after these items
 abbrev pub expected_after : Expected → List TapeItem → Expected
 expected_after s [] = s
 expected_after s (x ∷ xs) = expected_after (step s x).0 xs
 
--- A section that ended, and how many items of the image were read before the one that ended it.
+-- A section that ended, and the number of items of the image that were read before the one that
+-- ended it.
 abbrev pub FoundAt : Type 0
 FoundAt = ℕ × FoundSection
 
@@ -231,7 +232,7 @@ FoundAt = ℕ × FoundSection
 abbrev pub one_further : ℕ → ℕ
 one_further n = min (n + 1) 18446744073709551615
 
--- this many items after these
+-- n items after these
 abbrev pub read_after : ℕ → List TapeItem → ℕ
 read_after n [] = n
 read_after n (x ∷ xs) = read_after (one_further n) xs
@@ -241,7 +242,7 @@ abbrev pub in_list : ℕ → Option FoundSection → List FoundAt
 in_list n None = []
 in_list n (Some t) = (n, t) ∷ []
 
--- the sections that end in these items, in order; this many items were read before
+-- the sections that end in these items, in order; `read` items were read before
 abbrev pub found_from : Expected → ℕ → List TapeItem → List FoundAt
 found_from s n [] = []
 found_from s n (x ∷ xs) = in_list n (step s x).1 ++ found_from (step s x).0 (one_further n) xs

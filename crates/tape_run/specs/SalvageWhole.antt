@@ -1,4 +1,4 @@
--- What is recovered of a file with missing blocks: exactly the records all of whose parts are in
+-- The records recovered of a file with missing blocks: exactly those all of whose parts are in
 -- blocks that were read.
 use Rattle.std.specs.Prelude.{◌≡◌, ◌≢◌, ◌&&◌, Bool, true, false, if◌then◌else◌, List, []}
 use Rattle.std.specs.Prelude.{◌∷◌, ◌++◌, Some}
@@ -29,7 +29,7 @@ all_parts [] = []
 all_parts (b ∷ bs) = b.1.parts ++ all_parts bs
 
 -- The parts of the records that end here and were all read. `front` has the parts so far of the
--- unfinished record, and `all` says whether these were all read.
+-- unfinished record, and `all` says whether they were all read.
 abbrev pub whole_from : List Portion → Bool → List (Bool × Portion) → List Portion
 whole_from front all [] = []
 whole_from front all (x ∷ xs) =
@@ -62,7 +62,7 @@ abbrev pub AllWhole : Type 0
 AllWhole = (bs : Blocks) → AllByRecursion (λ b. b.0 ≡ true) bs → InOrder false (all_parts bs) false
     → whole_parts (parts_with bs) ≡ all_parts bs
 
--- What was recovered remains a prefix of everything that is recovered, whatever follows.
+-- Recovered records remain a prefix of the result, whatever follows.
 abbrev pub FirstStays : Type 0
 FirstStays = (form : FileForm) (p : Piece) (bs : Blocks)
     → (more : List Portion) × ((piece_after form p bs).done ≡ p.done ++ more)

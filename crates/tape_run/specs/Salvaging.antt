@@ -39,9 +39,9 @@ pub record FindsAll {L R : Type 0} (size : L → ℕ) (gives : Mounting L R)
   pub finds : FindsOnAll set_id file 0 reels [] copies text
   pub wrote : Appends said says text
 
--- What is readable of a file was recovered: the copies of its sections were found on the images,
+-- The readable parts of a file were recovered: the copies of its sections were found on the images,
 -- each section was recovered from its best copy, the records were written to the output, which got
--- its name, and the last line says how many records there are and whether nothing is missing.
+-- its name, and the last line gives the number of records and whether any are missing.
 pub record Salvages {W L R : Type 0} (contents : W → Option (List ℕ)) (size : L → ℕ)
     (gives : Mounting L R) (remaining : R → Option (List ℕ)) (task : SalvageTask) (out : W)
     (shelf left : L) (stands : Option (List ℕ)) (said says : Option (List ℕ)) (complete : Bool)

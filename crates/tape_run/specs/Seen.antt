@@ -20,7 +20,7 @@ pub record Seen : Type 0 where
   pub refusals : ℕ
 
 -- The checkpoints are valid for prefixes of the parts, each at least as long as the one before, and
--- the first at least as long as this prefix.
+-- the first at least as long as the given prefix.
 abbrev pub AreNotes : FileSet → ℕ → List Portion → List Point → List Portion → Type 0
 AreNotes set file front [] parts = IsFront front parts
 AreNotes set file front (c ∷ cs) parts = (ps : List Portion) × IsFront front ps
@@ -39,7 +39,7 @@ pub record IsNote (place : State) (c : Point) (ps : List Portion) : Type 0 where
   pub staged : c.staged ≡ weight_of ps
 
 -- The checkpoints have the weights of prefixes of the parts, each at least as long as the one
--- before, and the first at least as long as this prefix.
+-- before, and the first at least as long as the given prefix.
 abbrev pub KeepsNotes : State → List Portion → List Point → List Portion → Type 0
 KeepsNotes place front [] parts = IsFront front parts
 KeepsNotes place front (c ∷ cs) parts = (ps : List Portion) × IsFront front ps × IsNote place c ps
@@ -67,7 +67,7 @@ IfSeen g s so = (held : List Portion) → g.holds s.sink held → so (seen g s h
 abbrev pub IsSeen : {S : Type 0} → Ghosts S → SessionState S → (Seen → Type 0) → Type 0
 IsSeen g s so = (now : List Portion) × g.holds s.sink now × so (seen g s now)
 
--- The same for parts that the sink contains, unless this step lost them.
+-- The same for the parts that the sink contains, unless the step lost them.
 abbrev pub IsSeenUnless : {S : Type 0} → Type 0 → Ghosts S → SessionState S → (Seen → Type 0) → Type 0
 IsSeenUnless lost g s so = (now : List Portion) × ((lost → ⊥) → g.holds s.sink now)
     × so (seen g s now)

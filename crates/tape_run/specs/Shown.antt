@@ -1,4 +1,4 @@
--- What the items of an image show about a section: that it is complete.
+-- The proof in an image's items that a section is complete.
 use Rattle.std.specs.Prelude.{◌≡◌, ℕ, List, ◌∷◌, ◌++◌, length, map}
 use Rattle.std.specs.List.{AllByRecursion}
 use Rattle.tape_image.specs.Tape.{TapeItem, block, mark}

@@ -16,7 +16,7 @@ use Rattle.tape_run.specs.SurveySound.{IsSound}
 use Rattle.tape_run.specs.SurveyRead.{Found, nothing_found, IsViewed, AreViewed}
 use Rattle.tape_run.specs.SurveySets.{is_all}
 
--- what is reported about images, as far as the names and the results go
+-- the reports on images, as far as the names and the results go
 abbrev pub image_texts : Wording → List (List ℕ) → List (Option ImageSurvey) → List ℕ
 image_texts y [] sights = []
 image_texts y (name ∷ names) [] = []
@@ -64,7 +64,7 @@ pub record Surveys {L R : Type 0} (y : Wording) (gives : Mounting L R)
       → CopiesDiffer (all_placed gives remaining shelf 0 sights nothing_found left found viewed) key
       n.image other
 
--- the summary follows if there are that many images
+-- the summary follows if no image is left
 abbrev pub summary_at : Wording → List (List ℕ) → Bool → Found → List ℕ
 summary_at y names true d = summary y names d
 summary_at y names false d = []

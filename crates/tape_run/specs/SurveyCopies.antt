@@ -17,7 +17,7 @@ use Rattle.tape_run.specs.SurveyGlance.{or_else}
 
 -- ---- the good copies on an image
 
--- a good copy of a section: what is known of it, and its data blocks
+-- a good copy of a section: its entry, and its data blocks
 abbrev pub Copy : Type 0
 Copy = Told × List (List ℕ)
 
@@ -42,13 +42,13 @@ copies_from p blocks (x ∷ xs) = good_told (step p x).1 blocks
 abbrev pub copies_on : List TapeItem → List Copy
 copies_on items = copies_from Volume [] items
 
--- ---- what is recorded about them
+-- ---- the record of the copies
 
--- a section, and what is known of its good copies
+-- a section, and the record of its good copies
 abbrev pub Noted : Type 0
 Noted = SectionKey × CopyNote
 
--- a file with copies of a section that differ, and the number of that section
+-- a file with a section whose copies differ, and the number of that section
 abbrev pub Disputed : Type 0
 Disputed = FileKey × ℕ
 
@@ -81,7 +81,7 @@ copy_note None image blocks digest =
 copy_note (Some n) image blocks digest =
     if (n.blocks == blocks) && (n.digest == digest) then with_same n else with_other n image
 
--- what is known of the good copies of a section
+-- the record of the good copies of a section
 abbrev pub noted_at : List Noted → SectionKey → Option CopyNote
 noted_at notes key = lookup (same_key key) notes
 
@@ -103,7 +103,7 @@ abbrev pub with_good : Copied → ℕ → SectionKey → ℕ → ℕ → Copied
 with_good c image key blocks digest =
     with_note c key (copy_note (noted_at c.notes key) image blocks digest)
 
--- after a section that was completed on this image, if one was, with this digest
+-- after the section that was completed on this image, if any, with its digest
 abbrev pub with_told : Copied → ℕ → Option Told → ℕ → Copied
 with_told c image None digest = c
 with_told c image (Some t) digest =
@@ -139,7 +139,7 @@ digest_in digest p mark = digest_past digest p
 
 -- ---- questions about them
 
--- a section of a file whose good copies differ, if there is one
+-- a section of a file whose good copies differ, if any
 abbrev pub dispute_at : Copied → FileKey → Option ℕ
 dispute_at c key = lookup (same_file key) c.conflicts
 

@@ -100,12 +100,12 @@ abbrev pub unread_with : ℕ → Result Head2 LabelFault → Option ℕ
 unread_with file (Ok head) = None
 unread_with file (Err _) = Some file
 
--- the file of which a block of this kind is an unsupported HDR2
+-- the file to which an unsupported HDR2 of this kind belongs
 abbrev pub unread_by : ℕ → Option Kind → List ℕ → Option ℕ
 unread_by file (Some kinds.Hdr2) b = unread_with file (head2_at b)
 unread_by file _ b = None
 
--- the same for a block, if a second label is expected
+-- the same for a block in place of a second label
 abbrev pub unread_at : Phase → List ℕ → Option ℕ
 unread_at (phases.Second met) b = unread_by met.key.file (kind_at b) b
 unread_at _ b = None
@@ -116,7 +116,7 @@ unread_in p (block b) = unread_at p b
 unread_in p bad = None
 unread_in p mark = None
 
--- what is expected in each phase
+-- the item expected in each phase
 abbrev pub wanted_in : Phase → ExpectedItem
 wanted_in phases.Volume = wanted.Volume
 wanted_in (phases.Labels v) = wanted.Section
@@ -133,9 +133,8 @@ abbrev pub left_by : ℕ → Phase → Phase → LabelOrder
 left_by number p phases.Over = Leaves number (wanted_in p)
 left_by number p _ = Follows
 
--- The course after a tape mark, if all items before it follow the order and the volume continues:
--- after the volume labels it may be that of a blank volume, and one more after a section ends the
--- volume.
+-- The label order after a tape mark, if all items before it are in order and the volume continues:
+-- after the volume labels the volume may be blank, and a second mark after a section ends it.
 abbrev pub behind_mark : ℕ → Phase → Phase → LabelOrder
 behind_mark number (phases.Labels v) next = Blank
 behind_mark number (phases.Next v) next = Ended
@@ -147,13 +146,13 @@ behind number p mark next = behind_mark number p next
 behind number p bad next = left_by number p next
 behind number p (block b) next = left_by number p next
 
--- the course after an item where a second tape mark is expected
+-- the label order after an item in place of the second tape mark
 abbrev pub behind_blank : ℕ → TapeItem → LabelOrder
 behind_blank number mark = Ended
 behind_blank number bad = Leaves number wanted.SecondMark
 behind_blank number (block b) = Leaves number wanted.SecondMark
 
--- the course after an item
+-- the label order after an item
 abbrev pub course_with : LabelOrder → ℕ → Phase → TapeItem → Phase → LabelOrder
 course_with Follows number p x next = behind number p x next
 course_with Blank number p x next = behind_blank number x
@@ -175,7 +174,7 @@ abbrev pub one_head : Option Head1 → ℕ
 one_head None = 0
 one_head (Some head) = 1
 
--- what is known of a section that was found, if one was
+-- the entry of the section that was found, if any
 abbrev pub line_in : Option Told → Option SectionLine
 line_in (Some t) = Some (line_of t)
 line_in None = None

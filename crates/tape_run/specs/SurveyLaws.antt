@@ -1,4 +1,4 @@
--- What the summary of an image says about its items.
+-- The meaning of an image's summary for its items.
 use Rattle.std.specs.Prelude.{◌≡◌, ◌≢◌, ℕ, ◌+◌, Bool, true, false, List, [], ◌∷◌, ◌++◌, length, map}
 use Rattle.std.specs.List.{AllByRecursion, flat_map}
 use Rattle.tape_image.specs.Tape.{TapeItem, block, mark}
@@ -48,7 +48,7 @@ pub record IsBegun (items : List TapeItem) (sections : List (List TapeItem)) : T
   pub further : AllByRecursion (λ b. is_volume_label b ≡ true) labels
   pub each : AllByRecursion IsSectionInOrder sections
 
--- what ends a volume with these sections: a mark, and one more if it has no sections
+-- the end of a volume with these sections: a mark, and one more if there are no sections
 abbrev pub end_marks : List (List TapeItem) → List TapeItem
 end_marks [] = mark ∷ mark ∷ []
 end_marks (section ∷ sections) = mark ∷ []

@@ -20,8 +20,8 @@ Located = SectionKey × ℕ
 abbrev pub next_image : ℕ → ℕ
 next_image n = min (n + 1) 18446744073709551615
 
--- After a header label that was found on an image, if there was one: the section begins there,
--- unless a good copy of it was found before.
+-- After a header label that was found on an image, if any: the section begins there, unless a good
+-- copy of it was found before.
 abbrev pub with_location : List Told → List Located → ℕ → Option Head1 → List Located
 with_location sections located image None = located
 with_location sections located image (Some head) =

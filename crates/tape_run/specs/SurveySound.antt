@@ -1,4 +1,4 @@
--- What is true if a survey reports that nothing is missing, damaged or in conflict.
+-- The consequences if a survey reports that nothing is missing, damaged or in conflict.
 use Rattle.std.specs.Prelude.{◌≡◌, ◌≢◌, ℕ, true, false, List, [], Option, Some, None}
 use Rattle.std.specs.List.{AllByRecursion}
 use Rattle.tape_run.specs.declared.section.SectionState.TheVariants.{Good}

@@ -29,8 +29,8 @@ abbrev pub fault_of : Result (Option TapeItem) ImageFault → Option ImageFault
 fault_of (Ok came) = None
 fault_of (Err fault) = Some fault
 
--- The item was processed: with the parts that the sink now contains the core matches the mount
--- again, which is one item further; after a final answer no item of the rest of the mount moves the
+-- The item was processed: the core agrees with the parts that the sink now contains, and the mount
+-- has advanced by one item. After a final answer, the remaining items of the mount do not move the
 -- position.
 pub record Taken (set : FileSet) (p : Position) (xs : List TapeItem) (i : ℕ) (h : MountEvent)
     (answer : Answer) (core : State) (now : List Portion) : Type 0 where
@@ -60,8 +60,8 @@ ReadsItems given old new held now = (set : FileSet) (p : Position) (xs : List Ta
     → IsPlaced set (rest_of old) held → is_under old set p xs 0 h
     → ReadBy set (rest_of new).file p h (rest_of new) now
 
--- For an image that a reader returned, all mounts were read to their ends, and for any image, the
--- parts that the table delivers were put.
+-- All mounts of an image that a reader returned were read to their ends; for every image, the parts
+-- that the table delivers were put.
 pub record ReadsImage (failed : Bool) (old new : State) (held now : List Portion)
     (left : Option (List ℕ)) (bytes : List ℕ) : Type 0 where
   pub given : List ℕ

@@ -107,7 +107,7 @@ fit b = if is_kept b && not (b == 37) then b ∷ [] else escape b
 abbrev pub fit_last : ℕ → List ℕ
 fit_last b = if (b == 32) || (b == 46) then escape b else fit b
 
--- this many bytes of a file identifier, or one space instead of none
+-- the first bytes of a file identifier, or one space if there are none
 abbrev pub fit_first : ℕ → List ℕ → List ℕ
 fit_first n bytes =
     if n == 0 then fit_last 32

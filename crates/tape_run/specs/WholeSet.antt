@@ -67,7 +67,8 @@ IsNoDevice (Fault fault) = fault.cause ≢ Device
 IsNoDevice Marked = ⊤
 IsNoDevice Physical = ⊤
 
--- What `add` adds for a complete copy whose reader did not fail is what the volume's items contain.
+-- The sections that `add` adds for a complete copy whose reader did not fail are those in the
+-- volume's items.
 abbrev pub WholeCopiesAreAdded : Type 0
 WholeCopiesAreAdded =
     (set : FileSet) (k : ℕ) (xs : List ℕ) (after : Option (List ℕ))

@@ -1,5 +1,5 @@
--- What the headline says of the worked set if a reader fails, if the sink refuses a part, and if a
--- session is resumed on another day.
+-- The consequences of the headline for the worked set if a reader fails, if the sink refuses a
+-- part, and if a session is resumed on another day.
 use Rattle.std.specs.Prelude.{◌≡◌, ℕ, true, List, [], ◌∷◌, Option, None, Some, codes}
 use Rattle.tape_label.specs.declared.values.Format.TheVariants.{Spanned}
 use Rattle.tape_set.specs.Position.{awaiting, want_at}
@@ -49,7 +49,7 @@ behind_one = record {
   staged = 18;
 }
 
--- What the headline says of them.
+-- The consequences of the headline for this set.
 pub record DaysAreWorked : Type 0 where
   -- One of four readers failed, whichever and wherever it was: the file is complete.
   pub failed_reader : (s : Seen) (left : List (Option (List ℕ)))

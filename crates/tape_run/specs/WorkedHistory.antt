@@ -1,5 +1,5 @@
 -- A worked history: one small file on two volumes, twelve steps over reels whose bytes are written
--- out, and what the headline says of them.
+-- out, and the consequences of the headline for them.
 use Rattle.std.specs.Prelude.{◌≡◌, ℕ, Bool, true, false, List, [], ◌∷◌, ◌++◌, None, codes}
 use Rattle.std.specs.Prelude.{replicate, Option}
 use Rattle.tape_blocks.specs.declared.parts.Span.TheVariants.{First, Middle, Last}
@@ -193,7 +193,7 @@ positions_after c [] = []
 positions_after c (h ∷ hs) =
     (course worked_set 1 c (h ∷ [])).at ∷ positions_after (course worked_set 1 c (h ∷ [])) hs
 
--- What the headline says of this history.
+-- The consequences of the headline for this history.
 pub record HistoryIsWorked : Type 0 where
   pub lawful : IsLawful worked_set
   pub history : IsHistory worked_set 0 worked_steps worked_reels worked_history
@@ -208,7 +208,7 @@ pub record HistoryIsWorked : Type 0 where
   pub all_before : before worked_set 1 Finished ≡ first ∷ middle ∷ last ∷ []
   pub one_record : join (before worked_set 1 Finished)
       ≡ record { records = codes "AAAAAAAAAAAAAAAAAAAAAAAAAAAAAA" ∷ []; rest = None }
-  -- A session that made these steps, over these readers none of which failed, contains the three
+  -- A session that made these steps over these readers, if no reader failed, contains the three
   -- parts and needs nothing more.
   pub read : (s : Seen) (left : List (Option (List ℕ)))
       → IsRead (codes "ABC001") 1 worked_steps worked_reels left s → s.failures ≡ 0

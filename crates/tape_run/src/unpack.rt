@@ -27,7 +27,7 @@ use tape_set::Sequence;
 pub enum Heading {
     /// They are of different files: the labels differ, or complete copies of a section do.
     Differs,
-    /// They belong to one file, with this file identifier.
+    /// They are of one file, with this file identifier.
     Named(Field<17>),
 }
 
@@ -122,7 +122,7 @@ pub fn set_of(sight: &Option<ImageSurvey>) -> Option<Field<6>>
     }
 }
 
-/// Returns what the header labels of a file's number show, given its record and whether complete
+/// Returns what the header labels of a file say, given what is known of it and whether complete
 /// copies of a section differ.
 fn heading_of(note: &FileNote, disputed: bool) -> Heading
     ensures { result ≡ heading_of note.now disputed }

@@ -1,4 +1,4 @@
--- The results of the parser's calls, over the rows of what it found; and usage errors.
+-- The results of the parser's calls, for the rows that it found; and usage errors.
 use Rattle.std.proofs.Common.{◌≡◌, ◌<◌, ◌^◌, ℕ, Bor, List, [], map, Option, Some, None}
 use Rattle.std.proofs.Common.{sym, ap, ◌∙◌, subst, inl, inr}
 use Rattle.std.specs.Prelude.{⊤, unwrap_or, option_map}

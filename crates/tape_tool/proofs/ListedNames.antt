@@ -43,7 +43,7 @@ all_named view words names pieces null text named cut = ap (map view) named
     ∙ map-append view words (filter (λ p. is_name (view p)) pieces)
     ∙ ap (λ v. map view words ++ v) (mapped_names view pieces ∙ ap (filter is_name) cut)
 
--- one more piece was examined
+-- one more piece was looked at
 looked_at : {X : Type 0} (view : X → List ℕ) (words names pieces : List X) (place : ℕ) (x d : X)
     (b : Bool) → place < length pieces → x ≡ get_or pieces place d → is_name (view x) ≡ b
     → names ≡ words ++ filter (λ p. is_name (view p)) (take place pieces)

@@ -26,7 +26,7 @@ gives_front point ending records form out written said says parts all told = rec
   told = subst (λ (n : ℕ). AppendsFront said says (told_with point ending n)) all.0 told;
 }
 
--- what is true if a stage was opened and a fault occurred
+-- the consequences if a stage was opened and a fault occurred
 pub stops_in_part : (read : List ℕ) (generation : ℕ) (point : Point) (parts : List Portion)
     (form : Form) (out written said says : Option (List ℕ))
     (result : Result (Option Want) ToolFault) → Staged read generation point parts

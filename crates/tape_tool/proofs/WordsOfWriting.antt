@@ -1,4 +1,4 @@
--- The arguments of `write`, from the rows of what the parser found, and their contradictions.
+-- The arguments of `write`, from the rows that the parser found, and their contradictions.
 use Rattle.std.proofs.Common.{◌≡◌, ◌≢◌, ◌<◌, ◌^◌, ℕ, List, map, Option}
 use Rattle.std.proofs.Common.{Some, None, refl, sym, ◌∙◌, subst, inl, inr, codes, length}
 use Rattle.std.proofs.Common.{◌⊎◌, true, false, [], ◌+◌, get_or, take, take_all, ◌≤◌}

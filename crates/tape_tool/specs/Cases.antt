@@ -161,7 +161,7 @@ pub record CasesOfStaging {D : Type 0} (disk : Ghosts D) : Type 0 where
     known = None;
     staged = 0;
   }
-  -- a checkpoint is one of its file and set, and of no others
+  -- a checkpoint belongs to its file and set, and to no others
   pub own : (point : Point) → IsOfFile point.set_id point.file point
   pub other_set : IsOfFile (codes "ABC001") 3 (first_point (codes "XYZ001") 3) → ⊥
   pub other_file : IsOfFile (codes "ABC001") 3 (first_point (codes "ABC001") 4) → ⊥
@@ -173,7 +173,7 @@ pub record CasesOfStaging {D : Type 0} (disk : Ghosts D) : Type 0 where
   pub holds : (point : Point) (parts : List Portion) (session : SessionState (Stage D disk))
       → StandsAt point parts session
       → Holding session.sink.weight parts (disk.seen session.sink.disk)
-  -- whatever a crash leaves of it now represents something,
+  -- every state that a crash leaves of it now represents something,
   pub survives : (point : Point) (parts : List Portion) (session : SessionState (Stage D disk))
       (bytes : List ℕ) → StandsAt point parts session → disk.may_leave session.sink.disk bytes
       → (back : Point) × (there : List Portion) × Returns session.sink back there
@@ -181,7 +181,7 @@ pub record CasesOfStaging {D : Type 0} (disk : Ghosts D) : Type 0 where
   pub only : (point back : Point) (parts there : List Portion) (session : SessionState (Stage D disk))
       → StandsAt point parts session → Returns session.sink back there
       → (back ≡ point) × (there ≡ parts)
-  -- the same for what a crash leaves from this moment on
+  -- the same for every state that a crash leaves from this moment on
   pub survived : (point : Point) (parts : List Portion) (session : SessionState (Stage D disk))
       (bytes : List ℕ) → StandsAt point parts session
       → disk.left_since session.sink.disk (disk.moment session.sink.disk) bytes

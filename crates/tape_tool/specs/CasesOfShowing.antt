@@ -45,9 +45,9 @@ point_at position = record {
   staged = 0;
 }
 
--- what a fault means: no stage was opened and nothing written, and NoPoint is reported only if
--- there is none; or a prefix of what is staged in these bytes was written, and the fault is a
--- failed write or the device
+-- the meaning of a fault: no stage was opened and nothing written, and NoPoint is reported only if
+-- there is no stage; or a prefix of the staged records in these bytes was written, and the fault is
+-- a failed write or the device
 abbrev pub StopSays : List ℕ → Form → Option (List ℕ) → Option (List ℕ) → Option (List ℕ)
     → Option (List ℕ) → ToolFault → Type 0
 StopSays read form out written said says fault = StopsShowing read form out written said says fault
@@ -58,9 +58,9 @@ StopSays read form out written said says fault = StopsShowing read form out writ
     × AppendsFront said says (told_of point None (length (join parts).records))
     × ((fault ≡ File WriteFailed) ⊎ (fault ≡ Stage Device)))
 
--- what a fault of a stage that may be damaged means: nothing was opened, and NoPoint is reported
--- only if nothing remains, and BadFrame never; or a prefix of what remains was written, and the
--- fault is a failed write or the device
+-- the meaning of a fault of a stage that may be damaged: nothing was opened, NoPoint is reported
+-- only if nothing remains, and BadFrame never; or a prefix of the remaining records was written,
+-- and the fault is a failed write or the device
 abbrev pub SalvageSays : List ℕ → Form → Option (List ℕ) → Option (List ℕ) → Option (List ℕ)
     → Option (List ℕ) → ToolFault → Type 0
 SalvageSays read form out written said says fault =
@@ -112,7 +112,7 @@ pub record CasesOfShowing : Type 0 where
       × (ending ≡ ending_of s.point s.broken)
       × Appends out written (output_of form s.parts)
       × Appends said says (told_with s.point ending (length (join s.parts).records))
-  -- after a fault none of that was written, or a prefix
+  -- after a fault none of these records was written, or a prefix
   pub stopped : (read : List ℕ) (form : Form) (out written said says : Option (List ℕ))
       (fault : ToolFault) → StopSays read form out written said says fault
   pub salvage_stopped : (read : List ℕ) (form : Form) (out written said says : Option (List ℕ))

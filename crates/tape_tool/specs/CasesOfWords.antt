@@ -47,13 +47,13 @@ file_of list = option_map (λ (l : ListFile). option_map (λ p. p.now) l.file) l
 
 -- single words
 pub record CasesOfWords : Type 0 where
-  -- a text is that of its own argument, and an absent argument has none
+  -- a text belongs to its own argument, and an absent argument has none
   pub text : text_in (word (codes "PRE") (codes "ABC" ∷ [])
       ∷ word (codes "DIR") (codes "out" ∷ []) ∷ []) (codes "DIR") ≡ codes "out"
   pub none : (text_in [] (codes "DIR") ≡ []) × (texts_in [] (codes "IMAGE") ≡ [])
   -- texts are in the order of the arguments
   pub texts : texts_in shelf (codes "IMAGE") ≡ codes "a.tap" ∷ codes "b.tap" ∷ []
-  -- a number is that of its own argument, and must be in range
+  -- a number belongs to its own argument, and must be in range
   pub number : IsNumber 16 (word (codes "FILE") (codes "12" ∷ []) ∷ []) (codes "FILE") 12
   pub fits : (rows : List Row) → IsNumber 16 rows (codes "FILE") 65536 → ⊥
   -- it is the value of its digits, possibly after a plus sign or zeros, and no other number
@@ -87,7 +87,7 @@ pub record CasesOfWords : Type 0 where
   -- each argument for a file needs an equals sign
   pub paths : HavePaths (codes "A=a" ∷ codes "=b=" ∷ [])
   pub no_path : HavePaths (codes "A=a" ∷ codes "b" ∷ []) → ⊥
-  -- one name is correct, and so is none; a stream is a usage error, and so are two names
+  -- one name is correct, and so is no name; a stream is a usage error, and so are two names
   pub one : (IsDashOrMore [] → ⊥) × (IsDashOrMore (codes "a.tap" ∷ []) → ⊥)
   pub dash : IsDashOrMore (codes "-" ∷ [])
   pub two : IsDashOrMore (codes "a.tap" ∷ codes "b.tap" ∷ [])
@@ -101,7 +101,7 @@ pub record CasesOfWords : Type 0 where
 
 -- what commands are asked for
 pub record CasesOfOrders : Type 0 where
-  -- images are those of the arguments, in their order, and those of the list in its file
+  -- the images are those in the arguments, in their order, and those of the list in its file
   pub images : (named : Named) → NamesImages shelf named
       → (map (λ w. w.now) named.words.items ≡ codes "a.tap" ∷ codes "b.tap" ∷ [])
       × (file_of named.list ≡ Some (Some (codes "names")))

@@ -1,4 +1,5 @@
--- What `write` makes of its arguments: the shape of all files, each file's head, and its path.
+-- The values that `write` derives from its arguments: the shape of all files, each file's head, and
+-- its path.
 use Rattle.std.specs.Prelude.{◌≡◌, ◌≢◌, ◌⊎◌, ℕ, ◌-◌, min, Bool, true, List, codes, replicate}
 use Rattle.std.specs.Prelude.{Option, Some, None}
 use Rattle.tape_label.specs.declared.values.Format.{Format}

@@ -43,7 +43,7 @@ pub enum Kind {
     FlagOf(&'static str),
     /// An option with a text, which help calls so.
     TextOption(&'static str),
-    /// An option with a number: the greatest value, and the default.
+    /// An option with a number, up to this one, and its default.
     NumberOption(u64, &'static [&'static str]),
     /// An option with one of several values: the name that help shows, the values, and the default.
     NameOption(&'static str, &'static [&'static str], &'static [&'static str]),

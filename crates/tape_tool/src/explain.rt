@@ -1,4 +1,4 @@
-//! Explanations of faults, printed after the line of the fault if `--explain` is given.
+//! Explanations of faults, printed after the line of the fault if `--explain` asks for them.
 mod files;
 mod reason;
 

@@ -140,7 +140,7 @@ pub fn all_names<'a>(
     Ok(names)
 }
 
-/// Appends a piece to the names, unless it is empty.
+/// Appends a piece to the names, if it is not empty.
 fn push_name<'a>(names: &mut Vec<&'a str>, piece: &'a str) -> Result<(), AllocError>
     ensures name { is_name piece.now ≡ true
         → OnOk result (names.new.items ≡ names.old.items ++ piece.entry ∷ []) }
@@ -175,7 +175,7 @@ fn no_memory() -> Refusal {
 
 /// Returns the names in the order in which the images of a file are read: first those on which its
 /// sections begin, in the order of the sections, and then all others in the order of their names;
-/// of these only images of the set, unless `all` is true. No name occurs twice.
+/// of these, unless `all`, only images of the set. No name comes twice.
 pub fn in_reading_order<'n>(
     alloc: Global,
     names: &[&'n str],
@@ -203,7 +203,7 @@ pub fn in_reading_order<'n>(
     Ok(order)
 }
 
-/// Adds name number `at`, unless it was added before.
+/// Adds the name with this number, unless it was added before.
 fn take_name<'n>(
     order: &mut Vec<&'n str>,
     taken: &mut Vec<bool>,

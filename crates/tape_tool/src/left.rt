@@ -1,4 +1,4 @@
-//! Files of this program that are removed, or reported on standard error if they cannot be removed.
+//! Files of this program that are removed, or named on standard error if they cannot be.
 use crate::host::Host;
 use std::fmt;
 use std::io::ErrorKind;

@@ -69,7 +69,7 @@ final_stop_kept κs a z s h set file name w =
     ∙ ap (λ n. unpacking.file_name (codes "ABC001") n a.1.1.0.now) file
     ∙ ap (unpacking.file_name (codes "ABC001") 1) name) in omega arith)
 
--- path_left_out: the line does not say where the records of a file are
+-- path_left_out: it is not told where the records of a file are
 path_left_out : (κs : _) (a : _) (z : _) (s : _) → file_line.Learnt κs a (Ok z) s
     → a.1.0.now ≡ codes "ABC001" → a.1.1.0 ≡ 1 → a.1.1.1.0.now ≡ codes "EXISTS"
     → a.1.1.1.1.0.now ≡ codes "out/ABC001.1.PAYROLL"
@@ -82,14 +82,14 @@ path_left_out κs a z s h set file told path w =
     ∙ ap (λ x. lines.file_line (codes "ABC001") 1 x a.1.1.1.1.0.now) told
     ∙ ap (lines.file_line (codes "ABC001") 1 (codes "EXISTS")) path) in omega arith)
 
--- mixed_told_as_kept: labels of different files were found, but that is not reported
+-- mixed_told_as_kept: labels of different files were met, and that is not told
 mixed_told_as_kept : (κs : _) (z : _) (s : _)
     → unpack_outcome_text.Learnt κs (outcomes.Conflict, tt) z s
     → z.now ≡ codes "EXISTS" → ⊥
 mixed_told_as_kept κs z s h w =
     absurd (let e : 69 ≡ 67 = ap (λ v. slice_index v 0) (sym w ∙ h) in omega arith)
 
--- left_over_not_told: an image was not read completely, but that is not reported
+-- left_over_not_told: something on the images is left over, and that is not told
 left_over_not_told : (κs : _) (z : _) (s : _) → left_over_line.Learnt κs (false, tt) z s
     → z.now ≡ [] → ⊥
 left_over_not_told κs z s h w =

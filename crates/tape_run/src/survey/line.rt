@@ -1,4 +1,4 @@
-//! The line about an image in a survey.
+//! The line of an image in a survey.
 ghost use Rattle.std.specs.Prelude.{◌≡◌, Some, replicate};
 ghost use Rattle.tape_run.specs.SurveyLine.{volume_state, empty_state, state_of, opened_text};
 ghost use Rattle.tape_run.specs.SurveyLine.{line_end};

@@ -185,7 +185,7 @@ fn is_cut(state: SectionState) -> bool
     }
 }
 
-/// Returns whether no section is known to follow the one before section `first`.
+/// Whether no section is known to follow the one before this one.
 fn ends(sections: &Sections, first: &SectionKey) -> bool
     ensures { result ≡ ends (entry_at sections.now.entries
         (key_at first.now.set_id first.now.file (first.now.sect - 1))) }

@@ -31,9 +31,9 @@ pub fn unpack_outcome_text(outcome: UnpackOutcome) -> &'static [u8]
     }
 }
 
-/// Returns the line about a file: its set, its number, its outcome, and the path of its records or
-/// of its stage if there is one. A question mark replaces each unprintable byte of the set
-/// identifier, and each byte of the path that would break the line.
+/// Returns the line of a file: its set, its number, its outcome, and the path of its records or of
+/// its stage if there is one. A question mark replaces each unprintable byte of the set identifier,
+/// and each byte of the path that would break the line.
 ///
 /// # Errors
 ///

@@ -51,7 +51,7 @@ pub struct OutName<'a, R: Host> {
     rt: &'a R,
     draft: String,
     name: &'a str,
-    /// The draft. It is locked for as long as it is open, until it gets the output's name or is
+    /// The draft, which is locked as long as this is open: until it gets the output's name or is
     /// removed.
     _lock: File,
     /// The file found under the output's name, before anything was read.

@@ -73,8 +73,7 @@ fn names_to_read<'n, R: Host>(
     }
 }
 
-/// Returns whether each name is that of a regular file, or does not exist: only these can be read
-/// twice.
+/// Whether each of these is a plain file, or does not exist: only these can be read twice.
 fn are_files<R: Host>(rt: &R, names: &[&str]) -> bool {
     for name in names {
         if let Ok(found) = fs::metadata(rt, *name) {

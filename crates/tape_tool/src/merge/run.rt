@@ -83,7 +83,7 @@ fn readings_of<'t, 'a: 't, R: Host>(
     }
 }
 
-/// Merges the images named `names`. If the error is in one of them, `site` is that image.
+/// Merges the images with these names. If the error is in one of them, the site is that image.
 fn merge_files<'a, R: Host, W: Write + Drop, O: Place<W>>(
     rt: &R,
     named: &Named<'a>,

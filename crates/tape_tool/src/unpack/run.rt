@@ -29,7 +29,7 @@ const LINES: usize = 8_192;
 /// The report could not be written.
 const NOT_REPORTED: End = End::Faulted(ToolFault::File(FileFault::WriteFailed));
 
-/// The source of the files: the images by their names, the findings on them, and the image that
+/// The source of the files: the images by their names, what was found on them, and the image that
 /// stays open from file to file.
 #[derive(Drop)]
 struct Source<'n, D> {
@@ -266,7 +266,7 @@ fn gather<R: Host>(
     extract_file(rt, &staged, images, Way::New, last, &mut site)
 }
 
-/// Prints the outcome of a file, and returns `end`.
+/// Prints the outcome of a file, and ends like this.
 fn tell<R: Host, P: Write>(
     rt: &R,
     file: &SetFile,
