@@ -54,8 +54,8 @@ const CUT_OFF: ImageStop = ImageStop::Fault(ImageFault {
     cause: ImageCause::Truncated,
 });
 
-/// A name; images, how many items each has, and how it ends; the lines of the catalogue; and the
-/// missing sections.
+/// A name; images, the number of items of each, and how it ends; the lines of the catalogue; and
+/// the missing sections.
 type Row<'a> = (
     &'a str,
     &'a [(Reel<'a>, u32, ImageStop)],
@@ -138,7 +138,7 @@ const ROWS: &[Row<'_>] = &[
     ),
 ];
 
-/// Returns whether this is reported about the image.
+/// Returns whether adding the image is reported as in `line`.
 fn adds(
     alloc: Global,
     catalogue: &mut Catalogue,
@@ -149,7 +149,7 @@ fn adds(
     Ok(catalogue.add(&mut image.bytes.as_slice())? == line)
 }
 
-/// Returns whether these are the lines.
+/// Returns whether the lines found are the expected ones.
 fn are_lines(found: &[SectionLine], lines: &[Found<'_>]) -> bool {
     for (found, (set_id, file, sect, volume, blocks, state)) in found.iter().zip(lines) {
         let line = SectionLine {
@@ -167,7 +167,7 @@ fn are_lines(found: &[SectionLine], lines: &[Found<'_>]) -> bool {
     found.len() == lines.len()
 }
 
-/// Returns whether these are missing.
+/// Returns whether the missing sections found are the expected ones.
 fn are_lacking(found: &[Lack], lacks: &[Missing<'_>]) -> bool {
     for (found, (set_id, file, sect)) in found.iter().zip(lacks) {
         let lack = Lack {
@@ -182,7 +182,7 @@ fn are_lacking(found: &[Lack], lacks: &[Missing<'_>]) -> bool {
     found.len() == lacks.len()
 }
 
-/// Returns whether these are the lines of the catalogue and the missing sections.
+/// Returns whether the catalogue has these lines and these missing sections.
 fn reports(
     alloc: Global,
     catalogue: &Catalogue,
@@ -194,7 +194,7 @@ fn reports(
     Ok(are_lines(report.lines.as_slice(), lines) && lacks)
 }
 
-/// Returns whether all of this is reported about the images of a row.
+/// Returns whether the images of a row are reported as the row says.
 fn is_told(alloc: Global, row: &Row<'_>) -> Result<bool, Fail> {
     let (_, images, lines, lacks) = row;
     let mut catalogue = Catalogue::new(alloc);

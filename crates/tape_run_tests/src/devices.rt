@@ -28,7 +28,7 @@ impl Read for Dribble<'_> {
     }
 }
 
-/// Returns this many zero bytes, which are tape marks.
+/// Returns `left` zero bytes, which are tape marks.
 #[derive(Drop)]
 pub struct Zeros {
     pub left: usize,
@@ -54,12 +54,12 @@ pub struct Narrow {
 }
 
 impl Narrow {
-    /// Returns a writer that accepts this many bytes, and then none.
+    /// Returns a writer that accepts `left` bytes, and then none.
     pub fn new(alloc: Global, left: usize, flushes: bool) -> Narrow {
         Narrow::failing(alloc, left, None, flushes)
     }
 
-    /// Returns a writer that accepts this many bytes, and then fails, or accepts none.
+    /// Returns a writer that accepts `left` bytes, and then fails, or accepts none.
     pub fn failing(alloc: Global, left: usize, kind: Option<ErrorKind>, flushes: bool) -> Narrow {
         Narrow {
             taken: Vec::new(alloc),
@@ -96,7 +96,7 @@ impl Write for Narrow {
     }
 }
 
-/// Fails once, at the call with this number, and accepts everything else. It counts the calls.
+/// Fails once, at call `at`, and accepts everything else. It counts the calls.
 #[derive(Drop)]
 pub struct FailsOnce {
     pub taken: Vec<u8>,

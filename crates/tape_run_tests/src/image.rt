@@ -15,7 +15,7 @@ pub struct Image {
     gaps: bool,
 }
 
-/// Returns the first bytes, or all of them if there are no more.
+/// Returns the first `count` bytes, or all if there are fewer.
 pub fn front(bytes: &[u8], count: usize) -> &[u8] {
     if count <= bytes.len() {
         &bytes[..count]
@@ -47,7 +47,7 @@ impl Image {
         }
     }
 
-    /// Keeps this many of its first bytes.
+    /// Keeps the first `length` bytes.
     pub fn cut(mut self, length: usize) -> Image {
         self.bytes.truncate(length);
         self
@@ -71,7 +71,8 @@ impl Image {
         self.word([0xFF, 0xFF, 0xFF, 0xFF])
     }
 
-    /// The content between two words with this high byte, and a pad byte if its length is odd.
+    /// Appends the content between two words with high byte `high`, and a pad byte if its length is
+    /// odd.
     fn framed(&mut self, content: &[u8], high: u8) -> Result<(), AllocError> {
         let count = content.len();
         let word = [
@@ -125,8 +126,8 @@ impl Image {
         self.headers(labels)
     }
 
-    /// Records of 80 characters, with these numbers, in one block; bad blocks have the same length
-    /// as good ones.
+    /// Appends a block of records of 80 characters, with the numbers `from` to `to`; a bad block
+    /// has the same length as a good one.
     pub fn records(&mut self, from: u8, to: u8, good: bool) -> Result<(), AllocError> {
         let mut block = Vec::new(self.alloc);
         for number in from..to {
@@ -140,7 +141,7 @@ impl Image {
     }
 }
 
-/// Returns the record of 80 characters with this number: two digits, and 78 spaces.
+/// Returns record `number` of 80 characters: two digits, and 78 spaces.
 pub fn record(number: u8) -> [u8; 80] {
     let mut record = [b' '; 80];
     record[0] = b'0' + number / 10 % 10;
@@ -173,12 +174,12 @@ const TRAILERS: &[&str] = &[
     "EOF2F0080000080                                   00",
 ];
 
-/// Returns the worked volume with these trailer labels.
+/// Returns the worked volume with the given trailer labels.
 pub fn payroll_with(alloc: Global, trailers: &[&str]) -> Result<Image, AllocError> {
     payroll_on(Image::new(alloc), trailers)
 }
 
-/// Returns the worked volume with these trailer labels, on an empty image.
+/// Appends the worked volume with the given trailer labels to an empty image.
 fn payroll_on(mut image: Image, trailers: &[&str]) -> Result<Image, AllocError> {
     image.headers(&[VOL1, HDR1, HDR2])?;
     image.records(0, 10, true)?;
@@ -189,7 +190,7 @@ fn payroll_on(mut image: Image, trailers: &[&str]) -> Result<Image, AllocError> 
     Ok(image)
 }
 
-/// 25 records in five blocks of 5, one of which may be bad (5 means none), with this count in the
+/// Returns 25 records in five blocks of 5, with block `bad` unreadable (5 means none) and the given
 /// trailer.
 pub fn five_blocks(alloc: Global, bad: u8, trailer: &str) -> Result<Image, AllocError> {
     let mut image = Image::new(alloc);
@@ -276,7 +277,7 @@ pub fn long_second(alloc: Global) -> Result<Image, AllocError> {
     Ok(image)
 }
 
-/// Returns whether the sink contains this many records of 80 characters, numbered from 0.
+/// Returns whether the sink contains `count` records of 80 characters, numbered from 0.
 pub fn holds_records(sink: &MemorySink, count: u8) -> bool {
     sink.count() == count as usize
         && (0..count).all(|number| match sink.part(number as usize) {
@@ -285,8 +286,8 @@ pub fn holds_records(sink: &MemorySink, count: u8) -> bool {
         })
 }
 
-/// Returns whether the sink contains this many bytes of the long record, in parts of 13 except
-/// perhaps the last.
+/// Returns whether the sink contains the first `parts` parts of the long record, each of 13 bytes
+/// except perhaps the last.
 pub fn holds_long(sink: &MemorySink, parts: usize) -> bool {
     let mut place = 0usize;
     for number in 0..sink.count() {

@@ -48,7 +48,8 @@ fn extracted<'a>(
     Ok((answer, first))
 }
 
-/// The files of the volume in this order, from a source that yields its image once.
+/// Fails unless the files of the volume, recovered in this order from a source that yields its
+/// image once, have these outcomes.
 fn come_to<H: Abort + AllocGlobal>(
     rt: &H,
     files: &[u16],

@@ -6,7 +6,7 @@ use std::test::Fail;
 use tape_core::PartSink;
 use tape_run::{Session, Step, run};
 
-/// A block with this segment: its control word, and this many of the long record's bytes.
+/// Returns a block with one segment: its control word, and bytes of the long record.
 fn segment(alloc: Global, control: &[u8; 5], count: usize) -> Result<Vec<u8>, AllocError> {
     let mut block = Vec::new(alloc);
     block.extend_from_slice(control)?;

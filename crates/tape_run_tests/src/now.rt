@@ -13,7 +13,7 @@ use tape_core::SinkFault;
 use tape_run::{EngineFault, OutSink, Place, RunFault, Session, WriteFailed, extract_streaming};
 use tape_set::Want;
 
-/// A name that an output is given if it is free.
+/// A name that an output gets if it is free.
 #[derive(Drop)]
 pub struct Name {
     pub is_free: bool,
@@ -33,8 +33,8 @@ impl Place<Narrow> for Name {
 }
 
 /// How much of the worked image there is, how many bytes of its records are accepted, whether they
-/// can be flushed, and whether their name is free; what is then returned and reported, and how many
-/// bytes have the name.
+/// can be flushed, and whether their name is free; and the result: what is returned and reported,
+/// and how many bytes have the name.
 type Row<'a> = (
     usize,
     usize,

@@ -43,7 +43,7 @@ const LISTED: &[(usize, Result<(), ListFault>, &str)] = &[
     (43, CUT_OFF, "4 4 000001 MARK\n8 20 000002 BAD\n"),
 ];
 
-/// A writer that accepts this many bytes contains a prefix of the lines.
+/// A writer that accepts `room` bytes contains a prefix of the lines.
 fn is_listed<H: Abort + AllocGlobal>(
     rt: &H,
     bytes: &[u8],

@@ -22,7 +22,7 @@ const NO_THIRD_REEL: Stopped = Stopped {
     fault: RunFault::TooFewReels,
 };
 
-/// The same for a second reel.
+/// The same test for a second reel.
 const NO_SECOND_REEL: Stopped = Stopped {
     step: 1,
     fault: RunFault::TooFewReels,
@@ -73,7 +73,7 @@ fn notes_and_restarts(rt: HostRuntime) -> Result<(), Fail> {
     each_goes(&rt, SCRIPTS)
 }
 
-/// Reads this many of the reel's bytes, and saves a checkpoint of the position.
+/// Reads the given bytes of the reel, and saves a checkpoint of the position.
 fn stopped(alloc: Global, bytes: &[u8]) -> Result<(Checkpoint, MemorySink), Fail> {
     let mut session = begun(alloc, 1)?;
     run(&mut session, &[Step::Reel], &mut [bytes], &mut [])?;
@@ -118,7 +118,7 @@ fn lacks_a_reel(alloc: Global, first: &[u8]) -> Result<bool, CoreFault> {
     Ok(made == Err(NO_SECOND_REEL) && session.want().is_some())
 }
 
-/// Returns whether there is no file with this number.
+/// Returns whether file `number` is refused.
 fn is_no_file(alloc: Global, number: u16, first: &[u8]) -> bool {
     match read_file(alloc, set_id(), number, TWO, &mut [first]) {
         Ok(_) => false,

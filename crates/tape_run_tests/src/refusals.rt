@@ -8,7 +8,7 @@ use tape_core::{CoreFault, MemorySink, PartSink, Refusing, SinkFault};
 use tape_run::{RunFault, Session, Step, Stopped, run};
 use tape_set::Want;
 
-/// Returns a session over a sink in memory that refuses the call with this number, counted from 0.
+/// Returns a session over a sink in memory that refuses call `call`, counted from 0.
 fn refusing(alloc: Global, call: usize) -> Result<Session<Refusing<MemorySink>>, CoreFault> {
     let sink = Refusing::new(MemorySink::new(alloc), call);
     Session::new(alloc, set_id(), 1, sink)
@@ -27,7 +27,7 @@ fn part_of(block: u32, part: u32) -> Option<Want> {
 /// The device of the sink failed.
 const FAILED: RunFault = RunFault::Sink(SinkFault::Device);
 
-/// The device of the sink failed in the step with this number, counted from 0.
+/// The device of the sink failed in step `step`, counted from 0.
 fn failed_at(step: usize) -> Result<(), Stopped> {
     Err(Stopped {
         step,
@@ -37,7 +37,8 @@ fn failed_at(step: usize) -> Result<(), Stopped> {
 
 const ONE: &[Step] = &[Step::Reel];
 
-/// Returns whether the sink contains this many of the worked records, and this is missing.
+/// Returns whether the sink contains `count` of the worked records, and the session expects `want`
+/// next.
 fn has(session: &Session<Refusing<MemorySink>>, count: u8, want: Option<Want>) -> bool {
     session.want() == want && holds_records(session.sink().inner(), count)
 }
@@ -66,7 +67,7 @@ fn each_put_refused_in_turn(rt: HostRuntime) -> Result<(), Fail> {
     Ok(())
 }
 
-/// The same for both volumes of the long record, the first of which has 22 parts.
+/// Does the same for both volumes of the long record, the first of which has 22 parts.
 fn completes_long(alloc: Global, volumes: [&[u8]; 2], refused: usize) -> Result<bool, Fail> {
     let mut session = refusing(alloc, refused)?;
     let steps = [Step::Reel, Step::Reel];
@@ -102,8 +103,8 @@ const SCRIPT: &[Step] = &[
 /// and 25 again.
 const CALLS: usize = 53;
 
-/// How the script ends if this call is refused: in the step that makes it. In a rollback the sink
-/// returns Failed.
+/// Returns how the script ends if call `call` is refused: in the step that makes it. In a rollback
+/// the sink returns Failed.
 fn end_at(call: usize) -> Result<(), Stopped> {
     match call {
         0 => failed_at(0),
@@ -191,7 +192,8 @@ fn two_records(alloc: Global) -> Result<Image, AllocError> {
     Ok(image)
 }
 
-/// Returns whether this is missing, and the sink contains this many parts with this weight.
+/// Returns whether the session expects `want`, and the sink contains `parts` parts with this
+/// weight.
 fn weighs(
     session: &Session<Refusing<MemorySink>>,
     want: Option<Want>,
@@ -203,7 +205,7 @@ fn weighs(
 }
 
 /// Returns whether a refused second part of a block is put when the reel is read again, and the
-/// first one is not.
+/// first part is not.
 fn goes_on_inside(alloc: Global, whole: &[u8]) -> Result<bool, Fail> {
     let mut session = refusing(alloc, 1)?;
     let failed = run(&mut session, ONE, &mut [whole], &mut []) == failed_at(0);

@@ -11,7 +11,7 @@ use std::test::Fail;
 use tape_blocks::Form;
 use tape_run::{Content, ImageSource, SalvageTask, salvage_to};
 
-/// One image, whose reader returns these bytes the first time and those from then on, and then
+/// One image, whose reader returns one text the first time and another one from then on, and then
 /// fails.
 #[derive(Drop)]
 struct Twice<'a> {
@@ -127,7 +127,7 @@ const CHANGED: &[(&[(usize, u8)], bool, &str, usize)] = &[
     ),
 ];
 
-/// Returns the worked image with these bytes changed.
+/// Returns the worked image with the given bytes changed.
 fn changed(alloc: Global, changes: &[(usize, u8)]) -> Result<Image, AllocError> {
     let mut image = cut(alloc, 2484)?;
     for (place, value) in changes {
@@ -138,7 +138,7 @@ fn changed(alloc: Global, changes: &[(usize, u8)]) -> Result<Image, AllocError> 
     Ok(image)
 }
 
-/// Returns whether `salvage`, reading `first` and then `again`, has this result.
+/// Returns whether `salvage`, reading `first` and then `again`, has the given result.
 fn comes_to(
     alloc: Global,
     first: &[u8],

@@ -7,7 +7,7 @@ use std::process::Abort;
 use std::test::Fail;
 use tape_run::{Wording, survey_to};
 
-/// The survey of images with these names.
+/// Fails unless the survey of the images has these lines and this result.
 pub fn told<H: Abort + AllocGlobal>(
     rt: &H,
     images: &[Option<&[u8]>],
@@ -46,7 +46,7 @@ fn one<H: Abort + AllocGlobal>(rt: &H, image: &Image, lines: &str) -> Result<(),
     )
 }
 
-/// Returns an image with this first block.
+/// Returns an image whose first block is `block`.
 fn begun(alloc: Global, block: &[u8]) -> Result<Image, AllocError> {
     let mut image = Image::new(alloc);
     image.block(block)?;

@@ -11,8 +11,8 @@ use tape_core::MemorySink;
 use tape_run::{Session, extract_to};
 use tape_set::Want;
 
-/// Returns the worked volume's labels around these blocks: each with the numbers of its records,
-/// and whether it can be read.
+/// Returns the worked volume's labels around the given blocks: each with the numbers of its
+/// records, and whether it can be read.
 pub fn volume(alloc: Global, blocks: &[(u8, u8, bool)]) -> Result<Image, AllocError> {
     let mut image = Image::new(alloc);
     image.headers(&[VOL1, HDR1, HDR2])?;
@@ -24,8 +24,8 @@ pub fn volume(alloc: Global, blocks: &[(u8, u8, bool)]) -> Result<Image, AllocEr
     Ok(image)
 }
 
-/// A session of the worked file that has a checkpoint at its start, over these images: the lines,
-/// what is missing then, and what is written.
+/// Fails unless a session of the worked file with a checkpoint at its start, over the images,
+/// yields these lines, this missing part and these bytes.
 fn gives<H: Abort + AllocGlobal>(
     rt: &H,
     images: &mut [Option<&[u8]>],

@@ -9,7 +9,7 @@ use tape_run::{
     Heading, SetFile, UnpackOutcome, file_line, file_name, find_files, unpack_outcome_text,
 };
 
-/// The line of a file: its name, or the text in its place.
+/// Returns the line about a file: its name, or the text in its place.
 fn line_of(alloc: Global, file: &SetFile) -> Result<Vec<u8>, AllocError> {
     let (set_id, number) = (&file.set_id, file.file);
     match file.heading {
@@ -24,7 +24,7 @@ fn line_of(alloc: Global, file: &SetFile) -> Result<Vec<u8>, AllocError> {
     }
 }
 
-/// These files are on these images, which were all read completely, or were not.
+/// Fails unless these files are on the images, which were all read completely, or were not.
 fn found<H: Abort + AllocGlobal>(
     rt: &H,
     images: &[Option<&[u8]>],

@@ -12,14 +12,14 @@ pub const EOF_ONE: &str = "EOF1PAYROLL          ABC00100010001000100 00000 00000
 
 pub const EOF_FOUR: &str = "EOF1PAYROLL          ABC00100010001000100 00000 00000 000004";
 
-/// Returns this many of the first bytes of the worked volume.
+/// Returns the first `length` bytes of the worked volume.
 pub fn cut(alloc: Global, length: usize) -> Result<Image, AllocError> {
     let mut image = payroll(alloc)?;
     image.bytes.truncate(length);
     Ok(image)
 }
 
-/// Returns the 25 records of the worked volume, each followed by these bytes.
+/// Returns the 25 records of the worked volume, each followed by the bytes `behind`.
 pub fn records(alloc: Global, behind: &[u8]) -> Result<Vec<u8>, AllocError> {
     let mut bytes = Vec::new(alloc);
     for number in 0..25u8 {
@@ -57,7 +57,7 @@ pub fn one_block(
     Ok(image)
 }
 
-/// An empty section with this number, which continues.
+/// Appends an empty section with number `number`, which continues.
 fn empty_section(image: &mut Image, number: u16) -> Result<(), AllocError> {
     let header = b"HDR1PAYROLL          ABC00100000001000100 00000 00000 000000";
     let trailer = b"EOV1PAYROLL          ABC00100000001000100 00000 00000 000000";
