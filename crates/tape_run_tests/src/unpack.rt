@@ -9,7 +9,7 @@ use tape_run::{
     Heading, SetFile, UnpackOutcome, file_line, file_name, find_files, unpack_outcome_text,
 };
 
-/// Returns the line about a file: its name, or the text in its place.
+/// The line of a file: its name, or the text in its place.
 fn line_of(alloc: Global, file: &SetFile) -> Result<Vec<u8>, AllocError> {
     let (set_id, number) = (&file.set_id, file.file);
     match file.heading {
