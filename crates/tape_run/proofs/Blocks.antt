@@ -44,7 +44,7 @@ module _ {S : Type 0} (g : Ghosts S) (old : S) (first : ℕ) (begun : Bool) wher
   abbrev Puts : S → ℕ → Bool → List Portion → Type 0
   Puts new seen going came = PutSoFar g old new first seen begun going came
 
-  -- before the first part was put
+  -- before the first part is put
   pub none_put : Puts old 0 begun []
   none_put =
       let none = drop_all first [] (omega arith) in

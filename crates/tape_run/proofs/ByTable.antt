@@ -68,7 +68,7 @@ none_came core new answer (Some x) step ne =
     by_none (step_of core (Some x)).0 x core.position (step_of core (Some x)).1.known
     (λ e. ne (ap (λ (z : Answer × State). z.0) step ∙ e))
 
--- no parts, if the item does not deliver any
+-- no parts, if the item delivers none
 pub puts_none : (core new : State) (answer : Answer) (came : Option TapeItem) (held : List Portion)
     → (answer, new) ≡ step_of core came → answer ≢ Deliver
     → held ≡ held ++ parts_of_arrival core came

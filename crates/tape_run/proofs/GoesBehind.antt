@@ -32,7 +32,7 @@ use Rattle.tape_run.proofs.ByTable.{behind_app, delivered_app, led_nowhere}
 use Rattle.tape_run.proofs.Notes.{front_self}
 use Rattle.tape_run.proofs.Completes.{step_tells}
 
--- the effect on a reader of a later file of an item after which the other reader continues
+-- an item after which the other reader continues: its effect on a reader of a later file
 pub record PassedOne (first later : State) (x : TapeItem) : Type 0 where
   pub answer : (step_of later (Some x)).0 ≡ Passed
   pub next : (step_of later (Some x)).1

@@ -24,7 +24,7 @@ grows_then first second f = λ held was.
     let (then, has_then, more, q) = second now has in
     (then, has_then, front_trans held now then front more, f held now then p q)
 
--- If a crash leaves no more after either call, it leaves no more after both.
+-- If neither call adds to what a crash leaves, both together do not.
 pub adds_on : {old mid : List Portion → Type 0} {P : List Portion → List Portion → Type 0}
     {a b c : Crashes} → Grows old mid P → ((held : List Portion) → old held → AddsNothing a b)
     → ((held : List Portion) → mid held → AddsNothing b c)

@@ -64,7 +64,7 @@ item_here [] rest item = (omega arith, refl)
 item_here (x ∷ taken) rest item =
     let (lt, is) = item_here taken rest item in (omega (arith, lt), is)
 
--- if the item follows those processed
+-- the item after those processed, among all items
 item_at : (xs taken rest : List TapeItem) (item : TapeItem) → xs ≡ taken ++ item ∷ rest
     → (length taken < length xs) × (Some item ≡ slice_get xs (length taken))
 item_at xs taken rest item e =

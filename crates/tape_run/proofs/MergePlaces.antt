@@ -40,7 +40,7 @@ best_met bad x = inl refl
 best_met (block b) x = inr refl
 best_met mark x = inr refl
 
--- with the item the tape is a better one
+-- the tape with the best item so far is a reading of the tape with the better of that and the item
 pub best_better : (m : List TapeItem) (best : Option TapeItem) (x : TapeItem)
     → IsReadFrom (m ++ best_items best) (m ++ joined best x ∷ [])
 best_better m None x =
@@ -49,7 +49,8 @@ best_better m None x =
 best_better m (Some y) x =
     reads_one_more m m y (joined (Some y) x) refl (reads_self m) (best_met y x)
 
--- a reading with the item is a reading of the tape with the better of the two
+-- a reading that continues with the item is a reading of the tape that continues with the better
+-- item
 pub reads_best : (m r : List TapeItem) (best : Option TapeItem) (x : TapeItem) → agrees best x
     → length r ≡ length m → IsReadFrom r (m ++ best_items best)
     → IsReadFrom (r ++ x ∷ []) (m ++ joined best x ∷ [])

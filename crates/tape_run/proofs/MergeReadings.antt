@@ -45,8 +45,7 @@ reads_one_more (a ∷ r) [] x y e h m = absurd h
 reads_one_more (a ∷ r) (b ∷ t) x y e h m =
     (h.0, reads_one_more r t x y (omega arith) h.1 m)
 
--- the item that one reading has after a prefix is one that another reading of the same tape may
--- have there
+-- an item of one reading after a prefix is possible there in another reading of the same tape
 pub reads_behind : (s r t : List TapeItem) (x : TapeItem) → length r ≡ length s
     → IsReadFrom s t → IsReadFrom (r ++ x ∷ []) t → IsReadFrom (s ++ x ∷ []) t
 reads_behind [] [] t x e h k = k

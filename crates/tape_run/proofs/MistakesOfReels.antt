@@ -161,7 +161,7 @@ abbrev front_item : List TapeItem → TapeItem
 front_item [] = mark
 front_item (x ∷ xs) = x
 
--- if the reading continued after these items of the image, there are none of them
+-- if the reading continued after each of these items of the image, there are none
 none_before : (set_id : List ℕ) (items more : List TapeItem)
     → AllByRecursion GoesOn (answers_to (mounted set_id) items) → marks ≡ items ++ more
     → items ≡ []

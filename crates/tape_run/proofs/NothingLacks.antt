@@ -84,7 +84,7 @@ FileGood c set_id file sect [] = ⊤
 FileGood c set_id file sect (s ∷ ss) = GoodAs c (key_at set_id file sect) (ends_file s)
     × FileGood c set_id file (sect + 1) ss
 
--- nothing is missing of a file that ends with its last section, if its sections are good
+-- if the sections of a file are good, and it ends with the last of them, nothing of it is missing
 pub whole_file : (c : List Told) (set_id : List ℕ) (file sect most : ℕ) (ss : List Section)
     → Ends ss → length ss ≤ most → FileGood c set_id file sect ss
     → first_lack c set_id file sect most ≡ None

@@ -89,7 +89,7 @@ names_show name is =
     (sym (chars-encodes (flat_map quoted (chars name)) (are_scalars _ all)))
     (none_hidden (flat_map quoted (chars name)) all)
 
--- ---- names are told apart
+-- ---- different names have different texts
 
 by_digit : (a b : ℕ) → a / 16 ≡ b / 16 → hex (a % 16) ≡ hex (b % 16) → a ≡ b
 by_digit a b front digit =

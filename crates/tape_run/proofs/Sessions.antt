@@ -213,7 +213,7 @@ pub some_all : (o : Option (List ℕ)) (Q : List ℕ → Type 0) → ((xs : List
 some_all None Q f = tt
 some_all (Some xs) Q f = f xs
 
--- nothing is missing of a complete file
+-- of a complete file nothing is missing
 pub want_none : (file : ℕ) (p : Position) (b : Bool) → is_some (want_at file p) ≡ not b → b ≡ true
     → p ≡ Finished
 want_none file Finished b e f = refl

@@ -80,7 +80,7 @@ pub record CasesOfTurns : Type 0 where
       (left : List (Option (Option (List ℕ))))
       → AreFirstTurns Took (λ r. r) (a ∷ b ∷ []) (t ∷ []) left → IsTurn (λ r. r) a t
       × ((left ≡ None ∷ b ∷ []) ⊎ (left ≡ None ∷ None ∷ []))
-  -- a wrong count makes a reel suspect, as does a reader that it broke, and then nothing is saved
+  -- a reel with a wrong count is suspect, also if an earlier one had it; then nothing is saved
   pub doubtful : counts_differ (Useless (BlockCount 3 4)) ≡ true
   pub broken : counts_differ (Useless Broken) ≡ true
   pub sure : (counts_differ SectionDone ≡ false) × (counts_differ (Useless BadItem) ≡ false)

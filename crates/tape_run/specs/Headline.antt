@@ -51,7 +51,7 @@ pub record HasRun (old : Seen) (steps : List Step) (bytes : List (List ℕ))
 
 -- ---- a session that begins a file
 
--- the position history of a file of which nothing was read
+-- the position history of a file before anything was read
 abbrev pub begins : Course
 begins = record { at = start; notes = [] }
 

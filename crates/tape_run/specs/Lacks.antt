@@ -55,7 +55,7 @@ abbrev pub GoesOnTo : List Told → List ℕ → ℕ → ℕ → Type 0
 GoesOnTo c set_id file sect =
     (i : ℕ) → 1 ≤ i → i < sect → good_end (entry_at c (key_at set_id file i)) ≡ Some false
 
--- Nothing is missing of the file: its sections are good up to one that ends it.
+-- Nothing of the file is missing: its sections are good up to one that ends it.
 pub record IsFoundWhole (c : List Told) (set_id : List ℕ) (file : ℕ) : Type 0 where
   pub sect : ℕ
   pub numbered : (1 ≤ sect) × (sect ≤ 9999)

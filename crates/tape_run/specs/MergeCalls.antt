@@ -110,8 +110,8 @@ pub record Merges {R : Type 0} (firsts nows : List (Reading R)) (m : Merged) (ol
   pub wrote : PutItems merged old new
 
 -- There is no tape of which the items that were read are readings. Each reading was read up to the
--- n-th item, and says how its item compares with the others. The items before that one make a tape,
--- which was written.
+-- n-th item; its verdict says how its item compares with the others. The items before that one make
+-- a tape, which was written.
 pub record DiffersAt {R : Type 0} (firsts nows : List (Reading R)) (n : ℕ) (old new : Writer)
     : Type 0 where
   pub readings : List (List TapeItem)
@@ -126,7 +126,7 @@ pub record DiffersAt {R : Type 0} (firsts nows : List (Reading R)) (n : ℕ) (ol
   pub count : length merged + 1 ≡ n
   pub wrote : PutItems merged old new
 
--- Up to some item there was such a tape, which was written.
+-- Up to some item there was such a tape, and its items were written.
 pub record HasWritten {R : Type 0} (firsts : List (Reading R)) (old new : Writer) : Type 0 where
   pub mids : List (Reading R)
   pub fronts : List (List TapeItem)

@@ -151,7 +151,7 @@ pub record CountsItem {R : Type 0} (old new : Reading R) (x : TapeItem) : Type 0
   pub from : new.from ≡ old.image.place
   pub len : new.length ≡ block_length x
 
--- the fields of a reading of which nothing was read
+-- the fields of a reading before anything was read
 pub record CountsNothing {R : Type 0} (old new : Reading R) : Type 0 where
   pub items : new.items ≡ old.items
   pub bad : new.bad ≡ old.bad

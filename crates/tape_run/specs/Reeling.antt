@@ -89,7 +89,7 @@ AreFirstTurns gives remaining shelf turns last = (mid : _)
     × AreTurns gives remaining shelf 0 turns mid
     × ((last ≡ mid) ⊎ ((image : Option _) × gives mid (length turns) image last))
 
--- whether the trailer label of the reel, or of a reel before it, counted other blocks
+-- whether the trailer label of the reel, or of a reel before it, gave a different number of blocks
 abbrev pub counts_differ : Answer → Bool
 counts_differ (Useless (BlockCount label seen)) = true
 counts_differ (Useless Broken) = true

@@ -79,11 +79,11 @@ abbrev pub head_by : Result Head1 LabelFault → Option Head1
 head_by (Ok head) = Some head
 head_by (Err _) = None
 
--- the header label that a block is
+-- the block as a header label, if it is one
 abbrev pub head_of : List ℕ → Option Head1
 head_of b = head_by (head1_at b)
 
--- the header label that a block is, if a section may begin there
+-- the block as a header label, if it is one and a section may begin there
 abbrev pub head_at : Phase → List ℕ → Option Head1
 head_at (phases.Labels v) b = head_of b
 head_at (phases.Next v) b = head_of b

@@ -18,7 +18,7 @@ abbrev pub image_text : Wording → List ℕ → Option ImageSurvey → List ℕ
 image_text Words name sight = image_line name sight
 image_text Rows name sight = image_row name sight
 
--- the text about a file of which a label was found
+-- the text about a file for which a label was found
 abbrev pub found_text : Wording → Found → List ℕ → ℕ → List ℕ
 found_text Words d set_id file = file_lines d set_id file
 found_text Rows d set_id file = file_row d set_id file

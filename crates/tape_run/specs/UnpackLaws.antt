@@ -1,4 +1,4 @@
--- Laws of the names under which files are unpacked.
+-- Laws about the names that unpacked files get.
 use Rattle.std.specs.Prelude.{◌≡◌, ◌≢◌, ℕ, ◌-◌, ◌<◌, ◌≤◌, ◌^◌, ◌&&◌, nat_le, if◌then◌else◌}
 use Rattle.std.specs.Prelude.{List, [], ◌∷◌, ◌++◌, length, map, codes, true}
 use Rattle.std.specs.List.{AllByRecursion}

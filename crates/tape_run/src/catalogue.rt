@@ -73,7 +73,7 @@ impl Catalogue {
     }
 }
 
-/// Adds the sections on an image of which nothing was read yet.
+/// Adds the sections on an unread image.
 fn add_items<R: Read>(
     sections: &mut Sections,
     image: &mut ImageReader<'_, R>,

@@ -48,7 +48,7 @@ pub fn list_places_to<R: Read, W: Write>(
     listed
 }
 
-/// Lists the items of an image of which nothing was read yet.
+/// Lists the items of an unread image.
 fn list_items<R: Read, W: Write>(
     image: &mut ImageReader<'_, R>,
     writer: &mut W,

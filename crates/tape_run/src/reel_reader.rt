@@ -260,8 +260,8 @@ impl<S: PartSink> ReelReader<S> {
         }
     }
 
-    /// Processes the items of an image of which nothing was read yet, up to a final answer, the end
-    /// of the medium or a fault.
+    /// Processes the items of an unread image, up to a final answer, the end of the medium or a
+    /// fault.
     pub fn read<R: Read>(&mut self, image: &mut ImageReader<'_, R>) -> Result<ReelAnswer, SinkFault>
         requires going { image.old.status ≡ going }
         requires first { image.old.place ≡ 0 }

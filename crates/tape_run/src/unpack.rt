@@ -45,7 +45,7 @@ pub struct SetFile {
 /// The findings of `unpack` on its images.
 #[derive(Drop)]
 pub struct FoundFiles {
-    /// The files of which a label was found: set by set in the order in which the sets were found
+    /// The files for which a label was found: set by set in the order in which the sets were found
     /// first, and by their numbers.
     pub files: Sequence<SetFile>,
     /// For each image what it is and how far it was read, or `None` if it was not opened.

@@ -1,4 +1,4 @@
-//! Laws of the names under which files are unpacked. Each is the contract of a function that does
+//! Laws about the names that unpacked files get. Each is the contract of a function that does
 //! nothing.
 
 ghost use Rattle.tape_run.specs.UnpackLaws.{NamesDiffer, NamesStay, NamesFit};

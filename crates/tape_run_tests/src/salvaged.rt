@@ -1,4 +1,4 @@
-//! `salvage` on images whose reader fails as it reads them again, and without HDR1.
+//! `salvage` on images without HDR1, and on images whose second reading fails.
 ghost use Rattle.std.specs.Prelude.{⊤};
 
 use crate::devices::Narrow;

@@ -173,7 +173,7 @@ pub record CasesOfStaging {D : Type 0} (disk : Ghosts D) : Type 0 where
   pub holds : (point : Point) (parts : List Portion) (session : SessionState (Stage D disk))
       → StandsAt point parts session
       → Holding session.sink.weight parts (disk.seen session.sink.disk)
-  -- every state that a crash leaves of it now represents something,
+  -- whatever a crash leaves of the stage now represents a checkpoint,
   pub survives : (point : Point) (parts : List Portion) (session : SessionState (Stage D disk))
       (bytes : List ℕ) → StandsAt point parts session → disk.may_leave session.sink.disk bytes
       → (back : Point) × (there : List Portion) × Returns session.sink back there
@@ -191,7 +191,8 @@ pub record CasesOfStaging {D : Type 0} (disk : Ghosts D) : Type 0 where
       → StandsAt point parts session
       → Returned session.sink (disk.moment session.sink.disk) back there
       → (back ≡ point) × (there ≡ parts)
-  -- a session that continues is at the checkpoint that the bytes represent, which is of its file
+  -- a session that continues is at the checkpoint that the bytes represent, and this belongs to its
+  -- file
   pub goes_on : (set_id read : List ℕ) (file : ℕ) (session : SessionState (Stage D disk))
       (g : GoesOn set_id file read session) → Staged read g.generation g.point g.parts
       × (g.point.set_id ≡ set_id) × (g.point.file ≡ file) × StandsAt g.point g.parts session

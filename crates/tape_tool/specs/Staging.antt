@@ -33,8 +33,8 @@ as_sink = record {
   crashes = λ s. crashes_of s;
 }
 
--- The session is at the checkpoint. Its stage contains exactly these parts, and every state that a
--- crash leaves of it, now or from this moment on, represents this checkpoint and these parts.
+-- The session is at the checkpoint. Its stage contains exactly these parts. Whatever a crash leaves
+-- of the stage, now or at any moment from now on, represents this checkpoint and these parts.
 pub record StandsAt {D : Type 0} {disk : Ghosts D} (point : Point) (parts : List Portion)
     (session : SessionState (Stage D disk)) : Type 0 where
   pub resumed : IsResumed point parts (seen as_sink session parts)

@@ -29,8 +29,8 @@ pub struct Front {
 /// Writes the records that the parts of the sink join to, and returns their number. An unfinished
 /// record is left out.
 ///
-/// Only blocks of format S contain parts that end no record: without such parts the sink is walked
-/// once, otherwise the records are counted before the rest is written.
+/// Only blocks of format S contain parts that end no record. Without such parts the sink is walked
+/// once; otherwise the records are counted before the rest is written.
 ///
 /// # Errors
 ///

@@ -243,7 +243,8 @@ fn note<S: PartSink>(
     Ok(true)
 }
 
-/// Returns whether the trailer label of the reel, or of a reel before it, counted other blocks.
+/// Returns whether the trailer label of the reel, or of a reel before it, gave a different number
+/// of blocks.
 fn counts_differ(answer: &ReelAnswer) -> bool
     ensures { result ≡ counts_differ answer.now.answer }
 {

@@ -74,7 +74,7 @@ impl Verdict {
 }
 
 impl<'r, R: Read> Reading<'r, R> {
-    /// Creates a reading of an image of which nothing was read.
+    /// Creates a reading of an unread image.
     pub fn new(image: ImageReader<'r, R>) -> Reading<'r, R>
         ensures image { result.image ≡ image.entry }
         ensures none { (result.items ≡ 0) × (result.bad ≡ 0) }

@@ -119,7 +119,7 @@ pub fn copies_on<R: Read>(
     found
 }
 
-/// Finds the sections of a file on an image of which nothing was read yet.
+/// Finds the sections of a file on an unread image.
 fn copies_in_items<R: Read>(
     image: &mut ImageReader<'_, R>,
     set_id: &Field<6>,

@@ -61,11 +61,10 @@ fn number_in(key: &SectionKey, most: u32, expected: &Expected) -> Option<u32>
     }
 }
 
-/// Recovers the blocks of a section from an image of which nothing was read yet: the first `most`
-/// blocks of the first section `key` on it. `start` is what is expected at the first item. Returns
-/// how many data items of the section were read; nothing after the tape mark that ends them is
-/// read. The reading may end earlier: at the end of the medium, at a fault of the image, or if the
-/// reader fails.
+/// Recovers the blocks of a section from an unread image: the first `most` blocks of the first
+/// section `key` on it. `start` is what is expected at the first item. Returns how many data items
+/// of the section were read; nothing after the tape mark that ends them is read. The reading may
+/// end earlier: at the end of the medium, at a fault of the image, or if the reader fails.
 ///
 /// # Errors
 ///

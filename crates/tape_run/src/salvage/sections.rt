@@ -117,7 +117,7 @@ fn recover<W: Write, R: Read + Drop, L: ImageSource<R>, P: Write>(
     recover_copy(&mut reader, &copy, sect, &form, recovery, report)
 }
 
-/// Recovers a section from its copy on an image of which nothing was read yet.
+/// Recovers a section from its copy on an unread image.
 fn recover_copy<W: Write, R: Read, P: Write>(
     image: &mut ImageReader<'_, R>,
     copy: &SectionCopy,

@@ -219,7 +219,7 @@ fn add_place(
     Ok(())
 }
 
-/// Returns the text for each section of which more than one complete copy was found.
+/// Returns the text for each section with more than one complete copy.
 pub(crate) fn copies_text(
     alloc: Global,
     wording: Wording,

@@ -1,4 +1,4 @@
-//! Numbers between those of files that were found.
+//! File numbers that were not found, between those that were.
 ghost use Rattle.std.specs.Prelude.{◌≡◌, ◌≤◌, ◌<◌, ◌-◌, ◌++◌};
 ghost use Rattle.arrayvec.specs.ArrayVec.{array_vec_len};
 ghost use Rattle.tape_run.specs.SurveyGaps.{is_found, gap_first, numbers_text, gap_line, gap_row};
@@ -48,7 +48,7 @@ fn put_numbers(text: &mut Text, first: u16, file: u16)
     }
 }
 
-/// Returns the line of `unpack` for the file numbers `first` to `file - 1`, of which no label was
+/// Returns the line of `unpack` for the file numbers `first` to `file - 1`, for which no label was
 /// found.
 pub fn numbers_line(set_id: &Field<6>, first: u16, file: u16) -> Text
     requires { first < file }
@@ -63,7 +63,7 @@ pub fn numbers_line(set_id: &Field<6>, first: u16, file: u16) -> Text
     text
 }
 
-/// Returns the line for the file numbers `first` to `file - 1`, of which no label was found.
+/// Returns the line for the file numbers `first` to `file - 1`, for which no label was found.
 fn gap_line(first: u16, file: u16) -> Text
     requires { first < file }
     ensures { result.items ≡ gap_line first file }
@@ -82,7 +82,7 @@ fn gap_line(first: u16, file: u16) -> Text
     text
 }
 
-/// Returns the row for the file numbers `first` to `file - 1`, of which no label was found.
+/// Returns the row for the file numbers `first` to `file - 1`, for which no label was found.
 fn gap_row(set_id: Field<6>, first: u16, file: u16) -> Text
     requires { first < file }
     ensures { result.items ≡ gap_row set_id first file }
@@ -96,7 +96,7 @@ fn gap_row(set_id: Field<6>, first: u16, file: u16) -> Text
     text
 }
 
-/// Returns the text for the file numbers `first` to `file - 1`, of which no label was found.
+/// Returns the text for the file numbers `first` to `file - 1`, for which no label was found.
 pub(crate) fn gap_text(wording: Wording, set_id: Field<6>, first: u16, file: u16) -> Text
     ensures { result.items ≡ gap_text wording set_id first file }
 {

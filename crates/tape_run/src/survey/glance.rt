@@ -63,7 +63,7 @@ pub struct ImageSummary {
     pub course: LabelOrder,
 }
 
-/// Returns the summary of an image of which no item was read yet.
+/// Returns the summary of an unread image.
 pub(crate) fn blank_glance() -> ImageSummary
     ensures { result ≡ blank_glance }
 {
@@ -161,7 +161,7 @@ pub(crate) fn head_in(phase: &Phase, item: Item<'_>) -> Option<Head1>
     }
 }
 
-/// Returns the header label that a block is, if a section may begin there.
+/// Returns the block as a header label, if it is one and a section may begin there.
 fn head_at(phase: &Phase, bytes: &[u8]) -> Option<Head1>
     ensures { result ≡ head_at phase.now bytes.now }
 {

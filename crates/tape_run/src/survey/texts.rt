@@ -18,7 +18,7 @@ use crate::sections::Sections;
 use std::alloc::{AllocError, Global};
 use tape_label::Field;
 
-/// Appends the text for a file of which a label was found.
+/// Appends the text for a file for which a label was found.
 fn add_known(
     texts: &mut Vec<u8>,
     findings: &Findings,

@@ -148,7 +148,7 @@ impl Findings {
         Ok(Some(sight))
     }
 
-    /// Does the same for an image that was opened, however many of its bytes are left.
+    /// Does the same for an image that was opened. The reader keeps the bytes that were not read.
     fn read_items<R: Read>(&mut self, reader: &mut R) -> Result<ImageSurvey, RunFault>
         ensures fault { IsOkUnless result faults.OutOfMemory }
         ensures ok { IfOk result (λ sight. ViewsItems (R.remaining reader.old)
@@ -175,7 +175,7 @@ impl Findings {
     }
 }
 
-/// Processes the items of an image of which nothing was read yet, and adds its sections and labels.
+/// Processes the items of an unread image, and adds its sections and labels.
 fn view_items<R: Read>(
     sections: &mut Sections,
     files: &mut Files,

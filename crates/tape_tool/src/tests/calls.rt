@@ -80,7 +80,7 @@ pub enum Step<'a> {
     PutRecords(&'a str),
     /// Creates a link to a path.
     Link(&'a str, &'a str),
-    /// Gives a file a second name.
+    /// Makes a second name for a file.
     Name(&'a str, &'a str),
     /// Removes the file, if it exists.
     Remove(&'a str),

@@ -1,4 +1,4 @@
-//! The explanation that `--explain` prints after the line of a fault.
+//! What `--explain` prints after the line of a fault.
 
 use super::calls::{Step, take_all};
 use super::words::words_of;

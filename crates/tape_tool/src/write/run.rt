@@ -110,7 +110,7 @@ fn record_length(order: &WriteOrder<'_>) -> u32
     }
 }
 
-/// Checks the identifiers of all files. Nothing of them is kept, since there may be thousands.
+/// Checks the identifiers of all files. None of them is kept, since there may be thousands.
 fn check_ids<'a>(order: &WriteOrder<'a>, site: &mut FaultSite<'a>) -> Result<(), ToolFault> {
     for word in order.files.as_slice() {
         *site = FaultSite::Input(*word);
