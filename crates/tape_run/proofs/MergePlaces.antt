@@ -23,7 +23,7 @@ both_agree mark (block c) z (inl e) k = absurd (cc e)
 both_agree mark (block c) z (inr e) (inl f) = absurd (cc f)
 both_agree mark (block c) z (inr e) (inr f) = absurd (cc (e, f))
 
--- the item is a reading of the better of the two
+-- an item that agrees with the best one is a reading of the better of the two
 item_met : (best : Option TapeItem) (x : TapeItem) → agrees best x → IsReadAs x (joined best x)
 item_met None x a = inr refl
 item_met (Some bad) x a = inr refl

@@ -125,7 +125,7 @@ section_items hdr1 hdr2 headers content trailer trailers =
     (block hdr1 ∷ []) ++ ((block hdr2 ∷ []) ++ (map block headers ++ ((mark ∷ []) ++ (map block
     content ++ ((mark ∷ []) ++ ((block trailer ∷ []) ++ (map block trailers ++ (mark ∷ []))))))))
 
--- its labels are as they should be
+-- the labels of a section, which agree with each other and with its blocks
 pub record IsWhole (hdr1 hdr2 : List ℕ) (content : List (List ℕ)) (trailer : List ℕ)
     (head : Head1) (trail : Trail1) : Type 0 where
   pub hdr1_is : head1_at hdr1 ≡ Ok head

@@ -61,7 +61,7 @@ each (suc k) P (now, later) more (suc n) =
 abbrev behind_1 : ℕ → ℕ → Position
 behind_1 n part = at_part part (far worked_set 1 start (reading 1 (take n (replicate 11 true))))
 
--- After it both volumes complete the file.
+-- After such a part both volumes complete the file.
 abbrev Completes : ℕ → Type 0
 Completes n = (part : ℕ)
     → far worked_set 1 (far worked_set 1 (behind_1 n part) (reading 1 (replicate 11 true)))

@@ -159,8 +159,8 @@ fn is_refused(session: &mut Session<Refusing<MemorySink>>) -> bool {
         && has(session, 20, part_of(2, 0))
 }
 
-/// Returns whether a session's position is unchanged after a refused save, after a successful one,
-/// and after a rollback to that.
+/// Returns whether a refused save, a successful save, and a rollback to the saved checkpoint leave
+/// the session's position unchanged.
 fn stands_still(alloc: Global, whole: &[u8]) -> Result<bool, Fail> {
     let mut session = refusing(alloc, 20)?;
     run(&mut session, ONE, &mut [front(whole, 1884)], &mut [])?;

@@ -1,5 +1,5 @@
--- Wrong answers that the contracts of the program's functions exclude. This file has ends, faults
--- and stages.
+-- Wrong answers about ends, faults and stages that the contracts of the program's functions
+-- exclude.
 use Rattle.std.proofs.Common.{◌≡◌, ◌+◌, ℕ, [], length, true, false, refl, sym, ap, ◌∙◌}
 use Rattle.std.proofs.Common.{subst, arith}
 use Rattle.std.proofs.Math.Nat.{min-eq_left}

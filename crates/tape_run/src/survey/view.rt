@@ -103,7 +103,8 @@ impl ImageSurvey {
         is_ended(self.glance.course) && is_none(self.glance.unread) && is_end(self.stop)
     }
 
-    /// Returns whether they are such a volume, and none of its sections is damaged.
+    /// Returns whether the items are a complete volume whose files can be read, and no section is
+    /// damaged.
     pub(crate) fn is_sound(&self) -> bool
         ensures { result ≡ is_sound self.now }
     {
