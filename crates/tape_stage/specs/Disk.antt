@@ -56,8 +56,8 @@ pub record SameFact (old new : Type 0) : Type 0 where
   pub onward : old → new
   pub back : new → old
 
--- A call was made, which succeeded or did not: if the calls that may succeed are counted, it was
--- one of them, or it failed and none is left.
+-- A call was made, which succeeded or did not: if the calls that may succeed are counted, it was one
+-- of them, or it failed and none is left.
 abbrev pub CountsDown : Type 0 → Option ℕ → Option ℕ → Type 0
 CountsDown ok None after = after ≡ None
 CountsDown ok (Some zero) after = (ok → ⊥) × (after ≡ Some zero)
