@@ -1,4 +1,4 @@
--- The examples of a reel's answer, and of where the table leads over any tapes.
+-- The examples for a reel's answer, and for where the table leads for any tapes.
 use Rattle.std.proofs.Common.{◌≡◌, ◌+◌, [], ◌∷◌, Some, refl, ap, ◌∙◌, inl, inr, arith}
 use Rattle.tape_image.specs.declared.item.Ending.TheVariants.{Physical}
 use Rattle.tape_image.specs.Begins.{ends}

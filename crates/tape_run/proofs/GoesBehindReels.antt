@@ -1,4 +1,4 @@
--- A reading of a later file goes on from reel to reel.
+-- A reading of a later file continues from reel to reel.
 use Rattle.std.proofs.Common.{◌≡◌, ℕ, inl, inr, List, [], ◌∷◌, ◌++◌, false, Some, refl, sym, ap}
 use Rattle.std.proofs.Common.{subst, ◌∙◌}
 use Rattle.std.specs.List.{AllByRecursion}
@@ -21,7 +21,7 @@ use Rattle.tape_run.proofs.GoesBehind.{still_waits}
 
 -- ---- from reel to reel
 
--- at the end of a reel no section ends well
+-- the end of a reel completes no section
 no_end : (core : State) (q : Position) (p : Phase) → is_finished q ≡ false
     → EndsSection (unless_complete core q (at_reel_end core p)).0 → ⊥
 no_end core Finished p waits ends = absurd (cc)
@@ -37,7 +37,7 @@ waits_on core [] waits on = waits
 waits_on core (x ∷ xs) waits (on, rest) = waits_on (step_of core (Some x)).1 xs
     (still_waits core x (step_of core (Some x)).1.position refl on) rest
 
--- the items of a reel that ended a section well, and the one that did
+-- the items of a reel up to one that completed a section, and that item
 pub record EndedWell (core : State) (bytes left : List ℕ) : Type 0 where
   pub items : List TapeItem
   pub item : TapeItem

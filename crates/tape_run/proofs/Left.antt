@@ -1,4 +1,4 @@
--- What a crash leaves of a session in which a step failed.
+-- The states that a crash leaves of a session in which a step failed.
 use Rattle.std.proofs.Common.{◌≡◌, ◌⊎◌, ℕ, ◌+◌, Bool, true, List, [], length, Some, slice_get}
 use Rattle.std.proofs.Common.{refl, sym, ap, subst, ◌∙◌, inl, inr, arith}
 use Rattle.tape_blocks.specs.Block.{Portion}
@@ -32,7 +32,7 @@ pub nothing_left : {S : Type 0} (g : Ghosts S) (goes : Bool) (a b : SessionState
 nothing_left g goes a b held adds =
     only_nothing _ (g.crashes a.sink) (g.crashes b.sink) adds
 
--- the session is as it was
+-- the session is unchanged
 pub same_left : {S : Type 0} (g : Ghosts S) (goes : Bool) (a : SessionState S) (held : List Portion)
     → LeavesStep g goes a held a
 same_left g goes a held = only_same _ (g.crashes a.sink)
@@ -78,7 +78,7 @@ restart_left {S} g a b held n count =
 
 -- ---- after a reel
 
--- the last checkpoint was made before the reel, with parts that were there
+-- the last checkpoint was made before the reel, with parts that existed then
 last_before : (old mid : Seen) → mid.notes ≡ old.notes → IsFront old.parts mid.parts → IsKept old
     → (back : Point) (there : List Portion) → IsLast mid back there → IsLast old back there
 last_before old mid notes front kept back there (n, count, (is, f, w)) =
@@ -116,7 +116,7 @@ left_then {S} g goes a b c held now notes front kept adds =
 
 -- ---- over images
 
--- The images before were taken, and then a step was not made.
+-- The images before it were processed, and then a step failed.
 pub left_saved : {S : Type 0} (g : Ghosts S) (goes : Bool) (a b c : SessionState S)
     (held now : List Portion) → KeepsLast g a held b now
     → LeavesStep g goes b now c → LeavesSaved g a held (seen g b now) c
@@ -140,7 +140,7 @@ left_saved {S} g goes a b c held now keeps step = record {
     either r brings back there (inr (inl (is, is_last))) = inl is_last
     either r brings back there (inr (inr here)) = inr here
 
--- The images were taken, and then the sink was walked.
+-- The images were processed, and then a walk over the sink was made.
 pub left_walked : {S : Type 0} (g : Ghosts S) (goes : Bool) (a b c : SessionState S)
     (held now : List Portion) → KeepsLast g a held b now
     → IsWalked g b c → g.holds b.sink now → LeavesSaved g a held (seen g b now) c

@@ -1,4 +1,4 @@
--- Images that stay mounted, and are read on from file to file.
+-- Images that stay open, and are read file by file.
 use Rattle.std.proofs.Common.{◌≡◌, ◌≢◌, ◌⊎◌, inl, inr, ℕ, ◌<◌, Bool, false, List, [], ◌∷◌, ◌++◌}
 use Rattle.std.proofs.Common.{Option, Some, None, refl, sym, ap, subst, ◌∙◌, true, length, arith}
 use Rattle.std.proofs.Common.{length-append}
@@ -192,7 +192,7 @@ sections_read {S} {L} {R} g gives remaining locations complete session now shelf
 some_more : (ss : List Stretch) (s : Stretch) → ss ++ s ∷ [] ≢ []
 some_more ss s = λ e. absurd (omega (arith, ap length e, length-append ss (s ∷ [])))
 
--- no section ended, and no image stays mounted
+-- no section ended, and no image stays open
 pub section_failed : {S L R : Type 0} (g : Ghosts S) (gives : Mounting L R)
     (remaining : R → Option (List ℕ)) (locations : List Located) (session mid new : SessionState S)
     (shelf left next : L) (whole : Option (List ℕ)) (held after : Option (Mounted R))
@@ -245,7 +245,7 @@ abbrev pub wanted_sect : Option Want → ℕ
 wanted_sect None = 0
 wanted_sect (Some want) = want.sect
 
--- so complete as it is
+-- the file is complete, as far as it was read
 pub ended_as : {S L R : Type 0} {g : Ghosts S} {gives : Mounting L R}
     {remaining : R → Option (List ℕ)} {locations : List Located} {old new : SessionState S}
     {shelf left : L} {whole : Option (List ℕ)} {after : Option (Mounted R)} {b is : Bool} → b ≡ is

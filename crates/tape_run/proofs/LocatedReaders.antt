@@ -1,4 +1,4 @@
--- Readers that stay mounted, and go on with the next file.
+-- Readers that stay open, and continue with the next file.
 use Rattle.std.proofs.Common.{◌≡◌, ◌≢◌, ◌⊎◌, inl, inr, ℕ, ◌+◌, ◌<◌, false, List, [], ◌∷◌, ◌++◌}
 use Rattle.std.proofs.Common.{Option, Some, None, refl, sym, ap, subst, ◌∙◌, arith, append_assoc}
 use Rattle.tape_blocks.specs.Block.{Portion}
@@ -93,8 +93,8 @@ mounted_broken : (p : Phase) (q : Position) → p ≡ Broken
 mounted_broken p q e =
     (ap (λ r. mounted r q) e ∙ refl, ap (λ r. mounted_behind r q) e ∙ refl)
 
--- The whole image leads where the reading on leads: its front is passed over, or the reader is
--- broken.
+-- The whole image leads where the continued reading leads: its first items are skipped, or the
+-- reader is broken.
 pub leads_on : (core new : State) (front more : List TapeItem) (held now : List Portion)
     → is_finished core.position ≡ false → (core.phase ≢ Broken → PassedOver core front)
     → IsLed more (behind_of core) new held now → IsLed (front ++ more) (mount_of core) new held now

@@ -1,4 +1,4 @@
--- Answers that the contract of `Session::reel` excludes: each is what a wrong body would give.
+-- Wrong answers that the contract of `Session::reel` excludes.
 use Rattle.std.proofs.Common.{◌≡◌, ◌⊎◌, inl, inr, ℕ, ◌+◌, ◌≤◌, List, [], ◌∷◌, ◌++◌, length, refl}
 use Rattle.std.proofs.Common.{sym, ap, ◌∙◌, subst, arith, length-append, append_assoc, append-nil}
 use Rattle.std.specs.Prelude.{Option, Some, None, Ok}
@@ -49,11 +49,11 @@ complete_without_end S R LS LR g d h e κs a answer s bytes left l p b q w =
     let f : SectionDone ≡ Complete = sym w ∙ c.1 in
     absurd (cc)
 
--- three bytes, which are no word
+-- three bytes, which are not a complete word
 abbrev three : List ℕ
 three = 1 ∷ 2 ∷ 3 ∷ []
 
--- they begin with no item, and the fault is that they are cut off
+-- they begin with no item, and the fault is that they are truncated
 cut_word : Begins 0 three [] 0 (faults causes.Truncated)
 cut_word = record {
   rest = three;
@@ -117,7 +117,7 @@ cut_behind core items xs bytes left answer place end told begins (inr (inr w)) =
     (Begins-one 0 bytes items xs w.fault.place end (faults w.fault.cause)
     (faults causes.Truncated) there begins).0
 
--- blocks_not_counted: two blocks of a cut image were delivered, and none is counted.
+-- blocks_not_counted: two blocks of a truncated image were delivered, but none is counted.
 blocks_not_counted : (S : _) (R : _) (LS : _) (LR : _) (g : _) (d : _) (h : _) (e : _) (κs : _)
     (a : _) (answer : _) (s : _) (bytes left : List ℕ) (xs : List TapeItem) (place end : ℕ)
     → reel.Learnt-named S R LS LR g d h e κs a (Ok answer) s
@@ -138,7 +138,7 @@ blocks_not_counted S R LS LR g d h e κs a answer s bytes left xs place end l p 
     ∙ ap (λ v. delivered_by (answers_to (mount_of old) v)) same ∙ two in
     absurd (omega (arith, n))
 
--- a session at the start of a file, where a reel is mounted
+-- a session at the start of a file, with a reel mounted
 abbrev mounted : List ℕ → State
 mounted set_id = mount_of (reader_of set_id 1)
 
@@ -156,12 +156,12 @@ marked_first set_id x items e on = goes (subst
 abbrev marks : List TapeItem
 marks = mark ∷ mark ∷ []
 
--- the first item of these
+-- the first of these items
 abbrev front_item : List TapeItem → TapeItem
 front_item [] = mark
 front_item (x ∷ xs) = x
 
--- a reading that continued after these items of the image continued after none
+-- if the reading continued after each of these items of the image, there are none
 none_before : (set_id : List ℕ) (items more : List TapeItem)
     → AllByRecursion GoesOn (answers_to (mounted set_id) items) → marks ≡ items ++ more
     → items ≡ []
@@ -207,8 +207,8 @@ second_stays set_id bytes items answer end stop near begins none on (inr (inl w)
 second_stays set_id bytes items answer end stop near begins none on (inr (inr w)) =
     absurd (cc (none, w.told))
 
--- reads_on_after_final_answer: of an image of two tape marks, the first of which ends the reading,
--- nothing is left.
+-- reads_on_after_final_answer: in an image of two tape marks the first ends the reading, but the
+-- second was read too.
 reads_on_after_final_answer : (S : _) (R : _) (LS : _) (LR : _) (g : _) (d : _) (h : _) (e : _)
     (κs : _) (a : _) (answer : _) (s : _) (set_id bytes : List ℕ) (end : ℕ) (stop : Stop)
     → reel.Learnt-named S R LS LR g d h e κs a (Ok answer) s
@@ -226,7 +226,7 @@ reads_on_after_final_answer S R LS LR g d h e κs a answer s set_id bytes end st
     second_stays set_id bytes r.items answer end stop (omega (arith, eight)) begins none r.on
     r.ended
 
--- saved_inside_a_reel: while a reel is read a checkpoint is saved, and a crash then leaves it
+-- saved_inside_a_reel: a checkpoint is saved while a reel is read, and a crash then leaves it
 saved_inside_a_reel : (S : _) (R : _) (LS : _) (LR : _) (g : _) (d : _) (h : _) (e : _) (κs : _)
     (a : _) (z : _) (s : _) (held there : List Portion) (back : Point)
     → reel.Learnt-named S R LS LR g d h e κs a z s → g.holds a.0.now.sink held

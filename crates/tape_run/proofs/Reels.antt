@@ -1,4 +1,4 @@
--- A core's answers to the items of a reel, and to what ends it.
+-- A core's answers to the items of a reel, and to the end of the reel.
 use Rattle.std.proofs.Common.{◌≡◌, ℕ, ◌+◌, List, [], ◌∷◌, ◌++◌, Option, Some, None, refl, sym, ap}
 use Rattle.std.proofs.Common.{Result, Ok, Err, subst, ◌∙◌, inl, inr, arith}
 use Rattle.std.specs.List.{AllByRecursion}
@@ -24,7 +24,7 @@ use Rattle.tape_run.specs.Reels.{ReadsToBlock, IsDelivery}
 use Rattle.tape_run.specs.Taking.{came_of, fault_of}
 use Rattle.tape_run.proofs.ByTable.{core_more}
 
--- So far: the bytes up to an offset are these items, after each of which the reading continued.
+-- So far the bytes up to an offset encode these items, and the reading continued after each.
 pub record ReadsSoFar (old new : State) (blocks at : ℕ) (bytes left : List ℕ) : Type 0 where
   pub items : List TapeItem
   pub taken : Walks 0 bytes items at left
@@ -45,7 +45,7 @@ pub item_came : (old new : State) (came : Option TapeItem) (answer : Answer)
 item_came old new None answer left on = absurd (final_ends answer on (left refl).1)
 item_came old new (Some item) answer left on = (item, refl)
 
--- An item that came is the one that the reader gave.
+-- The item of an event is the one that the reader returned.
 pub item_given : (told : Result (Option TapeItem) ImageFault) (old new : Reader) (item : TapeItem)
     → came_of told ≡ Some item → Meets old told new → GivesItem old item new
 item_given (Ok (Some x)) old new item e m =
@@ -53,7 +53,7 @@ item_given (Ok (Some x)) old new item e m =
 item_given (Ok None) old new item e m = absurd (cc e)
 item_given (Err fault) old new item e m = absurd (cc e)
 
--- A block that was delivered is the one that the reader gave.
+-- The delivered block is the one that the reader returned.
 pub block_given : (core : State) (came : Option TapeItem)
     (told : Result (Option TapeItem) ImageFault) (old new : Reader)
     → came ≡ came_of told → IsDelivery core came → Meets old told new
@@ -89,7 +89,7 @@ delivered_more (SectionDone ∷ xs) x = delivered_more xs x
 delivered_more (Complete ∷ xs) x = delivered_more xs x
 delivered_more (Useless why ∷ xs) x = delivered_more xs x
 
--- For an image of which nothing was read.
+-- The start, with no item of the image read.
 pub none_read : (core : State) (left : Option (List ℕ)) (place : ℕ) → place ≡ 0
     → IfKnown left left (ReadsSoFar core core 0 place)
 none_read core left place first = known_same left left (ReadsSoFar core core 0 place) refl
@@ -134,7 +134,7 @@ one_read old mid new blocks more p q bytes ys zs item answer step on count s k =
       core = core_more old mid new answer s.items item step s.core;
     }
 
--- An item was taken after which the reading continues.
+-- An item was processed, and the reading continues.
 pub read_on : (core mid : State) (blocks : ℕ) (all : Option (List ℕ)) {new : State} {more : ℕ}
     {old next : Reader} {item : TapeItem} {answer : Answer}
     → IfKnown all old.left (ReadsSoFar core mid blocks old.place) → GivesItem old item next
@@ -205,7 +205,7 @@ by_fault old mid new blocks p bytes ys zs fault answer reel step is told count s
       }));
 }
 
--- The reading ended after what the reader returned.
+-- The reading ended with the reader's result.
 pub reads_reel : (core mid : State) (blocks : ℕ) (all : Option (List ℕ)) (old next : Reader)
     (told : Result (Option TapeItem) ImageFault) {new : State} {answer : Answer} {reel : ReelAnswer}
     → IfKnown all old.left (ReadsSoFar core mid blocks old.place) → Meets old told next

@@ -71,7 +71,7 @@ front_behind from old mid new turns more number e first (front, rest, wrote, all
 
 -- ---- images
 
--- one more image was opened, the first of those that were not
+-- one more image was opened, the first of those that had not been
 pub one_mounted : {L R T : Type 0} (gives : Mounting L R) (is : Option R → T → Type 0) (shelf : L)
     (number : ℕ) (ts : List T) (mid : L) (t : T) (image : Option R) (next : L)
     → AreMounted gives is shelf number ts mid → gives mid (number + length ts) image next
@@ -106,7 +106,7 @@ pub noted : (back spares : Bool) (bytes : Option (List ℕ)) (o : Opened) (old m
 noted back spares None o old mid new r s = tt
 noted back spares (Some b) o old mid new r s = (mid, r, s)
 
--- what is preserved of a session is preserved after a reel too
+-- a preserved property of a session is preserved by a reel too
 pub kept_behind : (back spares doubtful noted : Bool) (old new : Seen)
     → IsNoted back spares doubtful noted old new → IsKeptFor back old → IsKeptFor back new
 kept_behind false spares doubtful noted old new s k = tt
@@ -121,7 +121,7 @@ kept_for true old new f k = f k
 
 -- ---- calls
 
--- the lines of at most one image more
+-- the lines of at most one more image
 pub part_line : (number : ℕ) (outcome : Option ReelAnswer) (old new : Option (List ℕ))
     → AppendsFront old new (reel_line number outcome) → IsReported number old new
 part_line number outcome old new (front, rest, wrote, all) =

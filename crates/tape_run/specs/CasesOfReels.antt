@@ -43,7 +43,7 @@ use Rattle.tape_run.specs.WorkedHistory.{block_0, block_1, vol1, hdr1, hdr2, fir
 
 -- ---- what a reel answers
 
--- of answers and what is left unread
+-- answers, and the bytes left unread
 pub record CasesOfAnswers : Type 0 where
   -- of a complete file nothing is read
   pub complete_reads_nothing : (core : State) (bytes left : List ℕ) (answer : ReelAnswer)
@@ -80,7 +80,7 @@ pub record CasesOfAnswers : Type 0 where
       × ((step_of (behind_items core r.items) (Some (block r.content))).0 ≡ Deliver)
       × Walks 0 bytes (r.items ++ block r.content ∷ []) r.at left
 
--- ---- what the table delivers of any items
+-- ---- the parts that the table delivers for any items
 
 abbrev pub spanned : FileForm
 spanned = record {
@@ -97,7 +97,7 @@ first_items = block vol1 ∷ block hdr1 ∷ block hdr2 ∷ mark ∷ block block_
 abbrev pub at_front : State
 at_front = reader_of (codes "ABC001") 1
 
--- of parts by the table
+-- parts that the table delivers
 pub record CasesOfTable : Type 0 where
   pub passed_gives_none : (item : TapeItem) (p : Position) (known : Option FileForm)
       → parts_by Passed item p known ≡ []
@@ -130,7 +130,7 @@ pub record CasesOfTable : Type 0 where
       × StopsInside (behind_items core c.before) new c.item
       (held ++ delivered_parts core c.before) now
 
--- of where the table leads a run
+-- where the table leads a run
 pub record CasesOfLeads : Type 0 where
   pub starts : at_start (codes "ABC001") 1
       ≡ record { place = at_front; parts = []; notes = [] }
@@ -159,7 +159,7 @@ pub record CasesOfLeads : Type 0 where
       → (c ≡ saved n.place (weight_of n.parts)) × IsFront n.parts parts
   pub each_noted : (n : Noted) (c : Point) (parts : List Portion)
       → (AreNoted [] (n ∷ []) [] parts → ⊥) × (AreNoted [] [] (c ∷ []) parts → ⊥)
-  -- a failed step leaves it where it was led, or inside the reel
+  -- after a failed step the run is where it was before, or inside the reel
   pub save_stops : (t : Lead) (readers : List (List ℕ)) (fault : RunFault) (new : Seen)
       → StopsBy t Save readers fault new → StandsThere t new
   pub reel_stops : (t : Lead) (bytes : List ℕ) (cause : SinkFault) (new : Seen)
@@ -167,7 +167,7 @@ pub record CasesOfLeads : Type 0 where
       → StopsBy t Reel (bytes ∷ []) (Sink cause) new → Begins 0 bytes xs end stop
       → IsCutAt xs (mount_of t.place) new.place t.parts new.parts
       × AreNoted [] t.notes new.notes new.parts
-  -- what calls say of it
+  -- what calls promise about this
   pub run_led : (old new : Seen) (steps : List Step) (bytes : List (List ℕ))
       (left : List (Option (List ℕ))) (t : Lead)
       (tapes : List (List TapeItem)) (r : HasRun old steps bytes left new) → AreItems r.given tapes

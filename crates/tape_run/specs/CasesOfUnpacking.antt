@@ -55,7 +55,7 @@ pub record CasesOfUnpacking : Type 0 where
       ≡ codes "A%62%2E01_.1.a%5CB.~_-%2E"
   pub refused : file_name (codes "000000") 7 (codes "%\"*:<>?|!$&'()[] ")
       ≡ codes "000000.7.%25%22%2A%3A%3C%3E%3F%7C!$&'()[]"
-  -- paths: what a terminal would obey or not show is written out, and `\` is doubled
+  -- paths: characters that control a terminal or are invisible are escaped, and `\` is doubled
   pub hidden : map is_hidden (0 ∷ 31 ∷ 127 ∷ 159 ∷ 173 ∷ 1564 ∷ 8203 ∷ 8207 ∷ 8232 ∷ 8238 ∷ 8288
       ∷ 8303 ∷ 65279 ∷ []) ≡ replicate 13 true
   pub seen : map is_hidden (32 ∷ 126 ∷ 160 ∷ 172 ∷ 174 ∷ 1563 ∷ 1565 ∷ 8202 ∷ 8208 ∷ 8231 ∷ 8239
@@ -85,7 +85,7 @@ pub record CasesOfUnpacking : Type 0 where
       → (length met.images ≡ length shelf)
       × AreViewed Took (λ r. r) shelf 0 met.images nothing_found left f.found
       × (met.files ≡ files_of f.found) × (met.whole ≡ f.found.whole)
-  -- an image on which no section begins is of no set, and another is of the set of its first
+  -- an image on which no section begins belongs to no set, any other to the set of its first
   -- section
   pub of_no_set : (s : ImageSurvey) → s.glance.head ≡ None → set_of (Some s) ≡ None
   pub of_a_set : (s : ImageSurvey) (h : Head1) → s.glance.head ≡ Some h

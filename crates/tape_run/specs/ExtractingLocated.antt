@@ -1,4 +1,4 @@
--- What `unpack` leaves of a complete file, if an image is read once for all of its files.
+-- What `unpack` leaves for a complete file, if an image is read once for all of its files.
 use Rattle.std.specs.Prelude.{◌≡◌, ◌≢◌, ◌⊎◌, ℕ, ◌<◌, Bool, true, false, List, [], ◌∷◌, ◌++◌}
 use Rattle.std.specs.Prelude.{Option, Some, None, IsSome, is_some, ⊤}
 use Rattle.std.specs.Map.{lookup}
@@ -39,15 +39,15 @@ abbrev pub ArePassed : FileKey → List TapeItem → Type 0
 ArePassed key front = (core : State) → core.set_id ≡ key.set_id → key.file < core.file
     → is_finished core.position ≡ false → core.phase ≢ Broken → PassedOver core front
 
--- The bytes of an image begin with items that every later file's session skips, and these are left.
+-- The bytes of an image begin with items that the session of every later file skips, and these
+-- bytes are left.
 pub record PassesTo (key : FileKey) (bytes left : List ℕ) : Type 0 where
   pub front : List TapeItem
   pub at : ℕ
   pub walks : Walks 0 bytes front at left
   pub passed : ArePassed key front
 
--- The open image, if there is one, has these bytes, and later files' sessions continue where its
--- reader is.
+-- The open image, if any, has these bytes, and later files' sessions continue where its reader is.
 abbrev pub IsHeld : {R : Type 0} → (R → Option (List ℕ)) → Option (Mounted R) → Option (List ℕ)
     → Type 0
 IsHeld remaining None whole = ⊤
@@ -55,8 +55,8 @@ IsHeld remaining (Some m) whole = IfKnown whole (remaining m.device) (PassesTo m
 
 -- ---- what a session reads
 
--- What a session read of an image: the bytes of the image, the items before those that it read, the
--- bytes that the reader then had and has left, and whether it failed.
+-- One reading of an image by a session: the bytes of the image, the items before those that it
+-- read, the bytes that the reader then had and those that it has left, and whether it failed.
 pub record Stretch : Type 0 where
   pub whole : Option (List ℕ)
   pub front : List TapeItem
@@ -64,12 +64,13 @@ pub record Stretch : Type 0 where
   pub left : Option (List ℕ)
   pub failed : Bool
 
--- The image begins with the items before, and the reader had what follows them.
+-- The image begins with the items before the reading, and the reader had the rest.
 abbrev pub IsPartOf : Stretch → Type 0
 IsPartOf s = IfKnown s.whole s.had (λ bytes rest. (at : ℕ) × Walks 0 bytes s.front at rest)
 
--- The session went where the table leads over the whole image: over the items before, and those of
--- the bytes that the reader returned, all that it had or, if it failed, what it no longer has.
+-- The session went where the table leads over the whole image: over the items before the reading,
+-- and those of the bytes that the reader returned (all the bytes that it had or, if it failed,
+-- those that it no longer has).
 pub record ReadsOn (s : Stretch) (old new : Seen) : Type 0 where
   pub given : List ℕ
   pub is_given : IfKnown s.whole s.had (λ bytes had. IsGiven s.failed had s.left given)
@@ -86,7 +87,7 @@ AreGivenOf (s ∷ ss) (g ∷ given) =
 AreGivenOf ss given = ⊥
 
 -- The items of each image: those before, and those that the returned bytes begin with. Each reader
--- told its bytes.
+-- knew its bytes.
 abbrev pub AreTapesOf : List Stretch → List (List ℕ) → List (List TapeItem) → Type 0
 AreTapesOf [] [] [] = ⊤
 AreTapesOf (s ∷ ss) (g ∷ given) (xs ∷ tapes) = IsSome s.whole
@@ -122,8 +123,8 @@ pub record IsThere (t : Lead) (s : Seen) : Type 0 where
   pub place : s.place ≡ t.place
   pub parts : s.parts ≡ t.parts
 
--- For every valid set and all mounts that the images are, the session is where these lead; and for
--- any images, it is where the table leads.
+-- For every valid set and all mounts that the images represent, the session is where these lead;
+-- and for any images, it is where the table leads.
 pub record GathersOf (stretches : List Stretch) (old new : Seen) : Type 0 where
   pub given : List (List ℕ)
   pub are_given : AreGivenOf stretches given

@@ -47,15 +47,14 @@ pub record PassedOver (core : State) (items : List TapeItem) : Type 0 where
   pub behind : behind_items (mount_of core) items ≡ behind_of core
   pub nothing : delivered_parts (mount_of core) items ≡ []
 
--- What the reader of one file read up to the end of a section is skipped by the reader of each
--- later file of the set: it continues after that as if it had read the reel from its start.
+-- The items that the reader of one file read up to the end of a section are skipped by the reader
+-- of each later file of the set: it continues there as if it had read the reel from its start.
 abbrev pub PassesFiles : Type 0
 PassesFiles = (first later : State) (items : List TapeItem) (item : TapeItem)
     → AreInOrder first later → later.phase ≢ Broken → ReadsSection first items item
     → PassedOver later (items ++ item ∷ [])
 
--- So if the reading that continued after them is led over the other items, the whole reel leads
--- there.
+-- So if the table leads the continued reading over the other items, it leads over the whole reel.
 abbrev pub LeadsOverAll : Type 0
 LeadsOverAll = (core new : State) (front more : List TapeItem) (held now : List Portion)
     → PassedOver core front → IsLed more (behind_of core) new held now
@@ -63,8 +62,8 @@ LeadsOverAll = (core new : State) (front more : List TapeItem) (held now : List 
 
 -- ---- calls
 
--- A reel was read on after a trailer label: what its reader returned, all of it or, if the reader
--- failed, what it no longer has.
+-- A reel was continued after a trailer label: the reader returned all its bytes or, if it failed,
+-- those that it no longer has.
 pub record ReeledBehind (bytes : List ℕ) (left : Option (List ℕ)) (failed : Bool) (old new : Seen)
     : Type 0 where
   pub given : List ℕ

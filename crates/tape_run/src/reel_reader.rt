@@ -35,14 +35,14 @@ use tape_set::Position;
 pub struct ReelAnswer {
     /// The last answer of the reading: the one that ended it.
     pub answer: Answer,
-    /// The fault of the image that ended the reading, if there was one.
+    /// The fault of the image that ended the reading, if any.
     pub fault: Option<ImageFault>,
     /// How many blocks of the file were delivered.
     pub blocks: u32,
 }
 
 impl ReelAnswer {
-    /// Creates an outcome with these three values.
+    /// Creates an outcome from its three values.
     pub(crate) fn new(answer: Answer, fault: Option<ImageFault>, blocks: u32) -> ReelAnswer
         ensures answer { result.answer ≡ answer }
         ensures fault { result.fault ≡ fault }
@@ -77,8 +77,8 @@ pub struct Refused {
     pub begun: bool,
 }
 
-/// Puts the parts of a checked block, from this one on. `begun` says whether a record is unfinished
-/// before it.
+/// Puts the parts of a checked block from part `first` on. `begun` says whether a record is
+/// unfinished before it.
 pub fn put_parts<S: PartSink>(
     sink: &mut S,
     shape: &Shape,
@@ -167,7 +167,8 @@ fn part_of(position: Position) -> u32
     }
 }
 
-/// Returns the checkpoint at a refused part of the block that was delivered between these two.
+/// Returns the checkpoint at part `part`, which was refused, of the block that was delivered
+/// between the checkpoints `before` and `after`.
 fn refused_point(before: &Checkpoint, after: &Checkpoint, part: u32, begun: bool) -> Checkpoint
     requires waits { is_finished before.now.position ≡ false }
     requires from { part_of before.now.position ≤ part }
@@ -183,8 +184,8 @@ fn refused_point(before: &Checkpoint, after: &Checkpoint, part: u32, begun: bool
 }
 
 impl<S: PartSink> ReelReader<S> {
-    /// Processes one event: passes it to the core, and puts what this delivers. If a part is
-    /// refused, the core's position becomes that part.
+    /// Processes one event: passes it to the core, and puts the parts that this delivers. If a part
+    /// is refused, the core's position becomes that part.
     fn take(&mut self, event: Event<'_>) -> Result<Answer, SinkFault>
         requires sized { IsSized (arrival event) }
         ensures file { self.new.core.file ≡ self.old.core.file }
@@ -259,8 +260,8 @@ impl<S: PartSink> ReelReader<S> {
         }
     }
 
-    /// Processes the items of an image of which nothing was read yet, up to a final answer, the end
-    /// of the medium or a fault.
+    /// Processes the items of an unread image, up to a final answer, the end of the medium or a
+    /// fault.
     pub fn read<R: Read>(&mut self, image: &mut ImageReader<'_, R>) -> Result<ReelAnswer, SinkFault>
         requires going { image.old.status ≡ going }
         requires first { image.old.place ≡ 0 }

@@ -59,8 +59,8 @@ impl<S> Model for Session<S> {
 }
 
 impl<S: PartSink + Drop> Session<S> {
-    /// Creates a session at the start of a file of the set with this identifier, over an empty
-    /// sink. Does not allocate.
+    /// Creates a session at the start of file `file` of the set with identifier `set_id`, over an
+    /// empty sink. Does not allocate.
     ///
     /// # Errors
     ///
@@ -117,7 +117,7 @@ impl<S: PartSink> Session<S> {
         Session::over(alloc, core, sink)
     }
 
-    /// Returns the sink, with what was delivered.
+    /// Returns the sink, with the parts delivered so far.
     pub fn sink(&self) -> &S
         ensures { result.now ≡ self.now.sink }
     {
@@ -131,13 +131,12 @@ impl<S: PartSink> Session<S> {
         self.reel_reader.sink
     }
 
-    /// Reads a reel up to the first item after which no other one of the reel can say anything of
-    /// the file. The parts of each block that the file needs go to the sink, one by one, from the
-    /// expected part on. If the file is complete nothing is read. Allocates only the image reader's
-    /// buffer.
+    /// Reads a reel up to the first item after which no other item of the reel can affect the file.
+    /// The parts of each block that the file needs go to the sink, one by one, from the expected
+    /// part on. If the file is complete, nothing is read. Allocates only the image reader's buffer.
     ///
     /// A fault of the image, or a reader that failed, ends the reading and is part of the result;
-    /// what was read before it counts.
+    /// items read before it count.
     ///
     /// # Errors
     ///
@@ -189,7 +188,7 @@ impl<S: PartSink> Session<S> {
         let mut image = ImageReader::over(buffer, device);
         self.reel_reader.core.mount();
         let read = self.reel_reader.read(&mut image);
-        // The rest of the reader is its caller's again.
+        // The caller gets back the rest of the reader.
         image.into_device();
         match read {
             Ok(answer) => {
@@ -251,7 +250,7 @@ impl<S: PartSink> Session<S> {
     }
 
     /// Adds a checkpoint of the session's position to its list only, and stores nothing in the
-    /// sink: for a sink that a crash leaves as it is, such as one that was just opened.
+    /// sink: for a sink in which this state is already durable, such as one that was just opened.
     ///
     /// # Errors
     ///
@@ -280,13 +279,13 @@ impl<S: PartSink> Session<S> {
         self.notes.len()
     }
 
-    /// Rolls back to the checkpoint with this number, counted from 0: the sink is cut to its
-    /// contents at that time, and the later checkpoints are dropped. Does not allocate.
+    /// Rolls back to checkpoint `n`, counted from 0: cuts the sink to its contents at that time,
+    /// and drops the later checkpoints. Does not allocate.
     ///
     /// # Errors
     ///
-    /// Returns `NoSuchPoint` if there are not that many checkpoints; `Sink` if the sink refused.
-    /// Both leave the session unchanged; a sink that returned `Device` must be opened again.
+    /// Returns `NoSuchPoint` if there are at most `n` checkpoints; `Sink` if the sink refused. Both
+    /// leave the session unchanged; a sink that returned `Device` must be opened again.
     pub fn restart(&mut self, n: usize) -> Result<(), RunFault>
         ensures ok { OnOk result (IfSeen S.PartSink self.old (λ old. IsKept old
             → IsSeen S.PartSink self.new (λ new. IsKept new × WentBack n old new))) }
@@ -321,7 +320,7 @@ impl<S: PartSink> Session<S> {
         Ok(())
     }
 
-    /// Returns what is missing next of the file, or `None` exactly if it is complete.
+    /// Returns the next missing part of the file, or `None` exactly if the file is complete.
     pub fn want(&self) -> Option<Want>
         ensures { result ≡ want_at (rest_of self.now.core).file (rest_of self.now.core).position }
     {
@@ -336,7 +335,7 @@ impl<S: PartSink> Session<S> {
     }
 }
 
-/// A count of readers that failed, after one more, which failed or did not.
+/// Returns a count of failed readers after one more reader, which failed or did not.
 fn counted(failures: u64, failed: bool) -> u64
     ensures { result ≡ counted failed failures }
 {

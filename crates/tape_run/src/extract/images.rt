@@ -23,18 +23,18 @@ pub trait ImageSource<R: Read> {
     /// The number of images.
     ghost size: { Self → ℕ };
 
-    /// What opening the image with this number yields, and the source then.
+    /// The result of opening an image by its number, and the source afterwards.
     ghost gives: { Mounting Self R };
 
     /// Returns the number of images.
     fn count(&self) -> usize
         ensures { result ≡ size self.now };
 
-    /// Opens the image with this number, counted from 0. Returns `None` if it cannot be opened.
+    /// Opens image `number`, counted from 0. Returns `None` if it cannot be opened.
     ///
     /// # Errors
     ///
-    /// Returns `AllocError` if there is no memory to read it. Nothing changed.
+    /// Returns `AllocError` if there is no memory to read the image. The source is unchanged.
     fn mount(&mut self, number: usize) -> Result<Option<R>, AllocError>
         ensures ok { IfOk result (λ image. gives self.old number image self.new) }
         ensures err { OnErr result (self.new ≡ self.old) };
@@ -59,8 +59,8 @@ impl<R: Read> ImageSource<R> for Vec<Option<R>> {
 }
 
 /// Opens the images in order until the file is complete. `back` says whether the session rolls back
-/// after a suspect reel, `spares` whether it saves no checkpoint if its last one has the same
-/// position.
+/// after a suspect reel, `spares` whether it skips a checkpoint whose position the last one already
+/// has.
 pub fn read_images<S: PartSink, R: Read + Drop, L: ImageSource<R>, P: Write>(
     session: &mut Session<S>,
     images: &mut L,
@@ -116,7 +116,7 @@ pub fn read_round<S: PartSink, R: Read + Drop, L: ImageSource<R>, P: Write>(
     Ok(())
 }
 
-/// Reads the image with this number, or skips it if it cannot be opened, and prints its line.
+/// Reads image `number`, or skips it if it cannot be opened, and prints its line.
 fn take_image<S: PartSink, R: Read + Drop, P: Write>(
     session: &mut Session<S>,
     image: Option<R>,
@@ -243,7 +243,8 @@ fn note<S: PartSink>(
     Ok(true)
 }
 
-/// Returns whether the trailer label of the reel, or of a reel before it, counted other blocks.
+/// Returns whether the trailer label of the reel, or of a reel before it, gave a different number
+/// of blocks.
 fn counts_differ(answer: &ReelAnswer) -> bool
     ensures { result ≡ counts_differ answer.now.answer }
 {

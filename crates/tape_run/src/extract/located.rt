@@ -36,10 +36,10 @@ pub struct Mounted<R> {
 }
 
 /// Reads a file from the images on which its sections begin, each section from one image, and
-/// writes the file's records as they come. If the file is complete its output is placed under its
-/// name; returns how many records it has. Returns `None` exactly if the file is not complete: a
-/// section has no image in `locations`, or could not be read to its end from its image. Then the
-/// output's name is not touched, and what was written is dropped with the session.
+/// writes the file's records as they come. If the file is complete, gives the output its name, and
+/// returns the number of records. Returns `None` exactly if the file is not complete: a section has
+/// no image in `locations`, or could not be read to its end from its image. Then the output's name
+/// is not touched, and the records already written are dropped with the session.
 ///
 /// The image of the last section stays open. The session of a later file of the set continues
 /// there, as if it had read the image from its start. So each byte of an image is read once for all
@@ -49,7 +49,7 @@ pub struct Mounted<R> {
 ///
 /// Returns `Run` with the fault of a reel, with `OutOfMemory` if there was no memory to open an
 /// image, or with `Sink(Failed)` if a record is left unfinished; `WriteFailed` if the output could
-/// not be placed. What has the output's name did not change.
+/// not be placed. A file that already has the output's name is unchanged.
 pub fn extract_located<W: Write + Drop, R: Read + Drop, L: ImageSource<R>, O: Place<W>>(
     session: Session<OutSink<W>>,
     images: &mut L,
@@ -112,8 +112,9 @@ fn read_sections<S: PartSink, R: Read + Drop, L: ImageSource<R>>(
     Ok(true)
 }
 
-/// Reads a section from an image: from the current position if this image is open and an earlier
-/// file of the set left it there, otherwise from its start. Returns the image, if a section ended.
+/// Reads section `number` from an image: from the current position of the open image, if the
+/// session of an earlier file of the set stopped there, otherwise from the start of an image.
+/// Returns the image if a section ended.
 fn read_section<S: PartSink, R: Read + Drop, L: ImageSource<R>>(
     session: &mut Session<S>,
     images: &mut L,
@@ -202,7 +203,7 @@ fn read_on<S: PartSink, R: Read + Drop>(
     Ok(None)
 }
 
-/// Whether a reading completed a section.
+/// Returns whether a reading completed a section.
 fn ends_section(answer: &ReelAnswer) -> bool
     ensures yes { OnTrue result (EndsSection answer.now.answer) }
     ensures no { OnFalse result (answer.now.answer ≢ Answer.Complete) }

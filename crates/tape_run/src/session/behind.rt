@@ -22,8 +22,8 @@ use tape_set::Position;
 
 impl<S: PartSink> Session<S> {
     /// Continues a reel where the session of an earlier file of the set completed a section: the
-    /// reader's position is after the section's trailer label. The result is as if this session had
-    /// read the reel from its start (`laws::passes_files`), but each byte is read once.
+    /// reader's position is after the section's trailer label. The result is the same as if this
+    /// session had read the reel from its start (`laws::passes_files`), but each byte is read once.
     ///
     /// # Errors
     ///

@@ -101,7 +101,7 @@ fn out_in<'a>(alloc: Global, matches: &ArgMatches<'a>) -> Result<&'a str, Error>
     Ok(out)
 }
 
-/// Returns what is recovered of each block.
+/// Returns whether records or blocks are recovered.
 fn content_in(matches: &ArgMatches<'_>) -> Content
     ensures { result ≡ Blocks → first_of (codes "form") (rows_of (found_of matches.now))
         ≡ Some (codes "blocks") }

@@ -25,7 +25,7 @@ const AT_ONCE: &[Step<'_>] = &[
     Step::Holds("unpacked/ABC001.1.PAYROLL", b"kept"),
 ];
 
-/// Damaged copies, one a day: the last one alone lacks what the others contributed.
+/// Damaged copies, one a day: the last one alone does not have all that the others contributed.
 const DAY_BY_DAY: &[Step<'_>] = &[
     Step::Folder("days"),
     Step::PutDamaged("day1.tap", 1),
@@ -36,7 +36,7 @@ const DAY_BY_DAY: &[Step<'_>] = &[
     Step::Ends("unpack days day1.tap --form raw", End::Done),
     Step::HasLength("days/ABC001.1.PAYROLL", 2000),
     Step::IsMissing("days/ABC001.1.PAYROLL.stage"),
-    // On one day both copies complete each other, in either order.
+    // On one day two copies complete each other, in either order.
     Step::Remove("days/ABC001.1.PAYROLL"),
     Step::Ends("unpack days day1.tap day2.tap", End::Done),
     Step::HasText("days/ABC001.1.PAYROLL", 1944, b"0025  "),
@@ -62,7 +62,7 @@ const FAILED: &[Step<'_>] = &[
         ToolFault::File(FileFault::NotOpened),
     ),
     Step::HasLength("failed2.txt", 0),
-    // A link that leads nowhere is something that exists.
+    // A link that leads nowhere counts as existing.
     Step::Link("failed/ABC001.1.PAYROLL", "lost.txt"),
     Step::Ends("unpack failed failed1.tap", End::Done),
     Step::IsMissing("failed/ABC001.1.PAYROLL"),
@@ -114,7 +114,7 @@ fn every_file_is_unpacked(rt: HostRuntime) -> Result<(), Fail> {
     )
 }
 
-/// A volume with only the second file of its set, which has no records.
+/// Returns a volume with only the second file of its set, which has no records.
 fn second_alone(alloc: Global) -> Result<Image, AllocError> {
     let mut image = Image::new(alloc);
     let header = "HDR1LEDGER           ABC00100010002000100 00000 00000 000000";

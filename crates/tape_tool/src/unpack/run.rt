@@ -51,7 +51,7 @@ pub fn unpack<'a, R: Host>(rt: &R, order: &Unpack<'a>, site: &mut FaultSite<'a>)
     }
 }
 
-/// Recovers every file on the images with these names.
+/// Recovers every file on the images named `names`.
 fn unpack_images<R: Host>(rt: &R, order: &Unpack<'_>, names: &[&str]) -> End {
     if let Err(refusal) = is_folder(rt, order.folder) {
         return end_refused(rt, &UNPACK, refusal);
@@ -70,7 +70,7 @@ fn unpack_images<R: Host>(rt: &R, order: &Unpack<'_>, names: &[&str]) -> End {
     }
 }
 
-/// Refuses what is not a directory. An image in its place was named without a directory before it.
+/// Refuses anything that is not a directory: if it is an image, DIR was forgotten.
 fn is_folder<R: Host>(rt: &R, path: &str) -> Result<(), Refusal> {
     match fs::metadata(rt, path) {
         Ok(found) if found.is_dir() => Ok(()),
@@ -123,7 +123,7 @@ fn unpack_all<R: Host, P: Write>(
 /// How the unpacking of a file ends or, as an error, how the run ends with it.
 type Ended = Result<End, End>;
 
-/// Returns the number after that of the previous file, if this one belongs to its set, otherwise 1.
+/// Returns the number after that of the previous file, if both belong to the same set, otherwise 1.
 fn number_after(before: Option<(Field<6>, u16)>, set_id: &Field<6>) -> u16 {
     match before {
         Some((set, number)) if set == *set_id => number.saturating_add(1),
@@ -159,7 +159,7 @@ fn unpack_file<R: Host, P: Write>(
     }
 }
 
-/// Unpacks a file to these paths, unless something has its name.
+/// Unpacks a file to the given paths, unless a file with its name exists.
 fn unpack_to<R: Host, P: Write>(
     rt: &R,
     order: &Unpack<'_>,
@@ -219,9 +219,9 @@ fn unpacked<R: Host>(
     }
 }
 
-/// Recovers a file: if all its sections are intact, from the images that have these, in one reading
-/// of each; any other file, and one that was not complete then, on its stage, pass by pass. The
-/// last line of both is remembered.
+/// Recovers a file. If all its sections are intact, reads the images that have them once. Any other
+/// file, or one that is still incomplete then, is recovered on its stage, in passes. The last line
+/// of both is remembered.
 fn gather<R: Host>(
     rt: &R,
     order: &Unpack<'_>,
@@ -247,7 +247,7 @@ fn gather<R: Host>(
         let end = extract_whole(rt, &at_once, images, &mut shelf.mounted, locations, last);
         if end != End::Incomplete {
             if end != End::Done {
-                // Nothing is proved of an image that a fault left open.
+                // Nothing is proved about an image that a fault left open.
                 shelf.mounted = None;
             }
             return end;

@@ -15,7 +15,7 @@ use Rattle.tape_run.proofs.reel_reader.ReelReader.read.Given.{Over}
 use Rattle.tape_run.proofs.reel_reader.ReelReader.read.Goals.{In_ok-answer}
 use Rattle.tape_run.proofs.reel_reader.ReelReader.read.Goals as goal
 
--- the core processed the event, and the sink what it delivers
+-- the core processed the event, and the sink the parts that it delivered
 took : (g : Over) (c : In_ok-answer g) → Grows (g.S.PartSink.holds c.items.self.sink)
     (g.S.PartSink.holds c.take.new.self.sink) (IsTaken (arrival c.event_of-fault.result.0)
     c.in_ok-answer.answer c.items.self.core c.take.new.self.core)

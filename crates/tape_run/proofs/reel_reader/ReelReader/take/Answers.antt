@@ -73,7 +73,7 @@ returns-in_ok-put_block-clause-ok g c = λ held was.
           held),
     )
 
--- what is delivered is a block
+-- the event that delivers parts is a block
 pub returns-in_default-event : goal.returns-in_default-event
 returns-in_default-event g c =
     let checked = checked_of (arrival c.args.event) c.args.self.now.core c.step-answer.new.self
