@@ -182,6 +182,7 @@ pub record AsksToUnpack (rows : List Row) (order : Unpack) : Type 0 where
   pub named : text_in rows (codes "DIR") ≢ []
   pub images : NamesImages rows order.images
   pub form : IsForm rows order.form
+  pub salvage : IsFlag rows (codes "salvage") order.salvage
 
 -- why `unpack` is refused
 abbrev pub IsNoUnpack : List Row → Type 0
