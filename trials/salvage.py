@@ -21,8 +21,10 @@ Prints each wrong answer, and counts; the exit status is 1 if there is one.
 """
 
 import argparse
+import hashlib
 import random
 import resource
+import shutil
 import struct
 import subprocess
 import sys
@@ -408,6 +410,38 @@ def check_file(trial, set_id, number, images, names, form):
     return expected, got, status
 
 
+def check_unpacked(trial, set_id, images, names):
+    """What `unpack --salvage` writes for the files of a set that these images do not complete, in two runs."""
+    folder = trial.folder / "unpacked"
+    folder.mkdir()
+    for _ in range(2):
+        lines = trial.run("unpack", "unpacked", *names, "--salvage").stdout.decode().splitlines()
+        found = {path.name for path in folder.iterdir() if path.suffix in (".salvaged", ".gaps")}
+        for line, second in zip(lines, lines[1:] + [""]):
+            name, number, state = line.split()[1:4] if line.startswith("FILE ") else ("", "", "")
+            if state != "AWAITS":
+                continue
+            path = line[line.index("unpacked/"):].removesuffix(".stage")
+            report = (trial.folder / f"{path}.gaps").read_bytes()
+            records = (trial.folder / f"{path}.salvaged").read_bytes()
+            found -= {f"{Path(path).name}.gaps", f"{Path(path).name}.salvaged"}
+            front, _, sums = report[:-1].rpartition(b"\n")
+            taken = [it.split(" ", 2)[2] for it in front.decode().split("\n") if it.startswith("FROM ")]
+            own = {reel for reel, image in zip(names, images) if image is not None
+                and any(it.head["set"] == name.ljust(6).encode() for it in sections_on(items_of(image), 0)[:1])}
+            expected = recovered([images[names.index(it)] for it in taken], name, int(number), False)
+            text = b"".join(record + b"\n" for record in expected.records)
+            wanted = [f"FROM {at} {it}" for at, it in enumerate(taken, 1)] + expected.lines
+            what = f"unpack --salvage {name} {number} {' '.join(names)}:"
+            trial.is_so(own <= set(taken), f"{what} {own} are not among {taken}")
+            trial.is_so(records == text, f"{what} {len(records)} bytes, expected {len(text)}")
+            trial.is_so(front.decode().split("\n") == wanted, f"{what} {front.decode()}\nexpected {wanted}")
+            trial.is_so(sums.decode().split() == ["SUMS", hashlib.sha256(records).hexdigest(), hashlib.sha256(front + b"\n").hexdigest()], f"{what} {sums}")
+            trial.is_so(second == f"FILE {name} {number} {expected.lines[-1]} {path}.salvaged", f"{what} {second}")
+        trial.is_so(not found, f"unpack --salvage {' '.join(names)}: {found} have no line")
+    shutil.rmtree(folder)
+
+
 def check_set(trial, rng, number):
     """A set, damaged, and each of its files."""
     set_id = f"SET{number % 1000:03}"
@@ -452,6 +486,8 @@ def check_set(trial, rng, number):
                 trial.is_so(status == 0 and (trial.folder / "again").read_bytes() == got, f"{set_id} {file.number}: extract completes it")
         if form == "lines" and status == 0:
             trial.is_so(got == file.text, f"{set_id} {file.number}: COMPLETE, and not the file")
+    if number % 3 == 0:
+        check_unpacked(trial, set_id, images, names)
     for name, image in zip(names, images):
         if image is not None:
             (trial.folder / name).unlink()
