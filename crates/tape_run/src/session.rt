@@ -165,10 +165,12 @@ impl<S: PartSink> Session<S> {
             S.refusals self.new.sink ≡ S.refusals self.old.sink) }
         ensures refuses { IfErr result (λ fault.
             Refuses S.PartSink fault self.old self.new) }
-        // The answer is the core's last one, and no byte after what ended the reading was read.
+        // The answer and the position are those to which the core's table leads, for any sink, and
+        // no byte after what ended the reading was read.
         ensures answer { IfOk result (λ answer. IfKnown (R.remaining device.old)
             (R.remaining device.new)
-            (λ bytes left. Reads self.old.core.position self.old.core bytes left answer)) }
+            (λ bytes left. Reads self.old.core.position self.old.core bytes left answer
+            self.new.core)) }
         // Whatever was read, the answer is Complete exactly if nothing is missing any more.
         ensures complete { IfOk result (λ answer. answer.answer ≡ Answer.Complete
             → self.new.core.position ≡ Position.Finished) }
@@ -176,7 +178,7 @@ impl<S: PartSink> Session<S> {
             self.new.core.position ≡ Position.Finished → answer.answer ≡ Answer.Complete) }
         ensures unread { IfErr result (λ fault.
             Leaves fault (mount_of self.old.core) (R.remaining device.old)
-            (R.remaining device.new)) }
+            (R.remaining device.new) self.new.core) }
         // In any case: a crash during or after it leaves nothing new.
         ensures crash { BringsNoMore S.PartSink self.old.sink self.new.sink }
     {

@@ -53,6 +53,7 @@ returns-clause-ok g c =
                 seen sink c.settle.new.session behind,
                 record {
                   waits = c.requires.waits;
+                  behind = c.reel.new.self.core;
                   answers = c.in_ok-answer.ensures.answer;
                   reeled = noted back c.args.spares opened.had opened
                       (seen sink c.args.session.now held) mid
