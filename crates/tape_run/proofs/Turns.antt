@@ -127,11 +127,6 @@ pub part_line : (number : ℕ) (outcome : Option ReelAnswer) (old new : Option (
 part_line number outcome old new (front, rest, wrote, all) =
     (outcome ∷ [], omega arith, (front, rest, wrote, append-nil (reel_line number outcome) ∙ all))
 
-pub whole_line : (number : ℕ) (outcome : Option ReelAnswer) (old new : Option (List ℕ))
-    → Appends old new (reel_line number outcome) → IsReported number old new
-whole_line number outcome old new wrote =
-    (outcome ∷ [], omega arith, (reel_line number outcome, [], wrote, refl))
-
 -- ---- an image whose reading failed
 
 -- The bytes returned of an image whose reading failed begin with items that end at the offset in

@@ -122,8 +122,10 @@ fn read_section<S: PartSink, R: Read + Drop, L: ImageSource<R>>(
 ) -> Result<Option<Mounted<R>>, EngineFault>
     requires waits { session.old.core.position ≢ Finished }
     ensures ok { IfOk result (λ after. (whole : Option (List ℕ)) → IsHeld R.remaining held whole
-        → ReadsLocated S.PartSink L.gives R.remaining session.old session.new images.old images.new
-        whole after) }
+        → ReadsLocated S.PartSink L.gives R.remaining number session.old session.new images.old
+        images.new whole after) }
+    ensures file { (session.new.core.set_id ≡ session.old.core.set_id)
+        × (session.new.core.file ≡ session.old.core.file) }
     ensures unfinished { IfOk result (λ after. after ≡ None
         → session.new.core.position ≢ Finished) }
     ensures cause { IfErr result IsExtractFault }
@@ -156,6 +158,8 @@ fn read_front<S: PartSink, R: Read + Drop>(
     requires waits { session.old.core.position ≢ Finished }
     ensures ok { IfOk result (ReadsPart S.PartSink R.remaining (R.remaining device)
         session.old session.new) }
+    ensures file { (session.new.core.set_id ≡ session.old.core.set_id)
+        × (session.new.core.file ≡ session.old.core.file) }
     ensures unfinished { IfOk result (λ after. after ≡ None
         → session.new.core.position ≢ Finished) }
     ensures cause { IfErr result (λ fault. IsExtractFault (engine.Run fault)) }
@@ -184,6 +188,8 @@ fn read_on<S: PartSink, R: Read + Drop>(
     ensures ok { IfOk result (λ after. (whole : Option (List ℕ))
         → IsHeld R.remaining (Some held) whole
         → ReadsPart S.PartSink R.remaining whole session.old session.new after) }
+    ensures file { (session.new.core.set_id ≡ session.old.core.set_id)
+        × (session.new.core.file ≡ session.old.core.file) }
     ensures unfinished { IfOk result (λ after. after ≡ None
         → session.new.core.position ≢ Finished) }
     ensures cause { IfErr result (λ fault. IsExtractFault (engine.Run fault)) }
