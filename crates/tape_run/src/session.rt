@@ -297,7 +297,8 @@ impl<S: PartSink> Session<S> {
             × RestartFails n fault old (seen S.PartSink self.new old.parts))) }
         // For any sink: the session is at the checkpoint and the later ones are gone, or its
         // position is unchanged; no call of the sink was refused, or the one that was is reported.
-        ensures stays { OnErr result (self.new.core ≡ self.old.core) }
+        ensures stays { OnErr result ((self.new.core ≡ self.old.core)
+            × (self.new.notes ≡ self.old.notes)) }
         ensures place { OnOk result (IsAtNote n self.old self.new) }
         ensures notes { OnOk result (self.new.notes ≡ take (n + 1) self.old.notes) }
         ensures calm { OnOk result (S.refusals self.new.sink ≡ S.refusals self.old.sink) }

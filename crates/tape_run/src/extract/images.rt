@@ -158,6 +158,9 @@ fn take_reel<S: PartSink, R: Read, P: Write>(
     ensures ok { OnOk result (Takes S.PartSink R.remaining back spares session.old session.new
         (Some device.old) number (P.contents report.old) (P.contents report.new)) }
     ensures err { OnErr result (IsReported number (P.contents report.old) (P.contents report.new)) }
+    // A reel that could not be saved is not reported.
+    ensures silent { IfErr result (λ fault. fault ≢ EngineFault.WriteFailed
+        → P.contents report.new ≡ P.contents report.old) }
     ensures left { OnErr result (IfSeen S.PartSink session.old (λ old. IsKeptFor back old
         → LeavesStep S.PartSink back session.old old.parts session.new)) }
     ensures cause { IfErr result (λ fault.

@@ -1,9 +1,6 @@
-use Rattle.std.proofs.Common.{rules, ◌≡◌, Some, refl, subst}
-use Rattle.std.specs.Io.KnownBytes.{Appends}
+use Rattle.std.proofs.Common.{Some, refl}
 use Rattle.tape_run.specs.declared.fault.EngineFault.TheVariants.{Run}
 use Rattle.tape_run.specs.Seen.{seen}
-use Rattle.tape_image.specs.Written.{AppendsFront}
-use Rattle.tape_run.specs.ReelLine.{reel_line}
 use Rattle.tape_run.specs.Reeling.{Opened, counts_differ}
 use Rattle.tape_image.proofs.Pieces.{on_err}
 use Rattle.tape_run.proofs.Turns.{part_line, noted, kept_for, kept_behind}
