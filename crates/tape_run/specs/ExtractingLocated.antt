@@ -140,15 +140,15 @@ abbrev pub BeginsOn : List Located → State → ℕ → Type 0
 BeginsOn locations core image = (sect : ℕ)
     × (lookup (same_key (key_at core.set_id core.file sect)) locations ≡ Some image)
 
--- Each stretch is of the open image, which has these bytes, or of one that the source yielded, on
--- which a section begins, and which is then open.
-abbrev pub AreFrom : {L R : Type 0} → (ℕ → Type 0) → Mounting L R → (R → Option (List ℕ))
+-- Each stretch is of the open image, if there is one, which has these bytes, or of one that the
+-- source yielded, on which a section begins, and which is then open.
+abbrev pub AreFrom : {L R : Type 0} → (ℕ → Type 0) → Mounting L R → (R → Option (List ℕ)) → Bool
     → Option (List ℕ) → L → List Stretch → L → Type 0
-AreFrom on gives remaining whole shelf [] last = last ≡ shelf
-AreFrom on gives remaining whole shelf (s ∷ ss) last = IsPartOf s
-    × (((s.whole ≡ whole) × AreFrom on gives remaining s.whole shelf ss last)
+AreFrom on gives remaining opened whole shelf [] last = last ≡ shelf
+AreFrom on gives remaining opened whole shelf (s ∷ ss) last = IsPartOf s
+    × (((opened ≡ true) × (s.whole ≡ whole) × AreFrom on gives remaining true s.whole shelf ss last)
     ⊎ ((image : ℕ) × on image × (device : _) × (next : _) × gives shelf image (Some device) next
-    × (s.whole ≡ remaining device) × AreFrom on gives remaining s.whole next ss last))
+    × (s.whole ≡ remaining device) × AreFrom on gives remaining true s.whole next ss last))
 
 -- the bytes of the image that is open after these stretches
 abbrev pub held_behind : Option (List ℕ) → List Stretch → Option (List ℕ)
@@ -170,9 +170,10 @@ pub record ReadsPart {S R : Type 0} (g : Ghosts S) (remaining : R → Option (Li
 -- A stretch was read of the open image or of the one with this number, which the source yielded;
 -- or this cannot be opened, and nothing changed.
 abbrev pub ReadsLocated : {S L R : Type 0} → Ghosts S → Mounting L R → (R → Option (List ℕ)) → ℕ
-    → SessionState S → SessionState S → L → L → Option (List ℕ) → Option (Mounted R) → Type 0
-ReadsLocated g gives remaining image old new shelf left whole after =
-    ((left ≡ shelf) × ReadsPart g remaining whole old new after)
+    → SessionState S → SessionState S → L → L → Bool → Option (List ℕ) → Option (Mounted R)
+    → Type 0
+ReadsLocated g gives remaining image old new shelf left opened whole after =
+    ((opened ≡ true) × (left ≡ shelf) × ReadsPart g remaining whole old new after)
     ⊎ (((device : _) × gives shelf image (Some device) left
     × ReadsPart g remaining (remaining device) old new after)
     ⊎ (gives shelf image None left × (new ≡ old) × (after ≡ None)))
@@ -195,11 +196,12 @@ EndsReading gives locations stretches core mid left false = (core.position ≢ F
 -- Stretches of images were read, one after another, and this image is open then.
 pub record ReadsSections {S L R : Type 0} (g : Ghosts S) (gives : Mounting L R)
     (remaining : R → Option (List ℕ)) (locations : List Located) (complete : Bool)
-    (old new : SessionState S) (shelf left : L) (whole : Option (List ℕ))
+    (old new : SessionState S) (shelf left : L) (opened : Bool) (whole : Option (List ℕ))
     (after : Option (Mounted R)) : Type 0 where
   pub stretches : List Stretch
   pub mid : L
-  pub are_from : AreFrom (BeginsOn locations old.core) gives remaining whole shelf stretches mid
+  pub are_from : AreFrom (BeginsOn locations old.core) gives remaining opened whole shelf stretches
+      mid
   pub held : IsHeld remaining after (held_behind whole stretches)
   pub gathers : IfSeen g old (λ was. IsSeen g new (λ is. GathersOf stretches was is))
   pub ends : EndsReading gives locations stretches new.core mid left complete
@@ -207,10 +209,10 @@ pub record ReadsSections {S L R : Type 0} (g : Ghosts S) (gives : Mounting L R)
 -- A file was read in this way. If it is complete, exactly its records have the output's name.
 pub record ExtractsLocated {S L R : Type 0} (g : Ghosts S) (gives : Mounting L R)
     (remaining : R → Option (List ℕ)) (locations : List Located) (session : SessionState S)
-    (shelf left : L) (whole : Option (List ℕ)) (after : Option (Mounted R)) (form : Form)
-    (tells : Type 0) (stands : Option (List ℕ)) (records : Option ℕ) : Type 0 where
+    (shelf left : L) (opened : Bool) (whole : Option (List ℕ)) (after : Option (Mounted R))
+    (form : Form) (tells : Type 0) (stands : Option (List ℕ)) (records : Option ℕ) : Type 0 where
   pub last : SessionState S
   pub reads : ReadsSections g gives remaining locations (is_some records) session last shelf left
-      whole after
+      opened whole after
   pub complete : (n : ℕ) → records ≡ Some n → (parts : List Portion) → g.holds last.sink parts
       → IsPut None tells n form stands parts

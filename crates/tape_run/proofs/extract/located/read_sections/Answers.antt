@@ -1,5 +1,5 @@
 use Rattle.std.proofs.Common.{◌≡◌, ◌≢◌, ℕ, inl, inr, refl, sym, subst, ap, ◌∙◌, arith, rules}
-use Rattle.std.specs.Prelude.{not, true, false, List, Option, Some, None}
+use Rattle.std.specs.Prelude.{not, is_some, true, false, List, Option, Some, None}
 use Rattle.std.specs.Map.{lookup}
 use Rattle.tape_set.specs.Position.{want_at}
 use Rattle.tape_set.specs.declared.position.Position.TheVariants.{Awaits}
@@ -11,6 +11,7 @@ use Rattle.tape_run.specs.ExtractingLocated.{IsHeld, BeginsOn, NextBeginsOn, hel
 use Rattle.tape_run.specs.SurveyLocations.{Located}
 use Rattle.tape_run.specs.declared.survey.files.FileKey.{FileKey}
 use Rattle.tape_run.proofs.Located.{nothing_read, section_read, read_some, section_failed}
+use Rattle.tape_run.proofs.Located.{nothing_open, read_open, located_open}
 use Rattle.tape_run.proofs.Located.{sections_read, not_none, is_none_then, wanted_sect}
 use Rattle.tape_run.proofs.extract.located.read_sections.Goals as goal
 
@@ -45,7 +46,9 @@ sections-init g c = record {
   file = refl;
   reads = λ whole held. (
     nothing_read g.S.PartSink _ g.L.ImageSource.gives g.R.Read.remaining c.args.session.now
-        c.args.images.now whole c.args.mounted.now held,
+        c.args.images.now (is_some c.args.mounted.now) whole c.args.mounted.now held,
+    nothing_open g.S.PartSink _ g.L.ImageSource.gives g.R.Read.remaining c.args.session.now
+        c.args.images.now (is_some c.args.mounted.now) whole c.args.mounted.now held,
     λ some. absurd (omega arith),
   );
 }
@@ -62,17 +65,29 @@ sections-preserved g c =
       set_id = c.in_ok-mounted.ensures.file.0 ∙ inv.set_id;
       file = c.in_ok-mounted.ensures.file.1 ∙ inv.file;
       reads = λ whole held.
-          let s = (inv.reads whole held).0 in
-          let reads = c.in_ok-mounted.ensures.ok (held_behind whole s.stretches)
+          let (s, is_open, more) = inv.reads whole held in
+          let reads = located_open g.S.PartSink g.L.ImageSource.gives g.R.Read.remaining
+          c.in-Some-get.field-0.now c.sections.session c.read_section.new.session c.sections.images
+          c.read_section.new.images _ _ (held_behind whole s.stretches) _
+          (ap is_some c.take-held.ensures.value ∙ is_open)
+          (c.in_ok-mounted.ensures.ok (held_behind whole s.stretches)
           (subst (λ m. IsHeld g.R.Read.remaining m (held_behind whole s.stretches))
-          (sym c.take-held.ensures.value) s.held) in (
+          (sym c.take-held.ensures.value) s.held)) in (
             section_read g.S.PartSink _ g.L.ImageSource.gives g.R.Read.remaining
                 c.args.session.now c.sections.session c.read_section.new.session
-                c.args.images.now c.sections.images c.read_section.new.images whole
+                c.args.images.now c.sections.images c.read_section.new.images
+                (is_some c.args.mounted.now) whole
                 c.sections.mounted _ s c.in-Some-get.field-0.now on reads some,
+            c.is_none.ensures ∙ ap not c.if-is_none.false
+                ∙ sym (read_open g.S.PartSink _ g.L.ImageSource.gives g.R.Read.remaining
+                c.args.session.now c.sections.session c.read_section.new.session
+                c.args.images.now c.sections.images c.read_section.new.images
+                (is_some c.args.mounted.now) whole
+                c.sections.mounted _ s c.in-Some-get.field-0.now on reads some),
             λ _. read_some g.S.PartSink _ g.L.ImageSource.gives g.R.Read.remaining
                 c.args.session.now c.sections.session c.read_section.new.session
-                c.args.images.now c.sections.images c.read_section.new.images whole
+                c.args.images.now c.sections.images c.read_section.new.images
+                (is_some c.args.mounted.now) whole
                 c.sections.mounted _ s c.in-Some-get.field-0.now on reads some,
           );
     }
@@ -80,31 +95,36 @@ sections-preserved g c =
 pub returns-then-is_none-clause-ok : goal.returns-then-is_none-clause-ok
 returns-then-is_none-clause-ok g c whole held =
     let inv = c.sections.invariant in
-    let s = (inv.reads whole held).0 in
+    let (s, is_open, more) = inv.reads whole held in
     let key = c.file_key-set_id.ensures in
     let none = is_none_then _ (c.is_none.ensures ∙ ap not c.if-is_none.true) in
     section_failed g.S.PartSink g.L.ImageSource.gives g.R.Read.remaining
     c.args.locations.now.entries c.args.session.now
     c.sections.session c.read_section.new.session c.args.images.now c.sections.images
-    c.read_section.new.images whole c.sections.mounted _ s c.in-Some-get.field-0.now
+    c.read_section.new.images (is_some c.args.mounted.now) whole c.sections.mounted _ s
+    c.in-Some-get.field-0.now
     (begins_on c.args.locations.now.entries c.sections.session.core c.args.session.now.core
     c.file_key-set_id.result c.in-Some.want.sect c.in-Some-get.field-0.now key.set_id key.file
     inv.set_id inv.file (search rules))
     (next_on c.args.locations.now.entries c.sections.session.core c.file_key-set_id.result
     c.in-Some.want (Some c.in-Some-get.field-0.now) key.set_id key.file
     (sym c.in-Some.is ∙ c.want.ensures) (search rules))
+    (located_open g.S.PartSink g.L.ImageSource.gives g.R.Read.remaining
+    c.in-Some-get.field-0.now c.sections.session c.read_section.new.session c.sections.images
+    c.read_section.new.images _ _ (held_behind whole s.stretches) _
+    (ap is_some c.take-held.ensures.value ∙ is_open)
     (c.in_ok-mounted.ensures.ok (held_behind whole s.stretches)
     (subst (λ m. IsHeld g.R.Read.remaining m (held_behind whole s.stretches))
-    (sym c.take-held.ensures.value) s.held))
+    (sym c.take-held.ensures.value) s.held)))
     none (c.in_ok-mounted.ensures.unfinished none)
 
 pub returns-then-from-next-clause-ok : goal.returns-then-from-next-clause-ok
 returns-then-from-next-clause-ok g c whole held =
-    let (s, some) = c.sections.invariant.reads whole held in
+    let (s, is_open, some) = c.sections.invariant.reads whole held in
     sections_read g.S.PartSink g.L.ImageSource.gives g.R.Read.remaining
     c.args.locations.now.entries false c.args.session.now
-    c.sections.session c.args.images.now c.sections.images c.sections.images whole
-    c.sections.mounted c.sections.mounted s s.held
+    c.sections.session c.args.images.now c.sections.images c.sections.images
+    (is_some c.args.mounted.now) whole c.sections.mounted c.sections.mounted s s.held
     (search rules, inl (refl, inr (some (omega arith))))
 
 pub returns-in_default-get-clause-ok : goal.returns-in_default-get-clause-ok
@@ -112,8 +132,8 @@ returns-in_default-get-clause-ok g c whole held =
     let s = (c.sections.invariant.reads whole held).0 in
     sections_read g.S.PartSink g.L.ImageSource.gives g.R.Read.remaining
     c.args.locations.now.entries false c.args.session.now
-    c.sections.session c.args.images.now c.sections.images c.sections.images whole
-    c.sections.mounted c.sections.mounted s s.held (
+    c.sections.session c.args.images.now c.sections.images c.sections.images
+    (is_some c.args.mounted.now) whole c.sections.mounted c.sections.mounted s s.held (
       search rules,
       inl (
         refl,
@@ -128,6 +148,6 @@ returns-clause-ok g c whole held =
     let s = (c.sections.invariant.reads whole held).0 in
     sections_read g.S.PartSink g.L.ImageSource.gives g.R.Read.remaining
     c.args.locations.now.entries true c.args.session.now
-    c.sections.session c.args.images.now c.sections.images c.sections.images whole
-    c.sections.mounted c.sections.mounted s s.held
+    c.sections.session c.args.images.now c.sections.images c.sections.images
+    (is_some c.args.mounted.now) whole c.sections.mounted c.sections.mounted s s.held
     (search rules, refl)
