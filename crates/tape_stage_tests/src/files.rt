@@ -86,9 +86,11 @@ fn a_stage_in_a_file(rt: HostRuntime) -> Result<(), Fail> {
     Ok(())
 }
 
-/// Four bytes, of which each call moves one until no move is left; every later call is interrupted.
+/// Four bytes beginning at offset `from`, of which each call moves one until no move is left; every
+/// later call is interrupted.
 #[derive(Drop)]
 struct Slow {
+    from: u64,
     bytes: [u8; 4],
     at: usize,
     left: u8,
@@ -137,10 +139,10 @@ impl Seek for Slow {
     fn seek(&mut self, to: SeekFrom) -> io::Result<u64> {
         match to {
             SeekFrom::Start(at) => {
-                self.at = at.min(4) as usize;
+                self.at = at.saturating_sub(self.from).min(4) as usize;
                 Ok(at)
             }
-            SeekFrom::End(_) => Ok(4),
+            SeekFrom::End(_) => Ok(self.from.saturating_add(4)),
             SeekFrom::Current(_) => Err(io::Error::from(ErrorKind::Unsupported)),
         }
     }
@@ -170,8 +172,9 @@ impl OpenFile for Slow {
     }
 }
 
-fn four_bytes(left: u8) -> Slow {
+fn four_bytes(from: u64, left: u8) -> Slow {
     Slow {
+        from,
         bytes: *b"abcd",
         at: 0,
         left,
@@ -180,7 +183,7 @@ fn four_bytes(left: u8) -> Slow {
 
 /// Reads the first bytes of such a file, with `left` moves left. Returns whether the read succeeds.
 fn read_slowly(left: u8, buf: &mut [u8]) -> bool {
-    match FileDisk::new(four_bytes(left)) {
+    match FileDisk::new(four_bytes(0, left)) {
         Ok(mut disk) => read(&mut disk, 0, buf),
         Err(_) => false,
     }
@@ -188,7 +191,7 @@ fn read_slowly(left: u8, buf: &mut [u8]) -> bool {
 
 /// Returns the file after a write to its second byte and a sync, with `left` moves left.
 fn write_slowly(left: u8, bytes: &[u8]) -> Option<[u8; 4]> {
-    let Ok(mut disk) = FileDisk::new(four_bytes(left)) else {
+    let Ok(mut disk) = FileDisk::new(four_bytes(0, left)) else {
         return None;
     };
     let kept = write(&mut disk, 1, bytes) && disk.sync().is_ok();
@@ -218,7 +221,7 @@ fn interruptions_and_ends_are_failures(rt: HostRuntime) {
 
 #[test]
 fn the_length_and_a_sync_take_no_move(rt: HostRuntime) {
-    let Ok(mut disk) = FileDisk::new(four_bytes(1)) else {
+    let Ok(mut disk) = FileDisk::new(four_bytes(0, 1)) else {
         assert!(rt; false);
         return;
     };
@@ -228,7 +231,7 @@ fn the_length_and_a_sync_take_no_move(rt: HostRuntime) {
 
 #[test]
 fn the_length_is_counted(rt: HostRuntime) {
-    let Ok(mut disk) = FileDisk::new(four_bytes(9)) else {
+    let Ok(mut disk) = FileDisk::new(four_bytes(0, 9)) else {
         assert!(rt; false);
         return;
     };
@@ -237,4 +240,19 @@ fn the_length_is_counted(rt: HostRuntime) {
     assert!(rt; !cut(&mut disk, 3) && disk.len() == Ok(4));
     assert!(rt; cut(&mut disk, 0) && disk.len() == Ok(0));
     assert!(rt; write(&mut disk, 0, b"ab") && disk.len() == Ok(2));
+}
+
+/// An offset that 32 bits cannot express.
+const FAR: u64 = 5_000_000_000;
+
+#[test]
+fn a_file_of_five_gigabytes(rt: HostRuntime) {
+    let Ok(mut disk) = FileDisk::new(four_bytes(FAR, 9)) else {
+        assert!(rt; false);
+        return;
+    };
+    let mut two = [0; 2];
+    assert!(rt; disk.len() == Ok(FAR + 4) && read(&mut disk, FAR + 1, &mut two));
+    assert!(rt; &two == b"bc");
+    assert!(rt; write(&mut disk, FAR + 2, b"XY") && disk.into_file().bytes == *b"abXY");
 }

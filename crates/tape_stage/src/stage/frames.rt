@@ -9,6 +9,7 @@ ghost use Rattle.tape_blocks.specs.Block.{Portion, indicator};
 ghost use Rattle.tape_blocks.specs.declared.parts.Span.{Span};
 ghost use Rattle.tape_core.specs.Weight.{Rose};
 ghost use Rattle.tape_core.specs.Known.{most_staged};
+ghost use Rattle.tape_stage.specs.Body.{most_generation};
 ghost use Rattle.tape_stage.specs.Staged.{IsNoHeader, StagedIn, IsEither};
 ghost use Rattle.tape_stage.specs.Salvaged.{FramedTo, WalkedIn};
 ghost use Rattle.tape_stage.specs.OnlyReading.{OnlyReads};
@@ -211,6 +212,7 @@ impl<D: Disk> Stage<D> {
             → Passes D.Disk self.old.disk self.new.disk (IsEither self.old.in_second
             self.old.generation self.old.acknowledged point.now acked front) }
         ensures weight { OnOk result (self.new.weight ≡ point.now.staged) }
+        ensures full { IsErrOf result StageFault.Full → most_generation ≤ self.old.generation }
         ensures ends { EndsCall self.old result self.new }
     {
         if self.failed {

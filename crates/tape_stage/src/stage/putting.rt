@@ -214,6 +214,7 @@ impl<D: Disk> PartSink for Stage<D> {
             → Rose (D.faults self.old.disk) (D.faults self.new.disk) }
         ensures failed { result ≡ Err SinkFault.Failed → self.old.failed ≡ true }
         ensures memory { result ≡ Err SinkFault.OutOfMemory → ⊥ }
+        ensures full { result ≡ Err SinkFault.Full → most_generation ≤ self.old.generation }
         ensures rewinds { OnOk result (self.new.walked ≡ 0) }
     {
         match self.cut_back(point) {
