@@ -430,6 +430,42 @@ def lines_of_lists(t):
     yield run.status == 2 and "line 11 of the list" in run.err, f"a line that is not text: {run.err!r}"
 
 
+def odd_calls(name):
+    """Calls that end with an error about this name or word."""
+    folder = f"{name}/f"
+    yield from ([name], ["--" + name], ["--version=" + name], ["help", name], ["help", "list", name], ["list", "--" + name], ["list", "a", "--" + name],
+        ["list", "--explain=" + name], ["survey", "--tsv" + name, "x"], ["survey", "--tsv=" + name, "x"], ["stage", "s", "o", name])
+    for words in (["list", name], ["check", "--files-from", name], ["survey", "--files-from", name], ["stage", name], ["compare", name, name],
+            ["unpack", folder, "i"], ["unpack", "", name], ["merge", folder, "i", "j"], ["merge", "o", name, name],
+            ["init", folder, "ABC", "2"], ["init", "d", name, "2"], ["init", "d", "ABC", name],
+            ["write", folder, "ABC", "100000", "A=p"], ["write", "d", name, "100000", "A=p"], ["write", "d", "ABC", name, "A=p"],
+            ["write", "d", "ABC", "100000", "A=" + name], ["write", "d", "ABC", "100000", name], ["write", "d", "ABC", "100000", "A=p", "--block", name],
+            ["write", "d", "ABC", "100000", "A=p", "--format", name]):
+        yield ["--explain", *words]
+    for words in (["extract"], ["salvage"]):
+        for rest in (["S", "1", folder, "i"], ["S", name, "o", "i"], ["1234567" + name, "1", "o", "i"], ["S", "1", "o", name], ["S", "1", "o", "i", "--form", name]):
+            yield [*words, "--explain", *rest]
+    yield ["extract", "--explain", "S", "1", "o", "i", "--stage", folder]
+
+
+@check
+def names_are_quoted(t):
+    """No character of a name or of another word acts on a terminal, hides or ends a line, and different ones are printed differently."""
+    odd = [0, *range(1, 32), *range(127, 160), 0xAD, 0x61C, *range(0x200B, 0x2010), *range(0x2028, 0x202F), *range(0x2060, 0x2070), 0xFEFF]
+    names = ["a\x1b]0;x\ab", "a\ntape: run fault 9", "a\\u000Atape: run fault 9", "a\u202eb", "a\u2028b", "a\x9b1mb", "a\x7fb", "a\rb", "\ufeffa", "a\u200bb", "a\\b", "a\\\\b"]
+    for number, _ in enumerate(odd_calls("")):
+        runs = [(name, t(list(odd_calls(name))[number], {}, watch=False)) for name in names]
+        words = list(odd_calls("NAME"))[number]
+        hidden = [name for name, run in runs if any(ord(c) in odd for c in (run.out + run.err).replace("\n", ""))]
+        yield not hidden, f"{words}: {hidden} are printed as they are"
+        yield all("\ntape: run fault 9" not in run.err for _, run in runs), f"{words}: a line is forged"
+        # "\\" and "\" begin like other names in a word that is read character by character
+        texts = [run.err for _, run in runs]
+        yield len(set(texts)) in (1, len(names)), f"{words}: {len(set(texts))} texts for {len(names)} names"
+    run = t(["check", "a.tap", b"M\xfc\x1bller.tap"], {}, watch=False)
+    yield run.status == 2 and run.err.endswith("  word 3: M\\xFC\\x1Bller.tap\n"), f"a word that is not text: {run.err!r}"
+
+
 def main():
     parser = argparse.ArgumentParser(description=__doc__.split("\n\n")[0])
     parser.add_argument("--program", type=Path, default=CRATE / "out" / "tape_tool", help="the built `tape`")
