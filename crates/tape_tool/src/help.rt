@@ -180,6 +180,9 @@ or write './-' for a file of that name";
 pub const ONE_IMAGE: &str = "list takes one image; to list several:
   for f in *.tap; do echo \"$f\"; tape list \"$f\"; done";
 
+/// The arguments are refused, for a reason that the parser does not name.
+pub const REFUSED: &str = "these arguments are not accepted";
+
 /// The arguments are not text.
 pub const NO_TEXT: &str = "error: a name on the command line is not valid UTF-8. Find it with
   ls | grep -axv '.*'
