@@ -75,8 +75,7 @@ pub fn salvage_to<W: Write + Drop, R: Read + Drop, L: ImageSource<R>, O: Place<W
     ensures ok { IfOk result (λ complete. Salvages W.contents L.size L.gives R.remaining task.now
         out images.old images.new (O.stands place.new) (P.contents report.old)
         (P.contents report.new) complete) }
-    // An error leaves what has the name unchanged; or `out` is completely written and has the name,
-    // and only the report failed.
+    // An error leaves what has the name, or all is written and has it: only the report failed.
     ensures err { OnErr result ((O.stands place.new ≡ O.stands place.old)
         ⊎ ((complete : Bool) × (says : Option (List ℕ)) × Salvages W.contents L.size L.gives
         R.remaining task.now out images.old images.new (O.stands place.new) (P.contents report.old)
