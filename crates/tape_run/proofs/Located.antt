@@ -1,5 +1,5 @@
 -- Images that stay mounted, and are read on from file to file.
-use Rattle.std.proofs.Common.{◌≡◌, ◌≢◌, ◌⊎◌, inl, inr, ℕ, ◌<◌, Bool, false, List, [], ◌∷◌, ◌++◌}
+use Rattle.std.proofs.Common.{◌≡◌, ◌≢◌, ◌⊎◌, inl, inr, ℕ, Bool, false, List, [], ◌∷◌, ◌++◌}
 use Rattle.std.proofs.Common.{Option, Some, None, refl, sym, ap, subst, ◌∙◌, true, length, arith}
 use Rattle.std.proofs.Common.{length-append}
 use Rattle.tape_set.specs.declared.position.Position.TheVariants.{Finished}
