@@ -16,6 +16,7 @@ use Rattle.tape_core.specs.Weight.{IsFront}
 use Rattle.tape_core.specs.declared.sink.PartSink.{Ghosts}
 use Rattle.tape_blocks.specs.declared.parts.Form.{Form}
 use Rattle.tape_run.specs.Causes.{WritingFails, EndingFails, ExtractFails, IsExtractFault, IsCalm}
+use Rattle.tape_run.specs.Crash.{IsWalked}
 use Rattle.tape_run.specs.Seen.{seen, IsKept, IfSeen, IsSeen}
 use Rattle.tape_run.specs.Steps.{Refuses, RefusesRestart, Saved, WentBack}
 use Rattle.tape_run.specs.SessionState.{SessionState}
@@ -52,6 +53,17 @@ calm_then g old mid new a b = record {
   kept = λ held was kept.
       let (now, has, still) = a.kept held was kept in b.kept now has still;
 }
+
+-- the sink was only read after that
+pub calm_ended : {S V : Type 0} (g : Ghosts S) (old mid new : SessionState S)
+    (result : Result V EngineFault) → IsCalm g old mid → IsWalked g mid new
+    → OnOk result (g.refusals new.sink ≡ g.refusals mid.sink) → OnOk result (IsCalm g old new)
+calm_ended g old mid new (Ok value) a w calm = calm_then g old mid new a (record {
+  calm = calm;
+  notes = λ none. sym w.notes ∙ none;
+  kept = λ held was kept. (held, w.kept held was, rw (w.core, w.notes) kept);
+})
+calm_ended g old mid new (Err fault) a w calm = tt
 
 -- a call after others none of which was refused
 pub then_fails : {S : Type 0} (g : Ghosts S) (back : Bool) (fault : EngineFault)

@@ -46,20 +46,19 @@ save_stays OutOfMemory old new h =
     (ap (λ (s : Seen). s.place) h, ap (λ (s : Seen). s.parts) h)
 save_stays OtherFile old new h = absurd h
 
--- no checkpoint was made of the session's position
-pub save_left : {S : Type 0} (g : Ghosts S) (goes : Bool) (a b : SessionState S)
-    (held now : List Portion) (fault : RunFault) → g.holds b.sink now
-    → SaveFails fault (seen g a held) (seen g b now)
+-- a checkpoint was made of the session's position, or was to be made
+pub stays_left : {S : Type 0} (g : Ghosts S) (goes : Bool) (a b : SessionState S)
+    (held now : List Portion) → g.holds b.sink now
+    → ((seen g b now).place ≡ (seen g a held).place) × (now ≡ held)
     → AddsOnly (IsHere (seen g a held)) (g.crashes a.sink) (g.crashes b.sink)
     → LeavesStep g goes a held b
-save_left {S} g goes a b held now fault has fails =
+stays_left {S} g goes a b held now has (place, parts) =
     only_among (IsHere (seen g a held)) _ (g.crashes a.sink) (g.crashes b.sink) here
   where
     here : (back : Point) (there : List Portion) → IsHere (seen g a held) back there
         → ((goes ≡ true) × IsLast (seen g a held) back there)
         ⊎ IsHeld g held b back there
     here back there (is, all) =
-        let (place, parts) = save_stays fault (seen g a held) (seen g b now) fails in
         inr (
           subst (g.holds b.sink) (parts ∙ sym all) has,
           subst (IsFront held) (sym all) (front_self held),
@@ -67,7 +66,16 @@ save_left {S} g goes a b held now fault has fails =
               ∙ ap (λ l. saved (rest_of b.core) (weight_of l)) (sym all),
         )
 
--- the session did not go back
+-- no checkpoint was made of the session's position
+pub save_left : {S : Type 0} (g : Ghosts S) (goes : Bool) (a b : SessionState S)
+    (held now : List Portion) (fault : RunFault) → g.holds b.sink now
+    → SaveFails fault (seen g a held) (seen g b now)
+    → AddsOnly (IsHere (seen g a held)) (g.crashes a.sink) (g.crashes b.sink)
+    → LeavesStep g goes a held b
+save_left g goes a b held now fault has fails =
+    stays_left g goes a b held now has (save_stays fault (seen g a held) (seen g b now) fails)
+
+-- the session went back, or did not
 pub restart_left : {S : Type 0} (g : Ghosts S) (a b : SessionState S) (held : List Portion) (n : ℕ)
     → length a.notes ≡ n + 1
     → AddsOnly (IsNoteOf n (seen g a held)) (g.crashes a.sink) (g.crashes b.sink)

@@ -127,24 +127,20 @@ pub part_line : (number : ℕ) (outcome : Option ReelAnswer) (old new : Option (
 part_line number outcome old new (front, rest, wrote, all) =
     (outcome ∷ [], omega arith, (front, rest, wrote, append-nil (reel_line number outcome) ∙ all))
 
-pub whole_line : (number : ℕ) (outcome : Option ReelAnswer) (old new : Option (List ℕ))
-    → Appends old new (reel_line number outcome) → IsReported number old new
-whole_line number outcome old new wrote =
-    (outcome ∷ [], omega arith, (reel_line number outcome, [], wrote, refl))
-
 -- ---- an image whose reading failed
 
 -- The bytes returned of an image whose reading failed begin with items that end at the offset in
 -- the line of the image: so, although nobody sees the rest of a closed image, the offset says which
 -- items count.
-pub given_to_place : (core : State) (bytes left given : List ℕ) (place : ℕ) (answer : ReelAnswer)
+pub given_to_place : (core new : State) (bytes left given : List ℕ) (place : ℕ) (answer : ReelAnswer)
     → answer.fault ≡ Some (record { place = place; cause = Device })
-    → ReadsReel core bytes left answer → IsGiven true bytes (Some left) given
+    → ReadsReel core bytes left answer new → IsGiven true bytes (Some left) given
     → (items : List TapeItem) × (stop : Stop) × Begins 0 given items place stop
-given_to_place core bytes left given place answer told r (rest, same, whole) = by r.ended
+given_to_place core new bytes left given place answer told r (rest, same, whole) = by r.ended
   where
-    by : EndedByItem core r.items bytes left answer ⊎ (EndedByMedium core r.items bytes left answer
-        ⊎ EndedByFault core r.items bytes left answer)
+    by : EndedByItem core r.items bytes left answer new
+        ⊎ (EndedByMedium core r.items bytes left answer new
+        ⊎ EndedByFault core r.items bytes left answer new)
         → (items : List TapeItem) × (stop : Stop) × Begins 0 given items place stop
     by (inl e) = absurd (let none = sym e.no_fault ∙ told in cc)
     by (inr (inl e)) = absurd (let none = sym e.no_fault ∙ told in cc)

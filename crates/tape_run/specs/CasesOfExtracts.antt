@@ -121,8 +121,8 @@ pub record CasesOfTurns : Type 0 where
   pub none_told : (o : Opened) → AreTold (Some o ∷ []) [] → ⊥
   pub told_alone : (b : List ℕ) → AreTold (None ∷ []) (b ∷ []) → ⊥
   pub reel_read : (back spares : Bool) (core next : State) (old new : Seen) (o : Opened)
-      → ReadsAndNotes back spares core old o next new → (core.position ≢ Finished)
-      × IfKnown o.had o.left (λ bytes left. Reads core.position core bytes left o.answer)
+      (r : ReadsAndNotes back spares core old o next new) → (core.position ≢ Finished)
+      × IfKnown o.had o.left (λ bytes left. Reads core.position core bytes left o.answer r.behind)
       × (new.place ≡ rest_of next)
   pub waits : (back spares : Bool) (core last : State) (old new : Seen)
       → Follows back spares core old (None ∷ []) last new

@@ -136,16 +136,20 @@ pub record GathersOf (stretches : List Stretch) (old new : Seen) : Type 0 where
 
 -- ---- which images
 
--- Each stretch is of the open image, which has these bytes, or of one that the source yielded,
--- which is then open. The source may have yielded one more.
-abbrev pub AreFrom : {L R : Type 0} → Mounting L R → (R → Option (List ℕ)) → Option (List ℕ) → L
-    → List Stretch → L → Type 0
-AreFrom gives remaining whole shelf [] last = (last ≡ shelf)
-    ⊎ ((number : ℕ) × (image : Option _) × gives shelf number image last)
-AreFrom gives remaining whole shelf (s ∷ ss) last = IsPartOf s
-    × (((s.whole ≡ whole) × AreFrom gives remaining s.whole shelf ss last)
-    ⊎ ((number : ℕ) × (device : _) × (next : _) × gives shelf number (Some device) next
-    × (s.whole ≡ remaining device) × AreFrom gives remaining s.whole next ss last))
+-- A section of the session's file begins on the image with this number.
+abbrev pub BeginsOn : List Located → State → ℕ → Type 0
+BeginsOn locations core image = (sect : ℕ)
+    × (lookup (same_key (key_at core.set_id core.file sect)) locations ≡ Some image)
+
+-- Each stretch is of the open image, if there is one, which has these bytes, or of one that the
+-- source yielded, on which a section begins, and which is then open.
+abbrev pub AreFrom : {L R : Type 0} → (ℕ → Type 0) → Mounting L R → (R → Option (List ℕ)) → Bool
+    → Option (List ℕ) → L → List Stretch → L → Type 0
+AreFrom on gives remaining opened whole shelf [] last = last ≡ shelf
+AreFrom on gives remaining opened whole shelf (s ∷ ss) last = IsPartOf s
+    × (((opened ≡ true) × (s.whole ≡ whole) × AreFrom on gives remaining true s.whole shelf ss last)
+    ⊎ ((image : ℕ) × on image × (device : _) × (next : _) × gives shelf image (Some device) next
+    × (s.whole ≡ remaining device) × AreFrom on gives remaining true s.whole next ss last))
 
 -- the bytes of the image that is open after these stretches
 abbrev pub held_behind : Option (List ℕ) → List Stretch → Option (List ℕ)
@@ -164,48 +168,52 @@ pub record ReadsPart {S R : Type 0} (g : Ghosts S) (remaining : R → Option (Li
   pub reads : IfSeen g old (λ was. IsSeen g new (λ is. ReadsOn stretch was is))
   pub held : IsHeld remaining after whole
 
--- A stretch was read of the open image or of one that the source yielded; or there is no such
--- image, and nothing changed.
-abbrev pub ReadsLocated : {S L R : Type 0} → Ghosts S → Mounting L R → (R → Option (List ℕ))
-    → SessionState S → SessionState S → L → L → Option (List ℕ) → Option (Mounted R) → Type 0
-ReadsLocated g gives remaining old new shelf left whole after =
-    ((left ≡ shelf) × ReadsPart g remaining whole old new after)
-    ⊎ (((number : ℕ) × (device : _) × gives shelf number (Some device) left
+-- A stretch was read of the open image or of the one with this number, which the source yielded;
+-- or this cannot be opened, and nothing changed.
+abbrev pub ReadsLocated : {S L R : Type 0} → Ghosts S → Mounting L R → (R → Option (List ℕ)) → ℕ
+    → SessionState S → SessionState S → L → L → Bool → Option (List ℕ) → Option (Mounted R)
+    → Type 0
+ReadsLocated g gives remaining image old new shelf left opened whole after =
+    ((opened ≡ true) × (left ≡ shelf) × ReadsPart g remaining whole old new after)
+    ⊎ (((device : _) × gives shelf image (Some device) left
     × ReadsPart g remaining (remaining device) old new after)
-    ⊎ ((number : ℕ) × gives shelf number None left × (new ≡ old) × (after ≡ None)))
+    ⊎ (gives shelf image None left × (new ≡ old) × (after ≡ None)))
 
--- No image is known on which the missing section begins.
-abbrev pub HasNoImage : List Located → State → Type 0
-HasNoImage locations core = (sect number part : ℕ) → core.position ≡ Awaits sect number part
-    → lookup (same_key (key_at core.set_id core.file sect)) locations ≡ None
+-- This is the image on which the missing section begins, if one is known.
+abbrev pub NextBeginsOn : List Located → State → Option ℕ → Type 0
+NextBeginsOn locations core image = (sect block part : ℕ) → core.position ≡ Awaits sect block part
+    → lookup (same_key (key_at core.set_id core.file sect)) locations ≡ image
 
--- The file is complete; or it is not, and no image is known for the missing section, or that image
--- could not be opened, or something was read.
-abbrev pub EndsReading : {L R : Type 0} → Mounting L R → List Located → List Stretch → State → L
+-- The file is complete; or it is not, and no image is known for the missing section, or something
+-- was read, or the image of the missing section could not be opened.
+abbrev pub EndsReading : {L R : Type 0} → Mounting L R → List Located → List Stretch → State → L → L
     → Bool → Type 0
-EndsReading gives locations stretches core left true = core.position ≡ Finished
-EndsReading gives locations stretches core left false = (core.position ≢ Finished)
-    × (HasNoImage locations core ⊎ ((stretches ≢ [])
-    ⊎ ((shelf : _) × (number : ℕ) × gives shelf number None left)))
+EndsReading gives locations stretches core mid left true =
+    (core.position ≡ Finished) × (left ≡ mid)
+EndsReading gives locations stretches core mid left false = (core.position ≢ Finished)
+    × (((left ≡ mid) × (NextBeginsOn locations core None ⊎ (stretches ≢ [])))
+    ⊎ ((image : ℕ) × NextBeginsOn locations core (Some image) × gives mid image None left))
 
 -- Stretches of images were read, one after another, and this image is open then.
 pub record ReadsSections {S L R : Type 0} (g : Ghosts S) (gives : Mounting L R)
     (remaining : R → Option (List ℕ)) (locations : List Located) (complete : Bool)
-    (old new : SessionState S) (shelf left : L) (whole : Option (List ℕ))
+    (old new : SessionState S) (shelf left : L) (opened : Bool) (whole : Option (List ℕ))
     (after : Option (Mounted R)) : Type 0 where
   pub stretches : List Stretch
-  pub are_from : AreFrom gives remaining whole shelf stretches left
+  pub mid : L
+  pub are_from : AreFrom (BeginsOn locations old.core) gives remaining opened whole shelf stretches
+      mid
   pub held : IsHeld remaining after (held_behind whole stretches)
   pub gathers : IfSeen g old (λ was. IsSeen g new (λ is. GathersOf stretches was is))
-  pub ends : EndsReading gives locations stretches new.core left complete
+  pub ends : EndsReading gives locations stretches new.core mid left complete
 
 -- A file was read in this way. If it is complete, exactly its records have the output's name.
 pub record ExtractsLocated {S L R : Type 0} (g : Ghosts S) (gives : Mounting L R)
     (remaining : R → Option (List ℕ)) (locations : List Located) (session : SessionState S)
-    (shelf left : L) (whole : Option (List ℕ)) (after : Option (Mounted R)) (form : Form)
-    (tells : Type 0) (stands : Option (List ℕ)) (records : Option ℕ) : Type 0 where
+    (shelf left : L) (opened : Bool) (whole : Option (List ℕ)) (after : Option (Mounted R))
+    (form : Form) (tells : Type 0) (stands : Option (List ℕ)) (records : Option ℕ) : Type 0 where
   pub last : SessionState S
   pub reads : ReadsSections g gives remaining locations (is_some records) session last shelf left
-      whole after
+      opened whole after
   pub complete : (n : ℕ) → records ≡ Some n → (parts : List Portion) → g.holds last.sink parts
       → IsPut None tells n form stands parts

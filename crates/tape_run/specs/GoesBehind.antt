@@ -97,11 +97,11 @@ ReelFailsBehind bytes OutOfMemory old new = new ≡ old
 ReelFailsBehind bytes OtherFile old new = ⊥
 
 -- What a continued reel answers and leaves unread: for a complete file nothing is read.
-abbrev pub ReadsBehind : Position → State → List ℕ → List ℕ → ReelAnswer → Type 0
-ReadsBehind Finished core bytes left answer =
-    (left ≡ bytes) × (answer.answer ≡ Complete) × (answer.fault ≡ None) × (answer.blocks ≡ 0)
-ReadsBehind (Awaits sect number part) core bytes left answer =
-    ReadsReel (behind_of core) bytes left answer
+abbrev pub ReadsBehind : Position → State → List ℕ → List ℕ → ReelAnswer → State → Type 0
+ReadsBehind Finished core bytes left answer new = (left ≡ bytes) × (answer.answer ≡ Complete)
+    × (answer.fault ≡ None) × (answer.blocks ≡ 0) × (new ≡ core)
+ReadsBehind (Awaits sect number part) core bytes left answer new =
+    ReadsReel (behind_of core) bytes left answer new
 
 -- So the headline is true of it: for every valid set and each history that the reel is, if it
 -- begins with these items, which were skipped, the session is where that history leads, with the
@@ -117,17 +117,17 @@ ReadsByHistory = (set : FileSet) (h : MountEvent) (old new : Seen) (core : State
 
 -- After a reel that completed a section, the items that follow that section are left.
 abbrev pub LeavesBehind : Type 0
-LeavesBehind = (core : State) (bytes left : List ℕ) (answer : ReelAnswer)
+LeavesBehind = (core new : State) (bytes left : List ℕ) (answer : ReelAnswer)
     → is_finished core.position ≡ false → core.phase ≢ Broken
-    → ReadsReel (mount_of core) bytes left answer → EndsSection answer.answer
+    → ReadsReel (mount_of core) bytes left answer new → EndsSection answer.answer
     → (items : List TapeItem) × (item : TapeItem) × (at : ℕ) × ReadsSection core items item
     × Walks 0 bytes (items ++ item ∷ []) at left
 
 -- The same if the reading continued after items that were skipped.
 abbrev pub LeavesBehindAgain : Type 0
-LeavesBehindAgain = (core : State) (front : List TapeItem) (bytes left : List ℕ)
+LeavesBehindAgain = (core new : State) (front : List TapeItem) (bytes left : List ℕ)
     (answer : ReelAnswer) → is_finished core.position ≡ false → core.phase ≢ Broken
     → PassedOver core front
-    → ReadsReel (behind_of core) bytes left answer → EndsSection answer.answer
+    → ReadsReel (behind_of core) bytes left answer new → EndsSection answer.answer
     → (items : List TapeItem) × (item : TapeItem) × (at : ℕ)
     × ReadsSection core (front ++ items) item × Walks 0 bytes (items ++ item ∷ []) at left

@@ -72,6 +72,7 @@ pub mod Survey
 pub mod SurveyLaws
 -- Files unpacked: definitions to believe, in this order.
 pub mod Unpacking
+pub mod ReadingOrder
 pub mod UnpackLine
 pub mod UnpackLaws
 -- Recovered files, and reports of that: definitions to believe, in this order.

@@ -129,8 +129,9 @@ IsKeptFor true s = IsKept s
 pub record ReadsAndNotes (back spares : Bool) (core : State) (old : Seen) (o : Opened)
     (next : State) (new : Seen) : Type 0 where
   pub waits : core.position ≢ Finished
+  pub behind : State
   pub answers : IfKnown o.had o.left
-      (λ bytes left. Reads core.position core bytes left o.answer)
+      (λ bytes left. Reads core.position core bytes left o.answer behind)
   pub reeled : IfSome o.had (λ bytes. (mid : Seen)
       × Reeled bytes o.left (is_device o.answer.fault) old mid
       × IsNoted back spares (counts_differ o.answer.answer) o.noted mid new)

@@ -15,7 +15,7 @@ ghost use Rattle.tape_blocks.specs.Block.{Portion};
 ghost use Rattle.tape_blocks.specs.Parts.{view};
 ghost use Rattle.tape_blocks.specs.Spans.{join};
 ghost use Rattle.tape_core.specs.Weight.{Rose};
-ghost use Rattle.tape_run.specs.Causes.{WritingFails, ExtractFails};
+ghost use Rattle.tape_run.specs.Causes.{WritingFails, ExtractFails, IsCalm};
 ghost use Rattle.tape_run.specs.Crash.{IsWalked, BringsNoMore};
 ghost use Rattle.tape_image.specs.Written.{AppendsFront};
 ghost use Rattle.tape_run.specs.Extracting.{Extracts, Stops, EndsFile, StopsAtEnd, IsWritten};
@@ -80,6 +80,8 @@ pub fn extract_to<S: PartWalk, R: Read + Drop, L: ImageSource<R>, W: Write, P: W
     // is not rolled back.
     ensures cause { IfErr result (λ fault. ExtractFails S.PartSink
         (goes_back session.old.notes) fault session.old session.new) }
+    // After an Ok the session can be used again, for any readers.
+    ensures calm { OnOk result (IsCalm S.PartSink session.old session.new) }
 {
     let back = has_note(session);
     read_images(session, images, back, false, report)?;

@@ -14,13 +14,14 @@ ghost use Rattle.tape_core.specs.Follows.{IsFinal};
 ghost use Rattle.tape_core.specs.Known.{is_finished};
 ghost use Rattle.tape_core.specs.Place.{rest_of};
 ghost use Rattle.tape_core.specs.Arrive.{arrival};
-ghost use Rattle.tape_core.specs.Table.{step_of};
+ghost use Rattle.tape_core.specs.Table.{step_of, saved};
 ghost use Rattle.tape_core.specs.Weight.{IsFront, Rose};
 ghost use Rattle.tape_run.specs.Crash.{BringsNoMore};
 ghost use Rattle.tape_run.specs.ByTable.{parts_of_arrival, StopsInside};
 ghost use Rattle.tape_run.specs.Given.{is_device};
 ghost use Rattle.tape_run.specs.Puts.{IsSized, IsChecked, refused_point, PutUpTo, PutsFew};
-ghost use Rattle.tape_run.specs.Reels.{ReadsReel, ReadsToBlock, IsDelivery, GoesOn, delivered_by};
+ghost use Rattle.tape_run.specs.Reels.{ReadsReel, ReadsToBlock, IsDelivery, StopsAt, GoesOn};
+ghost use Rattle.tape_run.specs.Reels.{delivered_by};
 ghost use Rattle.tape_run.specs.Taking.{TakesItem, RefusesItem, ReadsImage, RefusesImage};
 ghost use Rattle.tape_run.specs.Taking.{CutsTable, came_of, fault_of};
 
@@ -198,7 +199,8 @@ impl<S: PartSink> ReelReader<S> {
             self.new.core.position ≡ Position.Finished → answer ≡ Answer.Complete) }
         ensures left { IfOk result (λ answer. arrival event.entry ≡ None
             → (rest_of self.new.core ≡ rest_of self.old.core) × IsFinal answer) }
-        ensures delivery { OnErr result (IsDelivery self.old.core (arrival event.entry)) }
+        ensures delivery { OnErr result
+            (IsDelivery self.old.core (arrival event.entry) self.new.core) }
         ensures ok { IfOk result (λ answer. (held : List Portion) → S.holds self.old.sink held
             → (now : List Portion) × S.holds self.new.sink now × IsFront held now
             × (now ≡ held ++ parts_of_arrival self.old.core (arrival event.entry))
@@ -238,6 +240,8 @@ impl<S: PartSink> ReelReader<S> {
             → self.old.core.known ≡ Some k → Holds k.format k.rec_len k.offset content.now parts
             → S.holds self.old.sink held → PutUpTo (S.holds self.new.sink) before.now held parts
             (rest_of self.old.core) (rest_of self.new.core)) }
+        ensures stops { OnErr result
+            (StopsAt before.now (saved (rest_of self.old.core) 0) self.new.core) }
         ensures file { self.new.core.file ≡ self.old.core.file }
         ensures set_id { self.new.core.set_id ≡ self.old.core.set_id }
         ensures cause { OnErr result (Rose (S.refusals self.old.sink) (S.refusals self.new.sink)) }
@@ -269,13 +273,13 @@ impl<S: PartSink> ReelReader<S> {
         ensures file { self.new.core.file ≡ self.old.core.file }
         ensures set_id { self.new.core.set_id ≡ self.old.core.set_id }
         ensures answer { IfOk result (λ answer. IfKnown image.old.left image.new.left
-            (λ bytes left. ReadsReel self.old.core bytes left answer)) }
+            (λ bytes left. ReadsReel self.old.core bytes left answer self.new.core)) }
         ensures complete { IfOk result (λ answer. answer.answer ≡ Answer.Complete
             → self.new.core.position ≡ Position.Finished) }
         ensures finished { IfOk result (λ answer.
             self.new.core.position ≡ Position.Finished → answer.answer ≡ Answer.Complete) }
         ensures taken { OnErr result (IfKnown image.old.left image.new.left
-            (ReadsToBlock self.old.core)) }
+            (ReadsToBlock self.new.core self.old.core)) }
         ensures ok { IfOk result (λ answer. (held : List Portion) → S.holds self.old.sink held
             → (now : List Portion) × S.holds self.new.sink now × IsFront held now
             × IfSome image.old.left (ReadsImage (is_device answer.fault) self.old.core

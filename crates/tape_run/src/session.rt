@@ -164,10 +164,12 @@ impl<S: PartSink> Session<S> {
             S.refusals self.new.sink ≡ S.refusals self.old.sink) }
         ensures refuses { IfErr result (λ fault.
             Refuses S.PartSink fault self.old self.new) }
-        // The answer is the core's last one, and no byte after what ended the reading was read.
+        // The answer and the position are those to which the core's table leads, for any sink, and
+        // no byte after what ended the reading was read.
         ensures answer { IfOk result (λ answer. IfKnown (R.remaining device.old)
             (R.remaining device.new)
-            (λ bytes left. Reads self.old.core.position self.old.core bytes left answer)) }
+            (λ bytes left. Reads self.old.core.position self.old.core bytes left answer
+            self.new.core)) }
         // Whatever was read, the answer is Complete exactly if nothing is missing any more.
         ensures complete { IfOk result (λ answer. answer.answer ≡ Answer.Complete
             → self.new.core.position ≡ Position.Finished) }
@@ -175,7 +177,7 @@ impl<S: PartSink> Session<S> {
             self.new.core.position ≡ Position.Finished → answer.answer ≡ Answer.Complete) }
         ensures unread { IfErr result (λ fault.
             Leaves fault (mount_of self.old.core) (R.remaining device.old)
-            (R.remaining device.new)) }
+            (R.remaining device.new) self.new.core) }
         // In any case: a crash during or after it leaves nothing new.
         ensures crash { BringsNoMore S.PartSink self.old.sink self.new.sink }
     {
@@ -294,7 +296,8 @@ impl<S: PartSink> Session<S> {
             × RestartFails n fault old (seen S.PartSink self.new old.parts))) }
         // For any sink: the session is at the checkpoint and the later ones are gone, or its
         // position is unchanged; no call of the sink was refused, or the one that was is reported.
-        ensures stays { OnErr result (self.new.core ≡ self.old.core) }
+        ensures stays { OnErr result ((self.new.core ≡ self.old.core)
+            × (self.new.notes ≡ self.old.notes)) }
         ensures place { OnOk result (IsAtNote n self.old self.new) }
         ensures notes { OnOk result (self.new.notes ≡ take (n + 1) self.old.notes) }
         ensures calm { OnOk result (S.refusals self.new.sink ≡ S.refusals self.old.sink) }

@@ -2,6 +2,7 @@
 
 pub mod line;
 pub mod name;
+mod order;
 
 ghost use Rattle.std.specs.Prelude.{◌≡◌, ◌<◌, ◌+◌, ◌++◌, length, take, IfOk, OnOk};
 ghost use Rattle.std.specs.Result.{IsOkUnless};

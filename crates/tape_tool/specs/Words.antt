@@ -1,6 +1,6 @@
 -- The requests in the arguments of a command line, according to what the parser found: a row for
 -- each argument and each option of a command, with its texts.
-use Rattle.std.specs.Prelude.{◌≡◌, ◌≢◌, ◌⊎◌, ◌<◌, ◌≤◌, ◌^◌, ℕ, Bool, true, false, codes}
+use Rattle.std.specs.Prelude.{◌≡◌, ◌≢◌, ◌⊎◌, ◌↔◌, ◌<◌, ◌≤◌, ◌^◌, ℕ, Bool, true, false, codes}
 use Rattle.std.specs.Prelude.{List, [], ◌∷◌, ◌++◌, map, length, replicate, if◌then◌else◌}
 use Rattle.std.specs.Prelude.{◌-◌, ⊤, Option, Some, None, IfSome, option_map, unwrap_or}
 use Rattle.std.specs.Borrow.{Bor}
@@ -182,6 +182,7 @@ pub record AsksToUnpack (rows : List Row) (order : Unpack) : Type 0 where
   pub named : text_in rows (codes "DIR") ≢ []
   pub images : NamesImages rows order.images
   pub form : IsForm rows order.form
+  pub salvage : IsFlag rows (codes "salvage") order.salvage
 
 -- why `unpack` is refused
 abbrev pub IsNoUnpack : List Row → Type 0
@@ -194,9 +195,10 @@ pub record AsksToSalvage (rows : List Row) (order : SalvageOrder) : Type 0 where
   pub file : (n : ℕ) → IsNumber 16 rows (codes "FILE") n → order.task.file ≡ n
   pub out : order.out.now ≡ text_in rows (codes "OUT")
   pub named : text_in rows (codes "OUT") ≢ codes "-"
-  pub blocks : order.task.content ≡ Blocks
-      → first_of (codes "form") rows ≡ Some (codes "blocks")
+  pub blocks : (order.task.content ≡ Blocks)
+      ↔ (first_of (codes "form") rows ≡ Some (codes "blocks"))
   pub form : order.task.content ≡ Records → IsForm rows order.task.form
+  pub raw : order.task.content ≡ Blocks → order.task.form ≡ Raw
   pub images : NamesImages rows order.images
 
 -- what `stage` is asked for

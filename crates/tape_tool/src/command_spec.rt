@@ -3,6 +3,7 @@ ghost use Rattle.std.specs.Prelude.{◌≡◌, ⊤, IfOk};
 ghost use Rattle.clap.specs.Words.{kind_of};
 ghost use Rattle.tape_tool.specs.Words.{RefusedFor};
 
+use crate::shown::Shown;
 use clap::builder::{ValueParser, ValueRange};
 use clap::error::ErrorKind;
 use clap::{Arg, ArgAction, Command, Error};
@@ -161,7 +162,7 @@ pub fn mistake(alloc: Global, command_spec: &CommandSpec, text: &str) -> Error
 pub fn wrong_value(alloc: Global, command_spec: &CommandSpec, value: &str, text: &str) -> Error
     ensures { RefusedFor ⊤ result }
 {
-    match format!(in alloc; "invalid value {value:?}: {text}") {
+    match format!(in alloc; "invalid value \"{}\": {text}", Shown(value)) {
         Ok(text) => mistake(alloc, command_spec, text.as_str()),
         Err(_) => Error::from(AllocError),
     }

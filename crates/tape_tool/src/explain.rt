@@ -3,6 +3,7 @@ mod files;
 mod reason;
 
 use crate::fault::{ToolFault, number_of_file, number_of_write};
+use crate::shown::Shown;
 use files::{
     FILE_OF_FOLDER, FILE_OF_IMAGE, FILE_OF_IMAGES, FILE_OF_INPUT, FILE_OF_LINES, FILE_OF_LIST,
     FILE_OF_NEW, FILE_OF_OUT, FILE_OF_STAGE, FILE_OF_VOLUME,
@@ -50,12 +51,13 @@ impl fmt::Display for FaultSite<'_> {
             FaultSite::Unknown => Ok(()),
             FaultSite::Volume(folder, prefix, number) => {
                 let [a, b, c] = prefix.characters.map(char::from);
+                let folder = Shown(*folder);
                 write!(f, "  Image: {folder}/{a}{b}{c}{number:03}.tap")
             }
             FaultSite::Listed(number) => write!(f, "  Image: name {number} in the list"),
             _ => {
                 let (kind, name) = self.named();
-                write!(f, "  {kind}: {name}")
+                write!(f, "  {kind}: {}", Shown(name))
             }
         }
     }

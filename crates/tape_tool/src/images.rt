@@ -1,8 +1,7 @@
 //! The images that arguments and lists name, opened one at a time.
 
-ghost use Rattle.std.specs.Prelude.{⊤, length, ◌≡◌, ◌++◌, ◌∷◌, [], true, false, map, IfOk, OnOk};
-ghost use Rattle.std.specs.Prelude.{IfSome};
-ghost use Rattle.tape_tool.specs.Names.{end_byte, is_name, names_in, pieces_of as cut};
+ghost use Rattle.std.specs.Prelude.{⊤, length, ◌≡◌, ◌++◌, map, IfOk, IfSome};
+ghost use Rattle.tape_tool.specs.Names.{end_byte, names_in};
 
 use crate::explain::FaultSite;
 use crate::fault::{FileFault, OUT_OF_MEMORY};
@@ -133,32 +132,12 @@ pub fn all_names<'a>(
         ≡ map (λ w. w.now) words.now ++ names_in null text.now) }
 {
     let mut names = Vec::from_slice(alloc, words)?;
-    let pieces = pieces_of(alloc, text, null)?;
-    for piece in pieces.as_slice() {
-        push_name(&mut names, *piece)?;
+    for piece in text.split(end_of(null)) {
+        if !piece.is_empty() {
+            names.push(piece)?;
+        }
     }
     Ok(names)
-}
-
-/// Appends a piece to the names, if it is not empty.
-fn push_name<'a>(names: &mut Vec<&'a str>, piece: &'a str) -> Result<(), AllocError>
-    ensures name { is_name piece.now ≡ true
-        → OnOk result (names.new.items ≡ names.old.items ++ piece.entry ∷ []) }
-    ensures none { is_name piece.now ≡ false
-        → OnOk result (names.new.items ≡ names.old.items) }
-{
-    if piece.is_empty() {
-        return Ok(());
-    }
-    names.push(piece)?;
-    Ok(())
-}
-
-/// The pieces between the terminators in the text of a list.
-fn pieces_of(alloc: Global, text: &str, null: bool) -> Result<Vec<&str>, AllocError>
-    ensures { IfOk result (λ pieces. map (λ p. p.now) pieces.items ≡ cut null text.now) }
-{
-    text.split(end_of(null)).collect(alloc)
 }
 
 /// Returns the terminator of each name in a list.

@@ -1,5 +1,6 @@
 //! Files of this program that are removed, or named on standard error if they cannot be.
 use crate::host::Host;
+use crate::shown::Shown;
 use std::fmt;
 use std::io::ErrorKind;
 
@@ -9,7 +10,7 @@ struct Left<'a>(&'a str);
 
 impl fmt::Display for Left<'_> {
     fn fmt<W: fmt::Write>(&self, f: &mut fmt::Formatter<W>) -> fmt::Result {
-        write!(f, "tape: {:?} could not be removed\n", self.0)
+        write!(f, "tape: \"{}\" could not be removed\n", Shown(self.0))
     }
 }
 

@@ -8,6 +8,7 @@ ghost use Rattle.tape_tool.specs.Ends.{stage_end, damaged_end};
 ghost use Rattle.tape_tool.specs.Fault.{no_memory};
 
 use crate::check::check;
+use crate::command_line::call_of;
 use crate::command_spec::{CommandSpec, mistake};
 use crate::diagnostics::FaultLine;
 use crate::explain::{Explanation, FaultSite, reason_of};
@@ -25,7 +26,7 @@ use crate::stage::{StageEnding, stage};
 use crate::streams::keep_numbers;
 use crate::survey::survey;
 use crate::unpack::unpack;
-use crate::words::{Call, Order, call_of};
+use crate::words::{Call, Order};
 use crate::write::run::write;
 use clap::error::ErrorKind;
 use std::alloc::AllocError;

@@ -10,22 +10,23 @@ ghost use Rattle.tape_tool.specs.Words.{list_file, texts_of_one, IsNumber, IsFor
 ghost use Rattle.tape_tool.specs.Words.{NamesImages, NamesInput, IsNoInput, IsDashOrMore};
 ghost use Rattle.tape_tool.specs.Words.{ReadsTwice, dashes, inputs_beside};
 
-use crate::check::words::{CHECK, check_order};
-use crate::command_spec::{CommandSpec, command_of, mistake};
+use crate::check::words::check_order;
+use crate::command_line::TAPE;
+use crate::command_spec::{CommandSpec, mistake};
 use crate::extract::words::extract_order;
 pub use crate::extract::words::{EXTRACT, Extract, Task, set_id_of};
 use crate::help;
 use crate::images::{List, Named};
-use crate::init::words::{INIT, Init, init_order};
-use crate::list::words::{LIST, Listing, list_order};
-use crate::merge::words::{COMPARE, MERGE, Merge, compare_order, merge_order};
-use crate::salvage::words::{SALVAGE, SalvageOrder, salvage_order};
-use crate::stage::words::{STAGE, StageOrder, stage_order};
-use crate::survey::words::{SURVEY, Survey, survey_order};
-use crate::unpack::words::{UNPACK, Unpack, unpack_order};
-use crate::write::words::{WRITE, WriteOrder, write_order};
-use clap::{Arg, ArgAction, ArgMatches, Command, Error};
-use std::alloc::{AllocError, Global};
+use crate::init::words::{Init, init_order};
+use crate::list::words::{Listing, list_order};
+use crate::merge::words::{Merge, compare_order, merge_order};
+use crate::salvage::words::{SalvageOrder, salvage_order};
+use crate::stage::words::{StageOrder, stage_order};
+use crate::survey::words::{Survey, survey_order};
+use crate::unpack::words::{Unpack, unpack_order};
+use crate::write::words::{WriteOrder, write_order};
+use clap::{ArgMatches, Error};
+use std::alloc::Global;
 use tape_blocks::Form;
 
 /// The maximum number of images in the arguments of a run.
@@ -235,25 +236,8 @@ enum Verb {
     Compare,
 }
 
-/// The program. Its usage has the name that users know, whatever the file is called.
-const TAPE: CommandSpec = CommandSpec {
-    name: "tape",
-    called: "tape",
-    about: help::ABOUT,
-    after_help: help::AFTER,
-    usage: None,
-    words: &[],
-};
-
-/// Returns what the arguments ask for, the first of which is the program's name; or, with its text,
-/// a usage error, a call for help, or an allocation that was refused.
-pub fn call_of<'a>(alloc: Global, words: &'a [String]) -> Result<Call<'a>, Error> {
-    let matches = command(alloc)?.try_get_matches_from(words)?;
-    call_in(alloc, &matches)
-}
-
 /// Returns what the parsed arguments ask for.
-fn call_in<'a>(alloc: Global, matches: &ArgMatches<'a>) -> Result<Call<'a>, Error>
+pub fn call_in<'a>(alloc: Global, matches: &ArgMatches<'a>) -> Result<Call<'a>, Error>
     ensures order { IfOk result (λ call. IsOrderIn (subcommand_rows_of matches.now) call.order) }
     ensures explained { IfOk result (λ call.
         IsFlag (rows_of (found_of matches.now)) (codes "explain") call.explained) }
@@ -327,23 +311,4 @@ fn verb_of(name: &str) -> Option<Verb>
         "compare" => Some(Verb::Compare),
         _ => None,
     }
-}
-
-/// The program with its commands and their arguments.
-fn command<'a>(alloc: Global) -> Result<Command<'a>, AllocError> {
-    let explain = Arg::new(alloc, "explain")
-        .long("explain")
-        .action(ArgAction::SetTrue)
-        .global(true)
-        .help(help::EXPLAIN);
-    let bare = command_of(alloc, &TAPE)?.version("0.1.0");
-    let mut tape = bare.subcommand_required(true).arg(explain)?;
-    let outlines = [
-        &LIST, &CHECK, &SURVEY, &COMPARE, &MERGE, &EXTRACT, &UNPACK, &SALVAGE, &STAGE, &INIT,
-        &WRITE,
-    ];
-    for command_spec in &outlines {
-        tape = tape.subcommand(command_of(alloc, *command_spec)?)?;
-    }
-    Ok(tape)
 }

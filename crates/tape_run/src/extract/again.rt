@@ -47,6 +47,7 @@ pub fn extract_in_passes<S: PartWalk, R: Read + Drop, L: ImageSource<R>, W: Writ
     // is not rolled back.
     ensures cause { IfErr result (λ fault. ExtractFails S.PartSink
         (goes_back session.old.notes) fault session.old session.new) }
+    ensures calm { OnOk result (IsCalm S.PartSink session.old session.new) }
 {
     let back = has_note(session);
     read_rounds(session, images, back, report)?;

@@ -144,7 +144,8 @@ fn take_image<S: PartSink, R: Read + Drop, P: Write>(
     }
 }
 
-/// Reads a reel, prints its line, and then saves a checkpoint, or rolls back.
+/// Reads a reel, then saves a checkpoint or rolls back, and then prints the reel's line: so what is
+/// reported is saved.
 fn take_reel<S: PartSink, R: Read, P: Write>(
     session: &mut Session<S>,
     device: &mut R,
@@ -157,6 +158,9 @@ fn take_reel<S: PartSink, R: Read, P: Write>(
     ensures ok { OnOk result (Takes S.PartSink R.remaining back spares session.old session.new
         (Some device.old) number (P.contents report.old) (P.contents report.new)) }
     ensures err { OnErr result (IsReported number (P.contents report.old) (P.contents report.new)) }
+    // A reel that could not be saved is not reported.
+    ensures silent { IfErr result (λ fault. fault ≢ EngineFault.WriteFailed
+        → P.contents report.new ≡ P.contents report.old) }
     ensures left { OnErr result (IfSeen S.PartSink session.old (λ old. IsKeptFor back old
         → LeavesStep S.PartSink back session.old old.parts session.new)) }
     ensures cause { IfErr result (λ fault.
@@ -164,10 +168,9 @@ fn take_reel<S: PartSink, R: Read, P: Write>(
     ensures calm { OnOk result (IsCalm S.PartSink session.old session.new) }
 {
     let answer = session.reel(device)?;
-    let outcome = Some(answer);
-    write_line(report, &ReelLine { number, outcome })?;
     settle(session, &answer, back, spares)?;
-    Ok(())
+    let outcome = Some(answer);
+    Ok(write_line(report, &ReelLine { number, outcome })?)
 }
 
 /// Saves the session after a reel, as `note` does; after a suspect one, a session that may roll
@@ -182,8 +185,8 @@ fn settle<S: PartSink>(
         → IsSeen S.PartSink session.new (λ new.
         IsNoted back spares (counts_differ answer.now.answer) noted old new
         × KeepsLast S.PartSink session.old old.parts session.new new.parts))) }
-    ensures left { OnErr result (IfSeen S.PartSink session.old (λ old. IsKeptFor back old
-        → LeavesStep S.PartSink back session.old old.parts session.new)) }
+    ensures left { IfSeen S.PartSink session.old (λ old. IsKeptFor back old
+        → LeavesStep S.PartSink back session.old old.parts session.new) }
     ensures cause { IfErr result (λ fault.
         ExtractFails S.PartSink back (EngineFault.Run fault) session.old session.new) }
     ensures calm { OnOk result (IsCalm S.PartSink session.old session.new) }
@@ -200,8 +203,8 @@ fn go_back<S: PartSink>(session: &mut Session<S>) -> Result<(), RunFault>
     ensures ok { OnOk result (IfSeen S.PartSink session.old (λ old. IsKept old
         → IsSeen S.PartSink session.new (λ new. WentToLast old new
         × KeepsLast S.PartSink session.old old.parts session.new new.parts))) }
-    ensures left { OnErr result (IfSeen S.PartSink session.old (λ old. IsKept old
-        → LeavesStep S.PartSink true session.old old.parts session.new)) }
+    ensures left { IfSeen S.PartSink session.old (λ old. IsKept old
+        → LeavesStep S.PartSink true session.old old.parts session.new) }
     ensures cause { IfErr result (λ fault.
         ExtractFails S.PartSink true (EngineFault.Run fault) session.old session.new) }
     ensures calm { OnOk result (IsCalm S.PartSink session.old session.new) }
@@ -226,8 +229,8 @@ fn note<S: PartSink>(
         IsSeen S.PartSink session.new (λ new.
         IsNoted false spares (counts_differ answer.now.answer) noted old new
         × KeepsLast S.PartSink session.old old.parts session.new new.parts))) }
-    ensures left { OnErr result ((back : Bool) → IfSeen S.PartSink session.old (λ old.
-        LeavesStep S.PartSink back session.old old.parts session.new)) }
+    ensures left { (back : Bool) → IfSeen S.PartSink session.old (λ old.
+        LeavesStep S.PartSink back session.old old.parts session.new) }
     ensures cause { IfErr result (λ fault. (back : Bool) →
         ExtractFails S.PartSink back (EngineFault.Run fault) session.old session.new) }
     ensures calm { OnOk result (IsCalm S.PartSink session.old session.new) }

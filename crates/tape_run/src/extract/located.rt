@@ -1,7 +1,7 @@
 //! `unpack` of complete files: each image is read once for all of its files.
 
 ghost use Rattle.std.specs.Prelude.{◌≡◌, ◌≢◌, ◌<◌, List, Option, Some, None, ℕ, OnOk, IfOk};
-ghost use Rattle.std.specs.Prelude.{OnErr, IfErr};
+ghost use Rattle.std.specs.Prelude.{OnErr, IfErr, is_some};
 ghost use Rattle.std.specs.Bool.{OnTrue, OnFalse};
 ghost use Rattle.tape_set.specs.declared.position.Position.TheVariants.{Finished};
 ghost use Rattle.tape_run.specs.Causes.{IsExtractFault};
@@ -62,8 +62,8 @@ pub fn extract_located<W: Write + Drop, R: Read + Drop, L: ImageSource<R>, O: Pl
     ensures ok { IfOk result (λ records. (whole : Option (List ℕ))
         → IsHeld R.remaining mounted.old whole
         → ExtractsLocated ⟦<OutSink<W> as PartSink>⟧ L.gives R.remaining locations.now.entries
-        session images.old images.new whole mounted.new form (TellsAlways W.contents)
-        (O.stands out.new) records) }
+        session images.old images.new (is_some mounted.old) whole mounted.new form
+        (TellsAlways W.contents) (O.stands out.new) records) }
     ensures untouched { IfOk result (λ records. records ≡ None → out.new ≡ out.old) }
     ensures err { OnErr result (O.stands out.new ≡ O.stands out.old) }
     ensures cause { IfErr result IsExtractFault }
@@ -89,7 +89,7 @@ fn read_sections<S: PartSink, R: Read + Drop, L: ImageSource<R>>(
     ensures ok { IfOk result (λ complete. (whole : Option (List ℕ))
         → IsHeld R.remaining mounted.old whole
         → ReadsSections S.PartSink L.gives R.remaining locations.now.entries complete
-        session.old session.new images.old images.new whole mounted.new) }
+        session.old session.new images.old images.new (is_some mounted.old) whole mounted.new) }
     ensures cause { IfErr result IsExtractFault }
 {
     let mut next = 0u32;
@@ -123,8 +123,10 @@ fn read_section<S: PartSink, R: Read + Drop, L: ImageSource<R>>(
 ) -> Result<Option<Mounted<R>>, EngineFault>
     requires waits { session.old.core.position ≢ Finished }
     ensures ok { IfOk result (λ after. (whole : Option (List ℕ)) → IsHeld R.remaining held whole
-        → ReadsLocated S.PartSink L.gives R.remaining session.old session.new images.old images.new
-        whole after) }
+        → ReadsLocated S.PartSink L.gives R.remaining number session.old session.new images.old
+        images.new (is_some held) whole after) }
+    ensures file { (session.new.core.set_id ≡ session.old.core.set_id)
+        × (session.new.core.file ≡ session.old.core.file) }
     ensures unfinished { IfOk result (λ after. after ≡ None
         → session.new.core.position ≢ Finished) }
     ensures cause { IfErr result IsExtractFault }
@@ -157,6 +159,8 @@ fn read_front<S: PartSink, R: Read + Drop>(
     requires waits { session.old.core.position ≢ Finished }
     ensures ok { IfOk result (ReadsPart S.PartSink R.remaining (R.remaining device)
         session.old session.new) }
+    ensures file { (session.new.core.set_id ≡ session.old.core.set_id)
+        × (session.new.core.file ≡ session.old.core.file) }
     ensures unfinished { IfOk result (λ after. after ≡ None
         → session.new.core.position ≢ Finished) }
     ensures cause { IfErr result (λ fault. IsExtractFault (engine.Run fault)) }
@@ -185,6 +189,8 @@ fn read_on<S: PartSink, R: Read + Drop>(
     ensures ok { IfOk result (λ after. (whole : Option (List ℕ))
         → IsHeld R.remaining (Some held) whole
         → ReadsPart S.PartSink R.remaining whole session.old session.new after) }
+    ensures file { (session.new.core.set_id ≡ session.old.core.set_id)
+        × (session.new.core.file ≡ session.old.core.file) }
     ensures unfinished { IfOk result (λ after. after ≡ None
         → session.new.core.position ≢ Finished) }
     ensures cause { IfErr result (λ fault. IsExtractFault (engine.Run fault)) }

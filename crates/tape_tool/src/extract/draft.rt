@@ -165,7 +165,11 @@ impl<R: Host> Place<BufWriter<DraftFile>> for OutName<'_, R> {
     ghost stands = { λ _. None };
 
     fn place(&mut self, out: BufWriter<DraftFile>) -> Result<(), WriteFailed> {
-        match self.take(&out.get_ref().file) {
+        // What is still buffered is written before the file gets its name.
+        let Ok(draft) = out.into_inner() else {
+            return Err(WriteFailed);
+        };
+        match self.take(&draft.file) {
             Ok(()) => Ok(()),
             Err(_) => Err(WriteFailed),
         }

@@ -169,7 +169,11 @@ fn show_parts<S: PartWalk, W: Write, P: Write>(
 /// Returns the fault of writing the records: if the parts could not be read, it is a fault of the
 /// stage.
 fn as_read(fault: EngineFault) -> ToolFault
-    ensures { EndsInPart result }
+    ensures ends { EndsInPart result }
+    ensures written { fault ≡ EngineFault.WriteFailed
+        → result ≡ ToolFault.File FileFault.WriteFailed }
+    ensures read { result ≡ ToolFault.File FileFault.WriteFailed
+        → fault ≡ EngineFault.WriteFailed }
 {
     match fault {
         EngineFault::WriteFailed => ToolFault::File(FileFault::WriteFailed),

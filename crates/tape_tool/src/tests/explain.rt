@@ -153,6 +153,11 @@ const TOLD: &[(ToolFault, FaultSite<'_>, &str)] = &[
         "  OUT: a.tap\n  OUT already exists and might be a tape image,",
     ),
     (
+        ToolFault::File(FileFault::NotOpened),
+        FaultSite::Image("a\n\u{9b}"),
+        "  Image: a\\u000A\\u009B\n  The image could not be opened.",
+    ),
+    (
         ToolFault::File(FileFault::WriteFailed),
         FaultSite::Lines,
         "  Output: standard output\n  Output failed: the disk is full,",

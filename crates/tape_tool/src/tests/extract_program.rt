@@ -1,10 +1,11 @@
 //! `extract` as it is called: arguments, files, ends.
 use super::calls::{Step, each_is_wrong, ends, take_all, with_images};
 use super::words::words_of;
+use crate::command_line::call_of;
 use crate::extract::words::Extract;
 use crate::fault::{FileFault, ToolFault};
 use crate::program::{End, extract_end};
-use crate::words::{Order, call_of};
+use crate::words::Order;
 use std::test::Fail;
 use tape_blocks::Form;
 use tape_core::SinkFault;

@@ -2,9 +2,9 @@
 
 use super::calls::{Step, each_ends, take_all};
 use super::words::words_of;
+use crate::command_line::call_of;
 use crate::fault::{FileFault, OUT_OF_MEMORY, ToolFault};
 use crate::program::{End, finish, refuse, without_words};
-use crate::words::call_of;
 use std::alloc::{AllocError, Global};
 use std::cell::RefCell;
 use std::fmt::Display;

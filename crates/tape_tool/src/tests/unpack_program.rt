@@ -68,6 +68,51 @@ const FAILED: &[Step<'_>] = &[
     Step::IsMissing("failed/ABC001.1.PAYROLL"),
 ];
 
+/// What is readable of an incomplete file is written anew by each run, and removed when the file is
+/// complete, but only while it is as the program left it.
+const SALVAGED: &[Step<'_>] = &[
+    Step::Folder("gaps"),
+    Step::PutDamaged("gaps1.tap", 1),
+    Step::PutDamaged("gaps2.tap", 2),
+    Step::Ends("unpack gaps gaps1.tap --salvage", End::Incomplete),
+    // 20 of 25 records of 80 bytes, each with a line feed.
+    Step::HasLength("gaps/ABC001.1.PAYROLL.salvaged", 1620),
+    Step::HasLength("gaps/ABC001.1.PAYROLL.gaps", 190),
+    Step::HasText(
+        "gaps/ABC001.1.PAYROLL.gaps",
+        0,
+        b"FROM 1 gaps1.tap\nSECTION 1 1 5\nGAP 1 1 1 5\nSALVAGED 20\nSUMS ",
+    ),
+    Step::IsMissing("gaps/.tape-1.part"),
+    Step::IsMissing("gaps/.tape-2.part"),
+    Step::Ends("unpack gaps gaps2.tap --salvage", End::Incomplete),
+    Step::HasText(
+        "gaps/ABC001.1.PAYROLL.gaps",
+        31,
+        b"GAP 1 2 2 10\nSALVAGED 20\n",
+    ),
+    Step::Ends("unpack gaps gaps1.tap --salvage", End::Done),
+    Step::IsMissing("gaps/ABC001.1.PAYROLL.salvaged"),
+    Step::IsMissing("gaps/ABC001.1.PAYROLL.gaps"),
+    Step::HasLength("gaps/ABC001.1.PAYROLL", 2025),
+    // Files that somebody changed, or one of them alone, stay.
+    Step::Remove("gaps/ABC001.1.PAYROLL"),
+    Step::Ends("unpack gaps gaps1.tap --salvage", End::Incomplete),
+    Step::Put("gaps/ABC001.1.PAYROLL.salvaged", b"changed"),
+    Step::Ends("unpack gaps gaps1.tap --salvage", End::Incomplete),
+    Step::Holds("gaps/ABC001.1.PAYROLL.salvaged", b"changed"),
+    Step::HasLength("gaps/ABC001.1.PAYROLL.gaps", 190),
+    Step::Remove("gaps/ABC001.1.PAYROLL.salvaged"),
+    Step::Put("gaps/ABC001.1.PAYROLL.gaps", b"mine"),
+    Step::Ends("unpack gaps gaps2.tap gaps1.tap --salvage", End::Done),
+    Step::Holds("gaps/ABC001.1.PAYROLL.gaps", b"mine"),
+    // A copy that does not miss anything leaves nothing.
+    Step::Folder("gaps3"),
+    Step::PutWorked("gaps3.tap", 2484),
+    Step::Ends("unpack gaps3 gaps3.tap --salvage", End::Done),
+    Step::IsMissing("gaps3/ABC001.1.PAYROLL.gaps"),
+];
+
 /// Two sets with one identifier, and a blank volume.
 const MISSED: &[Step<'_>] = &[
     Step::Folder("missed"),
@@ -108,6 +153,7 @@ fn every_file_is_unpacked(rt: HostRuntime) -> Result<(), Fail> {
             ("at once", AT_ONCE),
             ("day by day", DAY_BY_DAY),
             ("failed", FAILED),
+            ("salvaged", SALVAGED),
             ("missed", MISSED),
             ("words", WORDS),
         ],

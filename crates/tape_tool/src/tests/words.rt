@@ -1,6 +1,7 @@
 //! Command lines.
+use crate::command_line::call_of;
 use crate::list::words::Listing;
-use crate::words::{Order, call_of};
+use crate::words::Order;
 use std::alloc::{AllocError, Global};
 use std::process::Abort;
 use std::test::Fail;
@@ -96,6 +97,9 @@ const SAID: &[(&str, i32, &str)] = &[
         2,
         "error: invalid value \"ABCD\": PRE must be three characters",
     ),
+    // No argument acts on a terminal.
+    ("a\u{1b}b\\", 2, "unrecognized subcommand 'a\\u001Bb\\\\'"),
+    ("init . a\u{202e} 2", 2, "invalid value \"a\\u202E\": PRE"),
 ];
 
 /// Fails unless the call with this line ends with this status and message.
