@@ -165,7 +165,7 @@ impl<R: Host> Place<BufWriter<DraftFile>> for OutName<'_, R> {
     ghost stands = { λ _. None };
 
     fn place(&mut self, out: BufWriter<DraftFile>) -> Result<(), WriteFailed> {
-        // What is still buffered is written before the file gets its name.
+        // The buffer is written before the file gets its name.
         let Ok(draft) = out.into_inner() else {
             return Err(WriteFailed);
         };

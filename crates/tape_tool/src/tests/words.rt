@@ -97,7 +97,7 @@ const SAID: &[(&str, i32, &str)] = &[
         2,
         "error: invalid value \"ABCD\": PRE must be three characters",
     ),
-    // No argument acts on a terminal.
+    // No printed argument controls the terminal.
     ("a\u{1b}b\\", 2, "unrecognized subcommand 'a\\u001Bb\\\\'"),
     ("init . a\u{202e} 2", 2, "invalid value \"a\\u202E\": PRE"),
 ];

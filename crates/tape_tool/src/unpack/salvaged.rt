@@ -1,6 +1,6 @@
-//! What `unpack --salvage` writes for a file that is not complete: its readable records, and the
-//! report of its gaps. The last line of the report has the sums of both files, so that a later run
-//! replaces or removes only what it finds as this program left it.
+//! The two files that `unpack --salvage` writes for an incomplete file: its readable records, and
+//! the report of its gaps. The last line of the report has the sums of both, so that a later run
+//! replaces or removes them only if they are unchanged.
 
 ghost use Rattle.std.specs.Prelude.{None};
 
@@ -26,7 +26,7 @@ use tape_writer::system::found;
 /// feed.
 const SUMS: usize = 135;
 
-/// The number of bytes that are read together.
+/// The number of bytes of one read.
 const PIECE: usize = 4_096;
 
 /// The paths of the records and of the report of a file.
@@ -36,16 +36,16 @@ pub struct Salvaged {
     report: String,
 }
 
-/// What has the two paths.
+/// The files at the two paths.
 #[derive(Clone, Copy)]
 enum Earlier {
     Nothing,
-    /// The files that a run left there, unchanged since.
+    /// The files that an earlier run left there, unchanged.
     Own(FileId, FileId),
     Other,
 }
 
-/// A new file whose bytes are summed, and whose last line is remembered.
+/// A new file, with the sum of its bytes and with its last line.
 #[derive(Drop)]
 struct Summed {
     out: BufWriter<DraftFile>,
@@ -54,7 +54,7 @@ struct Summed {
 }
 
 impl Summed {
-    /// Buffers and sums what is written to this file.
+    /// Buffers the bytes that are written to this file, and adds them to the sum.
     fn new(alloc: Global, file: DraftFile) -> Result<Summed, End> {
         match BufWriter::with_capacity(alloc, HELD, file) {
             Ok(out) => Ok(Summed {
@@ -109,8 +109,9 @@ impl Salvaged {
         self.records.as_str()
     }
 
-    /// Recovers what is readable of a file from the images with these names, and remembers the last
-    /// line of `salvage`. Ends with `Exists` if files that no run left there have the paths.
+    /// Writes the readable records of a file on the images with these names, and remembers the last
+    /// line of `salvage`. Ends with `Exists` if a file at one of the paths was not left there by an
+    /// earlier run, unchanged.
     pub fn write<R: Host>(
         &self,
         rt: &R,
@@ -148,7 +149,7 @@ impl Salvaged {
         name.ended(end)
     }
 
-    /// Removes the files that a run left there, unless they have changed since.
+    /// Removes the files that an earlier run left there, unless they have changed since then.
     pub fn remove<R: Host>(&self, rt: &R) -> Result<(), ToolFault> {
         if let Earlier::Own(_, _) = self.earlier(rt)? {
             remove(rt, self.report.as_str());
@@ -157,7 +158,7 @@ impl Salvaged {
         Ok(())
     }
 
-    /// Returns what has the two paths.
+    /// Returns which files have the two paths.
     fn earlier<R: Host>(&self, rt: &R) -> Result<Earlier, ToolFault> {
         let records = found(fs::symlink_metadata(rt, self.records.as_str()))?;
         let report = found(fs::symlink_metadata(rt, self.report.as_str()))?;
@@ -173,8 +174,7 @@ impl Salvaged {
         Ok(Earlier::Other)
     }
 
-    /// Returns whether the last line of the report has the sums of both files, which have these
-    /// lengths.
+    /// Returns whether the last line of the report has the sums of both files, given their lengths.
     fn is_own<R: Host>(&self, rt: &R, records: u64, report: u64) -> Result<bool, ToolFault> {
         let Some(lines) = report.checked_sub(SUMS as u64) else {
             return Ok(false);
@@ -247,7 +247,8 @@ fn written<R: Host>(
 /// A file could not be written.
 const NOT_WRITTEN: End = End::Faulted(ToolFault::File(FileFault::WriteFailed));
 
-/// How a file ends whose records and report got their names, or did not. It is not complete.
+/// Returns how the unpacking of an incomplete file ends, given whether its records and their report
+/// got their names.
 fn end_placed(placed: Result<(), WriteFailed>) -> End {
     match placed {
         Ok(()) => End::Incomplete,
@@ -287,7 +288,7 @@ fn filled(file: &mut File, buffer: &mut [u8]) -> Result<usize, ToolFault> {
     }
 }
 
-/// Returns the SHA-256 of the next bytes of a file, as many as this, if it has so many.
+/// Returns the SHA-256 of the next `length` bytes of a file, or of all the rest if there are fewer.
 fn sum_of(file: &mut File, length: u64) -> Result<[u8; 32], ToolFault> {
     let mut sum = Sha256::new();
     let mut buffer = [0; PIECE];
