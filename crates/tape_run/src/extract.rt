@@ -49,7 +49,7 @@ use tape_set::Want;
 /// and nothing is saved. Images after the one that completes the file are not opened. `out` is
 /// written and flushed if the file is complete, and not touched otherwise; then the last line of
 /// the report is written, and the report flushed. The session remains the caller's, with what was
-/// delivered to its sink.
+/// delivered to its sink; after an error the contract says only what a crash leaves of it.
 ///
 /// Allocates only for the session, a buffer while a reel is read, checkpoints, and what opening
 /// takes.
