@@ -36,9 +36,9 @@ COMMANDS = {
         ("--files-from LIST", "FROM"), ("--null", "NULL"),
         ("--form lines|raw", "FORM_OF_OUT"), ("--stage PATH", "STAGE"),
         ("--again", "AGAIN")]),
-    "unpack": ("[--form FORM] [--files-from LIST [--null]] DIR [IMAGE]...", [
+    "unpack": ("[--form FORM] [--salvage] [--files-from LIST [--null]] DIR [IMAGE]...", [
         ("DIR", "FOLDER_OF_FILES"), ("IMAGE", "SHELF"), ("--files-from LIST", "FROM"),
-        ("--null", "NULL"), ("--form lines|raw", "FORM_OF_FILES")]),
+        ("--null", "NULL"), ("--form lines|raw", "FORM_OF_FILES"), ("--salvage", "SALVAGE_FILES")]),
     "salvage": ("[--form FORM] [--files-from LIST [--null]] SET FILE OUT [IMAGE]...", [
         ("SET", "SET"), ("FILE", "FILE"), ("OUT", "OUT_OF_SALVAGE"), ("IMAGE", "SHELF"),
         ("--files-from LIST", "FROM"), ("--null", "NULL"),

@@ -29,7 +29,7 @@ _tape() {
     list:-*) COMPREPLY=($(compgen -W '--offsets --explain --help' -- "$cur")); return ;;
     check:-* | compare:-* | merge:-*) COMPREPLY=($(compgen -W '--files-from --null --explain --help' -- "$cur")); return ;;
     survey:-*) COMPREPLY=($(compgen -W '--files-from --null --tsv --explain --help' -- "$cur")); return ;;
-    unpack:-*) COMPREPLY=($(compgen -W '--files-from --null --form --explain --help' -- "$cur")); return ;;
+    unpack:-*) COMPREPLY=($(compgen -W '--files-from --null --form --salvage --explain --help' -- "$cur")); return ;;
     salvage:-*)
         COMPREPLY=($(compgen -W '--files-from --null --form --explain --help' -- "$cur"))
         return ;;

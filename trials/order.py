@@ -1,10 +1,10 @@
 #!/usr/bin/env python3
-"""Runs the built program under strace, and judges what it does to files, in which order, and what its
-options and exit statuses say. Run manually before a release; CI does not run it. Needs strace and root.
+"""Runs the built program under strace, and judges its calls on files, their order, its options and its
+exit statuses. Run manually before a release; CI does not run it. Needs strace and root.
 
     ./order.py [--program PATH] [NAME]..
 
-Each check is named after what a wrong program would do. Prints each wrong result, and the counts. Exit
+Each check is named after the rule that a wrong program would violate. Prints each wrong result, and the counts. Exit
 status 1 if something was wrong.
 """
 
@@ -36,7 +36,7 @@ def check(function):
 
 
 class Run:
-    """One call of the program in a folder of its own: its result, and the calls that it made."""
+    """One run of the program in its own directory: its result, and its system calls."""
 
     def __init__(self, program, words, files, inject=(), only=None, before=None, out=subprocess.PIPE, watch=True, stdin=b"", env=None):
         with tempfile.TemporaryDirectory(prefix="tape-order-") as folder:
@@ -66,7 +66,7 @@ class Run:
             log.unlink(missing_ok=True)
 
     def read(self, log):
-        """What the log has: the name of each call, the path that it is about, and the rest."""
+        """The log: the name of each call, its path, and the rest."""
         events = []
         for line in log.read_text(errors="replace").splitlines():
             found = CALL.match(line)
@@ -93,7 +93,7 @@ class Run:
         return next((k for k, event in enumerate(self.events) if k >= start and test(*event)), None)
 
     def printed(self, text):
-        """Where this text is written to standard output."""
+        """The index of the call that writes a text to standard output."""
         return self.first(lambda name, path, rest: name == "write" and rest.startswith("1<") and text in rest)
 
     def drafts(self):
@@ -182,7 +182,7 @@ def input_is_closed(t):
     yield in_order(read[-2], closed, read[-1]), "one input is closed before the next is opened"
 
 
-# ---- what stays, and what is removed ----
+# ---- files that remain, and files that are removed ----
 
 
 @check
@@ -310,7 +310,7 @@ def statuses_of_unpack(t):
         ("two sets of one identifier", {"one.tap": ONE, "other.tap": other, "two.tap": TWO}, 3, "CONFLICT"),
         ("a file not found", {"two.tap": second}, 3, "NOT FOUND"),
         ("blank volumes", {"blank.tap": BLANK}, 3, ""),
-        ("an image that is not there", REELS | {"lost.tap": None}, 3, "INCOMPLETE IMAGES"),
+        ("an image that does not exist", REELS | {"lost.tap": None}, 3, "INCOMPLETE IMAGES"),
     ):
         run = t(["unpack", "d", *files], {name: content for name, content in files.items() if content})
         yield run.status == status and line in run.out, f"unpack, {name}: {run.status} {run.out!r}"
@@ -361,7 +361,7 @@ def full_output(t):
 
 @check
 def each_refused_write(t):
-    """More bytes than are buffered: a write of records fails while reels are read."""
+    """More bytes than the buffer: a write of records fails while reels are read."""
     run = t([*EXTRACT, "one.tap", "two.tap"], REELS)
     writes = [k for k, (name, at, rest) in enumerate(run.events) if name == "write"]
     for number in range(1, len(writes) + 1):

@@ -4,7 +4,7 @@ use crate::shown::Shown;
 use std::fmt;
 use std::io::ErrorKind;
 
-/// The line of a file that could not be removed.
+/// The line about a file that could not be removed.
 #[derive(Clone, Copy, Drop)]
 struct Left<'a>(&'a str);
 
@@ -14,7 +14,7 @@ impl fmt::Display for Left<'_> {
     }
 }
 
-/// Removes a file of this program, if it exists, or reports that it remains.
+/// Removes a file of this program if it exists, or reports that it remains.
 pub fn remove<R: Host>(rt: &R, path: &str) {
     match rt.remove_file(path) {
         Err(error) if error.kind() != ErrorKind::NotFound => {
