@@ -122,6 +122,7 @@ mod Mistakes
 mod MistakesOfCatalogues
 mod MistakesOfEngines
 mod MistakesOfListing
+mod MistakesOfMerging
 mod MistakesOfPlaces
 mod MistakesOfReels
 mod MistakesOfReports
@@ -147,6 +148,7 @@ mod MergeGiven
 mod MergeBytes
 mod MergeOpening
 mod MergeNow
+mod MergeRows
 mod MergeReports
 mod MergedBetter
 mod MergedCopies
