@@ -1,14 +1,14 @@
 #!/usr/bin/env python3
-"""Merges random readings with the program and with a model written apart from it.
+"""Merges random readings with the program and with an independent model.
 
     trials/merge.py PROGRAM CASES [SEED]
 
 Each case makes a tape of blocks, marks and unreadable items, and two to four readings of it. In a
 reading an item may have become unreadable; it may also be cut short, end with a fault, or not be a
 true reading at all: an item replaced, left out or doubled. One case in five is a labelled volume,
-so that the counts of its sections matter. The model says which tape the readings make together, or
-where they differ. `merge` and `compare` must print its lines and answer its status; OUT and, in two
-cases of three, the log must have its bytes, or not exist; and no other file may be left behind.
+so that the counts of its sections matter. The model determines the merged tape, or where the
+readings differ. `merge` and `compare` must print its lines and end with its status; OUT and, in two
+cases of three, the log must have its bytes, or not exist; and no other file may be left.
 """
 import os
 import random
@@ -29,20 +29,20 @@ def word(number):
 
 
 def encoded(item, rnd):
-    """An item as a drive's program might write it; a bad one with any content."""
+    """An item as the program of a drive might write it; a bad item with any content."""
     if item == MARK:
         return word(0)
     if item == BAD:
         length = rnd.choice([1, 2, 7, 80, 800])
         lead = 0x80000000 | length
-        if rnd.random() < .05:  # a block too long to be read is bad as well
+        if rnd.random() < .05:  # a block that is too long is bad as well
             lead = length = 100001
         return word(lead) + rnd.randbytes(length) + b'\0' * (length % 2) + word(lead)
     return written(item)
 
 
 def written(item):
-    """An item as OUT has it."""
+    """An item as encoded in OUT."""
     if item == MARK:
         return word(0)
     if item == BAD:
@@ -127,7 +127,7 @@ def reading_of(tape, rnd):
 
 
 def miscounts(items):
-    """How many sections have another count than their trailer label says."""
+    """The number of sections whose trailer label gives a different number of blocks."""
     def starts(item, name):
         return item[0] == 'block' and item[1].startswith(name)
 

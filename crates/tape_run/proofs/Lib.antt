@@ -76,6 +76,7 @@ mod ExamplesOfSurveys
 mod ExamplesOfCompared
 mod ExamplesOfUnpacking
 mod UnpackedFiles
+mod ReadingOrder
 mod UnpackedFits
 mod UnpackedNames
 mod WholeReports

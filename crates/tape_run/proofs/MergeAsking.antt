@@ -1,5 +1,5 @@
--- Readings that are asked for one item, one after another: what they have taken then, and the best
--- item.
+-- Readings that are asked for one item, one after another: how far they were read then, and the
+-- best item.
 use Rattle.std.proofs.Common.{◌≡◌, ◌≢◌, ◌⊎◌, inl, inr, ℕ, ◌+◌, ◌<◌, ◌≤◌, List, [], ◌∷◌, ◌++◌}
 use Rattle.std.proofs.Common.{length, take, Option, Some, None, refl, sym, ap, subst, map}
 use Rattle.std.proofs.Common.{◌∙◌, length-append, arith}
@@ -23,9 +23,9 @@ use Rattle.tape_run.proofs.MergeRows.{AreSeenAs}
 
 -- ---- readings at a place of a tape
 
--- What is known of readings that were asked for the item after these, and agreed: the best item
--- now, of which tapes that makes a reading if other readings are of these tapes too, how many have
--- it, and that there is none only if every reader has stopped.
+-- What is known of readings that were asked for the item after these, and agreed: the best item so
+-- far; that they are readings of every tape of which the other readings, and the best item, are
+-- readings; how many readings have it; and that there is no item only if every reader has stopped.
 pub record HaveCandidate {R : Type 0} (firsts nows : List (Reading R)) (rs : List (List TapeItem))
     (m : List TapeItem) (best now beside : Option TapeItem) (others : List TapeItem → Type 0)
     : Type 0 where
@@ -177,9 +177,9 @@ all_best (f ∷ firsts) (o ∷ olds) (n ∷ nows) (r ∷ rs) m best now beside o
     }
 all_best _ _ _ _ m best now beside others h at reads least asked so = absurd h
 
--- ---- readings of which one does not agree
+-- ---- readings of which at least one does not agree
 
--- a reading that was asked has taken the same items, or one more
+-- a reading that was asked consists of the same items, or of one more
 record HasMore {R : Type 0} (f n : Reading R) (r : List TapeItem) (k : ℕ)
     (now other : Option TapeItem) : Type 0 where
   pub reading : List TapeItem
@@ -263,7 +263,7 @@ have_more (f ∷ firsts) (o ∷ olds) (n ∷ nows) (r ∷ rs) k best now other b
     }
 have_more _ _ _ _ k best now other beside h at is_other asked = absurd h
 
--- what is known if one did not agree
+-- the facts known if one reading did not agree
 pub record HaveDiffered {R : Type 0} (firsts nows : List (Reading R)) (rs : List (List TapeItem))
     (k : ℕ) (end last : Option TapeItem) (others : List TapeItem → Type 0) : Type 0 where
   pub readings : List (List TapeItem)

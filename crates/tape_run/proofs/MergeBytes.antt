@@ -1,4 +1,4 @@
--- What readers gave of images with known bytes.
+-- The bytes that readers returned, of images whose bytes are known.
 use Rattle.std.proofs.Common.{◌≡◌, ℕ, ◌+◌, ◌*◌, ◌≤◌, List, [], ◌∷◌, ◌++◌, length, map}
 use Rattle.std.specs.Prelude.{IfOk, IfErr}
 use Rattle.std.proofs.Common.{Option, Some, Bool, true, false, Result, Ok, Err, sym, ap, subst}

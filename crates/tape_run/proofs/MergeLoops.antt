@@ -1,4 +1,4 @@
--- What merging has done after some items, and what it does from there.
+-- The state of merging after some items, and its effect from there.
 use Rattle.std.proofs.Common.{◌≡◌, ◌≢◌, ℕ, ◌+◌, ◌≤◌, List, [], ◌∷◌, ◌++◌, length, Option, Some}
 use Rattle.std.proofs.Common.{None, Bool, true, false, Result, Err, refl, sym, ap, subst, ◌∙◌, inl}
 use Rattle.std.proofs.Common.{length-append, append-nil, arith}
@@ -198,7 +198,7 @@ differs firsts olds nows a p old new log row now beside s asked some =
       wrote = s.wrote;
     }
 
--- ---- as the code finds it
+-- ---- in the form in which the code has it
 
 not_none : (t : Option TapeItem) → is_some t ≡ true → t ≢ None
 not_none None is = absurd (cc is)

@@ -1,4 +1,4 @@
--- What comes of the images of a shelf, from what comes of their readings.
+-- The result for the images of a source, from the result for their readings.
 use Rattle.std.proofs.Common.{◌≡◌, ◌⊎◌, ℕ, zero, suc, ◌+◌, List, [], ◌∷◌, ◌++◌, length}
 use Rattle.std.proofs.Common.{map, Option, Some, None, Result, Ok, Err, IfOk, IfErr}
 use Rattle.std.proofs.Common.{refl, sym, ap, subst, ◌∙◌, inl, inr, arith, length-append}
@@ -33,7 +33,7 @@ use Rattle.tape_run.proofs.Fitting.{kept}
 
 -- ---- mounting
 
--- the first images were mounted
+-- the first images were opened
 pub record MountsFirst {L R : Type 0} (gives : Mounting L R) (shelf left : L) (number : ℕ)
     (devices : List R) : Type 0 where
   pub mounted : AreMounted gives IsOn shelf 0 devices left
@@ -132,7 +132,7 @@ err_now (Err stop) place old new size gives remaining shelf left devices firsts 
           mounts front made.1,
     )) h
 
--- the place was not touched
+-- the output's name was not touched
 stays : {O : Type 0} (stands : O → Option (List ℕ)) (place : O) (missing : ℕ → Type 0)
     (made : Type 0) (stop : MergeStop) → Misses missing stop
     → LeavesPlace stands place place missing made stop
@@ -264,7 +264,7 @@ fits_other bad miscounted ends Whole h is = absurd (cc is)
 fits_other bad miscounted ends Partial h is = absurd (cc is)
 fits_other bad miscounted ends Differs h is = absurd h
 
--- readings at the beginning of images, as a loan names their devices and them
+-- readings at the beginning of images, as a borrow of the devices and of themselves
 pub at_front : {R D : Type 0} (remaining : D → Option (List ℕ)) (devices lent : List D)
     (xs ys : List (Reading R)) → lent ≡ devices → ys ≡ xs → AreAtFront (map remaining lent) xs
     → AreAtFront (map remaining devices) ys

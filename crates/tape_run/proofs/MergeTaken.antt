@@ -1,4 +1,4 @@
--- What one reading has taken after one more item, or after it stopped.
+-- A reading after one more item, or after it stopped.
 use Rattle.std.proofs.Common.{◌≡◌, ◌≢◌, ◌⊎◌, inl, inr, ℕ, ◌+◌, ◌<◌, ◌≤◌, List, [], ◌∷◌, ◌++◌}
 use Rattle.std.proofs.Common.{length, take, Some, None, refl, sym, ap, subst, ◌∙◌, arith}
 use Rattle.std.proofs.Common.{zero, suc, length-append, append-nil}
@@ -30,7 +30,7 @@ goes_on_at behind o on (inl e) = e
 goes_on_at behind o on (inr (inl met)) = absurd (cc (on, met.ended))
 goes_on_at behind o on (inr (inr (fault, met))) = absurd (cc (on, met.failed))
 
--- a reader that has not stopped is after the items that it returned
+-- a reader that has not stopped is positioned after the items that it returned
 gave_at : (f o : Reader) (r : List TapeItem) → HasRead f o r → o.status ≡ going → Gave f r o
 gave_at f o r h on =
     subst (λ (b : Reader). Gave f r b) (sym (goes_on_at h.behind o on h.stands)) h.gave

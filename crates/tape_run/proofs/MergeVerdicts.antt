@@ -1,4 +1,4 @@
--- What a verdict says after all readings were asked: which items are equal.
+-- The meaning of the verdicts after all readings were asked: which items are equal.
 use Rattle.std.proofs.Common.{◌≡◌, ◌≢◌, ◌⊎◌, inl, inr, List, [], ◌∷◌, ◌++◌, Option, Some, None}
 use Rattle.std.proofs.Common.{Bool, true, false, refl, sym, ap, subst, ◌∙◌}
 use Rattle.tape_image.specs.Tape.{TapeItem, block, bad, mark}
@@ -52,14 +52,14 @@ joined_more (block b) x more = refl
 joined_more bad x more = absurd (cc more)
 joined_more mark x more = refl
 
--- an item that could be read stays
+-- an item that could be read remains the best one
 takes_keeps : (best : Option TapeItem) (x : TapeItem) (b : Bool) (now : Option TapeItem)
     → Takes best x b now → is_less best ≡ false → now ≡ best
 takes_keeps None x b now h more = absurd (cc more)
 takes_keeps (Some y) x true now (a, is) more = is ∙ ap Some (joined_more y x more)
 takes_keeps (Some y) x false now (never, is) more = is
 
--- the other item is none yet, or one that could be read
+-- there is no other item yet, or it could be read
 abbrev pub IsOther : Option TapeItem → Type 0
 IsOther other = (other ≡ None) ⊎ (is_less other ≡ false)
 
@@ -127,7 +127,7 @@ other_more : (y : TapeItem) → IsOther (Some y) → is_less (Some y) ≡ false
 other_more y (inl none) = absurd (cc none)
 other_more y (inr more) = more
 
--- once there is a differing item, there is one
+-- once there is a differing item, it remains
 pub later_other : {R : Type 0} (o n : Reading R) (best mid : Option TapeItem) (y : TapeItem)
     (olds nows : List (Reading R)) (now beside : Option TapeItem)
     → Asked o n best mid None (Some y) → AskedAll olds nows mid now (Some y) beside

@@ -1,4 +1,4 @@
--- A file recovered from the images of a shelf.
+-- A file recovered from the images of a source.
 use Rattle.std.proofs.Common.{◌≡◌, ℕ, Bool, not, List, ◌++◌, Option, Some, None, refl, sym, ap, subst, ◌∙◌}
 use Rattle.std.specs.Prelude.{option_map}
 use Rattle.std.specs.Io.KnownBytes.{Appends, Keeps}
@@ -19,7 +19,7 @@ kept (Some xs) None c t h k = absurd h
 kept (Some xs) (Some ys) None t h k = absurd k
 kept (Some xs) (Some ys) (Some zs) t h k = k ∙ h
 
--- what a report has after a line that might have been written
+-- the contents of a report after a line that might have been written
 abbrev with_line : Option (List ℕ) → List ℕ → Option (List ℕ)
 with_line w line = option_map (λ xs. xs ++ line) w
 
@@ -73,7 +73,7 @@ file_salvaged contents size gives remaining task out shelf middle left cs ds old
           (subst (Appends w one) text wrote)) last;
     }
 
--- the same, whatever becomes of the last line
+-- the same, whether or not the last line was written
 pub file_placed : {W L R : Type 0} (contents : W → Option (List ℕ)) (size : L → ℕ)
     (gives : Mounting L R) (remaining : R → Option (List ℕ)) (task : SalvageTask) (out : W)
     (shelf middle left : L) (cs ds : List SectionCopy) (old new : Recovery W) (written flushed : W)

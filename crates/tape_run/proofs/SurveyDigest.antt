@@ -20,13 +20,13 @@ factor = 11400714819323198485
 abbrev inverse : ℕ
 inverse = 17428512612931826493
 
--- ---- what is added or multiplied can be told from the result
+-- ---- a sum or product determines the value that was added or multiplied
 
 spread : (a q n : ℕ) → a * (1 + q * n) ≡ a + a * q * n
 spread a q n = mul-add a 1 (q * n) ∙ ap (λ x. x + a * (q * n)) (mul-one a)
     ∙ ap (λ x. a + x) (sym (mul_assoc a q n))
 
--- multiplied by the inverse of a factor, a product is what was multiplied
+-- a product with a factor, multiplied by the inverse of the factor, is the original value
 taken_back : (a m k q n : ℕ) → a < n → m * k ≡ 1 + q * n → ((a * m) % n * k) % n ≡ a
 taken_back a m k q n below inv =
     mul-mod_first (a * m) k n
@@ -44,7 +44,7 @@ rest_left r u n s p e below = omega arith
 one_more : (p q n : ℕ) → p ≡ q * n → p + n ≡ (q + 1) * n
 one_more p q n e = omega arith
 
--- less the number that was added, a sum is the other
+-- a sum, less the number that was added, is the original value
 taken_off : (r u n : ℕ) → 0 < n → u < n → ((r + u) % n + (n - r % n)) % n ≡ u
 taken_off r u n some below =
     mod-add-mod (r + u) n (n - r % n)

@@ -42,7 +42,7 @@ abbrev pub alone_in : ℕ → List (List TapeItem) → ℕ
 alone_in zero rs = 0
 alone_in (suc n) rs = alone_in n rs + one_if (witnesses_at n rs == 1)
 
--- the section's trailer label has another count
+-- the section's trailer label counts another number of blocks
 abbrev pub has_wrong_count : SectionState → ℕ
 has_wrong_count states.Good = 0
 has_wrong_count states.Bad = 0
@@ -68,7 +68,7 @@ pub record Counts (readings : List (List TapeItem)) (merged : List TapeItem) (m 
 
 -- ---- calls
 
--- 1 if the reading has the best item, readable
+-- 1 if the reading has the best item in readable form
 abbrev pub has_first : Verdict → ℕ
 has_first verdicts.First = 1
 has_first verdicts.Bad = 0
@@ -93,7 +93,7 @@ abbrev pub RefusesCandidate : Option TapeItem → ImageWriteFault → Writer →
 RefusesCandidate None fault old new = ⊥
 RefusesCandidate (Some x) fault old new = Refuses x fault old new
 
--- the item was written, if there is one
+-- the item was written, unless there is none
 abbrev pub Puts : Option TapeItem → Bool → Writer → Writer → Type 0
 Puts None some old new = (some ≡ false) × (new ≡ old)
 Puts (Some x) some old new = (some ≡ true) × PutItem x old new
@@ -112,8 +112,8 @@ pub record Merges {R : Type 0} (firsts nows : List (Reading R)) (m : Merged) (ol
   pub rows : Appends log logged (log_rows 0 merged readings)
 
 -- There is no tape of which the items that were read are readings. Each reading was read up to the
--- n-th item, and says how its item compares with the others. The items before that one make a tape,
--- which was written.
+-- n-th item; its verdict says how its item compares with the others. The items before that one make
+-- a tape, which was written.
 pub record DiffersAt {R : Type 0} (firsts nows : List (Reading R)) (n : ℕ) (old new : Writer)
     : Type 0 where
   pub readings : List (List TapeItem)
@@ -128,7 +128,7 @@ pub record DiffersAt {R : Type 0} (firsts nows : List (Reading R)) (n : ℕ) (ol
   pub count : length merged + 1 ≡ n
   pub wrote : PutItems merged old new
 
--- Up to some item there was such a tape, which was written.
+-- Up to some item there was such a tape, and its items were written.
 pub record HasWritten {R : Type 0} (firsts : List (Reading R)) (old new : Writer) : Type 0 where
   pub mids : List (Reading R)
   pub fronts : List (List TapeItem)
@@ -137,7 +137,7 @@ pub record HasWritten {R : Type 0} (firsts : List (Reading R)) (old new : Writer
   pub is : IsMerged fronts merged
   pub wrote : PutItems merged old new
 
--- what is so after each fault
+-- the properties after each fault
 abbrev pub FitsFault : {R : Type 0} → List (Reading R) → List (Reading R) → Writer → Writer
     → MergeFault → Type 0
 FitsFault firsts nows old new (faults.Differ n) = DiffersAt firsts nows n old new

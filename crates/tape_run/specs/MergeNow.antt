@@ -1,5 +1,5 @@
--- What `merge_now` leaves: all images of a shelf mounted, the merged one in the output's place, and
--- the report.
+-- What `merge_now` leaves: all images opened, the merged one under the output's name, and the
+-- report.
 use Rattle.std.specs.Prelude.{◌≡◌, ◌≢◌, ◌⊎◌, ℕ, ◌<◌, List, [], ◌∷◌, ◌++◌, length, map, Option, Some}
 use Rattle.std.specs.Prelude.{None, ⊤}
 use Rattle.std.specs.List.{flat_map}
@@ -25,19 +25,19 @@ use Rattle.tape_run.specs.MergeLines.{reading_line, has_line, lines_from, merged
 use Rattle.tape_run.specs.MergeLog.{log_text}
 use Rattle.tape_run.specs.MergedImages.{TakeImages, DifferImages}
 
--- ---- the images of a shelf
+-- ---- the images of a source
 
 -- the image exists, on this device
 abbrev pub IsOn : {R : Type 0} → Option R → R → Type 0
 IsOn image device = image ≡ Some device
 
--- every image of the shelf was mounted, in order
+-- every image of the source was opened, in order
 pub record MountsAll {L R : Type 0} (size : L → ℕ) (gives : Mounting L R) (shelf left : L)
     (devices : List R) : Type 0 where
   pub mounted : AreMounted gives IsOn shelf 0 devices left
   pub all : length devices ≡ size shelf
 
--- the images before the one with this number were mounted, and that one does not exist
+-- the images before the one with this number were opened, and that one does not exist
 pub record IsMissing {L R : Type 0} (gives : Mounting L R) (shelf left : L) (number : ℕ) : Type 0
   where
     pub devices : List R
@@ -48,15 +48,15 @@ pub record IsMissing {L R : Type 0} (gives : Mounting L R) (shelf left : L) (num
 
 -- ---- the merged image
 
--- a reading that took so many items reached this end of the medium
+-- a reading with this number of items reached the given end of the medium
 abbrev pub SomeEnds : {R : Type 0} → ℕ → Ending → List (Reading R) → Type 0
 SomeEnds items ending [] = ⊥
 SomeEnds items ending (r ∷ rs) =
     ((r.items ≡ items) × (r.image.status ≡ ended ending)) ⊎ SomeEnds items ending rs
 
--- The merged image, which has so many items, ends as one of the readings of that length: by an
--- end-of-medium marker if one of them does, else by the end of its bytes. It is cut if each of them
--- stopped at a fault.
+-- The merged image, which has this many items, ends like one of the readings of that length: with
+-- an end-of-medium marker if one of them does, otherwise with the end of its bytes. It is truncated
+-- if each of them stopped at a fault.
 abbrev pub EndsAs : {R : Type 0} → ℕ → List (Reading R) → MergedEnd → Type 0
 EndsAs items nows Marked = SomeEnds items endings.Marked nows
 EndsAs items nows Physical =
@@ -70,7 +70,7 @@ end_bytes Marked = 255 ∷ 255 ∷ 255 ∷ 255 ∷ []
 end_bytes Physical = []
 end_bytes Cut = []
 
--- It is whole if no item is bad, no section has a wrong count, and it is not cut.
+-- It is complete if no item is bad, no section has a wrong count, and it is not truncated.
 abbrev pub FitsEnd : ℕ → ℕ → MergedEnd → MergeEnd → Type 0
 FitsEnd bad miscounted end Whole = (bad ≡ 0) × (miscounted ≡ 0) × (end ≢ Cut)
 FitsEnd bad miscounted end Partial = (0 < bad) ⊎ ((0 < miscounted) ⊎ (end ≡ Cut))

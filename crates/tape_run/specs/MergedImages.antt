@@ -16,7 +16,7 @@ use Rattle.tape_run.specs.MergeLaws.{TakesAs}
 use Rattle.tape_run.specs.MergeLog.{log_rows}
 use Rattle.tape_run.specs.MergeCalls.{Counts}
 
--- The fields say where the last item of the image begins, and its length.
+-- The fields record where the last item of the image begins, and its length.
 pub data LastIsAt {R : Type 0} (bytes : List ℕ) (now : Reading R) (items : List TapeItem) : Type 0
   where
     no_item : items ≡ [] → LastIsAt bytes now items
@@ -25,8 +25,8 @@ pub data LastIsAt {R : Type 0} (bytes : List ℕ) (now : Reading R) (items : Lis
         → LastIsAt bytes now items
 
 -- The reading took these items from the beginning of an image with these bytes, and its reader has
--- the rest: it may be read on, or is at the end of the medium or at a fault. If its device failed,
--- the items are those of the bytes that it returned. The fields count the items.
+-- the rest: it continues, or is at the end of the medium or at a fault. If its device failed, the
+-- items are those of the bytes that it returned. The fields count the items.
 pub record TakesImage {R : Type 0} (bytes : List ℕ) (now : Reading R) (taken : List TapeItem)
     : Type 0 where
   pub left : List ℕ
@@ -44,7 +44,7 @@ TakeImages (bytes ∷ images) (n ∷ nows) (r ∷ readings) =
     TakesImage bytes n r × TakeImages images nows readings
 TakeImages _ _ _ = ⊥
 
--- the bytes of each image begin with these items, and with no further one
+-- the bytes of each image begin with these items, and with no further item
 abbrev pub AllBegin : List (List ℕ) → List (List TapeItem) → Type 0
 AllBegin [] [] = ⊤
 AllBegin (bytes ∷ images) (r ∷ readings) =
@@ -81,7 +81,7 @@ pub record DifferImages {R : Type 0} (images : List (List ℕ)) (nows : List (Re
   pub is : IsMerged (map (take (length merged)) readings) merged
   pub count : length merged + 1 ≡ n
 
--- A write fails by the device, or since the merged image would be too long.
+-- A write fails because the device fails, or because the merged image would be too long.
 abbrev pub FaultsImages : {R : Type 0} → List (List ℕ) → List (Reading R) → MergeFault → Type 0
 FaultsImages images nows (faults.Differ n) = DifferImages images nows n
 FaultsImages images nows faults.OutOfMemory = ⊤

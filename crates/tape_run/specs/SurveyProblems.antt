@@ -16,35 +16,36 @@ damage_line sect entry =
     codes "        section " ++ (decimal sect ++ (codes " " ++ (damage_text entry.state
     ++ (codes " on " ++ (trimmed_text entry.volume ++ codes ": no good copy\n")))))
 
--- of one that was found, if it is damaged
+-- the line about a section that was found, if it is damaged
 abbrev pub found_line : ℕ → Entry → List ℕ
 found_line sect entry = if is_good entry.state then [] else damage_line sect entry
 
--- where to look for missing sections, if this is known of the one before them
+-- where to look for missing sections, if the section before them is known
 abbrev pub where_text : Option Entry → List ℕ
 where_text (Some before) = codes " missing, after volume " ++ trimmed_text before.volume
 where_text None = codes " not found"
 
--- the line of the missing sections from the first one up to the one before the next
+-- the line about the missing sections from the first one up to the one before the next
 abbrev pub missing_line : ℕ → ℕ → Option Entry → List ℕ
 missing_line first next before =
     codes "        section" ++ ((if nat_lt first (next - 1) then codes "s" else [])
     ++ (codes " " ++ (numbers_text first next ++ (where_text before ++ codes "\n"))))
 
--- of a file, from the first number after the last section that was found before the next one
+-- the missing sections of a file, from the first number after the last section found up to the next
+-- one found
 abbrev pub missing_text : List Told → List ℕ → ℕ → ℕ → ℕ → List ℕ
 missing_text c set_id file first next =
     if nat_lt first next
     then missing_line first next (entry_at c (key_at set_id file (first - 1)))
     else []
 
--- a section of which this is known, after the missing ones before it
+-- the lines about a section with this entry, after those about the missing sections before it
 abbrev pub known_text : List Told → List ℕ → ℕ → ℕ → ℕ → Option Entry → List ℕ
 known_text c set_id file first sect (Some entry) =
     missing_text c set_id file first sect ++ found_line sect entry
 known_text c set_id file first sect None = []
 
--- the first number after a section, if it was found
+-- the number after a section's, if it was found
 abbrev pub first_after : ℕ → ℕ → Option Entry → ℕ
 first_after first sect (Some entry) = sect + 1
 first_after first sect None = first
@@ -65,8 +66,8 @@ ends None = false
 abbrev pub next_text : ℕ → Option Entry → List ℕ
 next_text first last = if ends last then [] else missing_line first (first + 1) last
 
--- the sections of a file from this one on, n of them, if those from the first number up to it were
--- not found, and the one after the last
+-- the lines about n sections of a file, beginning with this one, if those from the first number up
+-- to it were not found, and about the section after the last
 abbrev pub sections_from : List Told → List ℕ → ℕ → ℕ → ℕ → ℕ → List ℕ
 sections_from c set_id file first sect zero =
     next_text first (entry_at c (key_at set_id file (first - 1)))

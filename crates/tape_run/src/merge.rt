@@ -1,4 +1,4 @@
-//! `merge`: readings of one tape, read side by side, and the tape that they make together.
+//! `merge`: several readings of one tape are read in parallel and combined into one tape.
 
 ghost use Rattle.std.specs.Prelude.{◌≡◌, ◌<◌, ◌≤◌, ◌+◌, ◌==◌, IfOk, IfErr, None};
 ghost use Rattle.tape_image.specs.Writer.{writing};
@@ -24,14 +24,14 @@ use std::alloc::AllocError;
 use std::io::{Read, Write};
 use tape_image::{ImageWriteFault, ImageWriter};
 
-/// The tape that readings make together.
+/// The tape that the readings combine to.
 #[derive(Clone, Copy, Debug, PartialEq, Eq)]
 pub struct Merged {
     /// How many items it has.
     pub items: u64,
-    /// How many of these are bad.
+    /// How many of these items are bad.
     pub bad: u64,
-    /// How many of these only one reading has, readable.
+    /// How many of these items only one reading has in readable form.
     pub alone: u64,
     /// How many file sections have another number of blocks than their trailer label says, as
     /// `check` finds them.
@@ -66,11 +66,11 @@ impl Merged {
     }
 }
 
-/// Why readings were not merged to their end.
+/// Why readings were not merged to their ends.
 #[derive(Clone, Copy, Debug, PartialEq, Eq)]
 pub enum MergeFault {
-    /// Two readings have different items, both readable, at the item with this number, counted
-    /// from 1: they are not readings of one tape.
+    /// At the item with this number, counted from 1, two readings have different readable items:
+    /// they are not readings of one tape.
     Differ(u64),
     /// Memory was refused.
     OutOfMemory,
@@ -104,8 +104,8 @@ impl From<WriteFailed> for MergeFault {
     }
 }
 
-/// Asks each reading for its next item, and returns how many have it, readable. The best item
-/// becomes the candidate; one that differs from it is kept as the other one.
+/// Asks each reading for its next item, and returns how many have it in readable form. The best
+/// item becomes the candidate; an item that differs from it is kept as the other one.
 fn ask_all<R: Read>(
     readings: &mut [Reading<'_, R>],
     best: &mut Candidate,
@@ -126,11 +126,11 @@ fn ask_all<R: Read>(
 }
 
 /// Reads the readings side by side, item by item, and writes the tape that they make together. The
-/// log gets a row for each item that fewer than two readings could read, or one could not.
+/// log gets a row for each item that fewer than two readings have, or one has as bad.
 ///
 /// `best` and `other` hold the item under way: the best one that was read, and one that differs
-/// from it. At a difference every reading was asked for its item, and `verdict` of each says how
-/// that compares.
+/// from it. At a difference every reading was asked for its item, and its `verdict` says how the
+/// item compares.
 ///
 /// # Errors
 ///

@@ -1,4 +1,4 @@
--- The cases of disks and stages.
+-- Proofs of the examples for disks and stages.
 use Rattle.std.proofs.Common.{◌≡◌, ◌⊎◌, ◌∙◌, List, ℕ, [], ◌∷◌, refl, inl}
 use Rattle.std.proofs.Common.{inr, arith, get_or, ap, take, subst, Some, Ok}
 use Rattle.tape_blocks.specs.declared.parts.Span.TheVariants as spans

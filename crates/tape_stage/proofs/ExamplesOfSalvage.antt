@@ -1,4 +1,4 @@
--- The examples of what remains of a stage.
+-- Proofs of the examples for the remains of a stage.
 use Rattle.std.proofs.Common.{◌≡◌, [], ◌∷◌, refl, ap, get_or, arith}
 use Rattle.tape_blocks.specs.declared.parts.Span.TheVariants as spans
 use Rattle.tape_stage.specs.CasesOfSalvage.{CasesOfSalvage, cut_frame, frame_and_none}

@@ -1,4 +1,4 @@
--- Clauses on what a call answered.
+-- Clauses about the result of a call.
 use Rattle.std.proofs.Common.{ℕ, ◌≡◌, Result, Ok, Err, OnOk}
 use Rattle.std.specs.Prelude.{IfErr, IfOk}
 use Rattle.tape_stage.specs.declared.stage.StageFault.{StageFault}
@@ -20,7 +20,7 @@ pub if_err : {A B : Type 0} (r : Result A B) {P Q : B → Type 0} → ((e : B) �
 if_err (Ok x) also p = tt
 if_err (Err e) also p = also e p
 
--- an error passed on
+-- an error that is passed on
 pub err_bad : {A : Type 0} {P : Type 0} (r : Result A StageFault) (e : StageFault) → r ≡ Err e
     → (SaysNone e → P) → IfErr r (λ fault. SaysNone fault → P)
 err_bad r e is h = rw is h

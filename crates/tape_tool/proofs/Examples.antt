@@ -1,4 +1,4 @@
--- The cases of ends, faults, lines, names and sessions over stages.
+-- The test cases for ends, faults, lines, names and sessions over stages.
 use Rattle.std.proofs.Common.{◌≡◌, refl, ap, get_or, arith, Bool, true, false, [], inl, inr, subst}
 use Rattle.std.specs.Fmt.{digits}
 use Rattle.tape_stage.specs.declared.disk.Disk.{Ghosts}

@@ -34,7 +34,7 @@ salvage_stopped read form out written said says fault
     (salvaged_in_part generation point broken parts remains front ends) =
     inr (generation, point, broken, parts, remains, front.wrote, front.told, ends)
 
--- why either stops: nothing was opened, or it ends in part
+-- why either ends early: nothing was opened, or it was interrupted
 abbrev Why : Type 0 → Type 0 → ToolFault → Type 0
 Why none untouched fault = ((cause : StageFault) × (fault ≡ Stage cause) × (SaysNone cause → none)
     × (cause ≢ Full) × (cause ≢ Failed) × untouched) ⊎ EndsInPart fault

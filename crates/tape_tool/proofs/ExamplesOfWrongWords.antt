@@ -1,4 +1,4 @@
--- The cases of why commands are refused.
+-- The test cases for the reasons why commands are refused.
 use Rattle.std.proofs.Common.{◌≡◌, ◌≢◌, ◌<◌, ◌≤◌, ℕ, List, [], ◌∷◌, length, get_or, ap, refl, arith}
 use Rattle.std.proofs.Common.{Some, None, inl, inr, codes, lit<, zero, suc}
 use Rattle.std.proofs.Common.{Bor, Option, sym, subst, ◌∙◌}
@@ -27,7 +27,7 @@ use Rattle.tape_tool.proofs.ExamplesOfWords.{no_unpack}
 pub missing : {text : List ℕ} → None ≡ Some text → ⊥
 missing e = cc
 
--- two texts that begin otherwise
+-- two texts that begin differently
 pub other : (one two : List ℕ) (m n : ℕ) → m ≢ n → get_or one 0 0 ≡ m → get_or two 0 0 ≡ n
     → one ≢ two
 other one two m n differ at_one at_two same =

@@ -33,8 +33,8 @@ as_sink = record {
   crashes = λ s. crashes_of s;
 }
 
--- The session is at the checkpoint. Its stage contains exactly these parts, and whatever a crash
--- leaves of it, now or from this moment on, represents this checkpoint and these parts.
+-- The session is at the checkpoint. Its stage contains exactly these parts. Whatever a crash leaves
+-- of the stage, now or at any moment from now on, represents this checkpoint and these parts.
 pub record StandsAt {D : Type 0} {disk : Ghosts D} (point : Point) (parts : List Portion)
     (session : SessionState (Stage D disk)) : Type 0 where
   pub resumed : IsResumed point parts (seen as_sink session parts)
@@ -55,8 +55,8 @@ pub record GoesOn {D : Type 0} {disk : Ghosts D} (set_id : List ℕ) (file : ℕ
   pub of_file : IsOfFile set_id file point
   pub stands : StandsAt point parts session
 
--- What the fault says of the bytes that were read: that they represent nothing, or that they
--- represent a checkpoint of another file or set.
+-- The meaning of the fault for the bytes that were read: they represent nothing, or a checkpoint of
+-- another file or set.
 abbrev pub Says : List ℕ → ℕ → List ℕ → StagingFault → Type 0
 Says set_id file read (faults.Stage fault) = SaysNone fault → HoldsNone read
 Says set_id file read faults.OtherFile = (generation : ℕ) × (point : Point)

@@ -3,6 +3,7 @@ mod files;
 mod reason;
 
 use crate::fault::{ToolFault, number_of_file, number_of_write};
+use crate::shown::Shown;
 use files::{
     FILE_OF_FOLDER, FILE_OF_IMAGE, FILE_OF_IMAGES, FILE_OF_INPUT, FILE_OF_LINES, FILE_OF_LIST,
     FILE_OF_LOG, FILE_OF_NEW, FILE_OF_OUT, FILE_OF_STAGE, FILE_OF_VOLUME,
@@ -22,17 +23,17 @@ pub enum FaultSite<'a> {
     Lines,
     /// The image on standard input.
     Stdin,
-    /// The image at this path.
+    /// The image at a path.
     Image(&'a str),
-    /// The image of the volume with this number in this directory.
+    /// The image of a volume, by its directory and number.
     Volume(&'a str, Prefix, u16),
-    /// The input that this argument of `write` names.
+    /// The input of `write` that an argument names.
     Input(&'a str),
-    /// The images that `write` writes into this directory.
+    /// The images that `write` writes into a directory.
     Images(&'a str),
-    /// The list of images in this file, or on standard input.
+    /// The list of images in a file, or on standard input.
     List(Option<&'a str>),
-    /// The image with this number in a list.
+    /// The image with a number in a list.
     Listed(usize),
     /// Where the records of a file go.
     Out(&'a str),
@@ -52,19 +53,20 @@ impl fmt::Display for FaultSite<'_> {
             FaultSite::Unknown => Ok(()),
             FaultSite::Volume(folder, prefix, number) => {
                 let [a, b, c] = prefix.characters.map(char::from);
+                let folder = Shown(*folder);
                 write!(f, "  Image: {folder}/{a}{b}{c}{number:03}.tap")
             }
             FaultSite::Listed(number) => write!(f, "  Image: name {number} in the list"),
             _ => {
                 let (kind, name) = self.named();
-                write!(f, "  {kind}: {name}")
+                write!(f, "  {kind}: {}", Shown(name))
             }
         }
     }
 }
 
 impl<'a> FaultSite<'a> {
-    /// The kind of the site, and its name.
+    /// Returns the kind of the site, and its name.
     fn named(&self) -> (&'static str, &'a str) {
         match *self {
             FaultSite::Unknown | FaultSite::Volume(_, _, _) | FaultSite::Listed(_) => ("", ""),
@@ -105,7 +107,7 @@ impl fmt::Display for Explanation<'_> {
     }
 }
 
-/// The site of a fault: the directory of `unpack` has a stage for each file.
+/// Returns the site of a fault: the directory of `unpack` has a stage for each file.
 fn site_of<'a>(fault: ToolFault, site: FaultSite<'a>) -> FaultSite<'a> {
     let is_stage = matches!(
         fault,
@@ -117,7 +119,7 @@ fn site_of<'a>(fault: ToolFault, site: FaultSite<'a>) -> FaultSite<'a> {
     }
 }
 
-/// Whether the fault is one of the file being worked on.
+/// Returns whether the fault is one of the file being worked on.
 fn is_at(fault: ToolFault, site: FaultSite<'_>) -> bool {
     match (fault, site) {
         (ToolFault::Run(_), FaultSite::Stage(_)) => true,
@@ -126,7 +128,7 @@ fn is_at(fault: ToolFault, site: FaultSite<'_>) -> bool {
     }
 }
 
-/// Returns the explanation: what happened, what was kept, and what to do next.
+/// Returns the explanation: what happened, what was saved, and what to do next.
 pub fn text_of(fault: ToolFault, site: FaultSite<'_>) -> &'static str {
     match fault {
         ToolFault::Image(_) if matches!(site, FaultSite::New(_) | FaultSite::Lines) =>
@@ -141,7 +143,7 @@ pub fn text_of(fault: ToolFault, site: FaultSite<'_>) -> &'static str {
     }
 }
 
-/// The text of an image's fault.
+/// Returns the explanation of an image's fault.
 fn image_text(fault: ImageFault) -> &'static str {
     let is_first = fault.place == 0;
     match fault.cause {
@@ -152,7 +154,7 @@ fn image_text(fault: ImageFault) -> &'static str {
     }
 }
 
-/// The texts for faults of a file, by its site.
+/// Returns the texts for faults of a file, by its site.
 fn files_at(site: FaultSite<'_>) -> &'static [&'static str] {
     match site {
         FaultSite::Stdin | FaultSite::Image(_) | FaultSite::Listed(_) => FILE_OF_IMAGE,
@@ -169,7 +171,7 @@ fn files_at(site: FaultSite<'_>) -> &'static [&'static str] {
     }
 }
 
-/// The text of the fault with this number, from 1.
+/// Returns the explanation of fault `number`, counted from 1.
 fn nth(texts: &'static [&'static str], number: u8) -> &'static str {
     match texts.get(usize::from(number).saturating_sub(1)) {
         Some(text) => *text,
@@ -177,7 +179,7 @@ fn nth(texts: &'static [&'static str], number: u8) -> &'static str {
     }
 }
 
-/// The stage of the file at which `unpack` ended, by the line of that file.
+/// The stage of the file at which `unpack` ended, from the line about that file.
 const STAGE_OF_FAILED: &str = "the path reported as FAILED, with .stage after it";
 
 // The texts for each kind of fault, in the order of its numbers.

@@ -26,7 +26,7 @@ pub use salvage::{
 pub use stage::{ABOUT_STAGE, AFTER_STAGE, DAMAGED, ONE_OUT, OUT_OF_STAGE, STAGE_READ};
 pub use survey::{ABOUT_SURVEY, AFTER_SURVEY, ROWS, SHELF};
 pub use unpack::{
-    ABOUT_UNPACK, AFTER_UNPACK, DIR_IS_NO_FOLDER, FOLDER_OF_FILES, FORM_OF_FILES,
+    ABOUT_UNPACK, AFTER_UNPACK, DIR_IS_NO_FOLDER, FOLDER_OF_FILES, FORM_OF_FILES, SALVAGE_FILES,
     TOO_MANY_TO_UNPACK,
 };
 pub use volumes::{
@@ -179,6 +179,9 @@ or write './-' for a file of that name";
 /// `list` was called with several images.
 pub const ONE_IMAGE: &str = "list takes one image; to list several:
   for f in *.tap; do echo \"$f\"; tape list \"$f\"; done";
+
+/// The arguments are refused, for a reason that the parser does not name.
+pub const REFUSED: &str = "these arguments are not accepted";
 
 /// The arguments are not text.
 pub const NO_TEXT: &str = "error: a name on the command line is not valid UTF-8. Find it with

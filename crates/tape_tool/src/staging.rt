@@ -33,9 +33,9 @@ pub enum StagingFault {
     OtherFile,
 }
 
-/// Opens a session for this file over the stage on a disk: it continues at the stage's checkpoint,
-/// with the parts before it. On an empty disk it creates a stage, and the session begins at the
-/// file's start.
+/// Opens a session for file `file` of the set over the stage on a disk: it continues at the stage's
+/// checkpoint, with the parts before it. On an empty disk it creates a stage, and the session
+/// begins at the file's start.
 ///
 /// # Errors
 ///
@@ -59,7 +59,7 @@ pub fn open_session<D: Disk + Drop>(
     // On any disk it is a session of this file.
     ensures file { IfOk result (λ session.
         (session.core.set_id ≡ set_id) × (session.core.file ≡ file)) }
-    // What a fault says of the bytes is true.
+    // If a fault says something about the bytes, that is true.
     ensures says { D.is_honest disk → (D.length_of disk ≡ 0 → ⊥)
         → IfErr result (λ refused. Says set_id file (D.seen disk) refused.fault) }
     ensures number { D.length_of disk ≡ 0 → IfErr result
@@ -207,8 +207,9 @@ fn open_or_make(
     Err(Refused { disk, fault })
 }
 
-/// Returns whether each byte on the disk is zero, or the byte at this offset of a new stage of this
-/// file before its first gate is opened. A file has zeros where its system lost written bytes.
+/// Returns whether each byte on the disk is zero, or equal to the byte at the same offset of a new
+/// stage of the file, before its first gate is opened. A file has zeros where its system lost
+/// written bytes.
 fn is_unmade<D: Disk>(alloc: Global, disk: &mut D, set_id: Field<6>, file: u16) -> bool {
     let Ok(core) = ReaderCore::new(set_id, file) else {
         return false;
@@ -229,7 +230,7 @@ fn is_unmade<D: Disk>(alloc: Global, disk: &mut D, set_id: Field<6>, file: u16) 
     matches!(bytes[0], 0 | b'C') && body.all(|(byte, due)| *byte == 0 || byte == due)
 }
 
-/// Returns whether the checkpoint is one of this file, of a set with this identifier.
+/// Returns whether the checkpoint belongs to file `file` of a set with identifier `set_id`.
 pub fn same_file(point: &Checkpoint, set_id: Field<6>, file: u16) -> bool
     ensures { IsTrue result ↔ IsOfFile set_id file point.now }
 {
@@ -239,8 +240,8 @@ pub fn same_file(point: &Checkpoint, set_id: Field<6>, file: u16) -> bool
 /// A session over the stage in a file.
 type FileSession = Session<Stage<BufferedFile<File>>>;
 
-/// Opens a session over the stage in the file at this path. If the file does not exist or is empty,
-/// a stage is created.
+/// Opens a session over the stage in the file at `path`. If the file does not exist or is empty,
+/// creates a stage.
 ///
 /// The file is locked before anything is read of it, for as long as it is open.
 ///
@@ -275,7 +276,7 @@ pub fn session_in<R: Host>(
     }
 }
 
-/// Opens the file at this path, creates it if it does not exist, and locks it.
+/// Opens the file at `path`, creates it if it does not exist, and locks it.
 fn locked_file<R: Host>(rt: &R, path: &str) -> Result<File, ToolFault> {
     let mut options = OpenOptions::new();
     options.read(true).write(true).create(true);

@@ -1,5 +1,5 @@
-//! `merge` and `compare` over images: they are read side by side, and the merged one is put in its
-//! place.
+//! `merge` and `compare` over images: they are read in parallel, and the merged image gets its
+//! name.
 
 ghost use Rattle.std.specs.Prelude.{◌≡◌, map, IfOk, OnOk, IfErr};
 ghost use Rattle.std.specs.Io.KnownBytes.{Appends, Keeps};
@@ -31,7 +31,7 @@ use tape_image::{Ending, ImageWriteFault, ImageWriter};
 /// What came of merging.
 #[derive(Clone, Copy, Debug, PartialEq, Eq)]
 pub enum MergeEnd {
-    /// The merged image is whole, as far as its readings show.
+    /// The merged image is complete, as far as its readings show.
     Whole,
     /// An item of it is bad, a section has a wrong count, or it is cut.
     Partial,
@@ -44,7 +44,7 @@ pub enum MergeEnd {
 pub enum MergeStop {
     /// The image with this number, counted from 0, could not be opened.
     NotOpened(usize),
-    /// The merged image would be longer than an image may be: it has so many bytes so far.
+    /// The merged image would be longer than an image may be: it has this number of bytes so far.
     TooLong(u64),
     OutOfMemory,
     /// The merged image or the report could not be written.
@@ -69,7 +69,7 @@ impl From<WriteFailed> for MergeStop {
     }
 }
 
-/// Why the merged image of so many bytes could not be written on.
+/// Returns why no more of the merged image was written, given its size so far.
 fn write_stop(fault: ImageWriteFault, size: u64) -> MergeStop
     ensures { Misses (λ _. ⊥) result }
 {
@@ -240,7 +240,7 @@ fn end_image<W: Write + Drop>(image: ImageWriter<W>, end: MergedEnd) -> Result<W
     }
 }
 
-/// Whether the merged image is whole.
+/// Returns whether the merged image is complete.
 fn whole_or_partial(merged: &Merged, end: MergedEnd) -> MergeEnd
     ensures { FitsEnd merged.now.bad merged.now.miscounted end result }
 {
@@ -256,7 +256,8 @@ fn whole_or_partial(merged: &Merged, end: MergedEnd) -> MergeEnd
     }
 }
 
-/// How the merged image ends: as one of its longest readings, by an end word if one of them does.
+/// Returns how the merged image ends: as one of its longest readings, with an end-of-medium marker
+/// if one of them does.
 fn end_of<R: Read>(readings: &[Reading<'_, R>], items: u64) -> MergedEnd
     ensures { EndsAs items readings.now result }
 {
@@ -292,7 +293,7 @@ fn report_readings<R: Read, P: Write>(
     Ok(())
 }
 
-/// Reports what each reading has where they differ, if it has an item there.
+/// Reports the item of each reading at the difference, unless the reading has none there.
 fn report_items<R: Read, P: Write>(
     alloc: Global,
     readings: &[Reading<'_, R>],

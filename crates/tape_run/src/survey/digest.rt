@@ -10,7 +10,7 @@ use tape_image::Item;
 /// An odd number, so that no two digests have one product with it.
 const MULTIPLIER: u64 = 0x9E37_79B9_7F4A_7C15;
 
-/// The digest after one more word.
+/// Returns the digest after one more word.
 #[tactic(auto, unfolding(crate::specs::SurveyDigest::digest_by))]
 fn digest_by(digest: u64, word: u64) -> u64
     ensures { result ≡ digest_by digest word }
@@ -63,7 +63,7 @@ pub(crate) fn digest_in(digest: u64, phase: &Phase, item: Item<'_>) -> u64
     }
 }
 
-/// The same after a block.
+/// Returns the digest after a block.
 fn digest_at(digest: u64, phase: &Phase, block: &[u8]) -> u64
     ensures { result ≡ digest_at digest phase.now block.now }
 {
@@ -73,7 +73,7 @@ fn digest_at(digest: u64, phase: &Phase, block: &[u8]) -> u64
     }
 }
 
-/// The same after a tape mark: data begin after that of the headers.
+/// Returns the digest after a tape mark: data begin after the mark that ends the headers.
 fn digest_past(digest: u64, phase: &Phase) -> u64
     ensures { result ≡ digest_past digest phase.now }
 {

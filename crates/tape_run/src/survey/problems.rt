@@ -18,7 +18,7 @@ use tape_label::Field;
 /// The greatest number of a section.
 const MOST: u16 = 9_999;
 
-/// The line of a damaged section.
+/// The line about a damaged section.
 #[derive(Clone, Copy)]
 struct DamageLine {
     sect: u16,
@@ -39,7 +39,7 @@ impl fmt::Display for DamageLine {
     }
 }
 
-/// The numbers from the first one up to the one before the next.
+/// The numbers from one up to another, without the last.
 #[derive(Clone, Copy)]
 struct Numbers {
     first: u16,
@@ -60,7 +60,7 @@ impl fmt::Display for Numbers {
     }
 }
 
-/// Where to look for missing sections, if this is known of the one before them.
+/// Where to look for missing sections, if the section before them is known.
 #[derive(Clone, Copy)]
 struct Where(Option<Entry>);
 
@@ -78,7 +78,7 @@ impl fmt::Display for Where {
     }
 }
 
-/// The line of missing sections, from the first one up to the one before the next.
+/// The line about missing sections: the first one, and the one after the last.
 #[derive(Clone, Copy)]
 struct MissingLine {
     numbers: Numbers,
@@ -97,7 +97,7 @@ impl fmt::Display for MissingLine {
     }
 }
 
-/// Appends the line of the missing sections from this one up to the one before the next, if any.
+/// Appends the line about the missing sections `first` to `next - 1`, if there are any.
 fn add_missing(
     alloc: Global,
     texts: &mut Vec<u8>,
@@ -119,7 +119,7 @@ fn add_missing(
     append(alloc, texts, MissingLine { numbers, before })
 }
 
-/// What is known of the section before this one.
+/// Returns the entry of the section before section `key`.
 fn before_of(sections: &Sections, key: &SectionKey) -> Option<Entry>
     ensures { result ≡ entry_at sections.now.entries
         (key_at key.now.set_id key.now.file (key.now.sect - 1)) }
@@ -132,7 +132,7 @@ fn before_of(sections: &Sections, key: &SectionKey) -> Option<Entry>
     sections.get(&before).copied()
 }
 
-/// Appends the line of a section that was found, if it is damaged.
+/// Appends the line about section `sect`, if it is damaged.
 fn add_found(alloc: Global, texts: &mut Vec<u8>, sect: u16, entry: Entry) -> Result<(), AllocError>
     ensures { OnOk result (texts.new.items ≡ texts.old.items ++ found_line sect entry) }
 {
@@ -142,8 +142,8 @@ fn add_found(alloc: Global, texts: &mut Vec<u8>, sect: u16, entry: Entry) -> Res
     append(alloc, texts, DamageLine { sect, entry })
 }
 
-/// Appends the lines of a section, if it was found, after those of the missing ones before it, of
-/// which this one is the first. Returns the first one that may be missing after it.
+/// Appends the lines about section `sect`, if it was found, after those about the missing sections
+/// from `first` on before it. Returns the first number that may be missing after it.
 fn add_section(
     alloc: Global,
     texts: &mut Vec<u8>,
@@ -175,7 +175,7 @@ fn add_section(
     }
 }
 
-/// Whether no trailer label of a section was found.
+/// Returns whether no trailer label of a section was found.
 fn is_cut(state: SectionState) -> bool
     ensures { result ≡ is_cut state }
 {
@@ -196,7 +196,7 @@ fn ends(sections: &Sections, first: &SectionKey) -> bool
     }
 }
 
-/// Appends the line of the section after the last one that was found, if one follows.
+/// Appends the line about the section after the last one that was found, if one follows.
 fn add_next(
     alloc: Global,
     texts: &mut Vec<u8>,
@@ -219,7 +219,7 @@ fn add_next(
     append(alloc, texts, MissingLine { numbers, before })
 }
 
-/// The same for this many sections.
+/// Appends the lines about the first `most` sections of a file.
 fn add_sections(
     alloc: Global,
     texts: &mut Vec<u8>,

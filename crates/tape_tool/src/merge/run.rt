@@ -137,7 +137,7 @@ impl Place<Sink> for Nowhere {
     }
 }
 
-/// The names of the readings, at least two.
+/// Returns the names of the readings, at least two.
 fn readings_of<'t, 'a: 't, R: Host>(
     rt: &R,
     named: &Named<'a>,

@@ -36,7 +36,7 @@ const MENDED: &[Step<'_>] = &[
     ),
 ];
 
-/// OUT must be a new name, whatever has it.
+/// OUT must be a name that does not exist, whatever kind of file has it.
 const NEW_NAME: &[Step<'_>] = &[
     Step::PutWorked("name1.tap", 2484),
     Step::Put("name2.tap", b""),
@@ -49,7 +49,7 @@ const NEW_NAME: &[Step<'_>] = &[
     Step::IsMissing("name1.tap.part"),
 ];
 
-/// Readings that differ, and a reading that lost a block, with itself.
+/// Readings that differ, and a reading that lost a block, compared with itself.
 const DIFFERENT: &[Step<'_>] = &[
     Step::PutWorked("other1.tap", 2484),
     Step::PutLost("other2.tap"),

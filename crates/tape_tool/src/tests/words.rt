@@ -1,11 +1,12 @@
 //! Command lines.
+use crate::command_line::call_of;
 use crate::list::words::Listing;
-use crate::words::{Order, call_of};
+use crate::words::Order;
 use std::alloc::{AllocError, Global};
 use std::process::Abort;
 use std::test::Fail;
 
-/// The arguments in a line, after the program's name; two quotes are an empty argument.
+/// Returns the arguments in a line, after the program's name; two quotes are an empty argument.
 pub fn words_of(alloc: Global, line: &str) -> Result<Vec<String>, AllocError> {
     let mut words = Vec::new(alloc);
     push_word(alloc, &mut words, "out/tape_tool")?;
@@ -41,7 +42,7 @@ fn orders(rt: HostRuntime) -> Result<(), Fail> {
     Ok(())
 }
 
-/// Lines that ask for nothing, with their exit status, and part of the message.
+/// Lines that request nothing, with their exit status and part of the message.
 const SAID: &[(&str, i32, &str)] = &[
     ("", 2, "requires a subcommand"),
     ("lost", 2, "unrecognized subcommand 'lost'"),
@@ -96,9 +97,12 @@ const SAID: &[(&str, i32, &str)] = &[
         2,
         "error: invalid value \"ABCD\": PRE must be three characters",
     ),
+    // No argument acts on a terminal.
+    ("a\u{1b}b\\", 2, "unrecognized subcommand 'a\\u001Bb\\\\'"),
+    ("init . a\u{202e} 2", 2, "invalid value \"a\\u202E\": PRE"),
 ];
 
-/// The line ends with this status and text.
+/// Fails unless the call with this line ends with this status and message.
 fn is_answered<H: Abort + AllocGlobal>(
     rt: &H,
     line: &str,

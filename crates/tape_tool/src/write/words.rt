@@ -22,7 +22,8 @@ const FORMATS: &[&str] = &["F", "D", "S"];
 /// The maximum of a block length, a record length and a capacity.
 const MOST: u64 = 4_294_967_295;
 
-/// What `write` writes: the files of these arguments, each `ID=PATH`, to volumes in a directory.
+/// The request to `write`: files, each from an argument `ID=PATH`, and the directory of the
+/// volumes.
 #[derive(Drop)]
 pub struct WriteOrder<'a> {
     pub folder: &'a str,
@@ -83,7 +84,7 @@ pub fn write_order<'a>(alloc: Global, matches: &ArgMatches<'a>) -> Result<WriteO
     }
 }
 
-/// Returns the order of these arguments, with this prefix and these files.
+/// Returns the request in the arguments, with the given prefix and files.
 fn asked<'a>(matches: &ArgMatches<'a>, prefix: Prefix, files: Vec<&'a str>) -> WriteOrder<'a>
     ensures asks { prefix.characters ≡ text_in (rows_of (found_of matches.now)) (codes "PRE")
         → map (λ w. w.now) files.entry.items
@@ -123,7 +124,7 @@ fn files_of<'a>(alloc: Global, matches: &ArgMatches<'a>) -> Result<Vec<&'a str>,
     Ok(Vec::from_slice(alloc, files)?)
 }
 
-/// Returns whether each of these arguments has a path.
+/// Returns whether each argument has a path.
 fn have_paths(words: &[&str]) -> bool
     ensures { IsTrue result ↔ HavePaths (map (λ w. w.now) words.now) }
 {
@@ -142,7 +143,7 @@ fn has_path(word: &str) -> bool
     word.contains('=')
 }
 
-/// The error for options that exclude each other.
+/// Returns the error for options that exclude each other.
 fn wrong(order: &WriteOrder<'_>) -> Option<&'static str>
     ensures some { IfSome result (λ _. (order.now.folder.now ≡ []) ⊎ IsAtOdds order.now) }
     ensures folder { IfNone result (order.now.folder.now ≡ [] → ⊥) }
@@ -159,7 +160,7 @@ fn wrong(order: &WriteOrder<'_>) -> Option<&'static str>
     }
 }
 
-/// The format with this name. Any other name means D.
+/// Returns the format named `name`. Any other name means D.
 fn format_of(name: &str) -> Format
     ensures fixed { (result ≡ Format.Fixed) ↔ (name.now ≡ codes "F") }
     ensures counted { name.now ≡ codes "D" → result ≡ Format.Counted }

@@ -31,7 +31,7 @@ pub returns-in_err-found-clause-same_length : goal.returns-in_err-found-clause-s
 returns-in_err-found-clause-same_length g c =
     each_err c.from_residual.result (λ fault calm. c.look.ensures.reads.same_length)
 
--- ---- there was no buffer
+-- ---- the buffer could not be allocated
 
 pub returns-in_err-buffer-clause-any_moment : goal.returns-in_err-buffer-clause-any_moment
 returns-in_err-buffer-clause-any_moment g c honest =
@@ -79,7 +79,7 @@ returns-in_err-cut_kept-clause-kept g c honest =
     (found.found honest) _ c.staged.ensures.value
     (c.in_err-cut_kept.ensures.partly (found.ends.honest honest)))
 
--- ---- all was done
+-- ---- everything succeeded
 
 pub returns-clause-any_moment : goal.returns-clause-any_moment
 returns-clause-any_moment g c honest =
