@@ -265,7 +265,7 @@ def try_case(trial, case, folder, number):
         elif text is not None:
             trial.is_so([made[n] for n in name] == [text], f"{number}: file {file} is not as it was, {done.stdout}")
     trial.is_so((done.returncode == 0) == (not conflicts and done.stdout.count("\n")
-                == done.stdout.count(" COMPLETE ")), f"{number}: unpack, status {done.returncode}, {done.stdout}")
+                == done.stdout.count(" COMPLETE ") + 1), f"{number}: unpack, status {done.returncode}, {done.stdout}")
     return len(rows), len(conflicts)
 
 

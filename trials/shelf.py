@@ -79,8 +79,10 @@ def check_unpack(trial, shelf, there, names, day):
     done = trial.run("unpack", "out", names=names)
     trial.is_so(done.stderr == "" and done.returncode in (0, 3), f"unpack: status {done.returncode}, {done.stderr!r}")
     lines = done.stdout.splitlines()
-    trial.is_so(lines[-1] == "INCOMPLETE IMAGES", f"unpack: the last line {lines[-1]!r}")
-    lines = [line.split(" ", 3) for line in lines[:-1]]
+    total = lines.pop()
+    unread = [line for line in lines if line.startswith("INCOMPLETE IMAGE ")]
+    trial.is_so(unread and unread == lines[-len(unread):], f"unpack: the images that were not read: {unread}")
+    lines = [line.split(" ", 3) for line in lines[:-len(unread)]]
     trial.is_so(all(line[0] == "FILE" for line in lines), f"unpack: {done.stdout[:200]!r}")
     told = {(line[1], int(line[2])): line[3] for line in lines}
     trial.is_so(len(told) == len(lines), "unpack: a file is reported twice")
@@ -108,6 +110,9 @@ def check_unpack(trial, shelf, there, names, day):
             counts[fate] += 1
             trial.is_so(right, f"unpack, day {day}: {set_id} {file.number}: {line!r}, {fate}, expected {want}")
     trial.is_so(not told, f"unpack: lines for no file: {told}")
+    kinds = [len([line for line in lines if line[3].startswith(word)]) for word in ("COMPLETE ", "EXISTS ", "AWAITS ", "CONFLICT", "NOT FOUND")]
+    want = "TOTAL {} complete {} existing {} incomplete {} in conflict {} not found 0 failed".format(*kinds)
+    trial.is_so(total == want, f"unpack, day {day}: {total!r}, wanted {want!r}")
     trial.is_so(done.returncode == 3, f"unpack: status {done.returncode}")
     for name, content in before.items():
         if not name.endswith(".stage"):

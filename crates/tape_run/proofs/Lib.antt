@@ -79,6 +79,7 @@ mod UnpackedFiles
 mod ReadingOrder
 mod UnpackedFits
 mod UnpackedNames
+pub mod Patterns
 mod WholeReports
 mod Streams
 mod QuotedNames

@@ -74,6 +74,8 @@ pub mod SurveyLaws
 pub mod Unpacking
 pub mod ReadingOrder
 pub mod UnpackLine
+pub mod UnpackChoice
+pub mod UnpackTally
 pub mod UnpackLaws
 -- Recovered files, and reports of that: definitions to believe, in this order.
 pub mod ReelLine

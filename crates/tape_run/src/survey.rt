@@ -20,7 +20,7 @@ mod digest;
 mod facts;
 pub(crate) mod files;
 pub(crate) mod gaps;
-mod glance;
+pub(crate) mod glance;
 mod line;
 pub(crate) mod locations;
 mod problems;

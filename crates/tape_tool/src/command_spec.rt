@@ -44,6 +44,8 @@ pub enum Kind {
     FlagOf(&'static str),
     /// An option with a text, which help calls so.
     TextOption(&'static str),
+    /// The same, which may be repeated.
+    TextOptions(&'static str),
     /// An option with a number, up to this one, and its default.
     NumberOption(u64, &'static [&'static str]),
     /// An option with one of several values: the name that help shows, the values, and the default.
@@ -93,7 +95,10 @@ fn argument<'a>(alloc: Global, word: &Word) -> Result<Arg<'a>, AllocError> {
 fn is_option(kind: Kind) -> bool {
     matches!(
         kind,
-        Kind::TextOption(_) | Kind::NumberOption(_, _) | Kind::NameOption(_, _, _)
+        Kind::TextOption(_)
+            | Kind::TextOptions(_)
+            | Kind::NumberOption(_, _)
+            | Kind::NameOption(_, _, _)
     )
 }
 
@@ -106,6 +111,11 @@ fn word_argument<'a>(arg: Arg<'a>, kind: Kind) -> Arg<'a> {
 
 /// The parser's argument for an option with a value.
 fn option_argument<'a>(long: Arg<'a>, kind: Kind) -> Arg<'a> {
+    let long = if let Kind::TextOptions(_) = kind {
+        long.action(ArgAction::Append)
+    } else {
+        long
+    };
     long.value_name(value_name_of(kind))
         .hide_possible_values(true)
         .value_parser(parser_of(kind))
@@ -134,7 +144,7 @@ fn parser_of(kind: Kind) -> ValueParser<'static> {
 /// Returns the name of an option's value in help.
 fn value_name_of(kind: Kind) -> &'static str {
     match kind {
-        Kind::TextOption(name) | Kind::NameOption(name, _, _) => name,
+        Kind::TextOption(name) | Kind::TextOptions(name) | Kind::NameOption(name, _, _) => name,
         _ => "N",
     }
 }

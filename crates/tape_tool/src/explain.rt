@@ -1,5 +1,6 @@
 //! Explanations of faults, printed after the line of the fault if `--explain` asks for them.
 mod files;
+mod missing;
 mod reason;
 
 use crate::fault::{ToolFault, number_of_file, number_of_write};
@@ -8,6 +9,9 @@ use files::{
     FILE_OF_FOLDER, FILE_OF_IMAGE, FILE_OF_IMAGES, FILE_OF_INPUT, FILE_OF_LINES, FILE_OF_LIST,
     FILE_OF_LOG, FILE_OF_NEW, FILE_OF_OUT, FILE_OF_STAGE, FILE_OF_VOLUME,
 };
+#[cfg(test)]
+pub use missing::MISSING_TEXTS;
+pub use missing::explain_missing;
 pub use reason::reason_of;
 use std::{fmt, io};
 use tape_image::{ImageCause, ImageFault};

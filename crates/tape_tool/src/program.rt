@@ -11,7 +11,7 @@ use crate::check::check;
 use crate::command_line::call_of;
 use crate::command_spec::{CommandSpec, mistake};
 use crate::diagnostics::FaultLine;
-use crate::explain::{Explanation, FaultSite, reason_of};
+use crate::explain::{Explanation, FaultSite, explain_missing, reason_of};
 use crate::extract::extract;
 use crate::fault::{FileFault, OUT_OF_MEMORY, ToolFault};
 use crate::help;
@@ -266,6 +266,9 @@ fn follow<'a, R: Host>(rt: &R, call: &Call<'a>) -> Outcome<'a>
 {
     let mut site = FaultSite::Unknown;
     let end = obey(rt, &call.order, &mut site);
+    if call.explained && end == End::Incomplete {
+        explain_missing(rt, &call.order);
+    }
     Outcome {
         end,
         explained: call.explained.then_some(site),

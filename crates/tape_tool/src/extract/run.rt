@@ -73,8 +73,8 @@ fn names_to_read<'n, R: Host>(
     }
 }
 
-/// Whether each of these is a plain file, or does not exist: only these can be read twice.
-fn are_files<R: Host>(rt: &R, names: &[&str]) -> bool {
+/// Returns whether each of these is a plain file, or does not exist: only these can be read twice.
+pub fn are_files<R: Host>(rt: &R, names: &[&str]) -> bool {
     for name in names {
         if let Ok(found) = fs::metadata(rt, *name) {
             if !found.is_file() {

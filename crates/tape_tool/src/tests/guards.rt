@@ -86,7 +86,8 @@ const ROWS: &[Row<'_>] = &[
         "unpack guard GRD001.tap",
         1,
         "FILE GRD001 1 FAILED file fault 2 guard/GRD001.1.ONE\n\
-            FILE GRD001 2 COMPLETE 1 guard/GRD001.2.TWO\n",
+            FILE GRD001 2 COMPLETE 1 guard/GRD001.2.TWO\n\
+            TOTAL 1 complete 0 existing 0 incomplete 0 in conflict 0 not found 1 failed\n",
         "tape: file fault 2\n",
         "guard/GRD001.1.ONE",
         KEPT,
@@ -96,7 +97,8 @@ const ROWS: &[Row<'_>] = &[
         "unpack guard GRD001.tap",
         1,
         "FILE GRD001 1 EXISTS guard/GRD001.1.ONE\n\
-            FILE GRD001 2 FAILED file fault 2 guard/GRD001.2.TWO\n",
+            FILE GRD001 2 FAILED file fault 2 guard/GRD001.2.TWO\n\
+            TOTAL 0 complete 1 existing 0 incomplete 0 in conflict 0 not found 1 failed\n",
         "tape: file fault 2\n",
         "guard/GRD001.2.TWO",
         b"F\n",
@@ -152,7 +154,8 @@ const ROWS: &[Row<'_>] = &[
         Odd::Comes("guard/.tape-1.part", "guard/ABC001.1.PAYROLL"),
         "unpack guard guard.tap",
         0,
-        "FILE ABC001 1 EXISTS guard/ABC001.1.PAYROLL\n",
+        "FILE ABC001 1 EXISTS guard/ABC001.1.PAYROLL\n\
+            TOTAL 0 complete 1 existing 0 incomplete 0 in conflict 0 not found 0 failed\n",
         "",
         "guard/ABC001.1.PAYROLL",
         MINE,
@@ -162,7 +165,8 @@ const ROWS: &[Row<'_>] = &[
         Odd::Open("guard_new/.tape-1.part", ErrorKind::PermissionDenied),
         "unpack guard_new guard.tap",
         1,
-        "FILE ABC001 1 FAILED file fault 2 guard_new/ABC001.1.PAYROLL\n",
+        "FILE ABC001 1 FAILED file fault 2 guard_new/ABC001.1.PAYROLL\n\
+            TOTAL 0 complete 0 existing 0 incomplete 0 in conflict 0 not found 1 failed\n",
         "tape: file fault 2\n",
         "guard.names",
         b"guard.tap\n",

@@ -116,6 +116,8 @@ const ROWS: &[Row<'_>] = &[
         "FILE SEE001 1 COMPLETE 2 seen/SEE001.1.ONE
 \
             FILE SEE001 2 COMPLETE 1 seen/SEE001.2.TWO
+\
+            TOTAL 2 complete 0 existing 0 incomplete 0 in conflict 0 not found 0 failed
 ",
         "",
         None,
@@ -218,7 +220,11 @@ const READERS: &[(&str, &str, &str)] = &[
         "many.names .tape-1.part ",
         "\nREEL 300 NOT OPENED\nAWAITS 1 1 0\n",
     ),
-    ("unpack many", "many.names ", ""),
+    (
+        "unpack many",
+        "many.names ",
+        "INCOMPLETE IMAGE lost.tap\nTOTAL 0 complete 0 existing 0 incomplete 0 in conflict 0 not found 0 failed\n",
+    ),
 ];
 
 /// Returns whether opening 300 images was tried after the files `first` were opened, and `last` was

@@ -1,5 +1,6 @@
 //! `unpack` as it is called.
 use super::calls::{Step, follow_all, put, take_all};
+use super::fake_system::called;
 use super::image::{END, Image, MARK};
 use super::volumes::{EOF2, FIXED, VOL1, labels};
 use crate::fault::{FileFault, ToolFault};
@@ -197,4 +198,108 @@ fn the_last_line_is_whole(rt: HostRuntime) -> Result<(), Fail> {
     last.write_all(b"REEL 1 COMPLETE\nCOMPLETE 12345678901234567890\n")?;
     assert!(rt; last.text() == b"COMPLETE 12345678901234567890".as_slice());
     Ok(())
+}
+
+/// Images of one set of three files, and of another set.
+const CHOSEN_IMAGES: &[Step<'_>] = &[
+    Step::Folder("chosen"),
+    Step::Folder("chosen1"),
+    Step::Put("chosen_a.txt", b"A\n"),
+    Step::Put("chosen_b.txt", b"B\nB\n"),
+    Step::Put("chosen1/CHO001.1.ONE", b"kept"),
+    Step::Ends(
+        "write . CHO 100000 ONE=chosen_a.txt TWO=chosen_b.txt THREE=chosen_a.txt",
+        End::Done,
+    ),
+    Step::Ends("write . OTH 100000 ONE=chosen_b.txt", End::Done),
+    Step::PutWorked("chosen.tap", 2288),
+];
+
+/// Lines, with their exit status and what they print.
+const CHOSEN: &[(&str, u8, &str)] = &[
+    (
+        "unpack chosen1 --list CHO001.tap chosen.tap OTH001.tap",
+        3,
+        "FILE CHO001 1 EXISTS chosen1/CHO001.1.ONE\n\
+            FILE CHO001 2 READY chosen1/CHO001.2.TWO\n\
+            FILE CHO001 3 READY chosen1/CHO001.3.THREE\n\
+            FILE ABC001 1 LACKS 1 chosen1/ABC001.1.PAYROLL.stage\n\
+            FILE OTH001 1 READY chosen1/OTH001.1.ONE\n\
+            INCOMPLETE IMAGE chosen.tap\n\
+            TOTAL 3 complete 1 existing 1 incomplete 0 in conflict 0 not found 0 failed\n",
+    ),
+    (
+        "unpack chosen --list CHO001.tap",
+        0,
+        "FILE CHO001 1 READY chosen/CHO001.1.ONE\n\
+            FILE CHO001 2 READY chosen/CHO001.2.TWO\n\
+            FILE CHO001 3 READY chosen/CHO001.3.THREE\n\
+            TOTAL 3 complete 0 existing 0 incomplete 0 in conflict 0 not found 0 failed\n",
+    ),
+    (
+        "unpack chosen CHO001.tap OTH001.tap --set CHO001 --file T* --file 3",
+        0,
+        "FILE CHO001 2 COMPLETE 2 chosen/CHO001.2.TWO\n\
+            FILE CHO001 3 COMPLETE 1 chosen/CHO001.3.THREE\n\
+            TOTAL 2 complete 0 existing 0 incomplete 0 in conflict 0 not found 0 failed\n",
+    ),
+    (
+        "unpack chosen OTH001.tap CHO001.tap --file *O*E --file 4 --file FOUR",
+        3,
+        "FILE OTH001 1 COMPLETE 2 chosen/OTH001.1.ONE\n\
+            FILE CHO001 1 COMPLETE 1 chosen/CHO001.1.ONE\n\
+            NO FILE 4\n\
+            NO FILE FOUR\n\
+            TOTAL 2 complete 0 existing 0 incomplete 0 in conflict 2 not found 0 failed\n",
+    ),
+    (
+        "unpack chosen CHO001.tap OTH001.tap --set OTH --file 1",
+        3,
+        "NO SET OTH\n\
+            TOTAL 0 complete 0 existing 0 incomplete 0 in conflict 1 not found 0 failed\n",
+    ),
+    // A number without a label is not reported if other files are chosen.
+    (
+        "unpack chosen second_only.tap --file LEDGER",
+        0,
+        "FILE ABC001 2 COMPLETE 0 chosen/ABC001.2.LEDGER\n\
+            TOTAL 1 complete 0 existing 0 incomplete 0 in conflict 0 not found 0 failed\n",
+    ),
+    (
+        "unpack chosen second_only.tap",
+        3,
+        "FILE ABC001 1 NOT FOUND\n\
+            FILE ABC001 2 EXISTS chosen/ABC001.2.LEDGER\n\
+            TOTAL 0 complete 1 existing 0 incomplete 0 in conflict 1 not found 0 failed\n",
+    ),
+];
+
+/// What is left by the lines.
+const LEFT: &[Step<'_>] = &[
+    Step::Holds("chosen/CHO001.1.ONE", b"A\n"),
+    Step::Holds("chosen/CHO001.2.TWO", b"B\nB\n"),
+    Step::Holds("chosen1/CHO001.1.ONE", b"kept"),
+    Step::IsMissing("chosen1/CHO001.2.TWO"),
+    Step::IsMissing("chosen1/ABC001.1.PAYROLL.stage"),
+    Step::Ends("unpack chosen --set '' CHO001.tap", End::WrongWords),
+    Step::Ends("unpack chosen --set TOOLONG CHO001.tap", End::WrongWords),
+];
+
+#[test]
+fn files_are_chosen(rt: HostRuntime) -> Result<(), Fail> {
+    put(
+        &rt,
+        "second_only.tap",
+        second_alone(rt.alloc())?.bytes.as_slice(),
+    )?;
+    take_all(&rt, CHOSEN_IMAGES)?;
+    for (line, status, out) in CHOSEN {
+        let seen = called(&rt, line, true)?;
+        assert!(rt;
+            seen.comes_to(*status, out, "", None),
+            "{line}: {}",
+            seen.out
+        );
+    }
+    take_all(&rt, LEFT)
 }
