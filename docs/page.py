@@ -104,10 +104,11 @@ def cell(state, text):
 
 def file_row(row, sections):
     """The row of a file, with its sections in the order of their numbers."""
-    _, set_id, file, name, created, state, sect, volume, mixed = row
+    _, set_id, file, name, created, state, sect, volume, mixed, problems = row
     met = [cell(s[6], f"{s[3]} {s[6]} on {s[4]}") for s in sections[set_id, file]]
-    if state == "MISSING":
-        met.append(cell(state, f"{sect} MISSING" + (f", after {volume}" if volume else "")))
+    for numbers in (part.split(":")[0] for part in problems.split(";") if part.endswith(":MISSING")):
+        after = f", after {volume}" if volume and numbers.split("-")[0] == sect else ""
+        met.append(cell("MISSING", f"{numbers} MISSING{after}"))
     if mixed:
         met.append(cell(mixed, "labels of different files"))
     columns = (html.escape(set_id), file, html.escape(name), html.escape(created.strip()),
