@@ -1,8 +1,8 @@
 /* blocks: times plain C loops over records in blocks, all in memory: packing records into blocks of
    8,192 bytes, and walking the parts of these blocks with every check that a reader makes.
    docs/FORMATS.md, 'Records in blocks', has the rules; bench/RESULTS.md has the workload.
-   Before it times anything it tries itself on small blocks written out by hand.
-   Prints a line a format: its letter, the microseconds of packing and of walking, the parts, their
+   Before it measures times, it tests itself on small blocks written out by hand.
+   Prints a line for each format: its letter, the microseconds of packing and of walking, the parts, their
    bytes, and the fold. */
 #include <stdio.h>
 #include <stdlib.h>
@@ -14,7 +14,7 @@
 #define CONTENT_BYTES (64u << 20)
 #define PASSES 16
 
-/* ---- the packed blocks, one behind another ---- */
+/* ---- the packed blocks, one after another ---- */
 
 struct blocks {
     unsigned char *bytes;
@@ -90,7 +90,7 @@ static struct records make_records(char format)
 static struct blocks room_for_blocks(void)
 {
     struct blocks blocks = { reserve(CONTENT_BYTES / 60 * 70), 0, 0, reserve(CONTENT_BYTES / 4000 * sizeof(uint32_t)) };
-    memset(blocks.bytes, 0, CONTENT_BYTES / 60 * 70); /* so that no page is met for the first time in a timed run */
+    memset(blocks.bytes, 0, CONTENT_BYTES / 60 * 70); /* so that no page is touched for the first time in a timed run */
     return blocks;
 }
 

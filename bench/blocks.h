@@ -1,4 +1,4 @@
-/* Records in blocks, plain C, for comparison: a walk that checks a block and gives its parts, and a
+/* Records in blocks, plain C, for comparison: a walk that checks a block and returns its parts, and a
    packer. docs/FORMATS.md, 'Records in blocks', has the rules. */
 #ifndef BLOCKS_H
 #define BLOCKS_H
@@ -24,10 +24,10 @@ enum cause { NO_FAULT, SHORT_OFFSET, NOT_MULTIPLE, BAD_COUNT, PAST_END, BAD_INDI
 struct walk {
     const unsigned char *block;
     size_t length, place;
-    int begun; /* a record goes on */
+    int begun; /* a record is unfinished */
     enum cause cause;
     size_t fault_place;
-    enum span span; /* of the part given last, as its bytes and their number */
+    enum span span; /* of the last part returned, like its bytes and their number */
     const unsigned char *bytes;
     size_t count;
 };
@@ -89,7 +89,7 @@ static inline int part(struct walk *walk, enum span span, size_t head, size_t un
     return 1;
 }
 
-/* the unit's length from its four digits, which end its head; 0 where they are none or too few */
+/* the length of the unit from the four digits at the end of its head; 0 if they are not digits or too few */
 static inline size_t unit_length(const struct walk *walk, size_t head)
 {
     size_t value = 0;
@@ -114,7 +114,7 @@ static inline int counted(struct walk *walk, enum span span, size_t head)
     return part(walk, span, head, unit);
 }
 
-/* 1 where it gave a part; 0 at the block's end or at a fault */
+/* 1 if a part was returned; 0 at the end of the block or at a fault */
 static inline int next_part(struct walk *walk, const struct shape *shape)
 {
     if (walk->cause != NO_FAULT || walk->place == walk->length)
@@ -138,7 +138,7 @@ struct packer {
     struct shape shape;
     unsigned char block[99999];
     size_t used;
-    int begun; /* a record goes on in the next block */
+    int begun; /* a record continues in the next block */
 };
 
 static inline void begin_packer(struct packer *packer, struct shape shape)
@@ -149,7 +149,7 @@ static inline void begin_packer(struct packer *packer, struct shape shape)
     memset(packer->block, ' ', shape.offset);
 }
 
-/* pads the block under way and gives its length; 0 where it holds no part */
+/* pads the current block and returns its length; 0 if it contains no part */
 static inline size_t take_block(struct packer *packer)
 {
     const struct shape *shape = &packer->shape;
@@ -173,7 +173,7 @@ static inline void put_count(unsigned char *at, size_t value)
     at[3] = '0' + value % 10;
 }
 
-/* takes bytes of a record's rest; BLOCK_FULL where the block is to be taken and the rest offered again */
+/* accepts bytes of the rest of a record; BLOCK_FULL if the block must be taken and the rest offered again */
 #define BLOCK_FULL ((size_t)1 << 63)
 static inline size_t offer(struct packer *packer, const unsigned char *rest, size_t count)
 {

@@ -24,7 +24,7 @@ PASSES = 16
 
 
 def run(program):
-    """By format: microseconds of packing and walking, and what was met."""
+    """By format: microseconds of packing and walking, and the parts found."""
     lines = subprocess.run([program], capture_output=True, text=True, check=True).stdout.splitlines()
     words = [line.split() for line in lines]
     return {word[0]: (int(word[1]), int(word[2]), tuple(word[3:])) for word in words}

@@ -4,16 +4,16 @@
     ./commands.py [--program PATH] [--folder FOLDER] [--memory FOLDER] [--count N] [--runs N] [--c-only]
                   [--instructions] [COMMAND]..
 
-COMMAND is write, extract, stage or check; all of them if none is named.
+COMMAND is write, extract, stage or check; the default is all of them.
 
 write: lines of 80 characters to images, against write_lines.c; the images are compared byte by byte.
 extract: these lines out of the images again, against extract.c; the lines are compared byte by byte.
 stage: extract with --stage and a new stage, against extract without; both write to one directory.
 check: the images, against `tape list` of each of them; the output goes to /dev/null.
 
-What is timed is written to a directory in memory (/dev/shm), and removed. The lines and the images that
+Timed output is written to a directory in memory (/dev/shm), and removed. The lines and images that
 extract and check read are in a temporary directory (under TMPDIR), or in --folder, where they are kept
-and used again; each is read once before, so that it is in the system's cache.
+for reuse; each is read once first, so that it is in the system's cache.
 
 With --instructions each program runs once more under valgrind, which counts its instructions: this takes
 some fifty times as long, so use a small --count. Times vary on a busy machine, these figures do not.
@@ -34,7 +34,7 @@ from timing import HERE, build, in_turn, print_head, print_load, print_rows, rea
 CRATE = HERE.parent / "crates" / "tape_tool"
 RECORD = 80
 CAPACITY = "500000000"
-# format, block length, and the record length where it is named
+# format, block length, and the record length if it is specified
 SHAPES = (("F", "8192", "80"), ("F", "80", "80"), ("D", "8192", "0"), ("D", "84", "0"), ("S", "8192", "0"), ("S", "80", "0"))
 
 
@@ -52,14 +52,14 @@ def arguments():
 
 
 class Bench:
-    """Where things are, and the programs."""
+    """The directories and the programs."""
 
     def __init__(self, options, build_folder, folder, memory):
         self.options, self.build, self.folder, self.memory = options, build_folder, folder, memory
         self.lines = folder / f"lines_{options.count}"
 
     def has(self, command):
-        """Whether it is asked for."""
+        """Whether this command was requested."""
         return not self.options.commands or command in self.options.commands
 
     def images(self, shape):
@@ -144,11 +144,11 @@ def time_extract(bench, shape):
     out = bench.memory / "out"
     words = ["ABC001", "1", out, *bench.images(shape)]
     others = {
-        "C, gathering": [bench.build / "extract", *words],
+        "C, collecting": [bench.build / "extract", *words],
         "C, streaming": [bench.build / "extract", "--stream", *words],
     }
     commands = bench.with_tape(["extract", *words], others)
-    bench.time(front("extract", shape), "C, gathering", commands, lambda: empty(bench.memory))
+    bench.time(front("extract", shape), "C, collecting", commands, lambda: empty(bench.memory))
     for command in commands.values():
         empty(bench.memory)
         subprocess.run(command, check=True, stdout=subprocess.DEVNULL)
@@ -209,7 +209,7 @@ def time_all(bench):
 def main():
     options = arguments()
     if not options.c_only and not options.program.exists():
-        sys.exit(f"{options.program} is not there: in crates/tape_tool run `rt run -- --help`, or name it with --program")
+        sys.exit(f"{options.program} does not exist: run `rt run -- --help` in crates/tape_tool, or specify another with --program")
     options.program = options.program.resolve()
     with tempfile.TemporaryDirectory(prefix="tape-bench-") as temporary:
         build_folder = Path(temporary)

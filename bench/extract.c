@@ -1,14 +1,14 @@
 /* extract [--stream] SET FILE OUT IMAGE..: writes the records of one file of a set as lines, as `tape extract` does, and
    prints the same lines. Plain C over buffered stdio. docs/FORMATS.md, 'Reading a file' and 'Records in blocks', has the
    rules: labels, the order of marks, section and sequence numbers, block counts, counts and indicators of units, span
-   order and padding are all judged.
+  order and padding are all checked.
 
-   The lines are gathered in memory and written where the file is complete. With --stream they are written as they come:
-   then OUT holds a front of the file where it is not complete. */
+   The lines are collected in memory and written if the file is complete. With --stream they are written as they come:
+   then OUT contains a prefix of the file if it is incomplete. */
 #define _GNU_SOURCE
 #include <stdlib.h>
 
-#define fread fread_unlocked /* no thread beside this one: the locks of stdio are no part of the comparison */
+#define fread fread_unlocked /* there is only one thread: the locks of stdio are not part of the comparison */
 #include "blocks.h"
 #include "image.h"
 #include "labels.h"
@@ -18,21 +18,21 @@ enum state { GOES_ON, SECTION_DONE, COMPLETE, REFUSED };
 struct text {
     unsigned char *bytes;
     size_t used, room;
-    FILE *out; /* where it is streamed */
+    FILE *out; /* with --stream */
 };
 
 struct extract {
     char set[7];
-    unsigned file, section;      /* wanted */
-    unsigned long long blocks; /* of the section wanted, that are there */
-    unsigned long long seen; /* of the section under way */
-    unsigned long long records; /* that ended */
-    int known, begun; /* name and shape of the file are known; a record goes on */
+    unsigned file, section;      /* expected next */
+    unsigned long long blocks; /* of the expected section, already recovered */
+    unsigned long long seen; /* of the current section */
+    unsigned long long records; /* finished */
+    int known, begun; /* the identifier and shape of the file are known; a record is unfinished */
     char name[18];
     struct shape shape;
-    struct file_label first; /* HDR1 of the section under way */
+    struct file_label first; /* HDR1 of the current section */
     struct text text;
-    const char *why; /* the reel was refused */
+    const char *why; /* why the reel was refused */
 };
 
 static struct image image;
@@ -157,7 +157,7 @@ static enum state broken_off(enum item item)
     return refuse(item == BAD ? "BAD ITEM" : item == MARK || item == BLOCK ? "BAD LABEL" : "REEL ENDED");
 }
 
-/* passes labels up to a mark */
+/* skips labels up to a mark */
 static enum state to_mark(void)
 {
     enum item item;
@@ -166,7 +166,7 @@ static enum state to_mark(void)
     return item == MARK ? GOES_ON : broken_off(item);
 }
 
-/* data up to the mark; those of a section passed over, and those that are there, are not looked at */
+/* data up to the mark; those of a skipped section, and those already recovered, are not checked */
 static enum state data(int wanted)
 {
     enum item item;
@@ -183,7 +183,7 @@ static enum state data(int wanted)
     return item == MARK ? GOES_ON : broken_off(item);
 }
 
-/* behind HDR1, up to the mark behind the trailer labels */
+/* after HDR1, up to the mark after the trailer labels */
 static enum state section(int wanted)
 {
     enum item item = next_item(&image);

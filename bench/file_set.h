@@ -1,5 +1,5 @@
-/* Writes a file set on tape images of one capacity: plain C with a buffer of 8,192 bytes, for comparison; by stdio
-   small blocks take twice as long. docs/FORMATS.md, 'Written images', 'Written blocks' and 'Written sets', has the
+/* Writes a file set on tape images of one capacity: plain C with a buffer of 8,192 bytes, for comparison; with
+   stdio, small blocks take twice as long. docs/FORMATS.md, 'Written images', 'Written blocks' and 'Written sets', has the
    rules. */
 #ifndef FILE_SET_H
 #define FILE_SET_H
@@ -22,10 +22,10 @@
 
 struct file_set {
     const char *folder, *prefix;
-    uint64_t capacity, used; /* of the volume under way */
+    uint64_t capacity, used; /* of the current volume */
     unsigned volume, files;
     int out;
-    size_t held; /* bytes of the buffer */
+    size_t held; /* bytes in the buffer */
     unsigned char buffer[BUFFER];
     struct file_label file;
     struct packer packer;
@@ -145,7 +145,7 @@ static inline void begin_volume(struct file_set *set)
     put_block(set, text, LABEL);
 }
 
-/* the second mark and the end word */
+/* the second mark and the end-of-medium marker */
 static inline void end_volume(struct file_set *set)
 {
     char name[7];
@@ -225,9 +225,9 @@ static inline void end_set(struct file_set *set)
     printf("FILES %u VOLUMES %u\n", set->files, set->volume);
 }
 
-/* ---- words of a command line ---- */
+/* ---- arguments of the command line ---- */
 
-/* FORMAT BLOCK RECORD; a record length of 0 is that which `tape write` takes where none is named */
+/* FORMAT BLOCK RECORD; a record length of 0 is the default of `tape write` */
 static inline struct shape shape_of(char **word)
 {
     struct shape shape = { word[0][0], (uint32_t)strtoul(word[1], NULL, 10), (uint32_t)strtoul(word[2], NULL, 10), 0, 0 };

@@ -1,17 +1,17 @@
 #!/usr/bin/env python3
-"""How the work of `tape` grows with files, volumes and sections: bytes read and written, calls and instructions, no seconds.
+"""Measures how the work of `tape` grows with files, volumes and sections: bytes read and written, calls and instructions.
 Run manually, before a release; CI does not run it.
 
     ./growth.py [--program PATH] [--files N] [--large] [--instructions] [--folder DIR]
 
-Makes sets of volumes by docs/FORMATS.md, runs the built program over them, and compares what the system counted for it
-(/proc/PID/io, strace for syncs) with a bound. Prints a line for each measurement, with `WRONG` if it is over its bound or
-if the program's answer is not the expected one; the status is 1 if there was such a line.
+Creates sets of volumes from docs/FORMATS.md, runs the built program on them, and compares the counts of the system
+(/proc/PID/io, strace for syncs) with a bound. Prints a line for each measurement, with `WRONG` if it exceeds its bound or
+if the program's result is not the expected one; the status is 1 if there was such a line.
 
---files N       how many files there are on one image (5,000)
---large         also 9,999 files on an image of 11.7 MB, 2,000 files over ten images, and a shelf of 580 images
---folder DIR    where the images and outputs are (default: in memory)
---instructions  also counts instructions by valgrind (some minutes)
+--files N       the number of files on one image (5,000)
+--large         also 9,999 files on an image of 11.7 MB, 2,000 files over ten images, and a collection of 580 images
+--folder DIR    the directory of the images and outputs (default: in memory)
+--instructions  also counts instructions with valgrind (some minutes)
 """
 
 import argparse
@@ -40,7 +40,7 @@ def label(text):
 
 
 def section(set_id, file, sect, blocks, ends, length=800, record=80):
-    """A file section of so many blocks; `ends` says whether the file ends with it."""
+    """A file section with a number of blocks; `ends` says whether the file ends with it."""
     name = f"F{file}"
 
     def first(kind, count):
@@ -60,7 +60,7 @@ def content(file, sect, number, length):
 
 
 def records_of(file, sections, length=800, record=80):
-    """What `unpack` writes of a file, given how many blocks each of its sections has."""
+    """The bytes that `unpack` writes for a file, given the number of blocks in each of its sections."""
     text = b"".join(content(file, s + 1, i, length) for s, n in enumerate(sections) for i in range(n))
     return b"".join(text[at:at + record] + b"\n" for at in range(0, len(text), record))
 
@@ -70,7 +70,7 @@ def volume(name, sections):
 
 
 class Counted:
-    """What a run answered, and what the system counted for it."""
+    """The result of a run, and the system's counts for it."""
 
     def __init__(self, words, folder):
         with open(folder / "out.txt", "wb") as out:
@@ -91,7 +91,7 @@ class Bench:
         self.large, self.files = options.large, options.files
 
     def memory(self, words, folder):
-        """The greatest memory of a run, in MB: that of a small program's child, since a child's begins with its parent's."""
+        """The maximum memory of a run, in MB, as the child of a small program, since the count of a child begins with its parent's."""
         measure = self.folder / "measure"
         if not measure.exists():
             subprocess.run(["cc", "-O2", "-o", measure, Path(__file__).resolve().parent / "measure.c"], check=True)
@@ -113,7 +113,7 @@ class Bench:
             f"{'' if good else ' WRONG'}", flush=True)
 
     def write(self, folder, images):
-        """Writes images into a folder; returns their names and size."""
+        """Writes images into a directory; returns their names and size."""
         names = []
         for at, image in enumerate(images):
             names.append(folder / f"{at:04}.tap")
@@ -167,7 +167,7 @@ class Bench:
             self.unpack(f"{file} files over {volumes} volumes, {how}", made, expected, 2.2, order)
 
     def cut_copy(self, count):
-        """The first half of an image is named before the whole of it."""
+        """The first half of an image is specified before the complete image."""
         sections = [section("SETAAA", f + 1, 1, 2, True) for f in range(count)]
         whole = volume("VOL001", sections)
         expected = {f"SETAAA.{f + 1}.F{f + 1}": records_of(f + 1, [2]) for f in range(count)}
@@ -181,7 +181,7 @@ class Bench:
             2.2, right)
 
     def incomplete(self, volumes):
-        """The last volume of a file is missing; then the same call again."""
+        """The last volume of a file is missing; the call is then repeated."""
         made = [volume(f"V{at:05}", [section("SETAAA", 1, at + 1, 100, at + 1 == volumes)])
             for at in range(volumes)][:-1]
         folder = self.fresh("unpack")
@@ -241,7 +241,7 @@ class Bench:
     # ---- stages
 
     def stages(self, length):
-        """A stage of parts of this length, opened by a run that adds nothing to it, and shown."""
+        """A stage of parts of a given length, opened by a run that adds nothing, and shown."""
         image = volume("VOL001", [section("SETAAA", 1, 1, 6_000_000 // length, False, length, length)])
         folder = self.fresh("stage")
         names, _ = self.write(folder, [image])
@@ -256,7 +256,7 @@ class Bench:
         self.line(f"stage, parts of {length:,}: times read", run.read / staged, 2.05, run.status == 3)
 
     def syncs(self, folder, *words):
-        """How many syncs a run asks for."""
+        """The number of syncs in a run."""
         subprocess.run(["strace", "-f", "-e", "trace=fsync,fdatasync", "-o", "calls", *map(str, words)], cwd=folder,
             stdin=subprocess.DEVNULL, capture_output=True, check=False)
         return len(re.findall(r"f(?:data)?sync\(", (folder / "calls").read_text()))
@@ -292,7 +292,7 @@ class Bench:
         return int(re.search(r"Collected : (\d+)", log.read_text()).group(1))
 
     def ratios(self):
-        """Instructions a block, compared with one another and with the C program that writes records as they come."""
+        """Instructions for each block, compared with one another and with the C program that writes records as they come."""
         c = self.folder / "extract"
         subprocess.run(["cc", "-O2", "-o", c, Path(__file__).resolve().parent / "extract.c"], check=True)
         for length, record, blocks, bounds in ((80, 80, 20_000, (1.15, 1.5)), (8160, 80, 400, (1.15, 2.0))):

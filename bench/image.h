@@ -14,8 +14,8 @@ enum image_cause { TRUNCATED = 1, LENGTHS_DIFFER, RESERVED, TOO_LONG, DEVICE };
 
 struct image {
     FILE *in;
-    uint64_t place; /* where the spelling under way begins */
-    uint32_t length; /* of the block given last */
+    uint64_t place; /* the offset of the current encoding */
+    uint32_t length; /* of the last block returned */
     enum image_cause cause; /* of the fault */
     unsigned char data[LONGEST_BLOCK + 1];
 };
@@ -37,7 +37,7 @@ static inline enum item cut(struct image *image)
     return fail(image, ferror(image->in) ? DEVICE : TRUNCATED);
 }
 
-/* passes over a long block's data; 0 where they end before */
+/* skips the data of a long block; 0 if the image ends inside them */
 static inline int pass(struct image *image, uint32_t count)
 {
     while (count > 0) {
@@ -89,11 +89,11 @@ static inline enum item next_item(struct image *image)
         image->place += 4;
         if (word == 0)
             return MARK;
-        /* an erase gap: go on */
+        /* an erase gap: continue */
     }
 }
 
-/* opens the image that the words name, standard input where none is named */
+/* opens the image in the arguments, or standard input if there is none */
 static inline FILE *open_image(int words, char **word)
 {
     return words > 1 ? fopen(word[1], "rb") : stdin;

@@ -10,10 +10,10 @@
 struct file_label {
     char file[18], set[7];
     unsigned section, sequence;
-    unsigned long long blocks; /* of a trailer: the last six digits are written */
+    unsigned long long blocks; /* in a trailer; only the last six digits are written */
 };
 
-/* ---- writing: each label is given room for 81 characters ---- */
+/* ---- writing: the caller provides room for 81 characters ---- */
 
 static inline void volume_label(char *text, const char *volume)
 {
@@ -35,14 +35,14 @@ static inline void second_label(char *text, const char *identifier, char format,
         "", offset % 100, "");
 }
 
-/* ---- reading: 0 where a field has no digits, or is outside its range ---- */
+/* ---- reading: 0 if a field has other characters than digits, or is out of range ---- */
 
 static inline int is_label(const unsigned char *block, size_t length, const char *identifier)
 {
     return length == LABEL && memcmp(block, identifier, strlen(identifier)) == 0;
 }
 
-/* the number in the digits at this position, counted from 1; -1 where they are none */
+/* the decimal number at a position, counted from 1; -1 if there are other characters than digits */
 static inline long number_at(const unsigned char *label, int position, int count)
 {
     long value = 0;

@@ -1,5 +1,5 @@
-/* lister [IMAGE]: prints the items of a tape image, one a line, as `tape list` does.
-   Plain C over buffered stdio. docs/REFERENCE.md, 'list', has the lines. */
+/* lister [IMAGE]: prints the items of a tape image, one on each line, as `tape list` does.
+   Plain C over buffered stdio. docs/REFERENCE.md, 'list', describes the lines. */
 #include <string.h>
 
 #include "image.h"
@@ -22,7 +22,7 @@ static int is_number_above_0(const unsigned char *text, int count)
     return above && are_digits(text, count);
 }
 
-/* copies characters, `?` in the place of those that do not print */
+/* copies characters, with `?` for those that cannot be printed */
 static const char *shown(const unsigned char *text, int count, char *room)
 {
     for (int i = 0; i < count; i++)
@@ -68,7 +68,7 @@ static int print_second(unsigned long long number, const unsigned char *label)
     return 1;
 }
 
-/* 0 where the block is no label that reads */
+/* 0 if the block cannot be read as a label */
 static int print_label(unsigned long long number, const unsigned char *label)
 {
     if (memcmp(label, "VOL1", 4) == 0)

@@ -1,10 +1,10 @@
-/* make_images FOLDER [BYTES]: writes blocks_8192.tap and blocks_80.tap into the folder.
+/* make_images FOLDER [BYTES]: writes blocks_8192.tap and blocks_80.tap into the directory.
 
-   Each is one volume of at most BYTES bytes (1,000,000,000 where none are named), as long as its
+   Each is one volume of at most BYTES bytes (default 1,000,000,000), as long as its
    blocks allow: VOL1, then files of HDR1, HDR2, a tape mark, data blocks, a tape mark, EOF1, EOF2
-   and a tape mark, then a second tape mark and the end word. A file here ends at 999,999
-   blocks and the next one begins, so that the six digits of each label's count tell them all: the
-   image in blocks of 8,192 has one file, the one in blocks of 80 has twelve. Records are of fixed length (format F) and fill
+   and a tape mark, then a second tape mark and the end-of-medium marker. A file ends at 999,999
+   blocks and the next one begins, so that the six digits of each label's count are enough: the
+   image with blocks of 8,192 bytes has one file, the one with blocks of 80 bytes has twelve. Records are of fixed length (format F) and fill
    their blocks; each begins with its number, so that no data block looks like a label. */
 #include <stdint.h>
 #include <stdio.h>
@@ -14,10 +14,10 @@
 #define MOST_BLOCKS 999999u
 #define LABEL_BYTES 88u
 #define END_WORD 0xFFFFFFFFu
-/* the tape mark, EOF1, EOF2 and the mark behind them; HDR1, HDR2 and the mark behind them */
+/* the tape mark, EOF1, EOF2 and the mark after them; HDR1, HDR2 and the mark after them */
 #define FILE_END (4 + 2 * LABEL_BYTES + 4)
 #define FILE_START (2 * LABEL_BYTES + 4)
-/* the second mark and the end word */
+/* the second mark and the end-of-medium marker */
 #define VOLUME_END 8
 
 struct tape {

@@ -1,7 +1,6 @@
-/* measure REPORT PROGRAM [WORD]..: runs the program and writes its seconds, the seconds that processors
-   worked for it, its greatest memory in kilobytes and its status into the file REPORT. A small program
-   does this, since the memory that the system counts for a child begins with that of the process that
-   started it. */
+/* measure REPORT PROGRAM [ARGUMENT]..: runs the program and writes its seconds, its processor seconds, its
+   maximum memory in kilobytes and its status into the file REPORT. This is a small program because the
+   memory that the system counts for a child begins with that of the process that started it. */
 #include <stdio.h>
 #include <sys/resource.h>
 #include <sys/wait.h>

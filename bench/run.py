@@ -6,8 +6,8 @@
 Builds the C programs with `cc -O2`, makes the two images of make_images.c, and runs each program
 several times in turn, with output to /dev/null and to a file in memory (/dev/shm). Compares the
 outputs byte by byte, and prints the times, the ratios and the maximum memory as Markdown. Images and
-outputs are in a temporary directory (under TMPDIR) that is removed afterwards, unless --folder names
-one: then the images stay there, and are used again if they have the same size.
+outputs are in a temporary directory (under TMPDIR) that is removed afterwards, unless --folder is
+given: then the images stay there, and are reused if they have the same size.
 """
 
 import argparse
@@ -42,7 +42,7 @@ def arguments():
 
 
 def make_images(build_folder, folder, size):
-    """Writes the images, unless images of this greatest size are there."""
+    """Writes the images, unless images of this maximum size exist."""
     noted = folder / "bytes"
     kept = noted.exists() and noted.read_text() == str(size) and all((folder / name).exists() for name in IMAGES)
     if not kept:
@@ -58,13 +58,13 @@ def programs(options, folder, image):
 
 def others(folder, image):
     return {
-        "C walk (counts alone)": [folder / "walk", image],
+        "C walk (counts only)": [folder / "walk", image],
         "`cat` to a pipe": ["sh", "-c", 'cat "$1" | wc -c', "sh", image],
     }
 
 
 def compare_outputs(options, folder, image):
-    """Both listings in files in memory, timed, compared and removed."""
+    """Writes both listings to files in memory, timed; compares and removes them."""
     with tempfile.TemporaryDirectory(dir="/dev/shm") as memory_folder:
         commands = programs(options, folder, image)
         outputs = {name: os.path.join(memory_folder, str(i)) for i, name in enumerate(commands)}

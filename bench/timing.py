@@ -1,4 +1,4 @@
-"""What the benchmarks share: building C programs, running programs in turn, rows of the tables."""
+"""Shared by the benchmarks: building C programs, running programs in turn, rows of the tables."""
 
 import os
 import re
@@ -12,15 +12,15 @@ from pathlib import Path
 
 HERE = Path(__file__).resolve().parent
 ROOT = HERE.parent
-# The columns of `print_rows`, behind those of a table's own.
+# The columns of `print_rows`, after the table's own columns.
 COLUMNS = ("Program", "Best, s", "Median, s", "Processor, s", "Ratio, best", "Ratio, median", "Ratio, processor", "Memory, MB")
-# And where instructions are counted too.
+# The same if instructions are also counted.
 COUNTED = (*COLUMNS, "Instructions, millions", "Ratio, instructions")
 
 
 @dataclass
 class Times:
-    """Of the runs of one program: seconds, seconds of processors, the greatest memory in MB, and instructions."""
+    """The runs of one program: seconds, processor seconds, the maximum memory in MB, and instructions."""
 
     taken: list = field(default_factory=list)
     worked: list = field(default_factory=list)
@@ -29,13 +29,13 @@ class Times:
 
 
 def build(folder, names):
-    """Builds these C programs into the folder."""
+    """Builds the C programs in a directory."""
     for name in names:
         subprocess.run(["cc", "-O2", "-Wall", "-o", folder / name, HERE / f"{name}.c"], check=True)
 
 
 def build_proved(folder, name, libraries):
-    """Builds NAME.rt.txt over these crates, in a repository of its own; the program's path."""
+    """Builds NAME.rt.txt with some crates, in its own repository; returns the program's path."""
     for library in libraries:
         shutil.copytree(ROOT / "crates" / library, folder / "crates" / library)
     crate = folder / "crates" / name
@@ -46,7 +46,7 @@ def build_proved(folder, name, libraries):
     lines = [line for line in lines if line.split(":")[0].strip() in libraries]
     (folder / "crates.txt").write_text("\n".join([*lines, f"{name}: {' '.join(libraries)}"]) + "\n")
     subprocess.run(["git", "init", "-q", "."], cwd=folder, check=True)
-    # It is built for its path: what it answers without a word does not matter.
+    # Only its path is needed: its result without arguments does not matter.
     subprocess.run(["rt", "run"], cwd=crate, capture_output=True, check=False)
     program = crate / "out" / name
     if not program.exists():
@@ -68,8 +68,8 @@ def run(build_folder, command, output, times):
 
 
 def instructions(build_folder, command):
-    """How many instructions the command takes, its children too, as valgrind counts them: other work on the
-    machine changes nothing. What the system does for it is not among them."""
+    """The number of instructions of the command and its children, as counted by valgrind. Other work on the
+    machine does not matter. The work of the system for the command is not included."""
     with tempfile.TemporaryDirectory(dir=build_folder) as logs:
         valgrind = ["valgrind", "--tool=callgrind", "--trace-children=yes", "--callgrind-out-file=/dev/null", f"--log-file={logs}/%p"]
         subprocess.run([*valgrind, *command], check=True, stdout=subprocess.DEVNULL, stdin=subprocess.DEVNULL)
@@ -77,9 +77,9 @@ def instructions(build_folder, command):
 
 
 def in_turn(build_folder, commands, outputs, runs, before=None, counted=False):
-    """Each program once, then each once more, and so on: times by name; at the end its instructions, if counted.
+    """Runs each program once, then each once more, and so on. Returns the times by name, and the instructions, if counted.
 
-    What `before` does stands in front of each run, and is not timed."""
+    `before` is called before each run, and is not timed."""
     times = {name: Times() for name in commands}
     for number in range(runs + counted):
         for name, command in commands.items():
@@ -93,14 +93,14 @@ def in_turn(build_folder, commands, outputs, runs, before=None, counted=False):
 
 
 def print_head(columns, counted=False):
-    """The head of a table, its own columns first."""
+    """The head of a table, with its own columns first."""
     columns = [*columns, *(COUNTED if counted else COLUMNS)]
     print(f"| {' | '.join(columns)} |")
     print("|" + "---|" * len(columns))
 
 
 def print_rows(front, base, times):
-    """A row for each program, its ratios over the times of the one named by `base`."""
+    """A row for each program, with the ratios of its times to those of the program `base`."""
     for name, each in times.items():
         figures, ratios = [], []
         for best, of_base in ((min, "taken"), (statistics.median, "taken"), (min, "worked")):
@@ -114,10 +114,10 @@ def print_rows(front, base, times):
 
 
 def print_load():
-    """How busy the machine is: figures of a run at a load well below 1 alone can be compared."""
+    """Prints how busy the machine is: only figures of runs at a load well below 1 can be compared."""
     print(f"Load over the last minute: {os.getloadavg()[0]:.2f}\n", flush=True)
 
 
 def read_once(path):
-    """From here on the file lies in the system's cache."""
+    """Reads the file, so that it is in the system's cache."""
     subprocess.run(["cat", path], check=True, stdout=subprocess.DEVNULL)

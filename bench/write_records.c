@@ -1,5 +1,5 @@
-/* write_records FOLDER PREFIX CAPACITY FORMAT BLOCK RECORD COUNT: writes a file of COUNT records of 80 bytes on tape
-   images, and prints their sizes. Plain C; bench/RESULTS.md has the records. */
+/* write_records FOLDER PREFIX CAPACITY FORMAT BLOCK RECORD COUNT: writes a file of COUNT records of 80 bytes to tape
+   images, and prints their sizes. Plain C; bench/RESULTS.md describes the records. */
 #include "file_set.h"
 
 #define RECORD_BYTES 80

@@ -4,7 +4,7 @@
     ./write_records.py [--program PATH] [--folder FOLDER] [--count N] [--runs N] [--c-only]
 
 Builds write_records.c with `cc -O2`, and the program write_records.rt.txt in a temporary repository,
-beside copies of the crates that it needs; `rt` proves it there. --program names one that was built
+beside copies of the crates that it needs; `rt` proves it there. --program specifies one that was built
 before. Both write the same records to images in a directory in memory (/dev/shm), several times in
 turn; then the images are compared byte by byte. Prints times, ratios and the maximum memory as
 Markdown.
@@ -39,7 +39,7 @@ def arguments():
 
 
 def images(folder):
-    """The images that hold anything, in order."""
+    """The images that are not empty, in order."""
     return [path for path in sorted(folder.glob("*.tap")) if path.stat().st_size > 0]
 
 

@@ -28,17 +28,17 @@ COMMANDS = {
         ("IMAGE", "IMAGES"), ("--files-from LIST", "FROM"), ("--null", "NULL"), ("--tsv", "ROWS")]),
     "compare": ("[--files-from LIST [--null]] [IMAGE]...", [
         ("IMAGE", "READINGS"), ("--files-from LIST", "FROM"), ("--null", "NULL")]),
-    "merge": ("[--files-from LIST [--null]] OUT [IMAGE]...", [
+    "merge": ("[--log LOG] [--files-from LIST [--null]] OUT [IMAGE]...", [
         ("OUT", "MERGED_OUT"), ("IMAGE", "READINGS"), ("--files-from LIST", "FROM"),
-        ("--null", "NULL")]),
+        ("--null", "NULL"), ("--log LOG", "LOG")]),
     "extract": ("[OPTIONS] SET FILE OUT [IMAGE]...", [
         ("SET", "SET"), ("FILE", "FILE"), ("OUT", "OUT"), ("IMAGE", "REELS"),
         ("--files-from LIST", "FROM"), ("--null", "NULL"),
         ("--form lines|raw", "FORM_OF_OUT"), ("--stage PATH", "STAGE"),
         ("--again", "AGAIN")]),
-    "unpack": ("[--form FORM] [--files-from LIST [--null]] DIR [IMAGE]...", [
+    "unpack": ("[--form FORM] [--salvage] [--files-from LIST [--null]] DIR [IMAGE]...", [
         ("DIR", "FOLDER_OF_FILES"), ("IMAGE", "SHELF"), ("--files-from LIST", "FROM"),
-        ("--null", "NULL"), ("--form lines|raw", "FORM_OF_FILES")]),
+        ("--null", "NULL"), ("--form lines|raw", "FORM_OF_FILES"), ("--salvage", "SALVAGE_FILES")]),
     "salvage": ("[--form FORM] [--files-from LIST [--null]] SET FILE OUT [IMAGE]...", [
         ("SET", "SET"), ("FILE", "FILE"), ("OUT", "OUT_OF_SALVAGE"), ("IMAGE", "SHELF"),
         ("--files-from LIST", "FROM"), ("--null", "NULL"),
@@ -247,7 +247,7 @@ def command_part(name, said):
 def page():
     """The man page."""
     said = texts()
-    version = re.search(r'\.version\("([^"]+)"\)', read(SOURCE, "words.rt"))[1]
+    version = re.search(r'\.version\("([^"]+)"\)', read(SOURCE, "command_line.rt"))[1]
     about = said["ABOUT"]
     out = [r".\" Made by docs/man.py from the texts of the program's help.",
            f'.TH TAPE 1 "{DATE}" "tape {version}" "User Commands"', ".SH NAME",
@@ -286,7 +286,7 @@ def tidied(lines):
 
 def words_of_source():
     """Each argument of the commands with the name of its text, as in the sources."""
-    parts = [("words.rt",), *((words_of(name),) for name in COMMANDS if name != "compare")]
+    parts = [("command_line.rt",), *((words_of(name),) for name in COMMANDS if name != "compare")]
     source = "".join(read(SOURCE, *part) for part in parts)
     rows = re.findall(r'Word\(\s*"([^"]+)",\s*Kind::(\w+).*?help::(\w+)', source, re.S)
     options = ("Flag", "FlagOf", "TextOption", "NumberOption", "NameOption")

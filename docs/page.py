@@ -1,28 +1,44 @@
 #!/usr/bin/env python3
-"""Draws a collection: an HTML page of the images named, to standard output.
+"""Draws a collection: an HTML page of images, to standard output.
 
     docs/page.py IMAGE... >page.html
 
-For each reel there is a strip of squares, one for each item or, on a long reel, one for several items
-with the colour of the worst; then a table of the files, with the state of each section that was found
-and what is missing. It calls `tape survey --tsv` and `tape list --offsets`; TAPE names another program.
-docs/page.html is the page of three images, which docs/examples.sh draws again and compares.
+A package installs this as tape-page. For each image there is a strip of squares, one for each item or,
+on a long image, one for several items with the colour of the worst. A bar below the squares of a file
+section shows that the section is damaged, or that its copies differ. Then a table of the files has the
+state of each section that was found, and what is missing. Names of images may contain any bytes.
+
+It runs `tape survey --tsv` and `tape list --offsets`; TAPE names another program. docs/page.html is the
+page of three images, which docs/examples.sh draws again and compares.
 """
 import collections
+import datetime
 import html
 import os
+import re
 import subprocess
 import sys
+import tempfile
 
 TAPE = os.environ.get("TAPE", "tape")
 PER_ROW, ROWS, STEP = 100, 20, 10
 
-# What an item is drawn as, the worst last.
+# The columns of the rows of `tape survey --tsv`; later versions may add others after them.
+COLUMNS = {
+    "IMAGE": "name state volume set system items files bad end words",
+    "SECTION": "set file section volume blocks state eof",
+    "FILE": "set file identifier created state section volume conflict sections",
+    "COPIES": "set file section copies name other agree",
+}
+# What an item is drawn as, and what the bar below it says of its section; the worst last.
 KINDS = ("block", "mark", "label", "bad", "end")
+STATES = ("", "GOOD", "CUT", "COUNT", "BAD", "CONFLICT")
+WORDS = {"CUT": "truncated", "COUNT": "wrong block count", "BAD": "unreadable blocks",
+         "CONFLICT": "its copies differ"}
 
 STYLE = """
 body { font: 15px/1.45 Georgia, serif; max-width: 66em; margin: 2em auto; color: #222 }
-h2 { margin: 1.6em 0 .2em; font-size: 1.1em }
+h2 { margin: 1.6em 0 .2em; font-size: 1.1em; overflow-wrap: anywhere }
 p { margin: .2em 0 }
 table { border-collapse: collapse; margin: .4em 0 }
 th, td { padding: .1em .9em .1em 0; text-align: left; vertical-align: top; font-weight: normal }
@@ -30,114 +46,188 @@ th { color: #666 }
 svg { display: block; margin: .3em 0 }
 .block { fill: #7fb685 } .mark { fill: #555 } .label { fill: #2b6ca3 } .bad { fill: #c0392b }
 .end { fill: #fff; stroke: #c0392b; stroke-width: 2 }
+rect.CUT, rect.COUNT, rect.BAD { fill: #e69f00 } rect.CONFLICT { fill: #8e44ad }
 .COMPLETE, .GOOD, .WHOLE { background: #e3f1e5 }
 .BAD, .COUNT, .CUT, .PARTIAL { background: #f9e6c8 }
-.MISSING, .CONFLICT, .NOT { background: #f6d5d1 }
+.MISSING, .NOT { background: #f6d5d1 }
+.CONFLICT { background: #e8d9f1 }
 td svg { display: inline; margin: 0 .4em 0 0 }
 p span, td span { padding: 0 .4em; margin-right: .3em }
 """
 
-LEGEND = (("block", "a block"), ("label", "a label"), ("mark", "a tape mark"),
-          ("bad", "a block that could not be read"), ("end", "here the image breaks off"))
+LEGEND = (("block", "block"), ("label", "label"), ("mark", "tape mark"), ("bad", "unreadable block"),
+          ("end", "the image ends here with an error"), ("BAD", "damaged section"),
+          ("CONFLICT", "section whose copies differ"))
+
+
+def output_of(*arguments, text=b""):
+    """What the program prints to standard output, its error line, and its exit status."""
+    try:
+        done = subprocess.run([TAPE, *arguments], input=text, capture_output=True, check=False)
+    except OSError as error:
+        sys.exit(f"page.py: {TAPE}: {error.strerror}")
+    return *(each.decode("utf-8", "replace") for each in (done.stdout, done.stderr)), done.returncode
 
 
 def rows_of(paths):
-    """The rows of the survey of any number of images. Status 3 says that something lacks."""
-    names = b"".join(os.fsencode(path) + b"\0" for path in paths)
-    done = subprocess.run([TAPE, "survey", "--tsv", "--files-from", "-", "--null"],
-                          input=names, stdout=subprocess.PIPE, check=False)
-    if done.returncode not in (0, 3):
-        sys.exit("page.py: tape survey failed")
-    lines = done.stdout.decode("utf-8", "replace").split("\n")
-    return [line.split("\t") for line in lines if "\t" in line]
+    """The rows of the survey of these images, by kind, each as a dictionary."""
+    names = "".join(path + "\0" for path in paths)
+    out, err, status = output_of("survey", "--tsv", "--files-from", "-", "--null", text=names.encode())
+    if status not in (0, 3):
+        sys.exit(f"page.py: tape survey failed: {err.strip()}")
+    rows = collections.defaultdict(list)
+    for line in out.split("\n"):
+        kind, *cells = line.split("\t")
+        columns = COLUMNS.get(kind, "").split()
+        rows[kind].append(dict(zip(columns, cells + [""] * len(columns))))
+    return rows
 
 
-def told(*words):
-    """What the program prints, with its fault line behind, as lines."""
-    done = subprocess.run([TAPE, *words], capture_output=True, check=False)
-    text = (done.stdout + done.stderr).decode("utf-8", "replace")
-    return text.split("\n")[:-1]
+def key_of(row):
+    return row["set"].strip(), row["file"], row["section"]
 
 
-def item_of(line):
-    """The kind of an item and what is told of it; none of a line that is none."""
-    if line.startswith("tape: "):
-        return "end", line.removeprefix("tape: ")
-    place, size, number, text = line.split(" ", 3)
-    if number == "END":
-        return None
-    word = text.split(" ", 1)[0]
-    kind = {"BLOCK": "block", "MARK": "mark", "BAD": "bad"}.get(word, "label")
-    return kind, f"item {int(number)}, at byte {place}, {size} bytes: {text.rstrip()}"
+def items_of(path):
+    """The items of an image: for each its kind, its description, and the key of its section, if any."""
+    out, err, _ = output_of("list", "--offsets", "--", path)
+    key, before = None, ""
+    for line in out.split("\n")[:-1]:
+        place, size, number, text = line.split(" ", 3)
+        if number == "END":
+            return
+        word = text.split(" ", 1)[0]
+        if word == "HDR1":
+            key = text[23:29].strip(), str(int(text[35:39])), str(int(text[30:34]))
+        elif word == "VOL1" or word == before == "MARK":
+            key = None
+        kind = {"BLOCK": "block", "MARK": "mark", "BAD": "bad"}.get(word, "label")
+        yield kind, f"item {int(number)}, at byte {place}, {size} bytes: {text.rstrip()}", key
+        before = word
+    if fault := re.match(r"tape: (.*)", err):
+        yield "end", fault[1], key
 
 
 def square(at, kind, title, side=STEP - 1):
-    x, y = at % PER_ROW * STEP, at // PER_ROW * (STEP + 2)
+    x, y = at % PER_ROW * STEP, at // PER_ROW * (STEP + 6)
     return (f'<rect x="{x}" y="{y}" width="{side}" height="{side + 2}" class="{kind}">'
             f"<title>{html.escape(title)}</title></rect>")
 
 
-def strip(items):
-    """The squares of a reel."""
+def bar(at, state):
+    x, y = at % PER_ROW * STEP, at // PER_ROW * (STEP + 6) + STEP + 2
+    return (f'<rect x="{x}" y="{y}" width="{STEP}" height="3" class="{state}">'
+            f"<title>{WORDS[state]}</title></rect>")
+
+
+def strip(items, states):
+    """The squares of an image, and the bars of its sections that are damaged or in conflict."""
     each = max(1, -(-len(items) // (PER_ROW * ROWS)))
-    shown = [max(items[at:at + each], key=lambda item: KINDS.index(item[0]))
-             for at in range(0, len(items), each)]
-    rows = max(1, -(-len(shown) // PER_ROW))
-    size = f'width="{PER_ROW * STEP}" height="{rows * (STEP + 2) + 2}"'
-    squares = "\n".join(square(at, *item) for at, item in enumerate(shown))
+    out = []
+    for at, first in enumerate(range(0, len(items), each)):
+        group = items[first:first + each]
+        kind, title, _ = max(group, key=lambda item: KINDS.index(item[0]))
+        state = max((states.get(key, "") for _, _, key in group), key=STATES.index)
+        out.append(square(at, kind, title))
+        if state in WORDS:
+            out.append(bar(at, state))
+    rows = max(1, -(-len(items) // (each * PER_ROW)))
     note = f"<p>A square is {each} items.</p>\n" if each > 1 else ""
-    return f"{note}<svg {size}>\n{squares}\n</svg>"
+    size = f'width="{PER_ROW * STEP}" height="{rows * (STEP + 6)}"'
+    return f"{note}<svg {size}>\n" + "\n".join(out) + "\n</svg>"
 
 
-def reel(row):
-    """The part of an image, by its row in the survey."""
-    path, (state, words) = row["path"], (row["state"], row["words"])
-    items = [item for line in told("list", "--offsets", "--", path) if (item := item_of(line))]
-    head = f'<h2>{html.escape(row["name"])}</h2>\n'
-    about = f'<p><span class="{state.split()[0]}">{state.lower()}</span>{html.escape(words)}</p>\n'
-    return head + about + (strip(items) if items and state != "NOT OPENED" else "")
+def image(name, path, row, conflicts):
+    """The part of an image: its name, what the survey says of it, and its strip."""
+    state = row["state"]
+    sections = rows_of([path])["SECTION"] if state == "PARTIAL" else []
+    states = {key_of(section): section["state"] for section in sections}
+    states |= {key: "CONFLICT" for key in conflicts if states.get(key, "GOOD") == "GOOD"}
+    items = list(items_of(path)) if state != "NOT OPENED" else []
+    about = f'<span class="{state.split()[0]}">{state.lower()}</span>{html.escape(row["words"])}'
+    return (f"<h2>{html.escape(name)}</h2>\n<p>{about}</p>\n" + (strip(items, states) if items else ""))
 
 
 def cell(state, text):
     return f'<span class="{state}">{html.escape(text)}</span>'
 
 
-def file_row(row, sections):
-    """The row of a file, with its sections in the order of their numbers."""
-    _, set_id, file, name, created, state, sect, volume, mixed, problems = row
-    met = [cell(s[6], f"{s[3]} {s[6]} on {s[4]}") for s in sections[set_id, file]]
-    for numbers in (part.split(":")[0] for part in problems.split(";") if part.endswith(":MISSING")):
-        after = f", after {volume}" if volume and numbers.split("-")[0] == sect else ""
-        met.append(cell("MISSING", f"{numbers} MISSING{after}"))
-    if mixed:
-        met.append(cell(mixed, "labels of different files"))
-    columns = (html.escape(set_id), file, html.escape(name), html.escape(created.strip()),
-               cell(state, state), "".join(met))
+def date_of(created):
+    """The date that the six characters of a label are, or nothing."""
+    found = re.fullmatch(r"([ 0])(\d\d)(\d\d\d)", created)
+    if not found or found[3] == "000":
+        return ""
+    first = datetime.date(int(found[2]) + (1900 if found[1] == " " else 2000), 1, 1)
+    day = first + datetime.timedelta(int(found[3]) - 1)
+    return day.isoformat() if day.year == first.year else ""
+
+
+def missing_of(row):
+    """The numbers of a file's missing sections: of the first one, if the row has no list of them."""
+    listed = re.findall(r"([-0-9]+):MISSING", row["sections"])
+    return listed or ([row["section"]] if row["state"] == "MISSING" else [])
+
+
+def file_row(rows, sections, copies):
+    """The row of a file: its sections, what is missing, and its conflicts."""
+    first = rows[0]
+    cells = [cell(s["state"], f'{s["section"]} {s["state"]} on {s["volume"]}') for s in sections]
+    for row in rows:
+        for number in missing_of(row):
+            is_first = number.split("-")[0] == row["section"]
+            after = f', after {row["volume"]}' if is_first and row["volume"] else ""
+            cells.append(cell("MISSING", f"{number} MISSING{after}"))
+    for row in copies:
+        cells.append(cell("CONFLICT",
+                          f'{row["section"]} CONFLICT: {row["name"]} and {row["other"]} differ'))
+    if first["conflict"] and not copies:
+        cells.append(cell("CONFLICT", "labels of different files have this number"))
+    state = first["conflict"] or first["state"]
+    columns = [*(html.escape(text) for text in (
+        first["set"], first["file"], first["identifier"], date_of(first["created"]))),
+        cell(state, state), "".join(cells)]
     return "<tr>" + "".join(f"<td>{column}</td>" for column in columns) + "</tr>"
 
 
-def main(paths):
+def page(names, paths):
+    """The lines of the page of images with these names, which are read at these paths."""
     rows = rows_of(paths)
-    images = [row for row in rows if row[0] == "IMAGE"]
-    sections = collections.defaultdict(list)
-    for row in sorted((r for r in rows if r[0] == "SECTION"), key=lambda r: int(r[3])):
-        sections[row[1], row[2]].append(row)
-    print('<!DOCTYPE html>\n<html lang="en">\n<meta charset="utf-8">\n<title>Reels</title>')
-    print(f"<style>{STYLE}</style>\n<h1>Reels</h1>\n<table><tr>")
+    shown = dict(zip(paths, names))
+    conflicts = [row for row in rows["COPIES"] if row["agree"] == "CONFLICT"]
+    for row in conflicts:
+        row.update((column, shown.get(row[column], row[column])) for column in ("name", "other"))
+    yield '<!DOCTYPE html>\n<html lang="en">\n<meta charset="utf-8">\n<title>Tape images</title>'
+    yield f"<style>{STYLE}</style>\n<h1>Tape images</h1>\n<table><tr>"
     for kind, text in LEGEND:
-        print(f'<td><svg width="14" height="14">{square(0, kind, text, 10)}</svg>{text}</td>')
-    print("</tr></table>")
-    for path, row in zip(paths, images):
-        print(reel({"path": path, "name": row[1], "state": row[2], "words": row[10]}))
-    print("<h2>Files</h2>\n<table>\n<tr>" + "".join(f"<th>{word}</th>" for word in (
-        "set", "file", "identifier", "created", "state", "sections")) + "</tr>")
-    for row in rows:
-        if row[0] == "FILE":
-            print(file_row(row, sections))
-    print("</table>\n</html>")
+        yield f'<td><svg width="14" height="14">{square(0, kind, text, 10)}</svg>{text}</td>'
+    yield "</tr></table>"
+    for name, path, row in zip(names, paths, rows["IMAGE"]):
+        yield image(name, path, row, [key_of(each) for each in conflicts])
+    files = collections.defaultdict(list)
+    for row in rows["FILE"]:
+        files[row["set"], row["file"]].append(row)
+    yield "<h2>Files</h2>\n<table>\n<tr>" + "".join(f"<th>{word}</th>" for word in (
+        "set", "file", "identifier", "created", "state", "sections")) + "</tr>"
+    for file, each in files.items():
+        sections, copies = ([row for row in some if (row["set"], row["file"]) == file]
+                            for some in (rows["SECTION"], conflicts))
+        yield file_row(each, sorted(sections, key=lambda row: int(row["section"])), copies)
+    yield "</table>\n</html>"
+
+
+def main(arguments):
+    # Names that the program does not accept, such as bytes that are not UTF-8, get links with others.
+    names = [os.fsencode(each).decode("utf-8", "backslashreplace") for each in arguments]
+    sys.stdout.reconfigure(encoding="utf-8", errors="backslashreplace")
+    with tempfile.TemporaryDirectory() as folder:
+        paths = [os.path.join(folder, str(number)) for number in range(len(arguments))]
+        for path, each in zip(paths, arguments):
+            os.symlink(os.path.abspath(each), path)
+        for part in page(names, paths):
+            print(part)
 
 
 if __name__ == "__main__":
-    if len(sys.argv) < 2:
-        sys.exit(__doc__)
+    if sys.argv[1:] in ([], ["-h"], ["--help"]):
+        print(__doc__.strip())
+        sys.exit(0 if sys.argv[1:] else 2)
     main(sys.argv[1:])

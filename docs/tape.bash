@@ -22,11 +22,15 @@ _tape() {
     --block | --record | --offset) return ;;
     esac
     case $command:$cur in
-    help:*) COMPREPLY=($(compgen -W 'list check survey compare merge extract unpack salvage stage init write' -- "$cur")); return ;;
+    help:*)
+        [ "$COMP_CWORD" -gt $((start + 1)) ] && return
+        COMPREPLY=($(compgen -W 'list check survey compare merge extract unpack salvage stage init write' -- "$cur"))
+        return ;;
     list:-*) COMPREPLY=($(compgen -W '--offsets --explain --help' -- "$cur")); return ;;
-    check:-* | compare:-* | merge:-*) COMPREPLY=($(compgen -W '--files-from --null --explain --help' -- "$cur")); return ;;
+    merge:-*) COMPREPLY=($(compgen -W '--log --files-from --null --explain --help' -- "$cur")); return ;;
+    check:-* | compare:-*) COMPREPLY=($(compgen -W '--files-from --null --explain --help' -- "$cur")); return ;;
     survey:-*) COMPREPLY=($(compgen -W '--files-from --null --tsv --explain --help' -- "$cur")); return ;;
-    unpack:-*) COMPREPLY=($(compgen -W '--files-from --null --form --explain --help' -- "$cur")); return ;;
+    unpack:-*) COMPREPLY=($(compgen -W '--files-from --null --form --salvage --explain --help' -- "$cur")); return ;;
     salvage:-*)
         COMPREPLY=($(compgen -W '--files-from --null --form --explain --help' -- "$cur"))
         return ;;
@@ -44,22 +48,27 @@ _tape() {
     for ((at = start + 1; at < COMP_CWORD; at++)); do
         word=${COMP_WORDS[at]}
         case $word in
-        --files-from | --form | --stage | --format | --block | --record | --offset) at=$((at + 1)) ;;
+        --files-from | --form | --stage | --log | --format | --block | --record | --offset) at=$((at + 1)) ;;
         -*) ;;
         *) place=$((place + 1)) ;;
         esac
     done
-    compopt -o filenames 2>/dev/null
     case $command:$place in
     extract:1 | extract:2 | salvage:1 | salvage:2 | init:2 | init:3 | write:2 | write:3)
         case $prev in --files-from | --stage) ;; *) return ;; esac ;;
     esac
+    # Bash itself completes the names of files and directories, with any characters in them.
     case $command:$place:$prev in
-    *:--files-from) mapfile -t COMPREPLY < <(compgen -f -- "$cur") ;;
-    init:1:* | write:1:* | unpack:1:*) mapfile -t COMPREPLY < <(compgen -d -- "$cur") ;;
+    *:--files-from) compopt -o default ;;
+    init:1:* | write:1:* | unpack:1:*) compopt -o dirnames ;;
     # No image is offered for OUT, which would be written over, nor for a stage.
-    extract:3:* | salvage:3:* | merge:1:* | stage:[12]:* | *:--stage) mapfile -t COMPREPLY < <(compgen -f -X '*.[tT][aA][pP]' -- "$cur") ;;
-    *) mapfile -t COMPREPLY < <(compgen -f -- "$cur") ;;
+    extract:3:* | salvage:3:* | merge:1:* | stage:[12]:* | *:--stage | *:--log)
+        compopt -o filenames
+        # A name with a line feed comes in pieces, which are not offered.
+        while IFS= read -r word; do
+            [ -e "${word/#\~\//$HOME/}" ] && COMPREPLY+=("$word")
+        done < <(compgen -f -X '*.[tT][aA][pP]' -- "$cur") ;;
+    *) compopt -o default ;;
     esac
 }
 complete -F _tape tape

@@ -20,7 +20,7 @@ PHRASES = re.compile(r"""\b(
     | wanted|wants | lack|lacks|lacking|lacked | (?:is|are|was|were)\ there | just
     | bring|brings|brought | lies|lie|lay | in\ (?:the|its|their)\ place\ of
     | (?:is|are|be|was)\ none | fronts? | at\ hand | left\ over
-    | (?:go|goes|gone|going|went)\ on | pass(?:ed|es)?\ (?:by|over) | (?:is|are)\ passed | row\ of
+    | (?:go|goes|gone|going|went)\ on | pass(?:ed|es)?\ (?:by|over) | (?:is|are)\ passed | a\ row\ of
 )\b""", re.X)
 
 

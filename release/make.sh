@@ -125,6 +125,7 @@ fi
 top=tape-$version-x86_64-linux
 papers "$room/$top"
 install -m 755 "$room/tape" "$room/$top/tape"
+install -m 755 docs/page.py "$room/$top/tape-page"
 cp docs/tape.1 docs/tape.bash "$room/$top/"
 cp -r "$relink" "$room/$top/relink"
 cat "$room/copyright" - >"$room/$top/COPYRIGHT" <<'T'
@@ -142,6 +143,7 @@ cp "$room/copyright" "$doc/copyright"
 mkdir -p "$deb/DEBIAN" "$deb/usr/bin" "$deb/usr/share/man/man1" \
     "$deb/usr/share/bash-completion/completions"
 cp "$program" "$deb/usr/bin/tape"
+install -m 755 docs/page.py "$deb/usr/bin/tape-page"
 gzip -9nc docs/tape.1 >"$deb/usr/share/man/man1/tape.1.gz"
 cp docs/tape.bash "$deb/usr/share/bash-completion/completions/tape"
 maintainer="Sevumbia maintainers <maintainers@users.noreply.sevumbia.example>"
@@ -157,6 +159,7 @@ Architecture: amd64
 Maintainer: $maintainer
 Installed-Size: $size
 Depends: libc6 (>= $glibc)
+Recommends: python3
 Section: utils
 Priority: optional
 Description: reads and writes ANSI labelled magnetic tapes in .tap images

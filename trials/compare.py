@@ -59,7 +59,7 @@ def odd_images():
     images = {
         "nothing": b"",
         "the end word alone": END,
-        "bytes behind the end word": END + b"\x01",
+        "bytes after the end-of-medium marker": END + b"\x01",
         "gaps between all": GAP + mark() + GAP + GAP + block(b"abc") + GAP + END,
         "a gap at the end": mark() + GAP,
         "a bad block": long_block(3, 0x80000000) + END,
@@ -90,7 +90,7 @@ def main():
     parser.add_argument("--every", type=int, default=1, help="take each N-th of the cut and changed images")
     options = parser.parse_args()
     if not options.program.exists():
-        sys.exit(f"{options.program} is not there: in crates/tape_tool run `rt run -- --help`, or name it with --program")
+        sys.exit(f"{options.program} does not exist: run `rt run -- --help` in crates/tape_tool, or specify another with --program")
     whole = image()
     stored = CRATE / "stdin"
     if stored.exists() and stored.read_bytes() != whole:

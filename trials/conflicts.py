@@ -1,13 +1,13 @@
 #!/usr/bin/env python3
-"""Copies of sections that agree or differ, and what `tape survey` and `tape unpack` make of them.
+"""Copies of sections that agree or differ, and the results of `tape survey` and `tape unpack` for them.
 
     trials/conflicts.py PROGRAM CASES [SEED]
 
 Each case is a set of one to three files on one to four volumes, made here from docs/FORMATS.md
 alone, with up to three copies of each volume. A copy is equal; or has one changed byte, two changed
-bytes whose sum is the same, two blocks in each other's place, a block lost or doubled (with its
-count in the trailer label, or with the right one), or a block in two parts; or is of another set
-with the same identifiers; or is damaged. One volume in the middle may be missing. The model compares
+bytes with an unchanged sum, two exchanged blocks, a block lost or doubled (with or without this in
+the count of the trailer label), or a block in two parts; or belongs to another set with the same
+identifiers; or is damaged. One volume in the middle may be missing. The model compares
 the good copies byte by byte. The rows of `survey --tsv`, the lines of `survey`, the answers and the
 files of `unpack` must be those of the model: each conflict is reported with both images, nothing else
 is, and no file in conflict is recovered. Prints each wrong result, and counts; exit status 1 if there
@@ -141,7 +141,7 @@ class Case:
         elif way == "doubled":
             blocks.insert(at, blocks[at])
             section.count = rnd.choice([len(blocks), section.count])
-        elif way == "cut" and len(data) > RECORD:  # the same bytes in one block more
+        elif way == "cut" and len(data) > RECORD:  # the same bytes in one more block
             blocks[at:at + 1] = [bytes(data[:RECORD]), bytes(data[RECORD:])]
             section.count = len(blocks)
         elif way == "other":
@@ -160,7 +160,7 @@ class Case:
     # ---- what must be reported
 
     def copies(self):
-        """For each section, in the order in which a good copy was found first: its good copies."""
+        """The good copies of each section, in the order in which their first good copies were found."""
         found = {}
         for number, (_, sections) in enumerate(self.images):
             for section in sections:
@@ -183,7 +183,7 @@ class Case:
         return rows, conflicts
 
     def lines(self, rows):
-        """The same in words."""
+        """The same as text."""
         for row in rows:
             said = (f"CONFLICT, {row[5]} and {row[6]} differ ('tape compare' shows where)" if row[6]
                     else f"good, {row[4]} copies agree")
@@ -232,7 +232,7 @@ class Case:
         return f"{count} image{'s' * (count != 1)}: {ok} ok" + f", {damaged} damaged" * (damaged > 0)
 
     def text(self, file):
-        """The records of a file whose sections all have a good copy; None if one has none."""
+        """The records of a file, or None if a section has no good copy."""
         copies, text, sect = self.copies(), b"", 1
         while True:
             if (file, sect) not in copies:
@@ -282,7 +282,7 @@ def try_case(trial, case, folder, number):
     told = [line.split("\t") for line in done.stdout.splitlines()]
     trial.is_so([row for row in told if row[0] == "COPIES"] == rows, f"{number}: rows {done.stdout}\nwanted {rows}")
     marked = {int(row[2]) for row in told if row[0] == "FILE" and row[8] == "CONFLICT"}
-    trial.is_so(marked == {f for f in conflicts}, f"{number}: files in conflict {marked}, wanted {conflicts}")
+    trial.is_so(marked == {f for f in conflicts}, f"{number}: files in conflict {marked}, expected {conflicts}")
     told = {int(row[2]): row[9] for row in told if row[0] == "FILE" and "-" not in row[2]}
     for file in told:
         trial.is_so(told[file] == case.problems(file), f"{number}: file {file}: {told[file]!r}, not {case.problems(file)!r}")
@@ -303,7 +303,7 @@ def try_case(trial, case, folder, number):
     done = trial.run(folder, "unpack", "--form", "raw", "out", *names)
     told = {int(line.split(" ")[-2 if line.endswith("CONFLICT") else 0]) if line.endswith("CONFLICT") else None
             for line in done.stdout.splitlines()} - {None}
-    trial.is_so(told == conflicts, f"{number}: unpack says {done.stdout}, wanted {conflicts}")
+    trial.is_so(told == conflicts, f"{number}: unpack says {done.stdout}, expected {conflicts}")
     made = {path.name: path.read_bytes() for path in out.iterdir()}
     for file in range(1, case.greatest() + 1):
         text = case.text(file)

@@ -11,7 +11,7 @@ function is one of these:
     by shape      only names that this proof uses are gone, which proves little
     NOT REFUSED   no error; each of these is tried once more, alone
 
-It works on a copy, with what is kept in out/, and removes the copy. Exit status 1 if an edit was not
+It works on a copy of the repository and of out/, and removes the copy. Exit status 1 if an edit was not
 refused. With --lemmas nothing is tried: each edit is listed with the file of the lemma of the same
 name, or without one, and the status is 1 if an edit has no lemma and is not in must-fail.
 """
@@ -31,7 +31,7 @@ SHAPE = re.compile(r"has no field|is not in scope|has no `|was not admitted")
 
 
 def read_edit(path):
-    """The changes of an edit: file, text, and the text in its place."""
+    """The changes of an edit: file, old text, and new text."""
     pairs, now = [], {}
     with open(path, encoding="utf-8") as lines:
         for line in lines:
@@ -48,9 +48,9 @@ def text_of(path):
 
 
 def function_at(lines, line):
-    """The name, the first and the last line of the function that a line stands in.
+    """The name, the first and the last line of the function that contains a line.
 
-    Its attributes are a part of it: there the prover sees a goal of the whole function.
+    Its attributes are included, since the prover reports a goal of the whole function there.
     """
     first = next((k for k in range(line, 0, -1) if FUNCTION.match(lines[k - 1])), line)
     named = FUNCTION.match(lines[first - 1])
@@ -63,7 +63,7 @@ def function_at(lines, line):
 
 
 class Edit:
-    """A mistake: its changes, and the functions that they stand in."""
+    """A mistake: its changes, and the functions that contain them."""
 
     def __init__(self, crate, path):
         self.name, self.pairs, self.functions = os.path.basename(path)[:-5], read_edit(path), set()
@@ -71,13 +71,13 @@ class Edit:
         for file, old, new in self.pairs:
             found = texts[file].count(old)
             if found != 1:
-                sys.exit(f"{path}: its text stands {found} times in {file}, and not once")
+                sys.exit(f"{path}: its text occurs {found} times in {file}, not once")
             line = texts[file][: texts[file].find(old)].count("\n") + 1
             self.functions.add((file, *function_at(texts[file].split("\n"), line)))
             texts[file] = texts[file].replace(old, new)
 
     def put_into(self, texts):
-        """Changes the texts; false where one of its own is not there any more."""
+        """Changes the texts; returns false if an old text no longer exists."""
         for file, old, new in self.pairs:
             if texts[file].count(old) != 1:
                 return False
@@ -85,7 +85,7 @@ class Edit:
         return True
 
     def judged(self, said):
-        """What the lines of a check say of its functions."""
+        """The lines of a check that are about its functions."""
         found = [goal.group(3) for goal in filter(None, map(OPEN_GOAL.match, said)) if self.has(goal)]
         if found:
             return "refused", found[0]
@@ -97,7 +97,7 @@ class Edit:
         return ("by shape", broken[0]) if broken else ("NOT REFUSED", "")
 
     def has(self, goal):
-        """Whether an open goal stands in one of its functions."""
+        """Whether one of its functions has an open goal."""
         file, line = goal.group(1).removeprefix("./"), int(goal.group(2))
         return any(file == at and first <= line <= last for at, _, first, last in self.functions)
 
@@ -109,7 +109,7 @@ def edits_of(crate):
 
 
 def groups_of(crate, edits):
-    """The edits in as few groups as it finds, none with two of one function."""
+    """The edits in few groups, none of which has two edits of one function."""
     groups = []
     for edit in edits:
         free = (it for it in groups if not any(edit.functions & other.functions for other in it))
@@ -119,7 +119,7 @@ def groups_of(crate, edits):
 
 
 def texts_with(crate, group):
-    """The files that a group changes, with its changes; nothing where they are in each other's way."""
+    """The files that a group changes, with its changes, or nothing if the changes conflict."""
     files = {file for edit in group for file, _, _ in edit.pairs}
     texts = {file: text_of(f"{crate}/{file}") for file in files}
     return texts if all(edit.put_into(texts) for edit in group) else None
@@ -132,7 +132,7 @@ def write(crate, texts):
 
 
 def checked(crate, group):
-    """The lines of a check with the group's changes, which are taken back behind it."""
+    """The lines of a check with the group's changes, which are undone afterwards."""
     texts = texts_with(crate, group)
     kept = {file: text_of(f"{crate}/{file}") for file in texts}
     write(crate, texts)
@@ -144,7 +144,7 @@ def checked(crate, group):
 
 
 def alone(crate, edit):
-    """What a check says of an edit that nothing spoke of in its group."""
+    """The result of a check of a single edit, if the check of its group had no line about it."""
     said, is_refused = checked(crate, [edit])
     word, why = edit.judged(said)
     goals = [goal.group(3) for goal in filter(None, map(OPEN_GOAL.match, said))]
@@ -154,7 +154,7 @@ def alone(crate, edit):
 
 
 def try_crate(crate):
-    """Tries all edits of a crate, and says of each what became of it."""
+    """Tries all edits of a crate, and prints the result of each."""
     edits, began, words = edits_of(crate), time.time(), []
     groups = groups_of(crate, edits)
     for group in groups:
@@ -172,7 +172,7 @@ def try_crate(crate):
 
 
 def lemmas_of(crate):
-    """The files of the lemmas on mistakes, by their names."""
+    """The files of the lemmas about mistakes, by lemma name."""
     found = {}
     for at, _, files in os.walk(f"{crate}/proofs"):
         for file in sorted(it for it in files if it.startswith("Mistakes")):
@@ -182,7 +182,7 @@ def lemmas_of(crate):
 
 
 def list_lemmas(names):
-    """Tells which lemma stands for each edit."""
+    """Prints the lemma that corresponds to each edit."""
     lacking = 0
     for crate in (f"{TOP}/crates/{it}" for it in names):
         found = lemmas_of(crate)
@@ -195,14 +195,14 @@ def list_lemmas(names):
 
 
 def crates_below():
-    """The crates, each with those that it stands on."""
+    """The crates, each with those on which it depends."""
     lines = text_of(f"{TOP}/crates.txt").splitlines()
     named = [it.partition(":") for it in lines if it and not it.startswith("#")]
     return {name.strip(): below.split() for name, _, below in named}
 
 
 def copy_tree(to, names):
-    """Copies the repository, with what is kept in out/ of these crates and those below them."""
+    """Copies the repository, with the out/ folders of the given crates and those below them."""
     below = crates_below()
     kept, left = set(), [*names]
     while left:

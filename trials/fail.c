@@ -1,18 +1,19 @@
-/* Refuses calls of a built program, to see what it answers. Loaded before the C library:
+/* Refuses calls of a built program, to test its reaction. Loaded before the C library:
 
        cc -O2 -shared -fPIC -o fail.so fail.c
        FAIL=r3 LD_PRELOAD=./fail.so tape list reel.tap
 
    FAIL is a letter and a number: a (allocations), o (files opened), r (reads), w (writes), y (syncs, of directories
    too), n (new names), l (locks: another run has it), t (looks at files), h (second names), d (names removed),
-   c (files closed). That call of the kind, counted from 1, fails; with a plus after the number all later ones fail too.
-   A colon and a number after that is the error that it fails with, in the place of the one below. FAIL=s fails none,
-   but lets each read and write pass one byte alone; FAIL=u fails each lock as a file system that has none. Where FAIL_COUNTS names a file, the numbers of calls are written into it at the end, in the order
-   of the letters, and behind them how many bytes the reads gave.
+   c (files closed). That call of the kind, counted from 1, fails; with a plus after the number all later calls fail too.
+   A colon and a number after that select the error, instead of the one below. FAIL=s refuses
+   no call, but limits each read and write to one byte; FAIL=u refuses each lock like a file system without locks. If
+   FAIL_COUNTS is the path of a file, the numbers of calls are written to it at the end, in the order of the letters,
+   followed by the number of bytes read.
 
-   Where FAIL_PATH names a file, the path of the call that was refused last is written into it, where it has one.
+   If FAIL_PATH is the path of a file, the path in the last refused call, if it has one, is written to it.
 
-   The C library's own calls do not come by here: the program is to do its input and output without stdio. */
+   The C library's own calls are not seen here, so the program must do its input and output without stdio. */
 #define _GNU_SOURCE
 #include <errno.h>
 #include <fcntl.h>
@@ -31,8 +32,8 @@
 enum kind { ALLOCATION, OPEN, READ, WRITE, SYNC, NAME, LOCK, LOOK, LINK, REMOVAL, CLOSE, KINDS };
 
 static const char letters[KINDS + 1] = "aorwynlthdc";
-static long counts[KINDS], given; /* calls of each kind; bytes that reads gave */
-static char refused[4096]; /* the path of the call that was refused last */
+static long counts[KINDS], given; /* calls of each kind; bytes returned by reads */
+static char refused[4096]; /* the path in the last refused call */
 
 void *__libc_malloc(size_t size);
 void *__libc_calloc(size_t count, size_t size);
@@ -50,7 +51,7 @@ static int is_refused(enum kind kind)
     return counts[kind] == number || (*end == '+' && counts[kind] > number);
 }
 
-/* the same of a call with a path */
+/* the same for a call with a path */
 static int is_refused_at(enum kind kind, const char *path)
 {
     int is = is_refused(kind);
@@ -65,7 +66,7 @@ static size_t allowed(size_t count)
     return word && word[0] == 's' && count > 1 ? 1 : count;
 }
 
-/* the error that is asked for, or this one */
+/* the selected error, or the default */
 static int refuse(int error)
 {
     const char *word = getenv("FAIL");
@@ -154,7 +155,7 @@ ssize_t write(int file, const void *bytes, size_t count)
     return is_refused(WRITE) ? refuse(EIO) : syscall(SYS_write, file, bytes, allowed(count));
 }
 
-/* a part of what is given may always be taken: here the first piece that is not empty */
+/* a call may always accept a part of its bytes: here the first piece that is not empty */
 ssize_t writev(int file, const struct iovec *pieces, int count)
 {
     int at = 0;
@@ -205,7 +206,7 @@ int unlink(const char *path)
     return is_refused_at(REMOVAL, path) ? refuse(EIO) : (int)syscall(SYS_unlinkat, AT_FDCWD, path, 0);
 }
 
-/* the file is closed even where the call fails, as on Linux */
+/* the file is closed even if the call fails, as on Linux */
 int close(int file)
 {
     int is_wrong = is_refused(CLOSE);

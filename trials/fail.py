@@ -56,20 +56,20 @@ ERRORS = {
 
 @dataclass
 class Trial:
-    """A command line over files, and what it may say where a call is refused."""
+    """A command line, its files, and its possible results if a call is refused."""
 
     name: str
     words: list
     faults: dict
     files: dict = field(default_factory=dict)
     stdin: bytes = b""
-    # the file that holds nothing but the whole result, or is as it was
+    # the file that contains exactly the complete result, or is unchanged
     result: str = ""
-    # what standard output is where the command reports a refusal by lines: by kind and status
+    # standard output if the command reports a refusal in its lines, by kind and status
     reports: dict = field(default_factory=dict)
-    # a file that may be there where something is wanted, with what was gathered
+    # a file that may exist if something is missing, with the data recovered
     stays: str = ""
-    # the image that is listed: its fault tells the place of the item under way
+    # the image that is listed: its fault states the offset of the current item
     image: bytes = b""
 
 
@@ -80,7 +80,7 @@ class Answer:
     err: str
     files: dict
     counts: list
-    # the path of the call that was refused, where it has one
+    # the path in the refused call, if it has one
     path: str = ""
 
 
@@ -88,7 +88,7 @@ class Answer:
 
 
 def places(image):
-    """Where each item of a whole image begins, and the place behind it."""
+    """The offset of each item of a complete image, and the offset of its end."""
     found, at = [], 0
     while at < len(image):
         length = int.from_bytes(image[at:at + 4], "little")
@@ -101,7 +101,7 @@ def places(image):
 
 
 def section(number, ends, records):
-    """One section of the worked file: its records in blocks of 800 bytes."""
+    """A section of the worked file: its records in blocks of 800 bytes."""
     lines = [f"{i:04}".encode("ascii") + b" " * 76 for i in records]
     blocks = [b"".join(lines[i:i + 10]) for i in range(0, len(lines), 10)]
     numbered = lambda label: label.replace(b"ABC00100010001", b"ABC001%04d0001" % number)
@@ -117,7 +117,7 @@ def volume(number, ends, records):
     return volume_label(f"ABC{number:03}") + section(number, ends, records) + mark() + word(0xFFFFFFFF)
 
 
-# the records are more than the program holds before it writes them, 65,536 bytes
+# there are more records than the program buffers, 65,536 bytes
 ONE, TWO = volume(1, False, range(1, 451)), volume(2, True, range(451, 901))
 LINES = b"".join(b"%04d" % i + b" " * 76 + b"\n" for i in range(1, 901))
 
@@ -125,12 +125,12 @@ LINES = b"".join(b"%04d" % i + b" " * 76 + b"\n" for i in range(1, 901))
 
 NO_MEMORY = {"run fault 4", "image fault 6 at 0"}
 LIST = {"a": NO_MEMORY, "o": {"file fault 2"}, "r": {"image fault 5"}, "w": {"file fault 4"}}
-# standard streams that are closed are looked after first
+# closed standard streams are handled first
 INIT = {"a": {"run fault 4"}, "o": {"file fault 2", "file fault 4"}, "w": {"file fault 4"}, "y": {"file fault 4"},
     "l": {"file fault 1", "file fault 2"}}
 WRITE = {
     "a": {"run fault 4", "write fault 10"},
-    # an input is looked for first, and opened again when its turn comes; a directory is opened to be synced
+    # an input is looked up first, and opened when its turn comes; a directory is opened for a sync
     "o": {"file fault 2", "file fault 3", "file fault 4"},
     "r": {"file fault 3"},
     "w": {"write fault 9", "file fault 4"},
@@ -179,7 +179,7 @@ SURVEY_REPORTS = {
     "o": {3: SIGHTS + r"\w+\.tap +not opened\n" + SIGHTS + SETS},
     "r": {3: SIGHTS + r"\w+\.tap +.*\n(    .*\n)*    image fault 5 at byte \d+.*\n" + SIGHTS + SETS},
 }
-# memory, files and stages as above; a fault that a file came at is told by its line too
+# memory, files and stages as above; a fault inside a file is also reported by the file's line
 UNPACK = {
     "a": NO_MEMORY | {"run fault 1", "stage fault 4"},
     "o": {"file fault 2", "file fault 4", "stage fault 3"},
@@ -190,7 +190,7 @@ UNPACK = {
     "l": {"stage fault 7", "file fault 2"},
     "t": {"file fault 2", "file fault 4"},
 }
-# a reading that ends early is merged as far as it goes
+# a reading that ends early is merged up to its end
 MERGE = EXTRACT | {"r": {"image fault 5"}}
 READINGS = r"(IMAGE \d+ .*\n)*(ITEM .*\n)*"
 MERGE_REPORTS = {"r": dict.fromkeys((0, 3), READINGS + r"MERGED .*\n")}
@@ -206,7 +206,7 @@ DRAFT = re.compile(r"\.tape-\d+\.part")
 
 
 def stage_of(program):
-    """A stage with the first volume's records, made by the program."""
+    """A stage with the records of the first volume, created by the program."""
     with tempfile.TemporaryDirectory(prefix="tape-fail-") as folder:
         Path(folder, "one.tap").write_bytes(ONE)
         words = ["extract", "ABC001", "1", "OUT", "one.tap", "--stage", "kept.stage"]
@@ -224,7 +224,7 @@ def trials(program):
         Trial("list, standard input", ["list"], LIST, stdin=ONE, image=ONE),
         Trial("list, a file", ["list", "one.tap"], LIST, reels, image=ONE),
         Trial("list, an image cut off", ["list", "cut.tap"], LIST, {"cut.tap": ONE[:20_000]}, image=ONE),
-        Trial("list, places", ["list", "--offsets", "one.tap"], LIST, reels, image=ONE),
+        Trial("list, offsets", ["list", "--offsets", "one.tap"], LIST, reels, image=ONE),
         Trial("init, two volumes", ["init", ".", "ABC", "2"], INIT),
         Trial("write, F", ["write", ".", "ABC", "30000", "PAYROLL=lines", *shape], WRITE, lines),
         Trial("write, D", ["write", ".", "ABC", "100000", "PAYROLL=lines"], WRITE, lines),
@@ -232,13 +232,13 @@ def trials(program):
         Trial("write, over blank volumes", ["write", ".", "ABC", "30000", "A=lines", *shape], WRITE, lines | blanks),
         Trial("extract, two reels", ["extract", "ABC001", "1", "OUT", "one.tap", "two.tap"], EXTRACT, reels, result="OUT",
             reports=EXTRACT_REPORTS),
-        Trial("extract, OUT is there", ["extract", "ABC001", "1", "OUT", "two.tap", "one.tap", "two.tap"], EXTRACT,
+        Trial("extract, existing OUT", ["extract", "ABC001", "1", "OUT", "two.tap", "one.tap", "two.tap"], EXTRACT,
             reels | {"OUT": b"older\n"}, result="OUT", reports=EXTRACT_REPORTS),
-        Trial("extract, round by round", ["extract", "ABC001", "1", "OUT", "two.tap", "one.tap", "--again"], EXTRACT, reels,
+        Trial("extract, in passes", ["extract", "ABC001", "1", "OUT", "two.tap", "one.tap", "--again"], EXTRACT, reels,
             result="OUT", reports=EXTRACT_REPORTS),
         Trial("stage", ["stage", "kept.stage"], STAGE, stage),
         Trial("stage, with its records", ["stage", "kept.stage", "OUT"], STAGE, stage, result="OUT"),
-        Trial("stage, broken off", ["stage", "--damaged", "torn.stage", "OUT"], STAGE,
+        Trial("stage, damaged", ["stage", "--damaged", "torn.stage", "OUT"], STAGE,
             {"torn.stage": stage["kept.stage"][:20_000]}, result="OUT"),
         Trial("check, two reels", ["check", "one.tap", "two.tap"], CHECK, reels, reports=CHECK_REPORTS),
         Trial("check, names in a list", ["check", "one.tap", "--files-from", "names"], CHECK_LIST, reels | {"names": b"two.tap\n"},
@@ -283,7 +283,7 @@ def reads_again(trial):
 
 
 def may_change_nothing(trial, kind, error, answer):
-    """Why a refusal may change nothing; None where it may not."""
+    """Why a refusal may change nothing, or None if it must change something."""
     path = answer.path
     if kind == "c":
         return "what has to be on the disk was synced before"
@@ -316,10 +316,10 @@ def may_be_silent(kind, all_later, right, answer):
 
 
 def wrong_text(trial, kind, all_later, right, answer):
-    """Why status, fault line and lines are wrong; None where they are right."""
+    """Why the status, the fault line or the lines are wrong, or None."""
     if kind in "lt" and (answer.status, answer.out, answer.err) == (right.status, right.out, right.err):
-        # another name was taken for the draft, since this one may be that of another run
-        return None if any(DRAFT.fullmatch(name) for name in answer.files) else "a refusal that is not told"
+        # another name was used for the temporary file, since this one may belong to another run
+        return None if any(DRAFT.fullmatch(name) for name in answer.files) else "a refusal that is not reported"
     if reads_again(trial) and kind in "or" and (answer.status, answer.err) == (0, ""):
         return None if re.fullmatch(REELS + r"COMPLETE \d+\n", answer.out) or answer.out == right.out else "the lines"
     report = trial.reports.get(kind)
@@ -344,7 +344,7 @@ def wrong_text(trial, kind, all_later, right, answer):
 
 
 def wrong_place(trial, kind, right, answer):
-    """Of a listing whose read was refused: the place is that of the item under way, and all before it is listed."""
+    """A listing whose read was refused: it states the offset of the current item, and lists all items before it."""
     if kind != "r" or not trial.image:
         return None
     given = answer.counts[len(KINDS)]
@@ -355,7 +355,7 @@ def wrong_place(trial, kind, right, answer):
 
 
 def is_part(content, whole):
-    """Whether each line is one of the whole, in its order: what was not read is left out."""
+    """Whether the lines are among the complete ones, in order; items that were not read are left out."""
     left = iter(whole.splitlines(keepends=True))
     return all(line in left for line in content.splitlines(keepends=True))
 
@@ -393,7 +393,7 @@ def same(one, other):
 
 
 def print_wrong(trial, wrong):
-    """Wrong answers that are alike are told at once."""
+    """Prints similar wrong results together."""
     alike = {}
     for refusal, why, answer in wrong:
         alike.setdefault((why, answer.status, answer.err, answer.out[-200:]), []).append(refusal)
@@ -406,7 +406,7 @@ def refuse_each(options, library, trial, kind, number_of_calls, right):
     refusals = [
         (f"{kind}{number}{later}:{error}", error)
         for number in range(1, number_of_calls + 1) for later in ("", "+") for error in ERRORS[kind]
-        # a call that is always interrupted is made again for ever
+        # a call that is always interrupted is repeated forever
         if (later, error) != ("+", errno.EINTR)
     ]
     for refusal, error in refusals:
@@ -423,7 +423,7 @@ def refuse_each(options, library, trial, kind, number_of_calls, right):
 
 
 def due(trial, right):
-    """How many syncs and locks there have to be, at least: a call that is not made cannot be refused."""
+    """The minimum numbers of syncs and locks: a call that is not made cannot be refused."""
     written = re.search(r"INIT (\d+)\n|VOLUMES (\d+)\n", right.out)
     if written:
         volumes = int(written[1] or written[2])
@@ -434,7 +434,7 @@ def due(trial, right):
 
 
 def try_all(options, library, trial):
-    """A row of the table, and how many answers were wrong."""
+    """A row of the table, and the number of wrong results."""
     right = run(options, library, trial, "")
     missing = [kind for kind, count in due(trial, right).items() if right.counts[KINDS.index(kind)] < count]
     if missing:
@@ -459,7 +459,7 @@ def main():
     parser.add_argument("commands", nargs="*", metavar="COMMAND", help="these commands alone")
     options = parser.parse_args()
     if not options.program.exists():
-        sys.exit(f"{options.program} is not there: in crates/tape_tool run `rt run -- --help`, or name it with --program")
+        sys.exit(f"{options.program} does not exist: run `rt run -- --help` in crates/tape_tool, or specify another with --program")
     options.program = options.program.resolve()
     rows, wrong = [], 0
     with tempfile.TemporaryDirectory(prefix="tape-fail-") as folder:

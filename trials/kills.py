@@ -36,7 +36,7 @@ FILES = 64
 
 
 def items(image):
-    """The blocks of an image in their order, with None for a tape mark, or nothing where it is not whole."""
+    """The blocks of an image, in order, with None for a tape mark, or nothing if the image is incomplete."""
     found, at = [], 0
     while True:
         if at + 4 > len(image):
@@ -56,7 +56,7 @@ def items(image):
 
 
 def data(image):
-    """The data blocks of a whole image of one section, joined."""
+    """The data blocks of a complete image with one section, joined."""
     whole = items(image)
     if whole is None:
         return None
@@ -65,7 +65,7 @@ def data(image):
 
 
 def what_is_wrong(options, folder, content):
-    """What was wrong of the volumes that are there, if anything was, and how many ended for certain."""
+    """The fault of the existing volumes, if there is one, and the number of volumes that have certainly ended."""
     images = sorted(folder.glob("KIL*.tap"))
     if [image.name for image in images] != [f"KIL{number:03}.tap" for number in range(1, len(images) + 1)]:
         return "a volume is missing", 0
@@ -98,7 +98,7 @@ def tell(options, counts, case, wrong, ended):
 
 
 def kill_at_random(options, content):
-    """How many runs were killed, how many volumes had ended, and how many runs left something wrong."""
+    """The numbers of killed runs, of volumes that had ended, and of runs with a wrong result."""
     counts, took = [0, 0, 0], None
     while counts[0] < options.kills:
         with tempfile.TemporaryDirectory(prefix="tape-kills-") as place:
@@ -119,7 +119,7 @@ def kill_at_random(options, content):
 
 
 def refuse_each(options, content):
-    """The same where writes and syncs were refused, each alone and with all later ones of its kind."""
+    """The same for refused writes and syncs, each alone and with all later ones of its kind."""
     counts = [0, 0, 0]
     with tempfile.TemporaryDirectory(prefix="tape-kills-") as place:
         library = Path(place) / "fail.so"
@@ -146,7 +146,7 @@ def refuse(options, content, library, refusal, counts):
 
 
 def fill_disks(options, content):
-    """The same on disks of many sizes that are too small."""
+    """The same for disks of many sizes that are too small."""
     counts = [0, 0, 0]
     with tempfile.TemporaryDirectory(prefix="tape-kills-") as place:
         source, disk = Path(place) / "records", Path(place) / "disk"
@@ -168,7 +168,7 @@ def fill_disks(options, content):
 
 
 def memory(measure, folder, line):
-    """The most memory of a run with 64 open files, in KB, or nothing where it failed."""
+    """The maximum memory of a run with 64 open files, in KB, or nothing if it failed."""
     report = folder / "report"
     told = subprocess.run([measure, report, *line], cwd=folder, stdout=subprocess.DEVNULL, stderr=subprocess.PIPE, check=False,
         preexec_fn=lambda: resource.setrlimit(resource.RLIMIT_NOFILE, (FILES, FILES))).stderr
@@ -180,7 +180,7 @@ def memory(measure, folder, line):
 
 
 def many(options, measure):
-    """The most memory of a run with one input and one volume, with 9,999 inputs, and with 256 volumes."""
+    """The maximum memory of runs with one input and one volume, with 9,999 inputs, and with 256 volumes."""
     answers = []
     for inputs, records, capacity in ((1, 10, 4_000_000), (9_999, 1, 100_000_000), (1, 256 * 20, 2_500)):
         with tempfile.TemporaryDirectory(prefix="tape-kills-") as place:
@@ -203,7 +203,7 @@ def main():
     parser.add_argument("--seed", type=int, default=1)
     options = parser.parse_args()
     if not options.program.exists():
-        sys.exit(f"{options.program} is not there: in crates/tape_tool run `rt run -- --help`, or name it with --program")
+        sys.exit(f"{options.program} does not exist: run `rt run -- --help` in crates/tape_tool, or specify another with --program")
     options.program = str(options.program.resolve())
     options.random = random.Random(options.seed)
     content = b"".join(b"%07d" % number + b"x" * 73 for number in range(RECORDS))

@@ -1,14 +1,14 @@
 #!/usr/bin/env python3
 """Writes the worked image, byte for byte from the description of the format.
 
-The volume ABC001 holds one file, PAYROLL, with 25 records of 80 bytes in blocks
+The volume ABC001 contains one file, PAYROLL, with 25 records of 80 bytes in blocks
 of at most 800 bytes, record format F. Record number i is i in four digits and 76
-spaces. The image has 2,484 bytes; docs/FORMATS.md lists the places in it.
+spaces. The image has 2,484 bytes; docs/FORMATS.md lists its offsets.
 
     ./make_worked_image.py > FILE
 
-No program of this repository has a part in it: these bytes are what the programs
-are tested on.
+The script uses no program of this repository, since the programs are tested on
+these bytes.
 """
 
 import struct

@@ -52,7 +52,7 @@ FORM = re.compile(r"has no field|not in scope|has no `|expected type `Unit \{0\}
 
 
 class Crate:
-    """The texts of a crate, and which definitions each of its declarations speaks of."""
+    """The texts of a crate, and the definitions that each of its declarations uses."""
 
     def __init__(self, crate, only_cases):
         self.texts = {it: Path(crate, it).read_text() for it in files_of(crate, "specs", "proofs", "src")}
@@ -81,7 +81,7 @@ class Crate:
                 self.cases.setdefault(it.split()[0], set()).update(WORD.findall(masked(it.split("\n\n")[0])))
 
     def closed(self, words, with_lemmas=True):
-        """The definitions that these words speak of, also through definitions and statements of lemmas."""
+        """The definitions that some words use, also through definitions and statements of lemmas."""
         cited = {x for it in words for x in self.lemmas.get(it, ())} if with_lemmas else set()
         found, left = set(), (words | cited) & self.defs.keys()
         while left:
@@ -90,7 +90,7 @@ class Crate:
         return found
 
     def at(self, path, line):
-        """The declaration around a line: its name, and the definitions that it speaks of."""
+        """The declaration around a line: its name, and the definitions that it uses."""
         if (path, line) not in self.spoken:
             lines = self.texts.get(path, "").split("\n")
             first = next((k + 1 for k in range(min(line, len(lines)) - 1, -1, -1) if not lines[k].strip()), 0)
@@ -112,7 +112,7 @@ class Crate:
 
 
 def kind_of(path, name):
-    """What a refused declaration is."""
+    """The kind of a refused declaration."""
     file, name = os.path.basename(path), path.split("/")[-2] if path.count("/") >= 2 else name
     kinds = {"mistakes": file.startswith("Mistakes"),
              "worked": "worked" in name or re.match(r"(List|Check|Extract|Placed)Examples|Worked", file),
@@ -122,7 +122,7 @@ def kind_of(path, name):
 
 
 def check(crate, group, args):
-    """What a check with these mutations refuses, what it does not reach, and whether all is proved."""
+    """The declarations that a check with some mutations refuses, those that it does not reach, and whether all is proved."""
     texts = with_mutations(group)
     kept = {it: Path(crate, it).read_text() for it in texts}
     words = f"rt check --jobs {args.jobs}{' --only ' if args.call else ''}{args.call}".split()
@@ -161,7 +161,7 @@ def places_of(known, group, refused):
 
 
 def judge(known, group, said):
-    """Gives an answer to those mutations about which the check leaves no doubt."""
+    """Sets the answer of each mutation for which the result of the check is clear."""
     (refused, hidden, proved), alone = said, len(group) == 1
     for it in group:
         it.size, it.answer, it.is_quiet = len(group), "UNNOTICED" if proved else "", False
@@ -188,7 +188,7 @@ def judge(known, group, said):
 
 
 def next_group(known, left, size):
-    """Mutations that nothing seems to notice, or some of which each has declarations to itself."""
+    """Mutations that nothing seems to notice, or some that share no declaration."""
     quiet, group = list({it.name: it for it in left if it.is_quiet}.values()), []
     if len(quiet) > 3 or (quiet and len(quiet) == len(left)):
         return quiet
@@ -216,7 +216,7 @@ def strip(crate):
 
 
 def accepted():
-    """The definitions and rules of which it is known that nothing notices a mutation."""
+    """The definitions and rules whose mutations are known to be unnoticed."""
     path = TOP / "trials" / "accepted.txt"
     rows = [it.split(":")[0].split() for it in path.read_text().splitlines()] if path.exists() else []
     return {tuple(it) for it in rows if len(it) == 3}

@@ -10,7 +10,7 @@ The rules:
     same                      exchanges the sides of an equation. This changes no meaning: it is a control
 
 Cases, examples and worked sets are not mutated. Composite mutations, which change several places at
-once, are listed in trials/composite/CRATE.txt, a paragraph each:
+once, are listed in trials/composite/CRATE.txt, one in each paragraph:
 
     break: NAME
     misleads: what a reader of the changed definition would wrongly believe
@@ -40,7 +40,7 @@ TURNS = {r"≤": "<", r"<": "≤", r"\bnat_lt\b": "nat_le", r"\bnat_le\b": "nat_
 
 
 def files_of(crate, *tops):
-    """The files below these folders of a crate, as paths in it."""
+    """The files in some directories of a crate, as relative paths."""
     return [os.path.relpath(f"{at}/{it}", crate) for top in tops
             for at, _, files in sorted(os.walk(f"{crate}/{top}"))
             for it in sorted(files) if it.endswith((".antt", ".rt"))]
@@ -57,7 +57,7 @@ def trim(text, first, last):
 
 
 def split(text, first, last, sign):
-    """The ranges between those signs that are in no bracket."""
+    """The ranges between the signs that are not inside brackets."""
     depth, at = 0, [first - 1]
     for k in range(first, last):
         depth += (text[k] in "([{") - (text[k] in ")]}")

@@ -1,4 +1,4 @@
-"""What record.c recorded of a run, and what that says of the run's output. For power.py."""
+"""The records that record.c wrote during a run, and conclusions about the run's output. For power.py."""
 
 import re
 import struct
@@ -15,7 +15,7 @@ def notes(path):
 
 
 def told_by(line):
-    """The position that a last line of `extract` tells, or None."""
+    """The position in a last line of `extract`, or None."""
     words = line.split()
     if words[:1] == [b"COMPLETE"]:
         return "whole"
@@ -23,7 +23,7 @@ def told_by(line):
 
 
 def is_misnamed(log):
-    """Whether OUT got its name before its bytes were kept, or COMPLETE was told before the name was."""
+    """Whether OUT got its name before its bytes were durable, or COMPLETE was printed before the name was durable."""
     early = any(letter == b"N" and place for letter, place, _ in log)
     told = [letter == b"P" and "whole" in map(told_by, data.splitlines()) for letter, _, data in log]
     row = b"".join(b"C" if complete else letter for complete, (letter, _, _) in zip(told, log))

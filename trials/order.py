@@ -1,10 +1,10 @@
 #!/usr/bin/env python3
-"""Runs the built program under strace, and judges what it does to files, in which order, and what its
-options and exit statuses say. Run manually before a release; CI does not run it. Needs strace and root.
+"""Runs the built program under strace, and judges its calls on files, their order, its options and its
+exit statuses. Run manually before a release; CI does not run it. Needs strace and root.
 
     ./order.py [--program PATH] [NAME]..
 
-Each check is named after what a wrong program would do. Prints each wrong result, and the counts. Exit
+Each check is named after the rule that a wrong program would violate. Prints each wrong result, and the counts. Exit
 status 1 if something was wrong.
 """
 
@@ -36,9 +36,9 @@ def check(function):
 
 
 class Run:
-    """One call of the program in a folder of its own: its result, and the calls that it made."""
+    """One run of the program in its own directory: its result, and its system calls."""
 
-    def __init__(self, program, words, files, inject=(), before=None, out=subprocess.PIPE, watch=True, stdin=b"", env=None):
+    def __init__(self, program, words, files, inject=(), only=None, before=None, out=subprocess.PIPE, watch=True, stdin=b"", env=None):
         with tempfile.TemporaryDirectory(prefix="tape-order-") as folder:
             self.root = Path(folder)
             os.chmod(folder, 0o777)
@@ -51,6 +51,8 @@ class Run:
             strace = ["strace", "-y", "-s", "64", "-o", str(log), "-e", f"trace={CALLS}"]
             for rule in inject:
                 strace += ["-e", f"inject={rule}"]
+            if only:
+                strace += ["-P", only]
             done = subprocess.run(
                 [*(strace if watch or inject else []), program, *words], cwd=folder, stdout=out, stderr=subprocess.PIPE,
                 input=stdin, check=False, timeout=120, env={**os.environ, **(env or {})},
@@ -64,7 +66,7 @@ class Run:
             log.unlink(missing_ok=True)
 
     def read(self, log):
-        """What the log has: the name of each call, the path that it is about, and the rest."""
+        """The log: the name of each call, its path, and the rest."""
         events = []
         for line in log.read_text(errors="replace").splitlines():
             found = CALL.match(line)
@@ -91,7 +93,7 @@ class Run:
         return next((k for k, event in enumerate(self.events) if k >= start and test(*event)), None)
 
     def printed(self, text):
-        """Where this text is written to standard output."""
+        """The index of the call that writes a text to standard output."""
         return self.first(lambda name, path, rest: name == "write" and rest.startswith("1<") and text in rest)
 
     def drafts(self):
@@ -148,6 +150,7 @@ def stage_is_synced(t):
     run = t([*EXTRACT, "one.tap", "--stage", "s"], REELS)
     yield in_order(run.first(is_write("s")), run.first(is_sync("s")), run.printed("AWAITS")), "a new stage is synced"
     yield in_order(run.first(lambda name, at, rest: name == "openat" and at == "s"), run.first(is_sync(".")), run.printed("REEL")), "so is its directory"
+    yield in_order(run.last(is_write("s")), run.last(is_sync("s")), run.printed("REEL")), "a reel is saved before its line is printed"
     yield any(name == "flock" and at == "s" and "LOCK_EX" in rest for name, at, rest in run.events), "it is locked for this run alone"
 
 
@@ -180,7 +183,7 @@ def input_is_closed(t):
     yield in_order(read[-2], closed, read[-1]), "one input is closed before the next is opened"
 
 
-# ---- what stays, and what is removed ----
+# ---- files that remain, and files that are removed ----
 
 
 @check
@@ -197,6 +200,26 @@ def drafts_are_removed(t):
     for number in range(1, 5):
         run = t([*EXTRACT, "one.tap", "two.tap"], REELS, inject=[f"write:error=ENOSPC:when={number}"])
         yield run.status == 1 and run.drafts() == [], f"write {number} refused: {run.status} {run.drafts()}"
+    run = t(["stage", "s", "OUT"], {"s": t.stage[:-300]})
+    yield run.status == 1 and run.drafts() == [], f"a damaged stage: {run.status} {run.drafts()}"
+
+
+@check
+def no_new_file(t):
+    """No temporary file can be created: OUT is written in place only if it exists and its directory refuses new files."""
+    old = {"OUT": b"old\n"}
+    for error in ("EACCES", "EROFS", "ENOSPC", "EMFILE", "EIO", "ENAMETOOLONG", "EDQUOT"):
+        in_place = error in ("EACCES", "EROFS")
+        refuse = {"inject": [f"openat:error={error}"], "only": ".tape-1.part"}
+        run = t([*EXTRACT, "one.tap", "two.tap"], REELS | old, **refuse)
+        yield (run.status, run.files["OUT"]) == ((0, t.records) if in_place else (1, b"old\n")), f"{error}, OUT exists: {run.status} {run.err!r}"
+        yield in_place or run.err == "tape: file fault 2\n", f"{error}, OUT exists: {run.err!r}"
+        for words in (["merge", "OUT", "one.tap", "one.tap"], ["salvage", "ABC001", "1", "OUT", "one.tap"]):
+            run = t(words, REELS, **refuse)
+            yield run.err == "tape: file fault 2\n" and "OUT" not in run.files, f"{error}, {words[0]}: {run.status} {run.err!r}"
+        for staged in ({}, {"d/ABC001.1.PAYROLL.stage": t.stage}):
+            run = t(["unpack", "d", "one.tap", "two.tap"], REELS | staged, inject=refuse["inject"], only="d/.tape-1.part")
+            yield run.status == 1 and "FAILED file fault 2" in run.out and "d/ABC001.1.PAYROLL" not in run.files, f"{error}, unpack: {run.out!r}"
 
 
 @check
@@ -271,9 +294,10 @@ def options_do_something(t):
     run = t(["stage", "s", "--damaged"], {"s": broken})
     yield run.status == 3 and run.out.startswith("STAGE ABC001 1 ") and "TRUNCATED AT" in run.out, f"stage --damaged: {run.out!r}"
     for words, env in ((["--explain"], {}), ([], {"TAPE_EXPLAIN": "1"})):
-        for call in (["list", "lost.tap"], ["check", "--files-from", "lost"], [*EXTRACT, "lost.tap", "--stage", "lost/s"]):
+        for call, what in ((["list", "lost.tap"], "image"), (["check", "--files-from", "lost"], "list"), ([*EXTRACT, "lost.tap", "--stage", "lost/s"], "stage"),
+                (["write", "d", "ABC", "100000", "A=lost"], "input"), (["init", "lost", "ABC", "1"], "image")):
             run = t([*call, *words], REELS, env=env)
-            yield run.status == 1 and "No such file or directory" in run.err, f"{call}: {run.err!r}"
+            yield run.status == 1 and "No such file or directory" in run.err and f"  The {what} could not be " in run.err, f"{call}: {run.err!r}"
     yield t(["list", "lost.tap"], {}).err == "tape: file fault 2\n", "nothing is explained unless it is asked for"
 
 
@@ -287,7 +311,7 @@ def statuses_of_unpack(t):
         ("two sets of one identifier", {"one.tap": ONE, "other.tap": other, "two.tap": TWO}, 3, "CONFLICT"),
         ("a file not found", {"two.tap": second}, 3, "NOT FOUND"),
         ("blank volumes", {"blank.tap": BLANK}, 3, ""),
-        ("an image that is not there", REELS | {"lost.tap": None}, 3, "INCOMPLETE IMAGES"),
+        ("an image that does not exist", REELS | {"lost.tap": None}, 3, "INCOMPLETE IMAGES"),
     ):
         run = t(["unpack", "d", *files], {name: content for name, content in files.items() if content})
         yield run.status == status and line in run.out, f"unpack, {name}: {run.status} {run.out!r}"
@@ -330,21 +354,41 @@ def full_output(t):
         yield run.status == 1 and run.err.startswith("tape: file fault 4\n  OUT: /dev/full\n"), f"{words}: {run.err!r}"
     run = t(["extract", "ABC001", "1", "OUT", "one.tap", "--stage", "s", "--explain"], REELS | {"s": b"no stage"})
     yield run.err.startswith("tape: stage fault 1\n  Stage: s\n"), f"a stage: {run.err!r}"
+    run = t([*EXTRACT, "one.tap", "--stage", "s", "--explain"], REELS | {"s": t.stage}, inject=["fsync:error=EIO:when=4+"])
+    yield run.err.startswith("tape: run fault 1\n  Stage: s\n"), f"a stage that cannot be synced: {run.err!r}"
     run = t(["extract", "ABC001", "2", "OUT", "one.tap", "--stage", "s", "--explain"], REELS | {"s": t.stage})
     yield run.err.startswith("tape: run fault 5\n  Stage: s\n") and run.files["s"] == t.stage, f"a stage of another file: {run.err!r}"
 
 
 @check
 def each_refused_write(t):
-    """More bytes than are buffered: a write of records fails while reels are read."""
+    """More bytes than the buffer: a write of records fails while reels are read."""
     run = t([*EXTRACT, "one.tap", "two.tap"], REELS)
     writes = [k for k, (name, at, rest) in enumerate(run.events) if name == "write"]
     for number in range(1, len(writes) + 1):
         run = t([*EXTRACT, "one.tap", "two.tap"], REELS, inject=[f"write:error=ENOSPC:when={number}"])
         yield run.status == 1 and run.err == "tape: file fault 4\n" and "COMPLETE" not in run.out.replace("REEL 2 COMPLETE", ""), f"write {number}: {run.err!r}"
+    written = ["write", ".", "ABC", "200000", "A=lines"], {"lines": LINES, "ABC001.tap": BLANK}
+    right = t(*written).files["ABC001.tap"]
+    for number in range(1, 12):
+        run = t(*written, inject=[f"write:error=ENOSPC:when={number}"])
+        there = run.files["ABC001.tap"]
+        yield run.status == 1 and right.startswith(there) or there == right, f"write to a blank volume, write {number}: {run.status}, {len(there)} bytes"
     for number in (1, 2):
         run = t(["init", "d", "ABC", "2"], {}, inject=[f"write:error=ENOSPC:when={number}"])
         yield run.status == 1, f"init, write {number}: {run.status} {run.out!r}"
+
+
+@check
+def each_refused_line(t):
+    for words, files in ((["list", "one.tap"], REELS), (["check", "one.tap", "two.tap"], REELS), (["survey", "one.tap", "two.tap"], REELS),
+            (["survey", "--tsv", "one.tap", "two.tap"], REELS), (["compare", "one.tap", "two.tap"], REELS), (["merge", "OUT", "one.tap", "one.tap"], REELS),
+            ([*EXTRACT, "one.tap", "two.tap"], REELS), (["unpack", "d", "one.tap", "two.tap"], REELS), (["salvage", "ABC001", "1", "OUT", "one.tap"], REELS),
+            (["stage", "s"], {"s": t.stage}), (["init", "d", "ABC", "1"], {}), (["write", "d", "ABC", "100000", "A=lines"], {"lines": LINES})):
+        writes = [rest for name, at, rest in t(words, files).events if name == "write"]
+        for number in [k for k, rest in enumerate(writes, 1) if rest.startswith("1<")]:
+            run = t(words, files, inject=[f"write:error=ENOSPC:when={number}"])
+            yield run.status == 1 and run.err == "tape: file fault 4\n", f"{words}, write {number}: {run.status} {run.err!r}"
 
 
 @check
@@ -361,10 +405,66 @@ def long_numbers(t):
 
 
 @check
+def long_stages(t):
+    """A stage of more than 2 GB is written, continued and read."""
+    with tempfile.TemporaryDirectory(prefix="tape-order-") as folder:
+        size, count, image = 99_999, 21_600, Path(folder, "a.tap")
+        labels = volume_label("ABC001") + first_label("HDR1", 0) + second_label("HDR2").replace(b"F0080000080", b"F9999999999") + mark()
+        with image.open("wb") as file:
+            file.write(labels)
+            for _ in range(count):
+                file.write(size.to_bytes(4, "little"))
+                file.seek(size + 1, os.SEEK_CUR)
+                file.write(size.to_bytes(4, "little"))
+        for _ in range(2):
+            run = t(["extract", "ABC001", "1", "OUT", str(image), "--stage", f"{folder}/s"], {}, watch=False)
+            yield run.status == 3 and run.out.endswith(f"AWAITS 1 1 {count}\n"), f"a long stage: {run.status} {run.out!r} {run.err!r}"
+        yield Path(folder, "s").stat().st_size > 1 << 31, "it has more than 2 GB"
+        run = t(["stage", f"{folder}/s"], {}, watch=False)
+        yield run.out.startswith(f"STAGE ABC001 1 {count}\n"), f"a long stage that is shown: {run.out!r} {run.err!r}"
+
+
+@check
 def lines_of_lists(t):
     names = b"".join(b"%d.tap\n" % number for number in range(1, 11)) + b"M\xfcller.tap\n12.tap\n"
     run = t(["check", "--files-from", "names"], {"names": names})
     yield run.status == 2 and "line 11 of the list" in run.err, f"a line that is not text: {run.err!r}"
+
+
+def odd_calls(name):
+    """Calls that end with an error about this name or word."""
+    folder = f"{name}/f"
+    yield from ([name], ["--" + name], ["--version=" + name], ["help", name], ["help", "list", name], ["list", "--" + name], ["list", "a", "--" + name],
+        ["list", "--explain=" + name], ["survey", "--tsv" + name, "x"], ["survey", "--tsv=" + name, "x"], ["stage", "s", "o", name])
+    for words in (["list", name], ["check", "--files-from", name], ["survey", "--files-from", name], ["stage", name], ["compare", name, name],
+            ["unpack", folder, "i"], ["unpack", "", name], ["merge", folder, "i", "j"], ["merge", "o", name, name],
+            ["init", folder, "ABC", "2"], ["init", "d", name, "2"], ["init", "d", "ABC", name],
+            ["write", folder, "ABC", "100000", "A=p"], ["write", "d", name, "100000", "A=p"], ["write", "d", "ABC", name, "A=p"],
+            ["write", "d", "ABC", "100000", "A=" + name], ["write", "d", "ABC", "100000", name], ["write", "d", "ABC", "100000", "A=p", "--block", name],
+            ["write", "d", "ABC", "100000", "A=p", "--format", name]):
+        yield ["--explain", *words]
+    for words in (["extract"], ["salvage"]):
+        for rest in (["S", "1", folder, "i"], ["S", name, "o", "i"], ["1234567" + name, "1", "o", "i"], ["S", "1", "o", name], ["S", "1", "o", "i", "--form", name]):
+            yield [*words, "--explain", *rest]
+    yield ["extract", "--explain", "S", "1", "o", "i", "--stage", folder]
+
+
+@check
+def names_are_quoted(t):
+    """No character of a name or of another word acts on a terminal, hides or ends a line, and different ones are printed differently."""
+    odd = [0, *range(1, 32), *range(127, 160), 0xAD, 0x61C, *range(0x200B, 0x2010), *range(0x2028, 0x202F), *range(0x2060, 0x2070), 0xFEFF]
+    names = ["a\x1b]0;x\ab", "a\ntape: run fault 9", "a\\u000Atape: run fault 9", "a\u202eb", "a\u2028b", "a\x9b1mb", "a\x7fb", "a\rb", "\ufeffa", "a\u200bb", "a\\b", "a\\\\b"]
+    for number, _ in enumerate(odd_calls("")):
+        runs = [(name, t(list(odd_calls(name))[number], {}, watch=False)) for name in names]
+        words = list(odd_calls("NAME"))[number]
+        hidden = [name for name, run in runs if any(ord(c) in odd for c in (run.out + run.err).replace("\n", ""))]
+        yield not hidden, f"{words}: {hidden} are printed as they are"
+        yield all("\ntape: run fault 9" not in run.err for _, run in runs), f"{words}: a line is forged"
+        # "\\" and "\" begin like other names in a word that is read character by character
+        texts = [run.err for _, run in runs]
+        yield len(set(texts)) in (1, len(names)), f"{words}: {len(set(texts))} texts for {len(names)} names"
+    run = t(["check", "a.tap", b"M\xfc\x1bller.tap"], {}, watch=False)
+    yield run.status == 2 and run.err.endswith("  word 3: M\\xFC\\x1Bller.tap\n"), f"a word that is not text: {run.err!r}"
 
 
 def main():

@@ -1,12 +1,12 @@
 #!/usr/bin/env python3
-"""Runs pairs of calls of the built program at the same time, and judges what they leave.
-Run by hand before a release; CI does not run it.
+"""Runs the built program twice at the same time on the same files, and judges the result.
+Run manually before a release; CI does not run it.
 
     ./pairs.py [--program PATH] [--rounds N] [--seed N]
 
-Right is what the two calls, or one of them, would have left one after the other: every call that ends
-with status 0 has its files there, whole; a call that ends otherwise changed nothing that was there. Prints
-each wrong answer, and a table of the pairs. The status is 1 if one was wrong.
+The files must be those that the two runs, or one of them, would leave one after the other: the files of
+each run that ends with status 0 exist completely; a run that ends otherwise changed no existing file. Prints
+each wrong result, and a table of the pairs. The exit status is 1 if one was wrong.
 """
 
 import argparse
@@ -28,23 +28,23 @@ EXTRACT = ["extract", "ABC001", "1", "OUT", "one.tap", "two.tap"]
 
 @dataclass
 class Pair:
-    """Two calls, the files there before, and the file that each of them makes, with its bytes."""
+    """Two runs, the files that exist before, and the file that each run creates, with its bytes."""
 
     name: str
     files: dict
     first: list
     second: list
     made: str
-    # the bytes of that file behind the first and the second call
+    # the bytes of that file after the first and the second run
     contents: tuple
-    # whether both may end with success
+    # whether both may succeed
     both: bool
-    # a word that only one of them may print: that it made the file
+    # a word that only one of them may print: that it created the file
     once: str = ""
 
 
 def alone(program, words, files, made):
-    """The bytes of the file that a call makes by itself."""
+    """The bytes of the file that a run creates alone."""
     with tempfile.TemporaryDirectory(prefix="tape-pairs-") as folder:
         for name, content in files.items():
             Path(folder, name).write_bytes(content)
@@ -65,7 +65,7 @@ def pairs(program):
         ("init and write", inputs, ["init", ".", "ABC", "1"], write_a, "ABC001.tap", True),
         # the second may begin when the first has ended, and then replaces OUT
         ("extract, one OUT", reels, EXTRACT, [*EXTRACT, "--form", "raw"], "OUT", True),
-        ("extract, an OUT that is there", reels | {"OUT": b"old\n"}, EXTRACT, [*EXTRACT, "--form", "raw"], "OUT", True),
+        ("extract, existing OUT", reels | {"OUT": b"old\n"}, EXTRACT, [*EXTRACT, "--form", "raw"], "OUT", True),
         ("extract, one stage", reels, [*EXTRACT, "--stage", "s"], [*EXTRACT, "--stage", "s"], "OUT", True),
         ("unpack, one DIR", reels, unpack, [*unpack, "--form", "raw"], "d/ABC001.1.PAYROLL", True),
     ]
@@ -77,7 +77,7 @@ def pairs(program):
 
 
 def judge(pair, done, files):
-    """What is wrong, if anything is."""
+    """The fault, if there is one."""
     ended = [status == 0 for status, _, _ in done]
     found = files.get(pair.made)
     if all(ended) and not pair.both:

@@ -1,4 +1,4 @@
-"""The files that a power cut may leave of a stage, and what `tape extract --stage` makes of each. For stage.py.
+"""The files that a power cut may leave of a stage, and how `tape extract --stage` continues from each. For stage.py.
 
 Sets of volumes are made by `tape write`; copies of their reels are cut and damaged; over some days the program reads
 them with a stage. record.c records each write, cut and sync of the stage's file. For each moment of these days files
@@ -30,17 +30,17 @@ from noted import is_misnamed, notes, told_by
 
 SECTOR = 512
 SLOT = 128
-# files that are made for each moment, at least where there is something to choose
+# the number of files for each moment, if there is a choice
 CHOICES = 24
 NO_REEL = ["none.tap"]
-# how many of these files are gone on with under further power cuts, at most
+# the maximum number of these files from which runs with further power cuts continue
 AGAIN = 20
-# a write is rather done than torn
+# a write is more often complete than torn
 WAYS = ("whole", "whole", "front", "back", "sectors", "other", "mixed")
 
 
 def without(image, rng):
-    """A copy that breaks off at some byte, or one of which up to three blocks can't be read."""
+    """A copy that is truncated at some byte, or in which up to three blocks are unreadable."""
     if rng.random() < 0.6:
         return image[:rng.randint(0, len(image))]
     copy = bytearray(image)
@@ -62,7 +62,7 @@ class Plan:
 
 
 def make_plan(options, folder, rng, number):
-    """One of six kinds of sets with random records, in this folder."""
+    """One of six kinds of sets with random records, in a directory."""
     shape, large = "FDS"[number % 3], number % 6 > 2
     block = {"F": (800, 60_000), "D": (512, 40_000), "S": (64, 9_999)}[shape][large]
     longest = {"F": (80, 20_000), "D": (508, 9_995), "S": (300, 30_000)}[shape][large]
@@ -86,7 +86,7 @@ def make_plan(options, folder, rng, number):
 
 
 def checkpoint_at(content, place):
-    """The generation, the position and the weight of an open slot whose checkpoint reads, or None."""
+    """The generation, the position and the weight of an open slot with a valid checkpoint, or None."""
     slot = content[place:place + SLOT]
     point = slot[16:96]
     numbers = [point[begin:end] for begin, end in ((15, 19), (19, 29), (29, 34), (62, 77))]
@@ -99,7 +99,7 @@ def checkpoint_at(content, place):
 
 
 def position_and_weight(content):
-    """What the slot of the greater generation says; twice None where the file is no stage."""
+    """The position and the weight in the slot with the greater generation, or None twice if the file is not a stage."""
     slots = [slot for slot in (checkpoint_at(content, 0), checkpoint_at(content, SLOT)) if slot]
     return max(slots, key=lambda slot: slot[0])[1:] if len(content) >= 2 * SLOT and slots else (None, None)
 
@@ -109,7 +109,7 @@ def position_of(content):
 
 
 def records_of(content):
-    """The text of the parts before the position of a stage, or None where frames are missing."""
+    """The text of the parts before the position of a stage, or None if frames are missing."""
     at, text = 2 * SLOT, []
     end = at + position_and_weight(content)[1]
     while at < end:
@@ -122,14 +122,14 @@ def records_of(content):
 
 
 def put(content, place, data):
-    """Writes the data; what lies between the end and the place is a hole."""
+    """Writes the data at an offset; any bytes between the end and the offset are a hole."""
     content.extend(bytes(max(0, place - len(content))))
     content[place:place + len(data)] = data
 
 
 @dataclass
 class Disk:
-    """A file as the disk has it, as reads show it, and what was not synced yet: writes, and cuts without data."""
+    """The contents of a file on the disk, those that reads return, and its changes since the last sync: writes, and cuts without data."""
 
     kept: bytearray
     shown: bytearray
@@ -147,19 +147,19 @@ class Disk:
 
 
 def other_bytes(rng, disk, size):
-    """Bytes that nobody wrote there."""
+    """Bytes that were not written there."""
     at = rng.randint(0, len(disk.shown))
     slot = bytes(disk.kept[:SLOT])
     return rng.choice([
         bytes(size), b"\xff" * size, b"O" * size, rng.randbytes(size),
         bytes(disk.shown[at:at + size]).ljust(size, b"\0"),
-        # a slot of a late generation, which awaits another block
+        # a slot with a later generation, which expects another block
         (b"999999999999998" + slot[16:35] + b"0000000001" + slot[45:]).ljust(size, b" ")[:size],
     ])
 
 
 def torn(rng, disk, place, old, data, way):
-    """The range of a write, which held the old bytes, as a power cut may leave it."""
+    """The range of a write as a power cut may leave it, given its old bytes."""
     size, cut = len(data), rng.randint(0, len(data))
     if way == "front":
         return data[:cut] + old[cut:]
@@ -175,7 +175,7 @@ def torn(rng, disk, place, old, data, way):
 
 
 def leave(rng, disk, content, change, way):
-    """Does one change to a file, wholly or as a power cut may leave it."""
+    """Makes one change to a file, completely or as a power cut may leave it."""
     place, data = change
     if data is None:
         rest = 0 if way == "whole" else rng.randint(0, max(0, len(content) - place))
@@ -192,7 +192,7 @@ def leave(rng, disk, content, change, way):
 
 
 def left_by(rng, disk, count):
-    """Files that a power cut may leave now: each subset of few changes, fronts of many, and random ones, torn and out of order."""
+    """Files that a power cut may leave now: each subset of few changes, prefixes of many, and random subsets, torn and out of order."""
     number = len(disk.unsynced)
     subsets = range(1 << number) if number <= 4 else [(1 << k) - 1 for k in {0, 1, rng.randint(2, number), number - 1, number}]
     found = set()
@@ -210,7 +210,7 @@ def left_by(rng, disk, count):
 
 @dataclass
 class Trial:
-    """The runs over one plan."""
+    """The runs of one plan."""
 
     options: object
     library: Path
@@ -224,7 +224,7 @@ class Trial:
     wrong: int = 0
 
     def run(self, images, content, noted=False, refused=0):
-        """What a run over this file answers, the file behind it, OUT, and what was noted."""
+        """The result of a run on a file, the file after it, OUT, and the records of record.c."""
         kept, out, log = (self.folder / name for name in ("kept", "OUT", "log"))
         for path in (kept, out, log):
             path.unlink(missing_ok=True)
@@ -240,7 +240,7 @@ class Trial:
         print(f"{self.plan.name}: {why}")
 
     def what_is_wrong(self, content, unmade):
-        """What is wrong with the runs from this file, if anything is, and where the first one stands. Asked once."""
+        """The fault of the runs that continue from a file, if there is one, and the position of the first run. Determined once."""
         done, behind, out, _ = self.run(NO_REEL, content)
         if unmade and done.stderr == b"tape: stage fault 1\n" and len(content) <= 2 * SLOT:
             return None, None
@@ -249,7 +249,7 @@ class Trial:
         position = told_by(done.stdout.splitlines()[-1])
         text = records_of(behind) if position_of(behind) == position else None
         if text is None or not self.plan.text.startswith(text):
-            return "the file behind the first run", position
+            return "the file after the first run", position
         if position == "whole" and out != self.plan.text:
             return "OUT of a stage that is whole", position
         done, _, out, _ = self.run(self.plan.volumes, behind)
@@ -257,7 +257,7 @@ class Trial:
         return (None if right else f"the second run: {done.stdout!r}, {done.stderr!r}"), position
 
     def judge(self, content, allowed, unmade):
-        """Goes on from a file that a power cut left."""
+        """Continues from a file that a power cut left."""
         self.states += 1
         asked = hashlib.sha256(content).digest(), unmade
         if asked not in self.judged:
@@ -271,17 +271,17 @@ class Trial:
             self.fails(f"{position} is awaited, and not one of {allowed}")
 
     def explore(self, content, log, count, moments=b"WTYF", again=False):
-        """Power cuts at these moments of a run that found this file; the file at its end, as the system shows it."""
+        """Makes power cuts at given moments of a run on a file; returns the file at its end, as the system shows it."""
         disk = Disk(bytearray(content), bytearray(content))
         first = position_of(content)
         named = bool(content)
         if is_misnamed(log):
-            self.fails("OUT got its name too early, or COMPLETE was told before")
+            self.fails("OUT got its name too early, or COMPLETE was printed before")
         for letter, place, data in log:
             if letter == b"P":
                 for position in filter(None, map(told_by, data.splitlines())):
                     if position != position_of(disk.kept) or not named:
-                        self.fails(f"{position} was told before it was kept")
+                        self.fails(f"{position} was printed before it was durable")
             named = named or letter == b"D"
             if letter in b"WT":
                 disk.change(place, data if letter == b"W" else None)
@@ -292,7 +292,7 @@ class Trial:
         return bytes(disk.shown)
 
     def cut(self, disk, count, unmade, again):
-        """Power cuts now."""
+        """Makes power cuts now."""
         allowed = {position_of(disk.kept), position_of(disk.shown)} - {None}
         for left in left_by(self.rng, disk, count):
             self.judge(left, allowed, unmade)
@@ -301,7 +301,7 @@ class Trial:
                 self.resume_and_run(left, unmade)
 
     def resume_and_run(self, content, unmade):
-        """A run over a file that a power cut left, with power cuts of its own."""
+        """A run on a file that a power cut left, with further power cuts."""
         done, _, _, log = self.run(self.rng.choice(self.plan.days), content, noted=True)
         if done.returncode in (0, 3):
             self.explore(content, log, CHOICES // 4)
@@ -309,7 +309,7 @@ class Trial:
             self.fails(f"going on: status {done.returncode}, {done.stderr!r}")
 
     def refuse_syncs(self, day, content):
-        """A day in which a sync fails: power cuts behind it, and a copy of what the system shows."""
+        """A day on which a sync fails: power cuts after it, and a copy of the file that the system shows."""
         for number in range(1, 100):
             done, shown, _, log = self.run(day, content, noted=True, refused=number)
             if all(letter != b"F" for letter, _, _ in log):

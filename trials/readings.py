@@ -26,7 +26,7 @@ from merge import BAD, MARK, Reading, block, model, run, word, written
 HERE = os.path.dirname(os.path.abspath(__file__))
 wrong = 0
 
-# A backslash, control characters, and characters that are not seen
+# A backslash, control characters, and invisible characters
 HIDDEN = re.compile('[\\\\\x00-\x1f\x7f-\x9f\xad\u061c\u200b-\u200f\u2028-\u202e\u2060-\u206f\ufeff]')
 
 
@@ -45,7 +45,7 @@ def text_of(path):
 
 
 class Plain(Reading):
-    """A reading without gaps and faults."""
+    """A reading without gaps or faults."""
 
     def __init__(self, items, end='MARKED'):
         self.items, self.end, self.offsets, self.data = items, end, [], b''
@@ -66,7 +66,7 @@ def put(folder, readings, names=None):
 
 
 def printed(name):
-    """A name as the reference says that it is printed."""
+    """A name as printed according to the reference."""
     return HIDDEN.sub(lambda c: '\\\\' if c[0] == '\\' else f'\\u{ord(c[0]):04X}', name)
 
 
@@ -105,7 +105,7 @@ def many(program, folder):
 
 
 def feed(path, data, size):
-    """Writes the data into a pipe, few bytes at a time."""
+    """Writes the data to a pipe, a few bytes at a time."""
     with open(path, 'wb', buffering=0) as pipe:
         try:
             for at in range(0, len(data), size):
@@ -192,9 +192,9 @@ def from_pipes(program, folder, out, all_parts):
 def large(program, folder):
     one = written(block(b'\xa5' * 65528))  # 65,536 bytes
     bad = word(0x80000000 | 65528) + bytes(65528) + word(0x80000000 | 65528)
-    full = 65535  # with this many blocks an image has 4,294,901,760 bytes
+    full = 65535  # an image with this number of blocks has 4,294,901,760 bytes
     tail = written(block(b'z' * 65526))  # 65,534 bytes: 4,294,967,294 in all
-    # one reading is whole to the last possible byte, the other has a bad block in the middle
+    # one reading is complete up to the last possible byte, the other has a bad block in the middle
     right = [(one, full), (tail, 1)]
     damaged = [(one, 1000), (bad, 1), (one, full - 1001), (tail, 1)]
     answer, paths = from_pipes(program, folder, None, [right, damaged])
@@ -209,12 +209,12 @@ def large(program, folder):
         [f'IMAGE 1 {full + 1} 0 - {paths[0]}', f'IMAGE 2 {full + 1} 0 - {paths[1]}',
          f'DIFFER {full + 1}', f'HAS 1 A BLOCK 65526 {place} {paths[0]}',
          f'HAS 2 B BLOCK 65526 {place} {paths[1]}'], 3, ''))
-    # one block too many: a fault of the image, which ends there
+    # one block too many: a fault, at which the image ends
     answer, paths = from_pipes(program, folder, None, [[(one, full + 1)], right])
     expect('over 4 GB', answer, ([f'IMAGE 1 {full} 0 FAULT 4 {place} {paths[0]}',
                                   f'IMAGE 2 {full + 1} 0 PHYSICAL {paths[1]}',
                                   f'MERGED {full + 1} 0 1 PHYSICAL'], 0, ''))
-    # each reading fits, what they make together does not: short bad blocks for long good ones
+    # each reading fits, but the merged image does not: short bad blocks replace long good ones
     short = written(BAD)
     halves = [[(one, 40000), (short, 40000)], [(short, 40000), (one, 40000)]]
     answer, paths = from_pipes(program, folder, None, halves)
@@ -234,7 +234,7 @@ def failing(program, folder, library, fail, words):
 
 
 def prepared(folder, sizes, count):
-    """The library that refuses calls, and readings in a folder of their own."""
+    """The library that refuses calls, and readings in their own directory."""
     library = os.path.join(folder, 'fail.so')
     subprocess.run(['cc', '-O2', '-shared', '-fPIC', '-o', library, PRELOAD], check=True)
     rnd = random.Random(3)
@@ -248,7 +248,7 @@ def prepared(folder, sizes, count):
 
 
 def each_call(program, folder, library, kinds, words, out):
-    """The answer with each call of these kinds refused, alone and with all later ones."""
+    """The result with each call of some kinds refused, alone and with all later ones."""
     numbers = failing(program, folder, library, '', words)[3].split()
     os.remove(out)
     for kind in kinds:
@@ -258,7 +258,7 @@ def each_call(program, folder, library, kinds, words, out):
 
 
 def cut(reading, line):
-    """The reading as far as its line says that it was read, if its device failed."""
+    """The reading up to the item stated in its line, if its device failed."""
     words = line.split(' ')
     if words[4:6] != ['FAULT', '5']:
         return reading
@@ -300,7 +300,7 @@ def refused(program, folder):
         whole = ''.join(text + '\n' for text in lines)
         expect(f'{what}: a prefix of the lines', whole.startswith(said), True)
         if got == 1:
-            # OUT may exist only if what failed came after it had its name
+            # OUT may exist only if the failure came after OUT had its name
             expect(f'{what}: OUT', text_of(out) in (None, data), True)
         else:
             expect(what, (got, said, text_of(out)), (status, whole, data))

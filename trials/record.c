@@ -1,14 +1,14 @@
-/* Notes what a built program does to one file. Loaded before the C library:
+/* Records the calls of a built program on one file. Loaded before the C library:
 
        cc -O2 -shared -fPIC -o record.so record.c
        RECORD=kept RECORD_LOG=log LD_PRELOAD=./record.so tape extract .. --stage kept
 
-   The log has a record for each call that was answered with success: a letter, a place and a length (8 bytes each,
-   least byte first), and so many bytes. W: these bytes were written at the place. T: the file was cut to the place.
-   Y: it was synced. F: a sync of it failed. D: a folder was synced. P: these bytes went to standard output.
-   N: a file got this name; the place is 1 where it had bytes then that were not synced, and else 0.
+   The log has a record for each successful call: a letter, an offset and a length (8 bytes each, least byte first),
+   followed by bytes of that length. W: the bytes were written at the offset. T: the file was truncated to the offset.
+   Y: the file was synced. F: a sync of the file failed. D: a directory was synced. P: the bytes were written to
+   standard output. N: a file got this name; the offset is 1 if it had bytes that were not synced, otherwise 0.
 
-   RECORD_FAIL=N: the N-th sync of the file fails, and no other one. 0: none does. */
+   RECORD_FAIL=N: only the N-th sync of the file fails; with 0 no sync fails. */
 #define _GNU_SOURCE
 #include <errno.h>
 #include <fcntl.h>
@@ -29,7 +29,7 @@
 static int is_open_log;
 static char is_noted[FILES];
 static long syncs;
-/* plain files with bytes that were not synced, closed ones too */
+/* regular files with bytes that were not synced, including closed files */
 static ino_t unsynced[FILES];
 
 static void note(char letter, uint64_t place, const void *bytes, uint64_t length)
@@ -103,7 +103,7 @@ int close(int file)
     return (int)syscall(SYS_close, file);
 }
 
-/* Where the file stands among those with bytes that were not synced, or where there is room for it. */
+/* The index of the file among those with bytes that were not synced, or of a free entry. */
 static int place_of(ino_t inode)
 {
     int at = 0;
@@ -148,7 +148,7 @@ ssize_t pwrite(int file, const void *bytes, size_t count, off_t place)
 
 ssize_t pwrite64(int file, const void *bytes, size_t count, off_t place) __attribute__((alias("pwrite")));
 
-/* a part of what is given may always be taken: here the first piece that is not empty */
+/* a call may always accept a part of its bytes: here the first piece that is not empty */
 ssize_t writev(int file, const struct iovec *pieces, int count)
 {
     int at = 0;

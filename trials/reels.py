@@ -43,7 +43,7 @@ class File:
 
 
 def packed(shape, records):
-    """The blocks of these records, each filled as far as it goes."""
+    """The blocks of some records, each as full as possible."""
     letter, length, record = shape
     made, under_way = [], b""
     for content in records:
@@ -87,7 +87,7 @@ def file_of(rng, number, day):
 
 @dataclass
 class Item:
-    """An item of a volume: its spelling; of data the file, the section and the number of the block."""
+    """An item of a volume: its encoding, and for data the file, the section and the number of the block."""
 
     spelling: bytes
     kind: str
@@ -97,7 +97,7 @@ class Item:
 
 
 def volumes_of(set_id, files, rng, prefix):
-    """The volumes of a set: each a list of items. A volume ends within a file, where another one follows."""
+    """The volumes of a set, each a list of items. A volume ends inside a file if another volume follows."""
     volumes, items, left = [], [], 0
 
     def begin():
@@ -134,7 +134,7 @@ def volumes_of(set_id, files, rng, prefix):
 
 @dataclass
 class Reel:
-    """An image of a volume: which of its items cannot be read, and how many bytes of it there are."""
+    """An image of a volume: its unreadable items, and its size in bytes."""
 
     name: str
     set_id: str
@@ -154,7 +154,7 @@ class Reel:
         return made + word(0xFFFFFFFF) if self.cut < 0 else made[:self.cut]
 
     def met(self):
-        """The items of its reading, each with whether it was read well."""
+        """The items of its reading, each with whether it was readable."""
         end = 0
         for at, item in enumerate(self.items):
             end += len(item.spelling)
@@ -164,7 +164,7 @@ class Reel:
 
 
 def sections_of(reel):
-    """What the reel has of each section behind headers that read: its blocks, and its trailer where that was met."""
+    """The part of each section with readable headers that is on the reel: its blocks, and its trailer if it was read."""
     found, section, is_lawful = {}, None, True
     for item, is_good in reel.met():
         if item.kind == "header":
@@ -181,7 +181,7 @@ def sections_of(reel):
 
 
 def headers_of(reel):
-    """The files of which a header was read in its place."""
+    """The files of which a header was read in the right position."""
     found = set()
     for item, is_good in reel.met():
         if item.kind == "header":
@@ -192,7 +192,7 @@ def headers_of(reel):
 
 
 def wanted(file, reels):
-    """None where the reels have the file together, or the section and the block that are wanted, by positions and readings."""
+    """None if the reels together have the complete file, otherwise the missing section and block, by positions and readings."""
     section, at = 1, 0
     known = [sections_of(reel) for reel in reels]
     while True:
@@ -212,7 +212,7 @@ def wanted(file, reels):
 
 
 def lacking(file, reels):
-    """The first section of a file that no reel has whole, or None."""
+    """The first section of a file that is complete on no reel, or None."""
     section = 1
     while True:
         whole = [it for it in (sections_of(reel).get((file, section)) for reel in reels) if it and all(it["blocks"]) and it["trailer"]]
@@ -276,7 +276,7 @@ def truly_there(reels, is_there):
 
 
 def damaged(rng, reel, twin):
-    """One or two images of a volume, each whole or damaged in one of the ways in which reels are."""
+    """One or two images of a volume, each complete or damaged as reels are."""
     data = [at for at, item in enumerate(reel.items) if item.kind == "data"]
     size = sum(len(item.spelling) for item in reel.items)
     way = rng.choice(["whole", "copies", "cut", "cuts", "bad", "mended", "bad in both", "header", "lost", "lost"])
@@ -293,7 +293,7 @@ def damaged(rng, reel, twin):
 
 
 def strangers(rng):
-    """Reels that are no volumes of a set that is read, by name."""
+    """Reels that are not volumes of the sets, by name."""
     text = bytes(rng.choices(range(256), k=80))
     ebcdic = "VOL1IBM001".ljust(80).encode("cp037")
     first = File(1, "RT.DAT", ("F", 512, 512), " 85100").first("HDR1", "RT11A", 1, 0)
@@ -311,7 +311,7 @@ def strangers(rng):
 
 @dataclass
 class ImageSource:
-    """All reels, the files of each set, and the images that are none of ours."""
+    """All reels, the files of each set, and the images that belong to none of the sets."""
 
     reels: list
     files: dict
@@ -328,7 +328,7 @@ def make_shelf(seed, sets):
         for at, items in enumerate(volumes_of(set_id, files[set_id], rng, f"V{number:03}"), 1):
             names = [f"reel {number} {at}{copy}.tap" for copy in ("", " again")]
             reels += damaged(rng, *[Reel(name, set_id, items) for name in names])
-    # Two weekly backups, which have one identifier.
+    # Two weekly backups with the same identifier.
     for week in (100, 107):
         made = [file_of(rng, 1, f" 85{week}")]
         made[0].name = "WEEKLY.BCK"

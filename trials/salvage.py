@@ -1,28 +1,30 @@
 #!/usr/bin/env python3
-"""Damaged sets, and what `tape salvage` recovers of their files. Run by hand; CI does not run it.
+"""Damaged sets, and the files that `tape salvage` recovers from them. Run manually; CI does not run it.
 
     ./salvage.py [--program PATH] [--seed N] [--sets N] [--keep FOLDER] [--hand] [--times]
 
 Each set is made here from docs/FORMATS.md alone: files in the three formats on one to four volumes, each volume on one
 or two images. Blocks, labels and tape marks are made unreadable, images are cut at any byte, left out, and shuffled;
-blocks are lost or doubled, so that a trailer label counts wrongly; images of other sets lie among them.
+blocks are lost or doubled, so that the count of a trailer label is wrong; images of other sets are among them.
 
-A model in this file, written from the description of `salvage` in docs/REFERENCE.md, says what must be written and
-printed. For each file the output must be equal byte for byte, and so must the lines and the exit status. The model has
+A model in this file, written from the description of `salvage` in docs/REFERENCE.md, determines the expected files and
+lines. For each file the output must be equal byte for byte, and so must the lines and the exit status. The model has
 two parts that do not depend on each other: the lines are made block by block, and the output is also calculated from
 the records that the set was made of, as those of which every block was read. If `tape extract --again` completes a file
 from the same images, and no volume has two of them, `salvage` must report COMPLETE with the same bytes.
 
---hand: images that `extract` does not read (formats U, V and VBS, no HDR2), made by hand, with --form blocks; and labels
-and tape marks that cannot be read, with lines written by hand.
+--hand: images that `extract` does not read (formats U, V and VBS, no HDR2), written by hand, with --form blocks; and
+unreadable labels and tape marks, with lines written by hand.
 --times: a reel of 200 MB, `salvage` against `extract`.
 
 Prints each wrong answer, and counts; the exit status is 1 if there is one.
 """
 
 import argparse
+import hashlib
 import random
 import resource
+import shutil
 import struct
 import subprocess
 import sys
@@ -112,7 +114,7 @@ def next_mark(items, at):
 
 
 def sections_on(items, image):
-    """The sections of an image, as the report's description has it: by the marks, and past what cannot be read."""
+    """The sections of an image, as the description of the report says: by the marks, and past unreadable items."""
     found, at, marks, is_next = [], 0, 0, False
     while at < len(items):
         item = items[at]
@@ -160,7 +162,7 @@ def sections_on(items, image):
 
 
 def close(section, trailer, items, at):
-    """Closes a section by the label at this place. Returns the place after the item that ends its labels."""
+    """Closes a section with the label at an index. Returns the index after the item that ends its labels."""
     section.closing = trailer
     while at < len(items) and is_block(items[at]):
         section.form = section.form or form_in(items[at], (b"EOF2", b"EOV2"))
@@ -170,7 +172,7 @@ def close(section, trailer, items, at):
 
 def unnamed_at(items, first, image):
     """A section whose HDR1 was not read: its data begin here, after a tape mark, and the label after the next mark counts
-    exactly these items. Returns the place where the search goes on, and the section or None."""
+    exactly these items. Returns the index at which the search continues, and the section or None."""
     end = next_mark(items, first)
     data = items[first:end]
     if any(first_label(item, (b"HDR1",)) for item in data):
@@ -183,10 +185,10 @@ def unnamed_at(items, first, image):
     return close(section, trailer, items, end + 1), section
 
 
-# ---- what is recovered
+# ---- recovered data
 
 def parts_of(form, data):
-    """The parts of a block: whether each begins a record and whether it ends one, and its bytes."""
+    """The parts of a block: whether each begins and ends a record, and its bytes."""
     letter, length = form
     at = 0
     while at < len(data):
@@ -208,7 +210,7 @@ def parts_of(form, data):
 
 
 def broken_at(data, begun):
-    """Where a block of format S has a segment that does not fit to what is before it, or None."""
+    """The offset of the segment of a block of format S that does not continue the parts before it, or None."""
     at = 0
     while at < len(data) and data[at:at + 1] != b"^":
         if (data[at:at + 1] in b"23") != begun:
@@ -255,7 +257,7 @@ class Recovered:
 
 
 def recovered(images, set_id, file, blocks):
-    """What must be recovered of a file from these images; None stands for one that cannot be opened."""
+    """The expected data of a file from some images; None represents an image that cannot be opened."""
     made, sections = Recovered(), []
     for number, image in enumerate(images):
         if image is None:
@@ -319,8 +321,8 @@ def recovered(images, set_id, file, blocks):
 
 
 def records_with(file, places, made):
-    """The records of the file of which every block was read. Where a section does not close nobody can know that no
-    block follows, so a record that continues in the next section is not among them."""
+    """The records of the file of which every block was read. If the end of a section was not read, further blocks may
+    follow, so a record that continues in the next section is not included."""
     whole, so_far, is_whole = [], b"", True
     for number, data in enumerate(file.blocks):
         begins_section = number > 0 and places[number][0] != places[number - 1][0]
@@ -338,7 +340,7 @@ def records_with(file, places, made):
 # ---- damage
 
 def damaged_image(rng, reel, way):
-    """An image of a volume, damaged in this way, and whether blocks are lost or doubled on it."""
+    """An image of a volume, damaged in a given way, and whether blocks are lost or doubled on it."""
     items = list(reel.items)
     data = [at for at, item in enumerate(items) if item.kind == "data"]
     miscounts = False
@@ -360,7 +362,7 @@ def damaged_image(rng, reel, way):
         first = rng.choice(data)
         copy.bad |= {at for at in range(first, min(first + rng.randint(2, 12), len(items))) if at in data}
     for at in sorted(copy.bad):
-        # A tape mark recorded with an error has no length; a drive that could not tell what was there makes a bad block.
+        # A tape mark recorded with an error has no length; a drive that could not recognize an item writes a bad block.
         if items[at].kind == "mark" and rng.random() < 0.8:
             items[at] = Item(UNREADABLE, "mark")
             copy.bad.discard(at)
@@ -373,7 +375,7 @@ WAYS = ["whole", "whole", "data", "data", "run", "any", "both", "cut", "count", 
 
 
 class Trial:
-    """What was asked of the program, and what was wrong."""
+    """The runs of the program, and the wrong results."""
 
     def __init__(self, options, folder):
         self.options, self.folder, self.wrong, self.seen = options, Path(folder), 0, 0
@@ -390,7 +392,7 @@ class Trial:
 
 
 def check_file(trial, set_id, number, images, names, form):
-    """One file of a set, salvaged from these images."""
+    """One file of a set, salvaged from some images."""
     expected = recovered(images, set_id, number, form == "blocks")
     out = trial.folder / "out"
     out.unlink(missing_ok=True)
@@ -406,6 +408,38 @@ def check_file(trial, set_id, number, images, names, form):
     trial.is_so(got == text, f"{what} {got and len(got)} bytes of output, expected {len(text)}")
     trial.states[status] = trial.states.get(status, 0) + 1
     return expected, got, status
+
+
+def check_unpacked(trial, set_id, images, names):
+    """What `unpack --salvage` writes for the files of a set that these images do not complete, in two runs."""
+    folder = trial.folder / "unpacked"
+    folder.mkdir()
+    for _ in range(2):
+        lines = trial.run("unpack", "unpacked", *names, "--salvage").stdout.decode().splitlines()
+        found = {path.name for path in folder.iterdir() if path.suffix in (".salvaged", ".gaps")}
+        for line, second in zip(lines, lines[1:] + [""]):
+            name, number, state = line.split()[1:4] if line.startswith("FILE ") else ("", "", "")
+            if state != "AWAITS":
+                continue
+            path = line[line.index("unpacked/"):].removesuffix(".stage")
+            report = (trial.folder / f"{path}.gaps").read_bytes()
+            records = (trial.folder / f"{path}.salvaged").read_bytes()
+            found -= {f"{Path(path).name}.gaps", f"{Path(path).name}.salvaged"}
+            front, _, sums = report[:-1].rpartition(b"\n")
+            taken = [it.split(" ", 2)[2] for it in front.decode().split("\n") if it.startswith("FROM ")]
+            own = {reel for reel, image in zip(names, images) if image is not None
+                and any(it.head["set"] == name.ljust(6).encode() for it in sections_on(items_of(image), 0)[:1])}
+            expected = recovered([images[names.index(it)] for it in taken], name, int(number), False)
+            text = b"".join(record + b"\n" for record in expected.records)
+            wanted = [f"FROM {at} {it}" for at, it in enumerate(taken, 1)] + expected.lines
+            what = f"unpack --salvage {name} {number} {' '.join(names)}:"
+            trial.is_so(own <= set(taken), f"{what} {own} are not among {taken}")
+            trial.is_so(records == text, f"{what} {len(records)} bytes, expected {len(text)}")
+            trial.is_so(front.decode().split("\n") == wanted, f"{what} {front.decode()}\nexpected {wanted}")
+            trial.is_so(sums.decode().split() == ["SUMS", hashlib.sha256(records).hexdigest(), hashlib.sha256(front + b"\n").hexdigest()], f"{what} {sums}")
+            trial.is_so(second == f"FILE {name} {number} {expected.lines[-1]} {path}.salvaged", f"{what} {second}")
+        trial.is_so(not found, f"unpack --salvage {' '.join(names)}: {found} have no line")
+    shutil.rmtree(folder)
 
 
 def check_set(trial, rng, number):
@@ -452,15 +486,17 @@ def check_set(trial, rng, number):
                 trial.is_so(status == 0 and (trial.folder / "again").read_bytes() == got, f"{set_id} {file.number}: extract completes it")
         if form == "lines" and status == 0:
             trial.is_so(got == file.text, f"{set_id} {file.number}: COMPLETE, and not the file")
+    if number % 3 == 0:
+        check_unpacked(trial, set_id, images, names)
     for name, image in zip(names, images):
         if image is not None:
             (trial.folder / name).unlink()
 
 
-# ---- by hand
+# ---- written by hand
 
 def by_hand(trial):
-    """Images in formats that are not read, and without HDR2: their blocks as they are."""
+    """Images in formats that are not read, and without HDR2: their blocks are copied."""
     def volume(letters, blocks, has_second, standard="4"):
         items = [label(("VOL1", 4), ("HAND01", 6), ("", 69), (standard, 1))]
         file = File(1, "BY.HAND", (letters, 4096, 0), " 85100")
@@ -508,7 +544,7 @@ def by_hand(trial):
 
 
 def traps(trial):
-    """Labels and marks that cannot be read, with expected lines written by hand."""
+    """Unreadable labels and marks, with expected lines written by hand."""
     first, second = File(1, "FIRST", ("F", 160, 80), " 85100"), File(2, "SECOND", ("F", 160, 80), " 85100")
     vol, mark, bad = label(("VOL1", 4), ("TRAPS1", 6), ("", 69), ("4", 1)), word(0), UNREADABLE
     a, b, c = (bytes([letter]) * 160 for letter in b"abc")
@@ -560,7 +596,7 @@ def traps(trial):
 # ---- times
 
 def times(trial):
-    """A reel of 200 MB of which every 50th block cannot be read, and `extract` of the whole one."""
+    """A reel of 200 MB with every 50th block unreadable, and `extract` of the complete reel."""
     file = File(1, "LARGE", ("F", 32720, 80), " 85100")
     data = block(bytes(range(48, 58)) * 3272)
     bad = bytes([*data[:3], data[3] | 0x80, *data[4:-1], data[-1] | 0x80])

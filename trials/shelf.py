@@ -1,5 +1,5 @@
 #!/usr/bin/env python3
-"""A collection of some 400 images, and what `tape survey` and `tape unpack` make of it. Run manually; CI does not run it.
+"""A collection of some 400 images, and the results of `tape survey` and `tape unpack` for it. Run manually; CI does not run it.
 
     ./shelf.py [--program PATH] [--seed N] [--sets N] [--keep FOLDER] [--times]
 
@@ -32,7 +32,7 @@ HERE = Path(__file__).resolve().parent
 
 
 class Trial:
-    """What was asked of the program, and what was wrong."""
+    """The runs of the program, and the wrong results."""
 
     def __init__(self, options, folder):
         self.options, self.folder, self.wrong, self.seen = options, folder, 0, 0
@@ -106,7 +106,7 @@ def check_volumes(trial, shelf, there, names):
 
 
 def check_unpack(trial, shelf, there, names, day):
-    """The files that are there, byte for byte, and what is told of each other one."""
+    """The files that exist, byte for byte, and the report of each other file."""
     out = trial.folder / "out"
     before = {path.name: path.read_bytes() for path in out.iterdir()}
     done = trial.run("unpack", "out", names=names)
@@ -116,7 +116,7 @@ def check_unpack(trial, shelf, there, names, day):
     lines = [line.split(" ", 3) for line in lines[:-1]]
     trial.is_so(all(line[0] == "FILE" for line in lines), f"unpack: {done.stdout[:200]!r}")
     told = {(line[1], int(line[2])): line[3] for line in lines}
-    trial.is_so(len(told) == len(lines), "unpack: a file is told twice")
+    trial.is_so(len(told) == len(lines), "unpack: a file is reported twice")
     counts = dict.fromkeys(["complete", "exists", "awaits", "not found", "conflict"], 0)
     for set_id, files in shelf.files.items():
         reels = [reel for reel in there if reel.set_id == set_id]
@@ -139,8 +139,8 @@ def check_unpack(trial, shelf, there, names, day):
             else:
                 fate, right = "awaits", line.startswith(f"AWAITS {file.number} {want[0]} {want[1]} ") and not made
             counts[fate] += 1
-            trial.is_so(right, f"unpack, day {day}: {set_id} {file.number}: {line!r}, {fate}, wanted {want}")
-    trial.is_so(not told, f"unpack: of no file: {told}")
+            trial.is_so(right, f"unpack, day {day}: {set_id} {file.number}: {line!r}, {fate}, expected {want}")
+    trial.is_so(not told, f"unpack: lines for no file: {told}")
     trial.is_so(done.returncode == 3, f"unpack: status {done.returncode}")
     for name, content in before.items():
         if not name.endswith(".stage"):
@@ -189,7 +189,7 @@ def main():
     parser.add_argument("--program", default=HERE.parent / "crates/tape_tool/out/tape_tool", type=Path)
     parser.add_argument("--seed", type=int, default=1)
     parser.add_argument("--sets", type=int, default=66)
-    parser.add_argument("--keep", type=Path, help="make the shelf in this folder, which is not there, and leave it")
+    parser.add_argument("--keep", type=Path, help="create the images in this new directory, and keep it")
     parser.add_argument("--times", action="store_true")
     options = parser.parse_args()
     options.program = options.program.resolve()

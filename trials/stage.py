@@ -48,7 +48,7 @@ def run(options, folder, images, preload=None, refusal=""):
 
 
 def is_unmade(folder, done):
-    """Whether the stage was not made to its end; then its file is removed."""
+    """Whether the creation of the stage was interrupted; if so, its file is removed."""
     kept = folder / "kept"
     unmade = done.stderr == "tape: stage fault 1\n" and kept.stat().st_size <= 256
     if unmade:
@@ -62,7 +62,7 @@ def fresh(folder):
 
 
 def wrong_refusal(options, library, refusal):
-    """What was wrong where a call was refused, if anything was, and how many calls of each kind there were."""
+    """The fault after a refused call, if there is one, and the number of calls of each kind."""
     with tempfile.TemporaryDirectory(prefix="tape-stage-") as place:
         folder = Path(place)
         fresh(folder)
@@ -77,12 +77,12 @@ def wrong_refusal(options, library, refusal):
         if is_unmade(folder, again) and done.stderr in ("", "tape: stage fault 3\n"):
             again = run(options, folder, images)
         if again.returncode != 0 or (folder / "OUT").read_bytes() != fail.LINES:
-            return f"the run behind it: status {again.returncode}, {again.stderr!r}, {again.stdout!r}", counts
+            return f"the run after it: status {again.returncode}, {again.stderr!r}, {again.stdout!r}", counts
         return None, counts
 
 
 def wrong_locks(options, library):
-    """What is wrong where there are no locks, and where another run has the stage."""
+    """The fault without locks, and if another run uses the stage."""
     with tempfile.TemporaryDirectory(prefix="tape-stage-") as place:
         folder = Path(place)
         fresh(folder)
@@ -105,7 +105,7 @@ def compiled(name, folder):
 
 
 def refuse_each(options):
-    """The number of runs, and of wrong answers."""
+    """The numbers of runs and of wrong results."""
     runs, wrong = 0, 0
     with tempfile.TemporaryDirectory(prefix="tape-stage-") as place:
         library = compiled("fail", Path(place))
@@ -137,7 +137,7 @@ def many_reels(folder):
 
 
 def kill_at_random(options):
-    """How many runs were killed, how many files were completed, and how many of them were wrong."""
+    """The numbers of killed runs, of completed files, and of wrong files."""
     killed = completed = wrong = 0
     with tempfile.TemporaryDirectory(prefix="tape-stage-") as place:
         folder = Path(place)
@@ -146,7 +146,7 @@ def kill_at_random(options):
         run(options, folder, names)
         longest = time.monotonic() - began
         while killed < options.kills:
-            # a draft of OUT stays where a run was killed
+            # a temporary file of OUT remains if a run was killed
             for path in (*folder.glob("OUT*"), folder / "kept"):
                 path.unlink(missing_ok=True)
             left = random.randint(1, 12)
@@ -166,12 +166,12 @@ def kill_at_random(options):
             completed += 1
             if process.returncode != 0 or (folder / "OUT").read_bytes() != lines:
                 wrong += 1
-                print(f"behind kills: status {process.returncode}, {told!r}")
+                print(f"after kills: status {process.returncode}, {told!r}")
     return killed, completed, wrong
 
 
 def damaged_at_random(kept):
-    """A stage cut at a byte behind its slots, or with one of these bytes changed."""
+    """A stage truncated at a byte after its slots, or with one of these bytes changed."""
     place = random.randrange(256, len(kept))
     if random.random() < 0.3:
         return kept[:place]
@@ -182,7 +182,7 @@ def damaged_at_random(kept):
 
 
 def walked(bytes_, staged):
-    """The parts before the first place where no frame stands, and that place, by FORMATS.md."""
+    """The parts before the first offset without a frame, and that offset, by FORMATS.md."""
     parts, place, end = [], 256, 256 + staged
     while place < end:
         length = int.from_bytes(bytes_[place + 1:place + 5], "big")
@@ -194,7 +194,7 @@ def walked(bytes_, staged):
 
 
 def joined(parts):
-    """The records of parts: one ends with each part that stands for a whole one or the last of one."""
+    """The records of parts: a record ends with each part that is whole or last."""
     records, begun = [], b""
     for span, content in parts:
         begun += content
@@ -205,7 +205,7 @@ def joined(parts):
 
 
 def damage_stages(options):
-    """How many damaged stages were shown, and how many answers were wrong."""
+    """The numbers of damaged stages shown and of wrong results."""
     wrong = 0
     kept = fail.stage_of(options.program)
     with tempfile.TemporaryDirectory(prefix="tape-stage-") as place:
@@ -230,9 +230,9 @@ def damage_stages(options):
 
 
 def cut_the_power(options):
-    """The rows of a table, one for each set, and how many answers were wrong."""
+    """The rows of a table, one for each set, and the number of wrong results."""
     rows, wrong = [], 0
-    # the disk is that of power.py: a real one would only take the time of its syncs
+    # the disk is that of power.py: a real disk would only add the time of its syncs
     memory = "/dev/shm" if os.access("/dev/shm", os.W_OK) else None
     with tempfile.TemporaryDirectory(prefix="tape-stage-", dir=memory) as place:
         library = compiled("record", Path(place))
@@ -257,7 +257,7 @@ def main():
     parser.add_argument("--seed", type=int, default=1, help="of the random instants, sets and cuts")
     options = parser.parse_args()
     if not options.program.exists():
-        sys.exit(f"{options.program} is not there: in crates/tape_tool run `rt run -- --help`, or name it with --program")
+        sys.exit(f"{options.program} does not exist: run `rt run -- --help` in crates/tape_tool, or specify another with --program")
     options.program = options.program.resolve()
     random.seed(options.seed)
     counts, runs, wrong = refuse_each(options)

@@ -27,7 +27,7 @@ STAND_INS = {0: ("/", os.O_RDONLY), 1: ("/dev/full", os.O_WRONLY), 2: ("/dev/ful
 
 
 def calls(program):
-    """Words, and the files there before."""
+    """Arguments, and the files that exist before."""
     reels = {"one.tap": ONE, "two.tap": TWO}
     kept = {"kept.stage": stage_of(program)}
     names = {"names": b"one.tap\ntwo.tap\n"}
@@ -58,7 +58,7 @@ def calls(program):
 
 
 def run(program, words, files, closed, stand_ins):
-    """The status and the files of a call whose streams are closed, or have others in their place."""
+    """The status and the files of a run whose streams are closed or replaced."""
 
     def prepare():
         for number in closed:

@@ -21,7 +21,7 @@ ENDING = ".rt.txt"
 
 
 def put_tables(crate):
-    """Copies the tables among the crate's tests, and names them there."""
+    """Copies the tables to the crate's tests, and lists them there."""
     names = sorted(path.name.removesuffix(ENDING) for path in TABLES.glob("*" + ENDING))
     for name in names:
         shutil.copy(TABLES / (name + ENDING), crate / "src" / "tests" / f"{name}.rt")

@@ -1,4 +1,4 @@
--- Blocks that were packed hold the records.
+-- Blocks into which records were packed contain those records.
 use Rattle.std.proofs.Common.{ℕ, List, [], ◌∷◌}
 use Rattle.std.specs.List.{AllByRecursion}
 use Rattle.tape_blocks.specs.declared.parts.Shape.{Shape}
@@ -10,7 +10,7 @@ all_hold : (shape : Shape) (blocks : List Filled) → AllByRecursion (IsWritten 
 all_hold shape [] all = tt
 all_hold shape (b ∷ bs) all = (all.0.holds, all_hold shape bs all.1)
 
--- Blocks that are packed tightly hold the records.
+-- Blocks that are packed without unused space contain the records.
 pub packs_hold : (shape : Shape) (records texts : List (List ℕ)) → Packs shape records texts
     → HoldRecords shape texts records
 packs_hold shape records texts packs =

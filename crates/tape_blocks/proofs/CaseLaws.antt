@@ -1,4 +1,4 @@
--- The cases of the rules of packing and of the laws.
+-- Proofs of the test cases of packing and of the laws.
 use Rattle.std.proofs.Common.{◌≡◌, ℕ, List, true, refl, ap, arith, inl, inr}
 use Rattle.tape_blocks.specs.declared.offer.Offer.{Offer}
 use Rattle.tape_blocks.specs.declared.offer.Offer.TheVariants.{Taken, BlockReady}

@@ -1,5 +1,5 @@
--- Prefixes of a block: of two prefixes one continues with the other, and none continues where
--- there is no unit in order.
+-- Prefixes of a block: of two prefixes one continues the other, and a prefix does not continue if
+-- no unit in span order follows.
 use Rattle.std.proofs.Common.{◌≡◌, ℕ, ◌+◌, ◌≤◌, Bool, true, false, List, [], ◌∷◌, ◌++◌, length}
 use Rattle.std.proofs.Common.{drop, Option, Some, None, Result, Ok, Err, refl, sym, ap, subst, ◌∙◌}
 use Rattle.std.proofs.Common.{append_assoc, arith, length-append, inl, inr}
@@ -60,7 +60,7 @@ spellings_push format ps p = flat_map-append (spelling format) ps (p ∷ [])
     ∙ ap (λ (s : List ℕ). spellings format ps ++ s) (flat_map-cons (spelling format) p []
     ∙ append-nil (spelling format p))
 
--- Two readings that begin with a unit begin with the same one.
+-- Two encodings that begin with a unit at the start of the same bytes begin with the same unit.
 same_part : (format : Format) (rec_len : ℕ) (p q : Portion) (x y : List ℕ) → IsUnit format rec_len p
     → IsUnit format rec_len q → spelling format p ++ x ≡ spelling format q ++ y → (p ≡ q) × (x ≡ y)
 same_part format rec_len p q x y is_p is_q e =
@@ -76,7 +76,7 @@ same_part format rec_len p q x y is_p is_q e =
     ∙ ap (drop (head_len format + length q.bytes)) e ∙ rest_of format q y in
     (part, rest)
 
--- The second list of parts continues with the first, by units in its rest.
+-- The second list of parts continues the first, with units at the start of `rest`.
 pub record GoesOn (format : Format) (rec_len : ℕ) (ps qs : List Portion)
     (rest left : List ℕ) : Type 0 where
   pub more : List Portion
@@ -123,7 +123,7 @@ either_goes_on format rec_len (p ∷ ps) (q ∷ qs) rest left all_p all_q e =
 
 -- ---- the longest prefix
 
--- There is no unit in order here.
+-- No unit in span order begins here.
 abbrev pub NoUnit : Bool → Result (Option Found) BlockFault → Type 0
 NoUnit begun (Ok (Some found)) = bool_eq (continues found.span) begun ≡ false
 NoUnit begun (Ok None) = Unit {0}
@@ -153,7 +153,7 @@ no_more format rec_len begun end [] rest left never all order e =
 no_more format rec_len begun end (p ∷ more) rest left never all order e =
     absurd (no_first format rec_len begun end p more rest left never all order e)
 
--- A prefix that no unit in order follows is the longest one.
+-- A prefix that no unit in span order follows is the longest prefix.
 pub longest : (format : Format) (rec_len offset : ℕ) (begun end last : Bool) (block : List ℕ)
     (ps others : List Portion) (rest left : List ℕ) → NoUnit end (unit_at format rec_len rest)
     → IsFront format rec_len offset begun block ps end rest

@@ -1,4 +1,4 @@
--- Laws of joining parts to records, and of the order of their spans.
+-- Laws about joining parts to records, and about the order of their spans.
 use Rattle.std.proofs.Common.{◌≡◌, ◌≢◌, ℕ, drop, subst, Bool, true, false, List, [], ◌∷◌, ◌++◌}
 use Rattle.std.proofs.Common.{Option, Some, None, Ok, refl, sym, ap, ◌∙◌}
 use Rattle.std.specs.Prelude.{is_some, if◌then◌else◌}
@@ -20,7 +20,8 @@ by_end : (b : Bool) (content : List ℕ) (ps qs : List Portion) → ((begun : Op
 by_end true content ps qs same = same (Some content)
 by_end false content ps qs same = ap (with_record content) (same None)
 
--- The finished records of the first list, and then those of the second begun with the first's rest.
+-- The finished records of the first list are followed by those of the second, which continues the
+-- first list's unfinished record.
 pub join-append : (begun : Option (List ℕ)) (ps qs : List Portion)
     → join_after begun (ps ++ qs) ≡ joined_with (join_after begun ps) qs
 join-append begun [] qs = refl

@@ -1,5 +1,5 @@
--- A block is judged as its prefixes say: it passes if it contains parts in order, and otherwise has
--- the fault.
+-- The result of a check agrees with the contents of the block: it passes if it contains parts in
+-- span order, and otherwise has the fault returned.
 use Rattle.std.proofs.Common.{◌≡◌, ℕ, ◌+◌, ◌≤◌, Bool, true, false, ltb, List, length, Option, Some}
 use Rattle.std.proofs.Common.{None, Result, Ok, Err, refl, sym, ap, subst, ◌∙◌, inl, inr}
 use Rattle.std.specs.Prelude.{if◌then◌else◌, IfOk, IfErr}
@@ -21,7 +21,7 @@ use Rattle.tape_blocks.proofs.PaddingLaws.{padding_found, padding_again}
 use Rattle.tape_blocks.proofs.LongestFronts.{Ends, judged_at, judged_by_step, judged_short}
 use Rattle.tape_blocks.proofs.LongestFronts.{walk_block, ends_of}
 
--- ---- what passes holds parts in order
+-- ---- a block that passes contains parts in order
 
 abbrev Passes : Format → ℕ → ℕ → Bool → List ℕ → Bool → Type 0
 Passes format rec_len offset begun block end =
@@ -59,7 +59,7 @@ reaches_by true format rec_len offset begun last block e is =
     absurd (let short = judged_short format rec_len offset begun block (ltb-true _ _ e) in cc)
 reaches_by false format rec_len offset begun last block e is = ltb-false _ _ e
 
--- What passes holds parts in span order.
+-- A block that passes contains parts in span order.
 pub judged_found : (format : Format) (rec_len offset : ℕ) (begun end : Bool) (block : List ℕ)
     → (format ≡ Fixed → 1 ≤ rec_len) → judged format rec_len offset begun block ≡ Ok end
     → Passes format rec_len offset begun block end
@@ -70,7 +70,7 @@ judged_found format rec_len offset begun end block some is =
     passes_by (unit_at format rec_len w.rest) format rec_len offset begun block w.parts w.end end
     w.rest some (ends_of format rec_len offset begun block reaches w) refl w.none is
 
--- What holds parts in span order passes.
+-- A block that contains parts in span order passes.
 pub judged_only : (format : Format) (rec_len offset : ℕ) (begun
     end : Bool) (block : List ℕ) (parts : List Portion) → Holds format rec_len offset block parts
     → InOrder begun parts end → judged format rec_len offset begun block ≡ Ok end
@@ -85,7 +85,7 @@ judged_only format rec_len offset begun end block parts holds order =
     } in
     judged_by_step format rec_len offset begun block parts end holds.0 (Ok None) some ends none
 
--- ---- what does not pass has the fault
+-- ---- a block that does not pass has the fault returned
 
 fault_is : (end : Bool) (o : Option BlockFault) (f : BlockFault) → unless_fault end o ≡ Err f
     → o ≡ Some f
@@ -133,7 +133,7 @@ fault_by false format rec_len offset begun block f e some is =
           (ends_of format rec_len offset begun block reaches w) is,
     )
 
--- What does not pass has the fault that it is judged by.
+-- A block that does not pass has the fault returned.
 pub judged_fault : (format : Format) (rec_len
     offset : ℕ) (begun : Bool) (block : List ℕ) (f : BlockFault) → (format ≡ Fixed → 1 ≤ rec_len)
     → judged format rec_len offset begun block ≡ Err f
@@ -141,14 +141,14 @@ pub judged_fault : (format : Format) (rec_len
 judged_fault format rec_len offset begun block f some is =
     fault_by (ltb (length block) offset) format rec_len offset begun block f refl some is
 
--- ---- what has a fault is judged by it
+-- ---- the fault of a block is returned
 
 not_in_order : (b : Bool) (at : ℕ) (f : BlockFault)
     → moved at (if b then None else Some (fault 0 SpanBroken)) ≡ Some f → b ≡ false
 not_in_order true at f e = absurd cc
 not_in_order false at f e = refl
 
--- Where a test fails no unit is in order.
+-- If a test fails, no unit in span order begins here.
 never_by : (u : Result (Option Found) BlockFault) (end : Bool) (at : ℕ) (f : BlockFault)
     → moved at (stop_by end u) ≡ Some f → NoUnit end u
 never_by (Err g) end at f e = tt
@@ -170,7 +170,7 @@ judged_by_fault format rec_len offset begun block f some (inr (reaches, s)) =
       none = none;
     } ∙ ap (unless_fault s.end) s.first
 
--- ---- the same of an answer
+-- ---- the same for a result
 
 pub answer_passes : (r : Result Bool BlockFault) (format : Format) (rec_len
     offset : ℕ) (begun : Bool) (block : List ℕ) → (format ≡ Fixed → 1 ≤ rec_len)

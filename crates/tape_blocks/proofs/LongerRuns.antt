@@ -1,4 +1,4 @@
--- A run of a packer with a part more.
+-- A run of a packer with one more part.
 use Rattle.std.proofs.Common.{◌≡◌, ℕ, ◌+◌, ◌<◌, ◌≤◌, Bool, true, false, List, [], ◌∷◌, ◌++◌, length}
 use Rattle.std.proofs.Common.{Option, None, refl, sym, ap, subst, ◌∙◌, append_assoc, arith}
 use Rattle.tape_label.specs.declared.values.Format.{Format}
@@ -13,7 +13,7 @@ use Rattle.tape_blocks.proofs.JoinLaws.{join_ends, leaves_of, continues_of}
 use Rattle.tape_blocks.proofs.FrontLaws.{InOrder-append}
 use Rattle.tape_blocks.proofs.TightLaws.{first_push, segments_push}
 
--- ---- a part more
+-- ---- one more part
 
 pub record Part (p : Packing) (goes_on : Bool) (bytes : List ℕ) : Type 0 where
   pub room : p.shape.format ≡ Spanned → size_of p.shape p.parts + 6 ≤ p.shape.block_len

@@ -1,4 +1,5 @@
--- The longest prefix of units in order: each block has one, and it is judged by what follows.
+-- The longest prefix of units in span order: each block has such a prefix, and the bytes after it
+-- determine the result of a check.
 use Rattle.std.proofs.Common.{◌≡◌, ℕ, zero, suc, ◌+◌, ◌<◌, ◌≤◌, Bool, true, false, List, [], ◌∷◌}
 use Rattle.std.proofs.Common.{◌++◌, length, drop, Option, Some, None, Result, Ok, Err, refl, sym}
 use Rattle.std.proofs.Common.{ap, subst, ◌∙◌, arith, length-append}
@@ -22,7 +23,7 @@ use Rattle.tape_blocks.proofs.PartsLaws.{found_size}
 use Rattle.tape_blocks.proofs.TestLaws.{stop_by, moved, tests_are}
 use Rattle.tape_blocks.proofs.UnitLaws.{unit_found}
 
--- ---- a prefix that no unit in order follows
+-- ---- a prefix that no unit in span order follows
 
 in_order-front : (begun end : Bool) (ps qs : List Portion) → InOrder begun ps end
     → in_order begun (ps ++ qs) ≡ ps ++ in_order end qs
@@ -48,13 +49,13 @@ none_by (Ok None) format rec_len end rest some e never =
 none_by (Ok (Some found)) format rec_len end rest some e never =
     ap (in_order end) (parts_next format rec_len rest found some e) ∙ rw never refl
 
--- such a prefix in a block, and what a step finds after it
+-- such a prefix of a block, and the result of a step after it
 pub record Ends (format : Format) (rec_len offset : ℕ) (begun : Bool) (block : List ℕ)
     (ps : List Portion) (end : Bool) (rest : List ℕ) : Type 0 where
   pub front : IsFront format rec_len offset begun block ps end rest
   pub none : NoUnit end (unit_at format rec_len rest)
 
--- The block is judged by what follows it.
+-- The bytes after such a prefix determine the result of a check.
 pub judged_at : (format : Format) (rec_len offset : ℕ) (begun : Bool) (block : List ℕ)
     (ps : List Portion) (end : Bool) (rest : List ℕ) → (format ≡ Fixed → 1 ≤ rec_len)
     → Ends format rec_len offset begun block ps end rest
@@ -80,7 +81,7 @@ judged_at format rec_len offset begun block ps end rest some ends =
     (tests format rec_len end (offset + size) r))) left
     )
 
--- The same by what a step finds there.
+-- The step after such a prefix determines the result of a check.
 pub judged_by_step : (format : Format) (rec_len offset : ℕ) (begun : Bool) (block : List ℕ)
     (ps : List Portion) (end : Bool) (rest : List ℕ) (u : Result (Option Found) BlockFault)
     → (format ≡ Fixed → 1 ≤ rec_len) → Ends format rec_len offset begun block ps end rest
@@ -92,7 +93,7 @@ judged_by_step format rec_len offset begun block ps end rest u some ends e =
     rest ∙ ap (λ (v : Result (Option Found) BlockFault). moved (offset
     + length (spellings format ps)) (stop_by end v)) e)
 
--- The same where a walk is at a place of the block.
+-- The step at which a walk over the block ends determines the result of a check.
 pub judged_where : (format : Format) (rec_len offset : ℕ) (begun : Bool) (block : List ℕ)
     (ps : List Portion) (going : Bool) (place : ℕ) (u : Result (Option Found) BlockFault)
     → (format ≡ Fixed → 1 ≤ rec_len) → place ≤ length block

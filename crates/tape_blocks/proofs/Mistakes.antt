@@ -30,7 +30,7 @@ use Rattle.tape_blocks.proofs.parts.Span.leaves.Reads as span_leaves
 use Rattle.tape_blocks.proofs.check.unit_at.Reads as unit
 use Rattle.tape_blocks.proofs.check.check_block.Reads as check_block
 
--- ---- shapes, and what worked blocks hold
+-- ---- shapes, and the contents of worked blocks
 
 pub counted_or_fixed : Counted ≡ Fixed → ⊥
 counted_or_fixed e = absurd (cc)
@@ -38,7 +38,7 @@ counted_or_fixed e = absurd (cc)
 pub spanned_or_fixed : Spanned ≡ Fixed → ⊥
 spanned_or_fixed e = absurd (cc)
 
--- format D, with this block length, record length and offset
+-- format D, with the given block length, record length and offset
 abbrev pub counted_shape : ℕ → ℕ → ℕ → Shape
 counted_shape block_len rec_len offset = record {
   format = Counted;
@@ -49,7 +49,7 @@ counted_shape block_len rec_len offset = record {
   some_record = λ e. absurd (counted_or_fixed e);
 }
 
--- format S, with this block length
+-- format S, with the given block length
 abbrev pub spanned_shape : ℕ → Shape
 spanned_shape block_len = record {
   format = Spanned;
@@ -93,7 +93,7 @@ holds_middle = (
 holds_none : Holds Counted 14 2 (codes "??") []
 holds_none = ([], record { reaches = omega arith; units = tt; body = refl }, refl)
 
--- ---- answers that differ
+-- ---- results that differ
 
 no_unit_or_one : (found : Found) → none ≡ some found → ⊥
 no_unit_or_one found e = absurd (cc)
@@ -104,7 +104,7 @@ no_unit_or_fault f e = absurd (cc)
 unit_or_fault : (found : Found) (f : BlockFault) → some found ≡ Err f → ⊥
 unit_or_fault found f e = absurd (cc)
 
--- the span of a unit, if there is one
+-- the span of the unit found, or `None`
 abbrev span_found : Result (Option Found) BlockFault → Option Span
 span_found (Ok (Some found)) = Some found.span
 span_found (Ok None) = None
@@ -121,19 +121,19 @@ none_or_some x xs e = absurd (cc)
 
 -- ---- numbers of faults
 
--- two_causes_of_one_number: padding with another byte has the number of a broken span
+-- two_causes_of_one_number: the cause BadPadding has the number of SpanBroken
 two_causes_of_one_number : (κs : _) (a : _) (s : _) → number_of_cause.Learnt κs a 6 s
     → a.0.now ≡ BadPadding → ⊥
 two_causes_of_one_number κs a s h e =
     absurd (let n : 6 ≡ 7 = h ∙ ap cause_number e in omega arith)
 
--- block_fault_of_another_number: a fault has another number than its cause
+-- block_fault_of_another_number: the number of a fault differs from that of its cause
 block_fault_of_another_number : (κs : _) (a : _) (s : _) → number_of_fault.Learnt κs a 6 s
     → a.0.now.cause ≡ BadPadding → ⊥
 block_fault_of_another_number κs a s h e =
     absurd (let n : 6 ≡ 7 = h ∙ ap cause_number e in omega arith)
 
--- pack_fault_of_another_number: a shape that is not written has the number of a record's length
+-- pack_fault_of_another_number: the fault ShapeRange has the number of RecordLength
 pack_fault_of_another_number : (κs : _) (a : _) (s : _) → number_of_refusal.Learnt κs a 8 s
     → a.0.now ≡ ShapeRange → ⊥
 pack_fault_of_another_number κs a s h e =
@@ -141,7 +141,7 @@ pack_fault_of_another_number κs a s h e =
 
 -- ---- shapes and spans
 
--- offset_of_label_forgotten: a label says an offset of 2, and its shape has none
+-- offset_of_label_forgotten: a label has the offset 2, but its shape has the offset 0
 offset_of_label_forgotten : (κs : _) (a : _) (z : _) (s : _) → shape_of.Learnt-named κs a z s
     → a.0.now.offset ≡ 2 → z.offset ≡ 0 → ⊥
 offset_of_label_forgotten κs a z s l e w =
@@ -152,17 +152,17 @@ block_length_17 : (κs : _) (a : _) (s : _) → is_writable.Learnt κs a true s
     → a.0.now.block_len ≡ 17 → ⊥
 block_length_17 κs a s h e = omega (arith, (h.0 refl).least, e)
 
--- last_begins_a_record: a last segment continues no record
+-- last_begins_a_record: a last segment does not continue a record
 last_begins_a_record : (κs : _) (s : _) → span_continues.Learnt κs (Last, tt) false s → ⊥
 last_begins_a_record κs s h = true≢false (sym h)
 
--- span_not_reset_at_last: a last segment leaves its record begun
+-- span_not_reset_at_last: a last segment leaves its record unfinished
 span_not_reset_at_last : (κs : _) (s : _) → span_leaves.Learnt κs (Last, tt) true s → ⊥
 span_not_reset_at_last κs s h = true≢false h
 
 -- ---- units
 
--- what `unit_at` is called with
+-- the arguments of `unit_at`
 abbrev before : Format → ℕ → Bor (List ℕ) → List ℕ → Format × (ℕ × (Bor (List ℕ) × Unit {0}))
 before format rec_len b bytes = (format, (rec_len, (record b { now = bytes }, tt)))
 
@@ -174,14 +174,15 @@ unfolding unit_at
 last_read_as_middle κs b s l =
     middle_or_last (ap span_found l.exact)
 
--- padding_with_other_bytes: an A after two circumflexes is taken for padding
+-- padding_with_other_bytes: an A after two circumflexes is accepted as padding
 padding_with_other_bytes : (κs : _) (b : Bor (List ℕ)) (s : _)
     → unit.Learnt-named κs (before Counted 18 b (codes "^^A")) none s → ⊥
 unfolding unit_at
 padding_with_other_bytes κs b s l =
     no_unit_or_fault (fault 2 BadPadding) l.exact
 
--- count_of_three_accepted: a count of 3, which is less than its own digits, makes a unit
+-- count_of_three_accepted: a count of 3, which is less than the four digits of the count, is
+-- accepted
 count_of_three_accepted : (κs : _) (b : Bor (List ℕ)) (s : _)
     → unit.Learnt-named κs (before Counted 18 b (codes "0003"))
     (some (record { span = Whole; head = 4; len = 3 })) s → ⊥
@@ -189,21 +190,21 @@ unfolding unit_at
 count_of_three_accepted κs b s l =
     unit_or_fault (record { span = Whole; head = 4; len = 3 }) (fault 0 BadCount) l.exact
 
--- empty_record_refused: a count of its own four digits alone is no count
+-- empty_record_refused: a count of 4, for only its own digits, is refused
 empty_record_refused : (κs : _) (b : Bor (List ℕ)) (s : _)
     → unit.Learnt-named κs (before Counted 18 b (codes "0004")) (Err (fault 0 BadCount)) s → ⊥
 unfolding unit_at
 empty_record_refused κs b s l =
     unit_or_fault (record { span = Whole; head = 4; len = 4 }) (fault 0 BadCount) (sym l.exact)
 
--- short_rest_accepted: two bytes that are no circumflexes pass where a record has three
+-- short_rest_accepted: two bytes that are not circumflexes pass, although a record has three
 short_rest_accepted : (κs : _) (b : Bor (List ℕ)) (s : _)
     → unit.Learnt-named κs (before Fixed 3 b (codes "DE")) none s → ⊥
 unfolding unit_at
 short_rest_accepted κs b s l =
     no_unit_or_fault (fault 0 NotMultiple) l.exact
 
--- circumflex_content_as_padding: a record that begins with a circumflex is taken for padding
+-- circumflex_content_as_padding: a record that begins with a circumflex is accepted as padding
 circumflex_content_as_padding : (κs : _) (b : Bor (List ℕ)) (s : _)
     → unit.Learnt-named κs (before Counted 18 b (codes "0005^")) none s → ⊥
 unfolding unit_at
@@ -212,13 +213,13 @@ circumflex_content_as_padding κs b s l =
 
 -- ---- blocks that are checked
 
--- what `check_block` is called with
+-- the arguments of `check_block`
 abbrev checked : Bor Shape → Shape → Bool → Bor (List ℕ) → List ℕ
     → Bor Shape × (Bool × (Bor (List ℕ) × Unit {0}))
 checked h shape begun b block =
     (record h { now = shape }, (begun, (record b { now = block }, tt)))
 
--- a block that passes begins with a part that may be there
+-- a block that passes begins with a part in span order
 first_may_stand : (κs : _) (a : _) (end : _) (s : _) (p : Portion) (ps : List Portion)
     → check_block.Learnt-named κs a (Ok end) s
     → Holds a.0.now.format a.0.now.rec_len a.0.now.offset a.1.1.0.now (p ∷ ps)
@@ -230,8 +231,8 @@ first_may_stand κs a end s p ps l holds =
     subst (λ v. InOrder a.1.0 v end) same l.found.2 in
     order.0
 
--- middle_with_nothing_begun: a block that begins with the middle of a record passes where none is
--- begun
+-- middle_with_nothing_begun: a block that begins with a middle segment passes although no record is
+-- unfinished
 middle_with_nothing_begun : (κs : _) (h : Bor Shape) (b : Bor (List ℕ)) (end : _) (s : _)
     → check_block.Learnt-named κs (checked h (spanned_shape 18) false b (codes "20006A")) (Ok end) s
     → ⊥
@@ -239,7 +240,8 @@ middle_with_nothing_begun κs h b end s l =
     true≢false (first_may_stand κs (checked h (spanned_shape 18) false b (codes "20006A")) end s
     middle [] l holds_middle)
 
--- begun_not_looked_at: a block of a whole record passes where another record is begun
+-- begun_not_looked_at: a block that begins with a whole record passes although another record is
+-- unfinished
 begun_not_looked_at : (κs : _) (h : Bor Shape) (b : Bor (List ℕ)) (s : _)
     → check_block.Learnt-named κs
     (checked h (counted_shape 18 18 0) true b (codes "0006AB^^^^^^^^^^^^")) (Ok false) s → ⊥
@@ -248,7 +250,8 @@ begun_not_looked_at κs h b s l =
     (checked h (counted_shape 18 18 0) true b (codes "0006AB^^^^^^^^^^^^")) false s
     (whole (codes "AB")) [] l holds_one))
 
--- block_of_offset_refused: a block that ends where its offset ends is shorter than it
+-- block_of_offset_refused: a block that ends where its offset ends is refused as shorter than the
+-- offset
 block_of_offset_refused : (κs : _) (h : Bor Shape) (begun : Bool) (b : Bor (List ℕ)) (s : _)
     → check_block.Learnt-named κs (checked h (counted_shape 18 14 2) begun b (codes "??"))
     (Err (fault 0 ShortOffset)) s → ⊥

@@ -16,7 +16,7 @@ use Rattle.tape_blocks.proofs.Mistakes.{none_or_some}
 use Rattle.tape_blocks.proofs.parts.Parts.new.Reads as new
 use Rattle.tape_blocks.proofs.parts.PartsIterator.next.Reads as next
 
--- ---- what worked blocks hold
+-- ---- contents of worked blocks
 
 holds_behind : Holds Counted 14 2 (codes "??0004") (whole [] ∷ [])
 holds_behind = (
@@ -29,9 +29,9 @@ holds_behind = (
   refl,
 )
 
--- ---- parts that are lent
+-- ---- parts that are yielded
 
--- part_begins_inside_the_offset: an offset of 2 is followed by an empty record, and no part is left
+-- part_begins_inside_the_offset: an empty record follows an offset of 2, but no part is left
 part_begins_inside_the_offset : (κs : _) (h : Bor Shape) (b : Bor (List ℕ)) (z : _) (s : _)
     → new.Learnt κs
     (record h { now = counted_shape 18 14 2 }, (record b { now = codes "??0004" }, tt)) z s
@@ -39,7 +39,7 @@ part_begins_inside_the_offset : (κs : _) (h : Bor Shape) (b : Bor (List ℕ)) (
 part_begins_inside_the_offset κs h b z s l w =
     none_or_some (whole []) [] (sym w ∙ l (whole [] ∷ []) holds_behind)
 
--- what `next` is called with: an iterator over these bytes, with records of 2 bytes in format F
+-- the arguments of `next`: an iterator over the given bytes, with records of 2 bytes in format F
 abbrev over : MutBor Parts → Format → Bor (List ℕ) → List ℕ → MutBor Parts × Unit {0}
 over m format b bytes = (
   record m {
@@ -56,12 +56,12 @@ over m format b bytes = (
 whole_or_first : Whole ≡ First → ⊥
 whole_or_first e = absurd (cc)
 
--- the part that is yielded is the first that is left
+-- the part that is yielded is the first of those left
 first_left : (κs : _) (a : _) (part : Part) (s : _) (p : Portion)
     → next.Learnt-named κs a (Some part) s → parts_left a.0.now ≡ p ∷ [] → view part ≡ p
 first_left κs a part s p l e = ap (λ (ps : List Portion). get_or ps 0 p) (sym l.steps ∙ e)
 
--- head_left_in_part: the count is in the part
+-- head_left_in_part: the part includes the count
 head_left_in_part : (κs : _) (m : MutBor Parts) (b : Bor (List ℕ)) (part : Part) (s : _)
     → next.Learnt-named κs (over m Counted b (codes "0006AB")) (Some part) s
     → part.bytes.now ≡ codes "0006AB" → ⊥

@@ -1,4 +1,4 @@
--- What the bytes of a current block represent, and what is put after them.
+-- The parts that the bytes of a current block represent, and writing after them.
 use Rattle.std.proofs.Common.{◌≡◌, ◌≢◌, ℕ, zero, suc, ◌+◌, ◌-◌, ◌<◌, ◌≤◌, Bool, true, false, List}
 use Rattle.std.proofs.Common.{[], ◌∷◌, ◌++◌, length, take, drop, replicate, max, not, ◌==◌, ltb}
 use Rattle.std.proofs.Common.{None, refl, sym, ap, subst, ◌∙◌, append_assoc, arith, length-append}
@@ -55,7 +55,7 @@ size_push shape ps p =
       length-spelling shape.format p,
     )
 
--- what follows the current block counts for nothing
+-- bytes after the current block do not matter
 pub keeps_front : (shape : Shape) (items : List ℕ) (m len : ℕ) (parts : List Portion) → len ≤ m
     → m ≤ length items
     → Keeps shape (take m items) len parts → Keeps shape items len parts
@@ -106,7 +106,7 @@ parts_in_is shape items len parts k =
     (no_padding shape.format shape.rec_len shape.some_record)
     (k.body ∙ sym (append-nil (spellings shape.format parts)))
 
--- the same of the parts that are read off
+-- the current block contains the parts that are read from it
 pub keeps_itself : (shape : Shape) (items : List ℕ) (len : ℕ) (parts : List Portion)
     → Keeps shape items len parts → Keeps shape items len (parts_in shape items len)
 keeps_itself shape items len parts k = subst (λ (ps : List Portion). Keeps shape items len ps)
@@ -229,7 +229,7 @@ written_holds shape parts all =
           (size_of shape parts) shape.some_record,
     )
 
--- what is taken
+-- the block that is taken
 pub written_is : (shape : Shape) (items text : List ℕ) (len last : ℕ) (parts : List Portion)
     → Keeps shape items len parts
     → last ≡ padded_len shape len → text ≡ take len items ++ replicate (last - len) 94

@@ -1,4 +1,4 @@
--- What the steps of a packer preserve, in the form that its own proofs need.
+-- The invariants that the steps of a packer preserve, in the form that its proofs need.
 use Rattle.std.proofs.Common.{◌≡◌, ◌≢◌, ℕ, ◌+◌, ◌-◌, ◌<◌, ◌≤◌, Bool, true, false, List, [], ◌∷◌}
 use Rattle.std.proofs.Common.{◌++◌, length, take, replicate, refl, sym, ap, subst, ◌∙◌, arith}
 use Rattle.std.proofs.lemmas.List.{length-take, length-replicate, take-take, take-append-le}
@@ -94,14 +94,14 @@ given_is shape items text len last parts begun closed w k is e some =
       some = held;
     }
 
--- what was written over all that was lent of a vector
+-- the vector after all its elements were lent and overwritten
 pub written_in : (block : Vec ℕ Global) (lent more : List ℕ) → lent ≡ block.items
     → length more ≡ length lent
     → (with_items block more).items ≡ more
 written_in block lent more same size =
     with_items_is block more (omega (arith, ap length same, size, block.ok))
 
--- padded where the current block ends
+-- padding after the end of the current block
 pub padded_in : (block : Vec ℕ Global) (lent more : List ℕ) (len last : ℕ) → lent ≡ block.items
     → length more ≡ length lent
     → take last more ≡ take len lent ++ replicate (last - len) 94
@@ -110,7 +110,7 @@ padded_in block lent more len last same size e =
     ap (take last) (written_in block lent more same size) ∙ e
     ∙ ap (λ (s : List ℕ). take len s ++ replicate (last - len) 94) same
 
--- the spaces of a block that was taken
+-- the spaces before a block that was taken
 pub given_keeps : (shape : Shape) (block : Vec ℕ Global) (lent more : List ℕ)
     (len last n : ℕ) (parts : List Portion) → IsWritable shape
     → Keeps shape block.items len parts → block.len ≡ shape.block_len → lent ≡ block.items

@@ -1,4 +1,4 @@
--- Padding: bytes without a unit; and the encoding of a unit read again.
+-- Padding contains no unit, and an encoded unit is read back.
 use Rattle.std.proofs.Common.{◌≡◌, ℕ, suc, ◌-◌, Bool, true, false, not, cond, ltb, eqb, List, []}
 use Rattle.std.proofs.Common.{◌∷◌, length, take, drop, Option, Some, None, Result, Ok, Err, refl}
 use Rattle.std.proofs.Common.{arith}

@@ -1,4 +1,4 @@
--- The parts that an iterator has left are those of the one reading of its bytes.
+-- The parts that an iterator has left are the parts that its bytes represent.
 use Rattle.std.proofs.Common.{◌≡◌, ℕ, zero, suc, ◌+◌, ◌-◌, ◌≤◌, List, [], ◌∷◌, ◌++◌, length, take}
 use Rattle.std.proofs.Common.{drop, Option, Some, None, Result, Ok, Err, refl, sym, ap, ◌∙◌}
 use Rattle.std.proofs.Common.{append_assoc, arith, length-append, true}
@@ -137,7 +137,7 @@ stops_by (Ok (Some found)) (suc n) format rec_len bytes e never = absurd (never 
 stops_by (Ok None) (suc n) format rec_len bytes e never = step_is n format rec_len bytes (Ok None) e
 stops_by (Err f) (suc n) format rec_len bytes e never = step_is n format rec_len bytes (Err f) e
 
--- no bytes, no unit and no part
+-- without bytes there is no unit and no part
 pub unit_none : (format : Format) (rec_len : ℕ) → (format ≡ Fixed → 1 ≤ rec_len)
     → unit_at format rec_len [] ≡ Ok None
 unfolding unit_at
@@ -163,7 +163,7 @@ pub parts_fault : (format : Format) (rec_len : ℕ) (bytes : List ℕ) (f : Bloc
 parts_fault format rec_len bytes f e =
     stops_by (Err f) (length bytes) format rec_len bytes e (λ found g. cc)
 
--- After these units come those of the rest.
+-- The parts of the given units are followed by the parts of the rest.
 pub parts_front : (format : Format) (rec_len : ℕ) (ps : List Portion) (bytes rest : List ℕ)
     → (format ≡ Fixed → 1 ≤ rec_len) → AllByRecursion (IsUnit format rec_len) ps
     → bytes ≡ spellings format ps ++ rest
@@ -185,14 +185,14 @@ parts_front format rec_len (p ∷ ps) bytes rest some all e =
     ∙ ap (λ (xs : List Portion). p ∷ xs) (parts_front format rec_len ps
     (drop (head_len format + length p.bytes) bytes) rest some all.1 left)
 
--- Padding says that a record of format F has a length.
+-- With padding in format F, the record length is at least 1.
 pub some_of : (format : Format) (rec_len : ℕ) (padding : List ℕ) → IsPadding format rec_len padding
     → format ≡ Fixed → 1 ≤ rec_len
 some_of Fixed rec_len padding is e = omega (arith, is.1)
 some_of Counted rec_len padding is e = absurd cc
 some_of Spanned rec_len padding is e = absurd cc
 
--- The parts of a reading are those.
+-- The parts of bytes that consist of units and padding are those of the units.
 pub parts_are : (format : Format) (rec_len : ℕ) (ps : List Portion) (bytes padding : List ℕ)
     → AllByRecursion (IsUnit format rec_len) ps → IsPadding format rec_len padding
     → bytes ≡ spellings format ps ++ padding → parts_of format rec_len bytes ≡ ps

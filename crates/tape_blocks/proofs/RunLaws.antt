@@ -1,4 +1,4 @@
--- Each offer preserves what follows the offers before it.
+-- Each offer preserves the invariant of a caller's loop.
 use Rattle.std.proofs.Common.{◌≡◌, ◌≢◌, ℕ, zero, ◌+◌, ◌<◌, Bool, true, false, List, [], ◌∷◌, ◌++◌}
 use Rattle.std.proofs.Common.{length, take, drop, Option, Some, None, refl, sym, ap, subst, ◌∙◌}
 use Rattle.std.proofs.Common.{append_assoc, arith, inl, inr}
@@ -28,12 +28,12 @@ use Rattle.tape_blocks.proofs.LongerRuns.{Part, segments_part, order_part, spann
 abbrev pub filled_of : Packing → List ℕ → Filled
 filled_of p text = record { bytes = text; parts = p.parts }
 
--- what is taken from the list of parts when a block is
+-- the parts of the blocks taken, after one more block was taken
 take_parts : (taken : List Filled) (b : Filled)
     → parts_of_all (taken ++ b ∷ []) ++ [] ≡ parts_of_all taken ++ b.parts
 take_parts taken b = append-nil (parts_of_all (taken ++ b ∷ [])) ∙ parts_more taken b
 
--- a current block, closed for n bytes that come next
+-- a current block that is closed, with n bytes to follow
 record Full (taken : List Filled) (p : Packing) (records : List (List ℕ)) (front : Option (List ℕ))
     (n : ℕ) : Type 0 where
   closed : AreClosed p.shape taken (first_len p.parts 0)
@@ -131,7 +131,7 @@ fills_full taken p q records front rest n run fills =
       ended = λ e. absurd cc;
     }
   where
-    -- with segments it does not matter how long the next content is
+    -- in format S it does not matter how long the following content is
     any_full : (shape : Shape) (parts : List Portion) (n m : ℕ) → shape.format ≡ Spanned
         → IsFull shape parts n → IsFull shape parts m
     any_full shape parts n m e full =
@@ -172,7 +172,7 @@ offers_shape p q rest (BlockReady n) offers =
       ]
     ]
 
--- A block that is ready has no room for what remains.
+-- A block that becomes ready has no room for the remaining bytes.
 pub ready_full : (old new : Packing) (rest : List ℕ) (n : ℕ) → old.closed ≡ false
     → Offers old rest (BlockReady n) new → IsFull new.shape new.parts (length (drop n rest))
 ready_full old new rest n opened offers =
@@ -188,7 +188,7 @@ ready_full old new rest n opened offers =
       ]
     ]
 
--- What is offered of a record of this run shows that the whole of it has one of the lengths.
+-- An offer in a run is for a record with one of the lengths of the shape.
 pub going_length : (taken : List Filled) (p : Packing) (records : List (List ℕ)) (r rest : List ℕ)
     → Going taken p records r rest → IsJudged p rest
     → HasRecordLength p.shape.format p.shape.rec_len (length r)

@@ -1,4 +1,4 @@
--- The parts of a block are no more than its bytes, and none is longer than it.
+-- A block has no more parts than bytes, and no part is longer than the block.
 use Rattle.std.proofs.Common.{◌≡◌, ℕ, ◌≤◌, List, [], ◌∷◌, ◌++◌, length, refl, ap, subst, arith}
 use Rattle.std.proofs.Common.{length-append}
 use Rattle.std.specs.List.{AllByRecursion}
@@ -10,7 +10,7 @@ use Rattle.tape_blocks.proofs.UnitLaws.{length-spelling}
 
 -- ---- one unit, and units one after another
 
--- a unit has a byte
+-- a unit has at least one byte
 unit_some : (format : Format) (rec_len : ℕ) (p : Portion) → (format ≡ Fixed → 1 ≤ rec_len)
     → IsUnit format rec_len p
     → 1 ≤ length (spelling format p)
@@ -77,7 +77,7 @@ here : (n : ℕ) (ys rest : List Portion) (p : Portion)
 here n [] rest p all = all.0
 here n (y ∷ ys) rest p all = here n ys rest p all.1
 
--- the same of a part with those before and after it
+-- the same for one part, given the parts before and after it
 pub short_part : (format : Format) (rec_len offset : ℕ) (block : List ℕ) (ps ys rest : List Portion)
     (p : Portion)
     → ps ≡ ys ++ p ∷ rest → Holds format rec_len offset block ps → length p.bytes ≤ length block

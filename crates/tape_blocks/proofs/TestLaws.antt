@@ -1,4 +1,4 @@
--- The tests at a place say what a step over the block finds there.
+-- The tests at an offset agree with the step of the walk there.
 use Rattle.std.proofs.Common.{◌≡◌, ℕ, ◌+◌, ◌-◌, Bool, true, false, not, cond, ltb, leb, eqb, List}
 use Rattle.std.proofs.Common.{[], ◌∷◌, ◌++◌, length, take, drop, Option, Some, None, Result, Ok}
 use Rattle.std.proofs.Common.{Err, refl, ◌∙◌, arith}
@@ -20,14 +20,14 @@ use Rattle.tape_blocks.specs.Faults.{count_tests, tests, fault}
 use Rattle.tape_blocks.specs.Spans.{continues}
 use Rattle.tape_blocks.specs.Units.{padding_by, short_by, counted, spanned, unit_at}
 
--- what keeps a walk from continuing here
+-- the fault that keeps a walk from continuing here, or `None`
 abbrev pub stop_by : Bool → Result (Option Found) BlockFault → Option BlockFault
 stop_by begun (Err f) = Some f
 stop_by begun (Ok None) = None
 stop_by begun (Ok (Some found)) =
     if bool_eq (continues found.span) begun then None else Some (fault 0 SpanBroken)
 
--- the same, with its place counted from the block's start
+-- the same fault, with its place counted from the start of the block
 abbrev pub moved : ℕ → Option BlockFault → Option BlockFault
 moved at None = None
 moved at (Some f) = Some (fault (at + f.place) f.cause)
@@ -48,7 +48,7 @@ fixed_cases true (Some i) begun at n = let z : at + 0 ≡ at = omega arith in rw
 fixed_cases false o true at n = let z : at + 0 ≡ at = omega arith in rw z refl
 fixed_cases false o false at n = refl
 
--- the tests of a count, and the one after them
+-- the tests of a count, and the test after them
 abbrev counted_tests : Bool → Bool → Bool → Bool → Bool → ℕ → List Test
 counted_tests a b c d follows at =
     test (not a) at BadCount ∷ test b at BadCount ∷ test (not c) at BadCount

@@ -1,4 +1,4 @@
--- The unit that is found at the start is the one that is encoded there.
+-- The unit found at the start of bytes is the unit encoded there.
 use Rattle.std.proofs.Common.{◌≡◌, ℕ, ◌+◌, ◌-◌, ◌/◌, ◌%◌, ◌^◌, ◌<◌, ◌≤◌, Bool, true, false, not}
 use Rattle.std.proofs.Common.{cond, ltb, eqb, List, [], ◌∷◌, ◌++◌, length, take, drop, Option, Some}
 use Rattle.std.proofs.Common.{None, Result, Ok, Err, refl, sym, ap, subst, ◌∙◌, append_assoc, arith}
@@ -32,7 +32,8 @@ none = Ok None
 some_is : (x y : Found) → some x ≡ some y → x ≡ y
 some_is x y e = cc
 
--- what a unit is, seen from both sides
+-- the unit found is encoded at the start of the bytes, and its part is one that the format can
+-- encode
 pub record UnitStands (format : Format) (rec_len : ℕ) (bytes : List ℕ)
     (found : Found) : Type 0 where
   pub whole : bytes ≡ spelling format (portion found bytes) ++ drop found.len bytes
@@ -66,7 +67,7 @@ counted_cases span h bytes found e =
       found_is = p.4;
     }
 
--- four digits, what they count of the bytes after them, and the rest
+-- four digits, the bytes that they count after them, and the rest
 four_digits : (bytes : List ℕ) (len : ℕ) → 4 ≤ length bytes → all_ascii_digits (take 4 bytes) ≡ true
     → digits 4 (number_of (take 4 bytes)) ≡ take 4 bytes
 four_digits bytes len room there =
@@ -213,7 +214,7 @@ counted_again span h k bytes room ds small least most =
     let value : number_of (take 4 (drop (h - 4) bytes)) ≡ k = rw ds (number_of-digits 4 k small) in
     rw (le-ltb _ _ room, there, value, le-ltb _ _ least, le-ltb _ _ most) refl
 
--- what is found of the unit of a part
+-- the result of a step at the unit of a part
 abbrev pub found_of : Format → Portion → Found
 found_of format p =
     record { span = p.span; head = head_len format; len = head_len format + length p.bytes }

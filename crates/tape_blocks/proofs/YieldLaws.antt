@@ -1,4 +1,4 @@
--- What an iterator over parts has yielded, and what it has left.
+-- The parts that an iterator has yielded, and those that it has left.
 use Rattle.std.proofs.Common.{◌≡◌, List, [], ◌∷◌, ◌++◌, ap, ◌∙◌, map}
 use Rattle.std.specs.Iterator.{YieldsFirstBy, Yields}
 use Rattle.tape_blocks.specs.declared.parts.Parts.{Parts}

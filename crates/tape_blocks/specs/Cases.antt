@@ -1,5 +1,5 @@
--- Test cases for the definitions of packing and for the laws. The function `laws::cases` has them
--- as its contract.
+-- Test cases for the definitions of packing and for the laws. They are the contract of the function
+-- `laws::cases`.
 use Rattle.std.specs.Prelude.{◌≡◌, ◌≢◌, ◌≤◌, ◌<◌, ◌+◌, ℕ, Bool, true, false, List, [], ◌∷◌, ◌++◌}
 use Rattle.std.specs.Prelude.{length, drop, replicate, Option, is_some, Ok}
 use Rattle.tape_label.specs.declared.values.Format.{Format}
@@ -18,47 +18,47 @@ use Rattle.tape_blocks.specs.Tight.{Filled, IsSegment, IsWritten, IsTight, Packs
 use Rattle.tape_blocks.specs.Laws.{HoldsOneList, PassesForOne, JoinsOn, BegunIsRest, ReadyIsFull}
 use Rattle.tape_blocks.specs.Laws.{PackedBlocksHold, HoldRecords}
 
--- a packer's offers, and records that are refused
+-- a packer's offers, and the records that it refuses
 pub record CasesOfOffers : Type 0 where
-  -- a block that was closed and not taken accepts nothing, whatever is offered
+  -- a block that is closed and not taken accepts nothing, whatever is offered
   pub closed_is_ready : (old new : Packing) (rest : List ℕ) (answer : Offer) → old.closed ≡ true
       → Offers old rest answer new → (answer ≡ BlockReady 0) × (new ≡ old)
-  -- and nothing is checked before it is taken
+  -- nothing is checked before such a block is taken
   pub refused_when_open : (p : Packing) (rest : List ℕ) → IsRefused p rest → p.closed ≡ false
-  -- after the rest of a record was accepted, the block is no longer than a block may be
+  -- after the rest of a record was accepted, the block is within the block length
   pub ends_within : (old new : Packing) (rest : List ℕ) → Ends old rest new
       → size_of new.shape new.parts ≤ new.shape.block_len
-  -- a block that is taken has a byte, and is no longer than a block may be
+  -- a block that is taken has at least one byte, and is within the block length
   pub given_within : (p : Packing) (text : List ℕ) → Given p text
       → (0 < length text) × (length text ≤ p.shape.block_len)
-  -- a list of one record has records of this shape only if that record has
+  -- a record has one of the lengths of the shape if the list of only this record does
   pub record_of : (shape : Shape) (r : List ℕ) → AreRecordsOf shape (r ∷ [])
       → HasRecordLength shape.format shape.rec_len (length r)
 
--- blocks that waste no room
+-- blocks without unused space
 pub record CasesOfBlocks : Type 0 where
-  -- if five of 18 bytes are free no segment begins, and if six are free one does
+  -- a segment does not begin if 5 of 18 bytes are free, and may begin if 6 are free
   pub five_free : IsSegment 18 13 (record { span = Whole; bytes = [] }) → ⊥
   pub six_free : IsSegment 18 12 (record { span = Whole; bytes = 65 ∷ [] })
-  -- a segment of 13 bytes that continues does not fill a block of 18
+  -- a first segment of 13 bytes does not fill a block of 18 bytes
   pub not_filled : IsSegment 18 0 (record { span = First; bytes = replicate 8 65 }) → ⊥
   -- a last segment is not empty
   pub empty_last : IsSegment 18 0 (record { span = Last; bytes = [] }) → ⊥
-  -- a block is not full for a part that fits exactly, but is for one byte more
+  -- a block is not full for a part that fits exactly, but is full for a part with one byte more
   pub fits_exactly : (shape : Shape) (parts : List Portion) (n : ℕ)
       → size_of shape parts + least_room shape.format n ≡ shape.block_len
       → IsFull shape parts n → ⊥
   pub one_byte_more : (shape : Shape) (parts : List Portion) (n : ℕ)
       → size_of shape parts + least_room shape.format n ≡ shape.block_len + 1
       → IsFull shape parts n
-  -- a written block has exactly one text, and no more bytes than a block may have
+  -- a written block has exactly one text, which is within the block length
   pub text_of_block : (shape : Shape) (b : Filled) → IsWritten shape b
       → (b.bytes ≡ written shape b.parts) × (length b.bytes ≤ shape.block_len)
-  -- the first of two blocks was full for the part that begins the second
+  -- the first of two blocks had no room for the first part of the second
   pub closed_when_full : (shape : Shape) (records : List (List ℕ)) (a b : Filled)
       → IsTight shape records (a ∷ b ∷ []) → IsFull shape a.parts (first_len b.parts 0)
 
--- laws: what a caller can conclude from each
+-- the conclusions that a caller can draw from each law
 pub record CasesOfLaws : Type 0 where
   pub one_list : (block : List ℕ) → HoldsOneList block
       → (format : Format) (rec_len offset : ℕ) (ps qs : List Portion)

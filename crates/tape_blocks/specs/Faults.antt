@@ -1,4 +1,4 @@
--- Which fault a block has, and its place: the first test that fails after the longest sequence of
+-- The fault of a block, and its place: the first test that fails after the longest sequence of
 -- units in span order.
 use Rattle.std.specs.Prelude.{◌≡◌, ℕ, ◌+◌, ◌-◌, ◌<◌, ◌≤◌, ◌⊎◌, ◌==◌, ◌||◌, nat_lt, nat_le, not}
 use Rattle.std.specs.Prelude.{Bool, true, false, List, [], ◌∷◌, ◌++◌, length, take, drop, Option}
@@ -25,7 +25,7 @@ pub record Test : Type 0 where
   pub passes : Bool
   pub fails_by : BlockFault
 
--- a test with this outcome, and its fault
+-- a test with the given outcome, and its fault
 abbrev pub test : Bool → ℕ → BlockCause → Test
 test passes place cause = record { passes = passes; fails_by = fault place cause }
 
@@ -39,24 +39,25 @@ abbrev pub bool_eq : Bool → Bool → Bool
 bool_eq true b = b
 bool_eq false b = not b
 
--- whether this span may follow; a character that is no indicator has no span to violate the order
+-- whether a part with this span may follow; a character that is not an indicator has no span that
+-- could violate the order
 abbrev pub may_stand : Option Span → Bool → Bool
 may_stand (Some span) begun = bool_eq (continues span) begun
 may_stand None begun = true
 
--- the index, if there is one
+-- the index, or 0 for `None`
 abbrev pub place_of : Option ℕ → ℕ
 place_of (Some place) = place
 place_of None = 0
 
--- The first circumflex of the padding is followed by circumflexes only; the place of the fault is
--- the first other byte.
+-- All bytes of the padding are circumflexes, like the first one; the place of the fault is the
+-- first other byte.
 abbrev pub padding_tests : ℕ → List ℕ → List Test
 padding_tests at rest =
     test (is_none (first_other rest)) (at + place_of (first_other rest)) BadPadding ∷ []
 
--- There is a head of this length that ends with four digits. They are at least the length of the
--- head, and at most the number of bytes left.
+-- The bytes begin with a head of the given length that ends with four digits. Their value is at
+-- least the length of the head, and at most the number of bytes left.
 abbrev pub count_tests : ℕ → ℕ → List ℕ → List Test
 count_tests head at rest =
     let count = take 4 (drop (head - 4) rest)
@@ -66,7 +67,8 @@ count_tests head at rest =
     ∷ test (nat_le (number_of count) (length rest)) at PastEnd
     ∷ []
 
--- the tests of the bytes after the units, which end at this place with a record unfinished or not
+-- the tests of the bytes after the units, at the offset `at`; `begun` says whether a record is
+-- unfinished there
 abbrev pub tests : Format → ℕ → Bool → ℕ → List ℕ → List Test
 tests Fixed rec_len begun at rest =
     test (nat_le rec_len (length rest) || is_none (first_other rest)) at NotMultiple
@@ -82,13 +84,13 @@ tests Spanned rec_len begun at (c ∷ cs) =
     else test (is_some (span_by c)) at BadIndicator
     ∷ count_tests 5 at (c ∷ cs) ++ test (may_stand (span_by c) begun) at SpanBroken ∷ []
 
--- the start of the block: the offset, the units of these parts, in span order, and then this rest
+-- the start of the block: the offset, the units of the given parts, in span order, and then `rest`
 pub record IsFront (format : Format) (rec_len offset : ℕ) (begun : Bool) (block : List ℕ)
     (parts : List Portion) (end : Bool) (rest : List ℕ) : Type 0 where
   pub begins : BeginsWith format rec_len offset block parts rest
   pub order : InOrder begun parts end
 
--- The fault is the first one after the longest sequence of units.
+-- The fault is that of the first failed test after the longest sequence of units.
 pub record FaultStands (format : Format) (rec_len offset : ℕ) (begun : Bool) (block : List ℕ)
     (f : BlockFault) : Type 0 where
   pub parts : List Portion
@@ -100,8 +102,8 @@ pub record FaultStands (format : Format) (rec_len offset : ℕ) (begun : Bool) (
   pub first : first_fault (tests format rec_len end (offset + length (spellings format parts)) rest)
       ≡ Some f
 
--- the fault of a block: it is shorter than its offset, or the fault after its longest sequence of
--- units
+-- the fault of a block: that it is shorter than its offset, or the fault after its longest sequence
+-- of units
 abbrev pub HasFault : Format → ℕ → ℕ → Bool → List ℕ → BlockFault → Type 0
 HasFault format rec_len offset begun block f =
     ((length block < offset) × (f ≡ fault 0 ShortOffset))

@@ -9,7 +9,7 @@ use Rattle.tape_blocks.specs.Spans.{continues, leaves}
 use Rattle.tape_blocks.specs.Faults.{bool_eq, first_fault, tests, fault}
 use Rattle.tape_blocks.specs.Parts.{parts_of}
 
--- the parts before the first that violates the span order
+-- the parts before the first part that violates the span order
 abbrev pub in_order : Bool → List Portion → List Portion
 in_order begun [] = []
 in_order begun (p ∷ ps) =
@@ -20,20 +20,20 @@ abbrev pub begun_behind : Bool → List Portion → Bool
 begun_behind begun [] = begun
 begun_behind begun (p ∷ ps) = begun_behind (leaves p.span) ps
 
--- the fault, or otherwise whether a record is unfinished
+-- the fault, if there is one; otherwise whether a record is unfinished
 abbrev pub unless_fault : Bool → Option BlockFault → Result Bool BlockFault
 unless_fault end None = Ok end
 unless_fault end (Some f) = Err f
 
--- the result for the bytes after these parts
+-- the result of the tests of the bytes after the given parts
 abbrev pub judged_behind : Format → ℕ → ℕ → Bool → List ℕ → List Portion → Result Bool BlockFault
 judged_behind format rec_len offset begun block parts =
     let at = offset + length (spellings format parts)
     in let end = begun_behind begun parts
     in unless_fault end (first_fault (tests format rec_len end at (drop at block)))
 
--- whether a record is unfinished at the end of the block, or the block's fault: skips the parts at
--- its start that are in span order, and tests the bytes after them
+-- whether a record is unfinished at the end of the block, or the block's fault: the parts in span
+-- order at its start are skipped, and the bytes after them are tested
 unfoldable pub judged : Format → ℕ → ℕ → Bool → List ℕ → Result Bool BlockFault
 judged format rec_len offset begun block =
     if nat_lt (length block) offset then Err (fault 0 ShortOffset)

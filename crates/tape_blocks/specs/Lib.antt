@@ -9,11 +9,11 @@ pub mod Records
 pub mod Numbers
 pub mod Laws
 pub mod Cases
--- definitions similar to the code, proved to agree with those above:
+-- definitions similar to the code, proved to agree with the definitions above:
 pub mod Units
 pub mod Parts
 pub mod PartsLeft
 pub mod Judged
--- definitions about private code, and for a caller's loop over offers:
+-- definitions about private code, and about a caller's loop over offers:
 pub mod Packed
 pub mod Run

@@ -8,7 +8,7 @@ use Rattle.tape_blocks.specs.declared.offer.PackFault.{PackFault}
 use Rattle.tape_blocks.specs.declared.offer.PackFault.TheVariants.{RecordLength, ShapeRange}
 use Rattle.tape_blocks.specs.declared.offer.PackFault.TheVariants.{OutOfMemory}
 
--- the number of each cause for which a block is refused
+-- the number of each cause of a fault of a block
 abbrev pub cause_number : BlockCause → ℕ
 cause_number ShortOffset = 1
 cause_number NotMultiple = 2

@@ -13,11 +13,11 @@ use Rattle.tape_blocks.specs.Parts.{parts_of}
 abbrev pub body_of : Shape → List ℕ → ℕ → List ℕ
 body_of shape items len = drop shape.offset (take len items)
 
--- its parts
+-- the parts of the current block
 abbrev pub parts_in : Shape → List ℕ → ℕ → List Portion
 parts_in shape items len = parts_of shape.format shape.rec_len (body_of shape items len)
 
--- what callers see of a packer
+-- the state of a packer that callers see
 abbrev pub packing : Inside → Packing
 packing a =
     record {
@@ -27,7 +27,8 @@ packing a =
       closed = a.closed;
     }
 
--- The bytes of the current block are the offset's spaces and the units of these parts.
+-- The bytes of the current block are the spaces of the buffer offset and the units of the given
+-- parts.
 pub record Keeps (shape : Shape) (items : List ℕ) (len : ℕ) (parts : List Portion) : Type 0 where
   pub front : take shape.offset items ≡ replicate shape.offset 32
   pub begins : shape.offset ≤ len

@@ -1,5 +1,5 @@
--- Packing records into blocks: the shapes that are written, the text of a block, and the effect of
--- each call of a packer.
+-- Packing records into blocks: the shapes that can be written, the text of a block, and the effect
+-- of each call of a packer.
 use Rattle.std.specs.Prelude.{◌≡◌, ◌≢◌, ℕ, ◌+◌, ◌-◌, ◌<◌, ◌≤◌, ◌⊎◌, Bool, true, false}
 use Rattle.std.specs.Prelude.{if◌then◌else◌, List, [], ◌∷◌, ◌++◌, length, take, replicate, max}
 use Rattle.tape_label.specs.declared.values.Format.{Format}
@@ -10,13 +10,13 @@ use Rattle.tape_blocks.specs.declared.offer.Offer.TheVariants.{Taken, BlockReady
 use Rattle.tape_blocks.specs.Block.{Portion, spellings, Holds}
 use Rattle.tape_blocks.specs.Spans.{span_of}
 
--- ---- shapes and records that are written
+-- ---- shapes and records that can be written
 
 -- the greatest block length that HDR2 can express, in five digits
 abbrev pub longest_block : ℕ
 longest_block = 99999
 
--- format, record length, block length, offset, and whether each block is padded in full
+-- the conditions on record length, block length, offset and full padding in each format
 abbrev pub HasWritableRecords : Format → ℕ → ℕ → ℕ → Bool → Type 0
 HasWritableRecords Fixed rec_len block_len offset pad_full =
     (18 ≤ rec_len) × (offset + rec_len ≤ block_len) × (pad_full ≡ false)
@@ -25,7 +25,7 @@ HasWritableRecords Counted rec_len block_len offset pad_full =
 HasWritableRecords Spanned rec_len block_len offset pad_full =
     (rec_len ≡ 0) × (block_len ≤ 9999) × (offset + 6 ≤ block_len) × (pad_full ≡ false)
 
--- the shapes that are written
+-- the shapes that can be written
 pub record IsWritable (shape : Shape) : Type 0 where
   pub least : 18 ≤ shape.block_len
   pub most : shape.block_len ≤ longest_block
@@ -33,7 +33,7 @@ pub record IsWritable (shape : Shape) : Type 0 where
   pub units : HasWritableRecords shape.format shape.rec_len shape.block_len shape.offset
       shape.pad_full
 
--- the lengths of the records of a shape; in format D the record length counts the four digits
+-- the lengths of the records of a shape; in format D the record length includes the four digits
 abbrev pub HasRecordLength : Format → ℕ → ℕ → Type 0
 HasRecordLength Fixed rec_len n = n ≡ rec_len
 HasRecordLength Counted rec_len n = n + 4 ≤ rec_len
@@ -41,12 +41,11 @@ HasRecordLength Spanned rec_len n = n ≤ 4294967295
 
 -- ---- the text of a block
 
--- the length of a block with these parts before it is padded
+-- the length of a block with the given parts before it is padded
 abbrev pub size_of : Shape → List Portion → ℕ
 size_of shape parts = shape.offset + length (spellings shape.format parts)
 
--- format, whether each block is padded in full, block length, and the length of the block before
--- padding
+-- the length of a block after padding; n is its length before padding
 abbrev pub padded_by : Format → Bool → ℕ → ℕ → ℕ
 padded_by Fixed pad_full block_len n = n
 padded_by Counted pad_full block_len n = if pad_full then block_len else max n 18
@@ -56,8 +55,8 @@ padded_by Spanned pad_full block_len n = max n 18
 abbrev pub padded_len : Shape → ℕ → ℕ
 padded_len shape n = padded_by shape.format shape.pad_full shape.block_len n
 
--- the block with these parts: the offset's spaces, the units, and circumflexes up to the padded
--- length
+-- the block with the given parts: the spaces of the offset, the units, and circumflexes up to the
+-- padded length
 abbrev pub written : Shape → List Portion → List ℕ
 written shape parts =
     (replicate shape.offset 32 ++ spellings shape.format parts)
@@ -65,24 +64,24 @@ written shape parts =
 
 -- ---- when a block is closed
 
--- the free bytes that the next part needs, if n bytes of its record are left: in format S a segment
--- begins if 6 are free
+-- the number of free bytes that the next part needs, if n bytes of its record are left: in format S
+-- a segment needs 6 free bytes
 abbrev pub least_room : Format → ℕ → ℕ
 least_room Fixed n = n
 least_room Counted n = 4 + n
 least_room Spanned n = 6
 
--- After these parts there is room for the next one, if n bytes of its record are left.
+-- After the given parts there is room for the next part, if n bytes of its record are left.
 abbrev pub HasRoom : Shape → List Portion → ℕ → Type 0
 HasRoom shape parts n = size_of shape parts + least_room shape.format n ≤ shape.block_len
 
--- There is no such room.
+-- There is no room for the next part.
 abbrev pub IsFull : Shape → List Portion → ℕ → Type 0
 IsFull shape parts n = shape.block_len < size_of shape parts + least_room shape.format n
 
 -- ---- a packer
 
--- the current block: its parts, whether the record of the last part continues, and whether the
+-- the current block: its parts, whether the record of the last part is unfinished, and whether the
 -- block is closed
 pub record Packing : Type 0 where
   pub shape : Shape
@@ -90,12 +89,13 @@ pub record Packing : Type 0 where
   pub begun : Bool
   pub closed : Bool
 
--- a packer's block of these parts
+-- a packer whose current block has the given parts
 abbrev pub the_packing : Shape → List Portion → Bool → Bool → Packing
 the_packing shape parts begun closed =
     record { shape = shape; parts = parts; begun = begun; closed = closed }
 
--- with one more part, whose record continues or not; if it continues the block is closed
+-- the packer after one more part; `goes_on` says whether the record continues, which closes the
+-- block
 abbrev pub with_part : Packing → Bool → List ℕ → Packing
 with_part p goes_on bytes = record {
   shape = p.shape;
@@ -104,13 +104,13 @@ with_part p goes_on bytes = record {
   closed = goes_on;
 }
 
--- The block was closed before: nothing is accepted, and nothing changes.
+-- The block was closed already: nothing is accepted, and nothing changes.
 pub record StaysClosed (old : Packing) (n : ℕ) (new : Packing) : Type 0 where
   pub closed : old.closed ≡ true
   pub none : n ≡ 0
   pub same : new ≡ old
 
--- The block is full: nothing is accepted, and it is closed.
+-- The block is full: nothing is accepted, and the block is closed.
 pub record Closes (old : Packing) (rest : List ℕ) (n : ℕ) (new : Packing) : Type 0 where
   pub opened : old.closed ≡ false
   pub none : n ≡ 0
@@ -127,7 +127,7 @@ pub record Fills (old : Packing) (rest : List ℕ) (n : ℕ) (new : Packing) : T
   pub part : new ≡ with_part old true (take n rest)
   pub filled : size_of new.shape new.parts ≡ new.shape.block_len
 
--- The rest of the record ends in the block.
+-- The rest of the record ends in the current block.
 pub record Ends (old : Packing) (rest : List ℕ) (new : Packing) : Type 0 where
   pub opened : old.closed ≡ false
   pub room : HasRoom old.shape old.parts (length rest)
@@ -140,24 +140,24 @@ Offers old rest Taken new = Ends old rest new
 Offers old rest (BlockReady n) new =
     (new.parts ≢ []) × (StaysClosed old n new ⊎ (Closes old rest n new ⊎ Fills old rest n new))
 
--- A record begins here, and its length is not one of the shape.
+-- A record begins here, and its length is not one of the lengths of the shape.
 pub record IsRefused (p : Packing) (rest : List ℕ) : Type 0 where
   pub opened : p.closed ≡ false
   pub begins : p.begun ≡ false
   pub length_is : HasRecordLength p.shape.format p.shape.rec_len (length rest) → ⊥
 
--- a record that begins here has one of the shape's lengths
+-- if a record begins here, its length is one of the lengths of the shape
 abbrev pub IsJudged : Packing → List ℕ → Type 0
 IsJudged p rest =
     p.closed ≡ false → p.begun ≡ false
     → HasRecordLength p.shape.format p.shape.rec_len (length rest)
 
--- the packer after its block was taken: no part, and a record that has begun continues
+-- the packer after its block was taken: it has no parts, and an unfinished record continues
 abbrev pub emptied : Packing → Packing
 emptied p = record { shape = p.shape; parts = []; begun = p.begun; closed = false }
 
--- The text is the current block, which contains the packer's parts, has at least one byte, and is
--- no longer than a block may be.
+-- The text is the current block: it contains the packer's parts, has at least one byte, and is
+-- within the block length.
 pub record Given (p : Packing) (text : List ℕ) : Type 0 where
   pub some : p.parts ≢ []
   pub some_bytes : 0 < length text

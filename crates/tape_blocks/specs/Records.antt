@@ -4,7 +4,7 @@ use Rattle.std.specs.List.{AllByRecursion}
 use Rattle.tape_blocks.specs.declared.parts.Shape.{Shape}
 use Rattle.tape_blocks.specs.Packing.{HasRecordLength}
 
--- Each record has one of the shape's lengths.
+-- Each record has one of the lengths of the shape.
 abbrev pub AreRecordsOf : Shape → List (List ℕ) → Type 0
 AreRecordsOf shape records =
     AllByRecursion (λ r. HasRecordLength shape.format shape.rec_len (length r)) records

@@ -1,5 +1,5 @@
--- The state after some offers to a packer, if each block was taken when it was closed: an invariant
--- for a caller's loop.
+-- The state after some offers to a packer, if each closed block was taken: an invariant for a
+-- caller's loop.
 use Rattle.std.specs.Prelude.{◌≡◌, ℕ, ◌<◌, true, false, List, [], ◌∷◌, ◌++◌, length, Option, None}
 use Rattle.std.specs.List.{AllByRecursion}
 use Rattle.tape_label.specs.declared.values.Format.TheVariants.{Spanned}
@@ -8,16 +8,16 @@ use Rattle.tape_blocks.specs.Spans.{InOrder, content_after, join}
 use Rattle.tape_blocks.specs.Packing.{Packing, HasRecordLength, IsFull}
 use Rattle.tape_blocks.specs.Tight.{Filled, IsWritten, AreSegments, first_len, parts_of_all}
 
--- Each block was closed because it had no room for what followed; the last one is followed by
--- content of n bytes.
+-- Each block was closed because it had no room for the content after it; the last block is followed
+-- by content of n bytes.
 abbrev pub AreClosed : Shape → List Filled → ℕ → Type 0
 AreClosed shape [] n = Unit {0}
 AreClosed shape (b ∷ []) n = IsFull shape b.parts n
 AreClosed shape (b ∷ c ∷ bs) n =
     IsFull shape b.parts (first_len c.parts 0) × AreClosed shape (c ∷ bs) n
 
--- These blocks were taken, and this is the current one. These records have ended, this much of the
--- next one is packed, and n bytes of it are still to be offered.
+-- The blocks `taken` were taken, and `p` has the current block. The records `records` have ended,
+-- `front` of the next record is packed, and n bytes of it are still to be offered.
 pub record Run (taken : List Filled) (p : Packing) (records : List (List ℕ))
     (front : Option (List ℕ)) (n : ℕ) : Type 0 where
   pub closed : AreClosed p.shape taken (first_len p.parts n)
@@ -29,11 +29,11 @@ pub record Run (taken : List Filled) (p : Packing) (records : List (List ℕ))
   pub more : p.begun ≡ true → 0 < n
   pub ended : p.begun ≡ false → front ≡ None
 
--- The same between two records, whatever follows.
+-- `Run` between two records, whatever follows.
 abbrev pub RunOf : List Filled → Packing → List (List ℕ) → Type 0
 RunOf taken p records = (n : ℕ) → Run taken p records None n
 
--- The next offer is this rest of this record.
+-- The next offer is `rest`, the rest of the record `whole`.
 pub record Going (taken : List Filled) (p : Packing) (records : List (List ℕ))
     (whole rest : List ℕ) : Type 0 where
   pub front : Option (List ℕ)

@@ -1,4 +1,4 @@
--- Blocks that contain records and waste no room.
+-- Blocks that contain records without unused space.
 use Rattle.std.specs.Prelude.{◌≡◌, ◌≢◌, ℕ, ◌+◌, ◌≤◌, true, false, List, [], ◌∷◌, length, map, None}
 use Rattle.std.specs.List.{flat_map, AllByRecursion}
 use Rattle.tape_label.specs.declared.values.Format.TheVariants.{Spanned}
@@ -17,14 +17,14 @@ pub record Filled : Type 0 where
 abbrev pub parts_of_all : List Filled → List Portion
 parts_of_all blocks = flat_map (λ b. b.parts) blocks
 
--- the text of each block
+-- the texts of the blocks
 abbrev pub bytes_of_all : List Filled → List (List ℕ)
 bytes_of_all blocks = map (λ b. b.bytes) blocks
 
 -- ---- each block
 
--- a segment of format S at this index of its block: 6 bytes are free there, it fills the block if
--- it does not end its record, and it is empty only if its record is
+-- a segment of format S at offset `at` of its block: 6 bytes are free there, it fills the block if
+-- it leaves its record unfinished, and it is empty only if its record is empty
 pub record IsSegment (block_len at : ℕ) (p : Portion) : Type 0 where
   pub room : at + 6 ≤ block_len
   pub fills : leaves p.span ≡ true → at + (5 + length p.bytes) ≡ block_len
@@ -36,8 +36,8 @@ AreSegments block_len at [] = Unit {0}
 AreSegments block_len at (p ∷ ps) =
     IsSegment block_len at p × AreSegments block_len (at + (5 + length p.bytes)) ps
 
--- a block that is written: it contains its parts, at least one, is no longer than a block may be,
--- and has the offset's spaces and the shape's padding
+-- a block as written: it contains its parts, at least one, is within the block length, and has the
+-- spaces of the offset and the padding of the shape
 pub record IsWritten (shape : Shape) (b : Filled) : Type 0 where
   pub some : b.parts ≢ []
   pub text : b.bytes ≡ written shape b.parts
@@ -47,25 +47,25 @@ pub record IsWritten (shape : Shape) (b : Filled) : Type 0 where
 
 -- ---- each block and the next
 
--- each element and the next
+-- the relation R holds between each element and the next
 abbrev pub Chain : {A : Type 0} → (A → A → Type 0) → List A → Type 0
 Chain R [] = Unit {0}
 Chain R (x ∷ []) = Unit {0}
 Chain R (x ∷ y ∷ xs) = R x y × Chain R (y ∷ xs)
 
--- the length of the first part's content, or the second argument if there is no part
+-- the length of the first part's content, or n if there are no parts
 abbrev pub first_len : List Portion → ℕ → ℕ
 first_len [] n = n
 first_len (p ∷ _) n = length p.bytes
 
--- The block was closed because the first part of the next one did not fit, or in format S because
+-- The block was closed because the first part of the next block did not fit, or in format S because
 -- fewer than 6 bytes were free.
 abbrev pub IsDue : Shape → Filled → Filled → Type 0
 IsDue shape b next = IsFull shape b.parts (first_len next.parts 0)
 
 -- ---- all blocks
 
--- The parts of these blocks are in span order and join to these records, and no block was closed
+-- The parts of the blocks are in span order and join to the given records, and no block was closed
 -- that had room.
 pub record IsTight (shape : Shape) (records : List (List ℕ)) (blocks : List Filled) : Type 0 where
   pub joins : join (parts_of_all blocks) ≡ record { records = records; rest = None }
@@ -73,7 +73,7 @@ pub record IsTight (shape : Shape) (records : List (List ℕ)) (blocks : List Fi
   pub each : AllByRecursion (IsWritten shape) blocks
   pub closed : Chain (IsDue shape) blocks
 
--- Blocks with these bytes contain the records like this.
+-- Blocks with the given texts contain the records without unused space.
 abbrev pub Packs : Shape → List (List ℕ) → List (List ℕ) → Type 0
 Packs shape records texts =
     (blocks : List Filled) × (bytes_of_all blocks ≡ texts) × IsTight shape records blocks

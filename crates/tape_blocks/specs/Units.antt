@@ -1,4 +1,5 @@
--- The unit at the start of some bytes, or why there is none: the result of one step over a block.
+-- The unit at the start of some bytes, or why no unit begins there: the result of one step of the
+-- walk over a block.
 use Rattle.std.specs.Prelude.{ℕ, ◌-◌, ◌==◌, nat_lt, not, List, [], ◌∷◌, length, take, drop, Option}
 use Rattle.std.specs.Prelude.{Some, None, Result, Ok, Err, if◌then◌else◌}
 use Rattle.std.specs.Str.{all_ascii_digits}
@@ -14,17 +15,17 @@ use Rattle.tape_blocks.specs.declared.check.Found.{Found}
 use Rattle.tape_blocks.specs.Block.{first_other, span_by}
 use Rattle.tape_blocks.specs.Faults.{fault}
 
--- no unit, if there are only circumflexes
+-- no unit, if all bytes are circumflexes
 abbrev pub padding_by : Option ℕ → Result (Option Found) BlockFault
 padding_by None = Ok None
 padding_by (Some place) = Err (fault place BadPadding)
 
--- no unit, if the bytes left in format F are circumflexes
+-- no unit, if the remaining bytes in format F are all circumflexes
 abbrev pub short_by : Option ℕ → Result (Option Found) BlockFault
 short_by None = Ok None
 short_by (Some place) = Err (fault 0 NotMultiple)
 
--- a unit whose head ends with four digits, which count it
+-- a unit whose head ends with a four-digit count of the whole unit
 abbrev pub counted : Span → ℕ → List ℕ → Result (Option Found) BlockFault
 counted span head bytes =
     let count = take 4 (drop (head - 4) bytes)
@@ -39,7 +40,7 @@ abbrev pub spanned : Option Span → List ℕ → Result (Option Found) BlockFau
 spanned None bytes = Err (fault 0 BadIndicator)
 spanned (Some span) bytes = counted span 5 bytes
 
--- the unit, or none at the padding
+-- the unit at the start of the bytes, or `None` at the padding
 unfoldable pub unit_at : Format → ℕ → List ℕ → Result (Option Found) BlockFault
 unit_at Fixed rec_len bytes =
     if nat_lt (length bytes) rec_len then short_by (first_other bytes)

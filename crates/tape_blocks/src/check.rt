@@ -1,4 +1,4 @@
-//! Checks blocks, and reports why one is refused.
+//! Checks blocks, and reports why a block is refused.
 
 ghost use Rattle.std.specs.Prelude.{◌≡◌, Bool, List, IfOk, IfErr, Ok, Err, ◌≤◌, ◌<◌, length};
 ghost use Rattle.std.specs.Prelude.{IfSome, None};
@@ -15,18 +15,18 @@ use crate::parts::{Shape, Span};
 use tape_label::{Format, digits_value};
 use thiserror::Error;
 
-/// What is wrong at an offset of a block.
+/// The kind of fault at an offset of a block.
 #[derive(Clone, Copy, Debug, PartialEq, Eq, Error)]
 pub enum BlockCause {
-    /// The block is shorter than its offset.
+    /// The block is shorter than its buffer offset.
     #[error("the block is shorter than its offset")]
     ShortOffset,
-    /// In format F the bytes after the last whole record are fewer than a record, and not all
-    /// circumflexes.
+    /// In format F the bytes after the last whole record are fewer than a record, and not all of
+    /// them are circumflexes.
     #[error("the block is not a multiple of the record length")]
     NotMultiple,
     /// A count has fewer than four characters, contains a character that is not a digit, or is less
-    /// than the length of its own head.
+    /// than the length of the head that contains it.
     #[error("a count is not a valid number")]
     BadCount,
     /// A count is more than the number of bytes left in the block.
@@ -35,7 +35,8 @@ pub enum BlockCause {
     /// A segment of format S does not begin with one of the indicators `0` to `3`.
     #[error("a segment indicator is invalid")]
     BadIndicator,
-    /// A part continues a record that has not begun, or begins one before another has ended.
+    /// A part continues a record although none is unfinished, or begins a record although one is
+    /// unfinished.
     #[error("segments are out of order")]
     SpanBroken,
     /// The padding contains a byte that is not a circumflex.
@@ -66,7 +67,7 @@ impl BlockCause {
 pub struct BlockFault {
     /// The index of the faulty byte in the block, counted from 0.
     pub place: usize,
-    /// What is wrong there.
+    /// The kind of fault there.
     pub cause: BlockCause,
 }
 
@@ -79,7 +80,7 @@ impl BlockFault {
     }
 }
 
-/// A unit: its span, the length of the head before its content, and its whole length.
+/// A unit: its span, the length of the head before its content, and its total length.
 #[derive(Clone, Copy, Debug, PartialEq, Eq)]
 pub(crate) struct Found {
     pub span: Span,
@@ -87,14 +88,15 @@ pub(crate) struct Found {
     pub len: usize,
 }
 
-/// Returns this cause at the start of the bytes.
+/// Returns a fault with `cause` at the start of the bytes.
 fn fault(cause: BlockCause) -> Result<Option<Found>, BlockFault>
     ensures { result ≡ Err (record { place = 0; cause = cause }) }
 {
     Err(BlockFault { place: 0, cause })
 }
 
-/// Returns the index of the first byte that is not a circumflex.
+/// Returns the index of the first byte that is not a circumflex, or `None` if all bytes are
+/// circumflexes.
 fn first_other(bytes: &[u8]) -> Option<usize>
     ensures value { result ≡ first_other bytes.now }
     ensures inside { IfSome result (λ place. place < length bytes.now) }
@@ -102,7 +104,7 @@ fn first_other(bytes: &[u8]) -> Option<usize>
     bytes.iter().position(|c| *c != b'^')
 }
 
-/// Accepts padding up to the end, or returns the first other byte as a fault.
+/// Accepts padding up to the end of the bytes, or returns the first other byte as a fault.
 fn padding(bytes: &[u8]) -> Result<Option<Found>, BlockFault>
     ensures exact { result ≡ padding_by (first_other bytes.now) }
     ensures none { IfOk result (λ unit. unit ≡ None) }
@@ -117,7 +119,7 @@ fn padding(bytes: &[u8]) -> Result<Option<Found>, BlockFault>
     }
 }
 
-/// Returns the span with this indicator.
+/// Returns the span with the given indicator, or `None` if there is no such span.
 fn span_by(indicator: u8) -> Option<Span>
     ensures { result ≡ span_by indicator }
 {
@@ -130,7 +132,7 @@ fn span_by(indicator: u8) -> Option<Span>
     }
 }
 
-/// Reads a unit with a count: the last four characters of its head, which count the head too.
+/// Reads a unit with a count in the last four characters of its head. The count includes the head.
 #[inline(always)]
 fn counted(span: Span, head: usize, bytes: &[u8]) -> Result<Option<Found>, BlockFault>
     requires { 4 ≤ head }
@@ -154,7 +156,7 @@ fn counted(span: Span, head: usize, bytes: &[u8]) -> Result<Option<Found>, Block
     }
 }
 
-/// Reads a record of the fixed length. Fewer bytes than that are padding.
+/// Reads a record of the fixed length. Fewer bytes than that must be padding.
 #[tactic(auto, unfolding(crate::specs::Units::unit_at))]
 #[inline(always)]
 fn fixed(rec_len: usize, bytes: &[u8]) -> Result<Option<Found>, BlockFault>
@@ -211,7 +213,8 @@ pub(crate) fn unit_at(
     }
 }
 
-/// Returns true if a part with this span may follow, after a record that is unfinished or not.
+/// Returns true if a part with this span is in order; `begun` says whether a record is unfinished
+/// before it.
 fn may_follow(span: Span, begun: bool) -> bool
     ensures { result ≡ bool_eq (continues span) begun }
 {
@@ -222,14 +225,14 @@ fn may_follow(span: Span, begun: bool) -> bool
     }
 }
 
-/// Refuses the block at this place for this cause.
+/// Refuses the block, with `cause` at `place`.
 fn refuse(place: usize, cause: BlockCause) -> Result<bool, BlockFault>
     ensures { result ≡ Err (record { place = place; cause = cause }) }
 {
     Err(BlockFault { place, cause })
 }
 
-/// Walks over the units, up to the first place where none follows in order.
+/// Walks over the units of a block, up to the first offset at which no unit in span order begins.
 fn judge(shape: &Shape, begun: bool, block: &[u8]) -> Result<bool, BlockFault>
     ensures { result ≡ judged shape.now.format shape.now.rec_len shape.now.offset begun block.now }
 {
@@ -257,34 +260,35 @@ fn judge(shape: &Shape, begun: bool, block: &[u8]) -> Result<bool, BlockFault>
     }
 }
 
-/// Checks that a block contains records of this shape, and returns whether the last one is
+/// Checks that a block contains records of the given shape, and returns whether the last record is
 /// unfinished at the end of the block (ECMA-13, 4th edition: fixed-length, variable-length and
 /// spanned records).
 ///
-/// `begun` says whether a record is unfinished where the block begins. The block may be longer than
-/// the shape says. The offset is followed by the records, or segments in format S, and these by
-/// padding: circumflexes, in format F fewer than the length of a record. A block without any record
-/// is accepted.
+/// `begun` says whether a record is unfinished at the start of the block. The block may be longer
+/// than the shape says. The buffer offset is followed by the records (in format S, segments), and
+/// then by padding: circumflexes, in format F fewer than the length of a record. A block without
+/// records is accepted.
 ///
 /// # Errors
 ///
 /// The place of the fault is the end of the longest sequence of records in order, or 0 if the block
-/// is shorter than its offset. Its cause is the first that applies there: in format F
-/// `NotMultiple`, `SpanBroken`; in D and S, at a circumflex, `BadPadding`, at the first other byte
-/// after it; otherwise in S `BadIndicator`, and then `BadCount`, `PastEnd`, `SpanBroken`.
+/// is shorter than its buffer offset. The cause is the first that applies there: in format F
+/// `NotMultiple`, `SpanBroken`; in D and S, at a circumflex, `BadPadding`, with the place of the
+/// first other byte after it; otherwise in S `BadIndicator`, and then `BadCount`, `PastEnd`,
+/// `SpanBroken`.
 pub fn check_block(shape: &Shape, begun: bool, block: &[u8]) -> Result<bool, BlockFault>
-    // A block that passes contains parts in span order, and ends with a record unfinished or not as
-    // returned.
+    // A block that passes contains parts in span order; the result says whether they leave a record
+    // unfinished.
     ensures found { IfOk result
         (Passes shape.now.format shape.now.rec_len shape.now.offset begun block.now) }
     // A block that contains parts in span order passes.
     ensures only { (parts : List Portion) (end : Bool)
         → Holds shape.now.format shape.now.rec_len shape.now.offset block.now parts
         → InOrder begun parts end → result ≡ Ok end }
-    // Which fault is returned, and its place.
+    // The fault returned, and its place, are those of the block.
     ensures fault { IfErr result
         (HasFault shape.now.format shape.now.rec_len shape.now.offset begun block.now) }
-    // It is the only fault of the block.
+    // The block has no other fault.
     ensures refuses { (fault : BlockFault)
         → HasFault shape.now.format shape.now.rec_len shape.now.offset begun block.now fault
         → result ≡ Err fault }

@@ -14,7 +14,7 @@ pub fn one_list_of_parts()
     ensures { (block : List ℕ) → HoldsOneList block }
 {}
 
-/// A block has no more parts than bytes, and none of them is longer than the block.
+/// A block has no more parts than bytes, and no part is longer than the block.
 pub fn parts_fit()
     ensures { (block : List ℕ) → PartsFit block }
 {}
@@ -24,24 +24,25 @@ pub fn one_begun()
     ensures { (block : List ℕ) → PassesForOne block }
 {}
 
-/// The result of a check follows from the contents of the block, and the contents from the result,
-/// for callers that know the result as a function of lists.
+/// The result of a check follows from the contents of the block, and conversely, for callers that
+/// know the result as a function of lists.
 pub fn judged_as_held()
     ensures { (format : Format) (rec_len offset : ℕ) (begun : Bool) (block : List ℕ)
         → (format ≡ Fixed → 1 ≤ rec_len) → JudgedAsHeld format rec_len offset begun block }
 {}
 
-/// The records that the concatenation of two lists of parts joins to.
+/// Joining two lists of parts, one after the other, gives the records of the first list and then
+/// those of the second.
 pub fn joins_on()
     ensures { JoinsOn }
 {}
 
-/// Blocks into which records were packed contain these records.
+/// Blocks into which records were packed contain those records.
 pub fn packed_blocks_hold()
     ensures { PackedBlocksHold }
 {}
 
-/// When a record is unfinished after parts in span order.
+/// After parts in span order, a record is unfinished exactly if joining the parts leaves a rest.
 pub fn begun_is_rest()
     ensures { BegunIsRest }
 {}
@@ -51,8 +52,7 @@ pub fn ready_is_full()
     ensures { ReadyIsFull }
 {}
 
-/// Test cases for the definitions of packing and for the laws: each rule that only one clause
-/// states says all that it should.
+/// Test cases for the definitions of packing and for the laws.
 pub fn cases()
     ensures offers { CasesOfOffers }
     ensures blocks { CasesOfBlocks }

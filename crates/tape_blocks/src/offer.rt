@@ -5,26 +5,26 @@ ghost use Rattle.tape_blocks.specs.Numbers.{pack_fault_number};
 
 use thiserror::Error;
 
-/// What happened to the rest of a record that was offered to a packer.
+/// The result of offering the rest of a record to a packer.
 #[derive(Clone, Copy, Debug, PartialEq, Eq)]
 pub enum Offer {
-    /// All of it is in the current block, and the record has ended.
+    /// The whole rest is in the current block, and the record has ended.
     Taken,
-    /// This number of its first bytes was accepted, and the block is closed: take it, and offer the
-    /// rest.
+    /// The given number of bytes was accepted, and the block is closed: take it, and offer the
+    /// remaining bytes.
     BlockReady(usize),
 }
 
-/// Why a packer refuses.
+/// Why a packer refuses a shape or a record.
 #[derive(Clone, Copy, Debug, PartialEq, Eq, Error)]
 pub enum PackFault {
     /// The record has a length that its shape does not allow.
     #[error("the record's length is not one of its shape")]
     RecordLength,
-    /// Blocks of this shape are not written.
+    /// Blocks of this shape cannot be written.
     #[error("blocks of this shape are not written")]
     ShapeRange,
-    /// Memory was refused.
+    /// Allocating memory failed.
     #[error("out of memory")]
     OutOfMemory,
 }

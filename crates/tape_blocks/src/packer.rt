@@ -18,19 +18,19 @@ use std::alloc::{AllocError, Global};
 use std::marker::Model;
 use tape_label::Format;
 
-/// Packs records into blocks of one shape (ECMA-13, 4th edition: blocking of records).
+/// Packs records into blocks of the given shape (ECMA-13, 4th edition: blocking of records).
 ///
 /// The caller offers a record until it is accepted. Each time a block is ready, the caller takes it
-/// and offers the rest of the record. At the end of the file the caller takes the current block
-/// too. A block of format F or D is only closed if the next record does not fit, one of format S if
-/// fewer than 6 bytes are free; so all blocks are as full as records allow.
+/// and offers the rest of the record. At the end of the file the caller also takes the current
+/// block. A block of format F or D is only closed if the next record does not fit, and a block of
+/// format S if fewer than 6 bytes are free, so all blocks are as full as the records allow.
 ///
 /// Only `new` allocates: no later call can run out of memory, or make the block larger.
 #[derive(Drop)]
 pub struct Packer {
     shape: Shape,
-    // As many bytes as a block may have, with no spare capacity. The current block is the first
-    // `len` of them; the rest has no meaning.
+    // As many bytes as the longest block, without spare capacity. The first `len` of them are the
+    // current block; the rest has no meaning.
     block: Vec<u8>,
     len: usize,
     begun: bool,
@@ -49,7 +49,7 @@ impl Model for Packer {
     ghost invariant = { IsKept };
 }
 
-/// Returns `count` spaces, with no spare capacity.
+/// Returns `count` spaces, without spare capacity.
 fn spaces(alloc: Global, count: usize) -> Result<Vec<u8>, AllocError>
     ensures items { IfOk result (λ block. block.items ≡ replicate count 32) }
     ensures room { IfOk result (λ block. vec_capacity block ≡ count) }
@@ -68,11 +68,12 @@ impl Packer {
     ///
     /// # Errors
     ///
-    /// `ShapeRange` if blocks of this shape are not written: the block length must be 18 to 99,999
-    /// and the offset at most 99. In format F a record has at least 18 bytes and fits a block after
-    /// the offset; in format D the record length, which counts the four digits, is 4 to 9,999 and
-    /// fits likewise; in format S it is 0, a block has at most 9,999 bytes, and at least 6 of them
-    /// follow the offset. Only blocks of format D can be padded in full. Then `OutOfMemory`.
+    /// `ShapeRange` if blocks of this shape cannot be written: the block length must be 18 to
+    /// 99,999 and the offset at most 99. In format F a record has at least 18 bytes and fits in a
+    /// block after the offset; in format D the record length, which includes the four digits, is 4
+    /// to 9,999 and fits likewise; in format S the record length is 0, a block has at most 9,999
+    /// bytes, and at least 6 of them follow the offset. Only blocks of format D can be padded in
+    /// full. Then `OutOfMemory`.
     pub fn new(alloc: Global, shape: Shape) -> Result<Packer, PackFault>
         ensures ok { IfOk result (λ p. IsWritable shape
             × (p ≡ record { shape = shape; parts = []; begun = false; closed = false })) }
@@ -112,17 +113,17 @@ impl Packer {
         self.closed = goes_on;
     }
 
-    /// Offers a record, or the rest of one that has begun.
+    /// Offers a record, or the rest of a record of which a part was accepted.
     ///
     /// `Taken` ends the record. `BlockReady(n)` says that its first n bytes were accepted and the
-    /// block is closed. A block that was closed before and not yet taken returns `BlockReady(0)`
-    /// before anything else is checked.
+    /// block is closed. If a closed block was not taken yet, `BlockReady(0)` is returned before
+    /// anything else is checked.
     ///
     /// # Errors
     ///
     /// `RecordLength`, checked at the start of a record: in format F its length differs from the
-    /// record length, in format D it is more than the record length less 4, in format S it is more
-    /// than 4,294,967,295. The packer is unchanged.
+    /// record length, in format D it exceeds the record length less 4, in format S it exceeds
+    /// 4,294,967,295. The packer is unchanged.
     pub fn offer(&mut self, rest: &[u8]) -> Result<Offer, PackFault>
         ensures ok { IfOk result (λ o. Offers self.old rest.now o self.new) }
         // A record that begins here has one of the lengths of the shape.
@@ -151,15 +152,16 @@ impl Packer {
         Ok(Offer::Taken)
     }
 
-    /// Takes the current block, if it contains a part: preceded by the offset's spaces, and padded.
-    /// A record that has begun continues in the next block.
+    /// Takes the current block, if it contains a part, with the spaces of the buffer offset before
+    /// it and padding after it. An unfinished record continues in the next block.
     ///
-    /// A block of format F is not padded; one of D or S is padded to at least 18 bytes, and one of
-    /// D with `pad_full` to the block length.
+    /// A block of format F is not padded; a block of format D or S is padded to at least 18 bytes,
+    /// and in format D with `pad_full` to the block length.
     pub fn take_block(&mut self) -> Option<&[u8]>
         ensures found { IfSome result (λ b. Given self.old b.now) }
         ensures none { IfNone result (self.old.parts ≡ []) }
-        // Once the borrow of the block ends, or if there was none, the packer has no current block.
+        // Once the borrow of the block ends, or if no block was returned, the packer has no current
+        // block.
         ensures* after { sem 𝓛 (follows_so the_row the_row self.entry.ghost_name none (λ _ _. ⊤)
             (λ n. n ≡ emptied self.old)) }
     {
@@ -174,7 +176,8 @@ impl Packer {
         Some(&self.block[..end])
     }
 
-    /// Returns true if there is a current block: one that contains a part and was not yet taken.
+    /// Returns true if there is a current block: a block that contains a part and was not taken
+    /// yet.
     pub fn rest(&self) -> bool
         ensures { IsTrue result ↔ (self.now.parts ≢ []) }
     {

@@ -7,29 +7,30 @@ ghost use Rattle.tape_blocks.specs.Spans.{continues, leaves};
 use crate::check::unit_at;
 use tape_label::{Format, Head2};
 
-/// How the records of a file appear in the input that is written, and in the output that is read
-/// back.
+/// How the records of a file appear in the input, when they are written, and in the output, when
+/// they are read back.
 #[derive(Clone, Copy, Debug, PartialEq, Eq)]
 pub enum Form {
-    /// Each line is a record, without its line feed. In the output each record is followed by one.
+    /// Each line is a record, without its line feed. In the output each record is followed by a
+    /// line feed.
     Lines,
-    /// Contents only: an input in format F is cut into records, one in format S is a single record;
-    /// in the output the records are joined.
+    /// Contents only. On input, format F divides the bytes into records of the record length, and
+    /// format S makes them a single record; in the output the records are joined.
     Raw,
 }
 
 /// How a file's blocks contain its records (ECMA-13, 4th edition: the label HDR2).
 ///
-/// In format F the record length is at least 1: this is an invariant of the type, proved wherever a
-/// shape is created.
+/// In format F the record length is at least 1: an invariant of the type, proved wherever a shape
+/// is created.
 #[derive(Clone, Copy, Debug, PartialEq, Eq)]
 pub struct Shape {
-    /// F, D or S.
+    /// The record format.
     pub format: Format,
     /// The maximum length of a block, including its offset.
     pub block_len: u32,
-    /// The length of each record in format F, and the maximum, including its count, in format D. In
-    /// format S it must be 0 for writing, and is ignored for reading.
+    /// The length of each record in format F; the maximum length, including the count, in format D.
+    /// In format S it must be 0 for writing, and is ignored for reading.
     pub rec_len: u32,
     /// The number of characters at the start of each block, before its first record.
     pub offset: u8,
@@ -59,8 +60,8 @@ impl Shape {
         }
     }
 
-    /// Returns true if blocks of this shape are written: the shapes that
-    /// [`Packer::new`](crate::Packer::new) accepts.
+    /// Returns true if blocks of this shape can be written: if [`Packer::new`](crate::Packer::new)
+    /// accepts the shape.
     pub fn is_writable(&self) -> bool
         ensures { IsTrue result ↔ IsWritable self.now }
     {
@@ -82,24 +83,24 @@ impl Shape {
     }
 }
 
-/// Which piece of its record a part is (ECMA-13, 4th edition: spanned records).
+/// The position of a part within its record (ECMA-13, 4th edition: spanned records).
 ///
-/// A record of format F or D is always whole. One of format S may extend over several blocks: a
-/// first segment, any number of middle ones, and a last one.
+/// A record of format F or D is always one part. A record of format S may extend over several
+/// blocks: a first segment, any number of middle segments, and a last segment.
 #[derive(Clone, Copy, Debug, PartialEq, Eq)]
 pub enum Span {
     /// The record begins and ends with this part.
     Whole,
     /// The record begins with this part, and continues.
     First,
-    /// The record has begun before, and continues.
+    /// The record has begun already, and continues after this part.
     Middle,
-    /// The record has begun before, and ends with this part.
+    /// The record has begun already, and ends with this part.
     Last,
 }
 
 impl Span {
-    /// Returns true if the record has begun before this part: for a middle or last segment.
+    /// Returns true if the record has begun already before this part: for a middle or last segment.
     pub fn continues(self) -> bool
         ensures { result ≡ continues self }
     {
@@ -114,17 +115,17 @@ impl Span {
     }
 }
 
-/// A record or a segment of one, borrowed from its block.
+/// A record, or a segment of a record, borrowed from its block.
 #[derive(Clone, Copy, Debug, PartialEq, Eq)]
 pub struct Part<'a> {
-    /// Which piece of its record it is.
+    /// The position of this part within its record.
     pub span: Span,
-    /// The content, without count and indicator.
+    /// The content, without the count and the indicator.
     pub bytes: &'a [u8],
 }
 
-/// An iterator over the parts of a block that was checked. It borrows slices of the block, and does
-/// not allocate.
+/// An iterator over the parts of a checked block. It borrows slices of the block, and does not
+/// allocate.
 #[derive(Drop)]
 pub struct Parts<'a> {
     format: Format,

@@ -8,7 +8,7 @@ use crate::parts::Span;
 use crate::writing::head_len;
 use tape_label::{Format, digits_of};
 
-/// Writes the text at this place.
+/// Writes `text` at offset `place`.
 fn put(block: &mut [u8], place: usize, text: &[u8])
     requires { place + length text.now ≤ length block.old }
     ensures front { take (place + length text.now) block.new ≡ take place block.old ++ text.now }
@@ -17,7 +17,7 @@ fn put(block: &mut [u8], place: usize, text: &[u8])
     block[place..place + text.len()].copy_from_slice(text);
 }
 
-/// Writes the count in four digits at this place.
+/// Writes `count` in four digits at offset `place`.
 fn put_count(block: &mut [u8], place: usize, count: usize)
     requires room { place + 4 ≤ length block.old }
     requires fits { count < 10000 }
@@ -39,7 +39,7 @@ fn indicator(span: Span) -> u8
     }
 }
 
-/// Writes the unit of a part at this place.
+/// Writes the unit of a part at offset `place`.
 pub(crate) fn put_unit(block: &mut [u8], place: usize, format: Format, span: Span, bytes: &[u8])
     requires room { place + (head_len format + length bytes.now) ≤ length block.old }
     requires fits { format ≢ Format.Fixed → head_len format + length bytes.now < 10000 }
@@ -58,7 +58,7 @@ pub(crate) fn put_unit(block: &mut [u8], place: usize, format: Format, span: Spa
     put(block, place + head_len(format), bytes);
 }
 
-/// Writes circumflexes from this place up to the end.
+/// Writes circumflexes from offset `place` to `end`.
 pub(crate) fn put_padding(block: &mut [u8], place: usize, end: usize)
     requires order { place ≤ end }
     requires room { end ≤ length block.old }

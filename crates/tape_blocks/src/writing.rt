@@ -1,4 +1,4 @@
-//! Which shapes and records are written, and the lengths of their units and blocks.
+//! The shapes and records that can be written, and the lengths of their units and blocks.
 
 ghost use Rattle.std.specs.Prelude.{◌≡◌, ◌≤◌, IsTrue, ◌↔◌};
 ghost use Rattle.tape_blocks.specs.Block.{head_len};
@@ -8,7 +8,7 @@ ghost use Rattle.tape_blocks.specs.Spans.{span_of};
 use crate::parts::{Shape, Span};
 use tape_label::Format;
 
-/// Returns true if a record of this length is written.
+/// Returns true if a record of `len` bytes can be written.
 pub(crate) fn has_record_length(format: Format, rec_len: u32, len: usize) -> bool
     ensures { IsTrue result ↔ HasRecordLength format rec_len len }
 {
@@ -30,7 +30,7 @@ pub(crate) fn head_len(format: Format) -> usize
     }
 }
 
-/// Returns true if `free` bytes are enough for the next part, when `len` bytes of its record are
+/// Returns true if `free` bytes are enough for the next part, if `len` bytes of its record are
 /// left.
 pub(crate) fn has_room(format: Format, free: usize, len: usize) -> bool
     ensures { IsTrue result ↔ (least_room format len ≤ free) }
@@ -42,8 +42,8 @@ pub(crate) fn has_room(format: Format, free: usize, len: usize) -> bool
     }
 }
 
-/// Returns the span of a part that continues a record or begins one, and leaves it unfinished or
-/// ends it.
+/// Returns the span of a part; `begun` says whether it continues a record, and `goes_on` whether it
+/// leaves the record unfinished.
 pub(crate) fn span(begun: bool, goes_on: bool) -> Span
     ensures { result ≡ span_of begun goes_on }
 {

@@ -1,4 +1,4 @@
--- Blocks read again: what a walk over their parts has joined.
+-- Blocks read back: the records that a walk over their parts has joined.
 use Rattle.std.proofs.Common.{◌≡◌, ℕ, zero, suc, ◌+◌, ◌<◌, Bool, true, false, List, [], ◌∷◌, ◌++◌}
 use Rattle.std.proofs.Common.{length, take, drop, get_or, Option, Some, None, refl, sym, ap, subst}
 use Rattle.std.proofs.Common.{◌∙◌, append_assoc, arith, map}
@@ -21,7 +21,8 @@ abbrev pub front_text : Option (List ℕ) → List ℕ
 front_text None = []
 front_text (Some front) = front
 
--- These parts have joined to these records, and this text is what is begun.
+-- The given parts have joined to the given records, and `text` is the content of the unfinished
+-- record.
 pub record HasJoined (parts : List Portion) (records : List (List ℕ)) (text : List ℕ) : Type 0 where
   pub front : Option (List ℕ)
   pub joins : join parts ≡ record { records = records; rest = front }
@@ -66,7 +67,7 @@ pub record Here (shape : Shape) (blocks : List Filled) (i : ℕ) (bytes : List �
   pub behind : Bool
   pub order : InOrder before block.parts behind
 
--- the order of a list's parts tells that of its blocks
+-- two lists of parts, one after the other, are each in span order if both together are
 InOrder-split : (ps qs : List Portion) (begun end : Bool) → InOrder begun (ps ++ qs) end
     → (middle : Bool) × InOrder begun ps middle × InOrder middle qs end
 InOrder-split [] qs begun end order = (begun, refl, order)
@@ -117,7 +118,7 @@ here_at shape (b ∷ bs) (t ∷ ts) (suc i) begun end lt same all order =
     behind_first shape b bs i (get_or ts i []) (here_at shape bs ts i split.0 end (omega arith)
     (ap (λ (xs : List (List ℕ)). drop 1 xs) same) all.1 split.2)
 
--- ---- as a caller meets them
+-- ---- in the form that callers need
 
 pub joined_as : (ps qs : List Portion) (rs ss : List (List ℕ)) (t u : List ℕ) → ps ≡ qs → rs ≡ ss
     → t ≡ u → HasJoined ps rs t → HasJoined qs ss u

@@ -1,4 +1,4 @@
--- A run as a caller meets it who copies each block.
+-- A run as seen by a caller that copies each block.
 use Rattle.std.proofs.Common.{◌≡◌, ◌≢◌, ℕ, false, List, [], ◌∷◌, ◌++◌, length, drop, Option, None}
 use Rattle.std.proofs.Common.{refl, sym, ap, subst, ◌∙◌, append_assoc, arith}
 use Rattle.std.proofs.lemmas.List.{append-nil, map-append}
@@ -41,7 +41,7 @@ pub last_block : (taken : List Filled) (blocks
 last_block taken blocks more p records bytes run ended none some =
     last_by p.parts taken blocks more p records refl bytes run ended none some
 
--- A record that is refused is refused whole.
+-- If a record is refused, all of it is refused.
 pub going_refused : (taken : List Filled) (p : Packing) (records : List (List ℕ)) (r rest : List ℕ)
     → Going taken p records r rest → IsRefused p rest
     → HasRecordLength p.shape.format p.shape.rec_len (length r) → ⊥
@@ -52,7 +52,7 @@ going_refused blocks p records r rest going refused fits =
     refused.length_is (subst
     (λ (s : List ℕ). HasRecordLength p.shape.format p.shape.rec_len (length s)) (sym whole) fits)
 
--- what was taken for a record that is still under way
+-- the blocks taken for a record that is not finished yet
 pub record Puts (taken : List Filled) (records blocks more : List (List ℕ))
     (p : Packing) (whole rest : List ℕ) : Type 0 where
   pub filled : List Filled

@@ -1,4 +1,4 @@
--- One record more of a list.
+-- One more record of a list.
 use Rattle.std.proofs.Common.{◌≡◌, ℕ, ◌+◌, ◌<◌, List, [], ◌∷◌, ◌++◌, take, drop, length, get_or}
 use Rattle.std.proofs.Common.{refl, sym, ap, subst, ◌∙◌, arith}
 use Rattle.std.specs.declared.alloc.Global.{Global}
@@ -38,7 +38,7 @@ has_record vs i r e =
     subst (λ (rs : List (List ℕ)). Contains rs r) (sym whole)
     (Contains-append_left (contents (take (i + 1) vs)) (contents (drop (i + 1) vs)) r front)
 
--- Where one of the records is refused, they all are.
+-- If one of the records is refused, the list is refused.
 pub refused_for : (e : PackFault) (shape : Shape) (records : List (List ℕ)) (r : List ℕ)
     → IsWritable shape → Contains records r → IsRefusedOne shape r e
     → IsRefusedFor shape records e

@@ -1,4 +1,4 @@
--- Packing of whole records, and of lists of them.
+-- Packing of whole records, and of lists of records.
 use Rattle.std.specs.Prelude.{ℕ, ◌≡◌, false, List, [], ◌∷◌, ◌++◌, map, length}
 use Rattle.std.specs.declared.alloc.Global.{Global}
 use Rattle.std.specs.declared.vec.Vec.{Vec}
@@ -15,7 +15,7 @@ use Rattle.tape_blocks.specs.Tight.{Filled, bytes_of_all}
 abbrev pub contents : List (Vec ℕ Global) → List (List ℕ)
 contents vs = map (λ v. v.items) vs
 
--- Some record has a length that is not one of the shape.
+-- Some record has a length that the shape does not allow.
 abbrev pub HasOtherLength : Shape → List (List ℕ) → Type 0
 HasOtherLength shape records =
     (r : List ℕ) × Contains records r × (HasRecordLength shape.format shape.rec_len (length r) → ⊥)
@@ -34,14 +34,13 @@ IsRefusedOne shape whole RecordLength =
 IsRefusedOne shape whole ShapeRange = ⊥
 IsRefusedOne shape whole OutOfMemory = Unit {0}
 
--- why a record is not packed after whole ones
+-- why a record is not packed after other records
 abbrev pub RefusesRecord : Packing → List ℕ → PackFault → Type 0
 RefusesRecord old whole e =
     (taken : List Filled) (records : List (List ℕ)) → RunOf taken old records
     → IsRefusedOne old.shape whole e
 
--- Each run so far continues with this record, and the blocks that were taken for it follow the
--- texts.
+-- A run continues with the record `whole`, and the blocks taken for it follow the texts.
 pub record PutsRecord (old : Packing) (texts : List (List ℕ)) (whole : List ℕ)
     (new : Packing) (more : List (List ℕ)) : Type 0 where
   pub shape : new.shape ≡ old.shape

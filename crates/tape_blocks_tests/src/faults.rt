@@ -1,4 +1,4 @@
-//! Blocks that are refused: where, and why.
+//! Blocks that are refused: the place and the cause.
 
 use crate::worked::{refuses, shape};
 use std::process::Abort;
@@ -7,7 +7,7 @@ use tape_blocks::{BlockCause, BlockFault, PackFault, Shape};
 use tape_label::Format;
 
 /// A name, whether a record is unfinished before the block, the block, and the place and cause of
-/// the refusal.
+/// the fault.
 type Refused<'a> = (&'a str, bool, &'a [u8], usize, BlockCause);
 
 const OF_FORMAT_D: &[Refused<'_>] = &[
@@ -22,7 +22,7 @@ const OF_FORMAT_D: &[Refused<'_>] = &[
     ),
     ("short count", false, b"0006AB000", 6, BlockCause::BadCount),
     ("past the end", false, b"0009AB", 0, BlockCause::PastEnd),
-    // No whole record may follow an unfinished one, but its count is checked first.
+    // No whole record may follow an unfinished record, but its count is checked first.
     ("begun", true, b"0006AB", 0, BlockCause::SpanBroken),
     (
         "begun, past the end",
@@ -79,7 +79,7 @@ const OF_FORMAT_S: &[Refused<'_>] = &[
         BlockCause::SpanBroken,
     ),
     ("padding", true, b"30005^0", 6, BlockCause::BadPadding),
-    // It continues a record, so it passes only after an unfinished one.
+    // The segment continues a record, so the block passes only after an unfinished record.
     (
         "last first",
         false,
@@ -89,7 +89,7 @@ const OF_FORMAT_S: &[Refused<'_>] = &[
     ),
 ];
 
-/// Each of these blocks is refused in this shape.
+/// Checks that each block is refused in the given shape.
 fn each_is_refused(rt: &impl Abort, shape: &Shape, rows: &[Refused<'_>]) {
     for (name, begun, block, place, cause) in rows {
         assert!(rt; refuses(shape, *begun, block, *place, *cause), "{name}");
@@ -124,7 +124,7 @@ fn shorter_than_the_offset(rt: HostRuntime) {
     );
 }
 
-// Returns true if the cause has this number, and so has a fault with it.
+// Returns true if the cause, and a fault with this cause, has the given number.
 fn has_number(cause: BlockCause, number: u8) -> bool {
     cause.number() == number && BlockFault { place: 8, cause }.number() == number
 }

@@ -1,5 +1,5 @@
 //! Tests of blocks: worked blocks of the three formats, read, refused and packed; and plain
-//! programs that pack whole lists of records and read them again.
+//! programs that pack whole lists of records and read them back.
 #![tactic(auto)]
 
 #[cfg(test)]

@@ -30,7 +30,7 @@ fn of_format_f(rt: HostRuntime) {
     let full = [b'R'; 800];
     let half = [b'R'; 400];
     let records: [&[u8]; 25] = [&record; 25];
-    // A block is not padded, and contains only whole records.
+    // No block is padded, and each contains only whole records.
     for block_len in [800, 850] {
         let f = shape(Format::Fixed, block_len, 80, 0);
         assert!(rt;
@@ -54,7 +54,7 @@ const OF_FORMAT_S: &[Packed<'_>] = &[
         ],
     ),
     ("empty", &[b""], &[b"00005^^^^^^^^^^^^^"]),
-    // The record is whole, and the next one begins a block.
+    // The record is whole, and the next record begins a new block.
     (
         "just fits",
         &[b"1234567890123", b"A"],
@@ -65,13 +65,13 @@ const OF_FORMAT_S: &[Packed<'_>] = &[
         &[b"A", b"1234567"],
         &[b"00006A000121234567"],
     ),
-    // Not even an empty record begins there.
+    // Not even an empty record begins in the free space.
     (
         "5 free",
         &[b"12345678", b""],
         &[b"0001312345678^^^^^", b"00005^^^^^^^^^^^^^"],
     ),
-    // There is a segment of one byte.
+    // A segment of one byte fits in the free space.
     (
         "6 free",
         &[b"1234567", b"AB"],
@@ -121,8 +121,8 @@ fn refused(rt: HostRuntime) {
     }
 }
 
-/// A format, the length of a block, that of a record, an offset, and whether such a shape is
-/// written: at most 99 bytes of offset, and in format S six bytes after it.
+/// A format, a block length, a record length, an offset, and whether such a shape can be written:
+/// the offset has at most 99 bytes, and in format S at least six bytes follow it.
 const SHAPES: &[(Format, u32, u32, u8, bool)] = &[
     (Format::Fixed, 17, 17, 0, false),
     (Format::Fixed, 80, 17, 0, false),
@@ -155,7 +155,7 @@ fn shapes_that_are_written(rt: HostRuntime) {
     }
 }
 
-/// Blocks to be padded in full in a format that is not.
+/// Full padding in formats in which blocks are not padded in full.
 #[test]
 fn shapes_padded_in_full_that_are_not_written(rt: HostRuntime) {
     for (format, block_len, rec_len) in [(Format::Fixed, 80, 80), (Format::Spanned, 20, 0)] {
@@ -164,7 +164,8 @@ fn shapes_padded_in_full_that_are_not_written(rt: HostRuntime) {
     }
 }
 
-// Returns true if records that are packed into blocks of this shape can be read from them again.
+// Returns true if records that are packed into blocks of the given shape can be read back from
+// them.
 fn are_read_again(alloc: Global, shape: Shape) -> bool {
     let texts: [&[u8]; 6] = [
         b"",

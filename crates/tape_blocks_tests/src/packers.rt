@@ -14,7 +14,7 @@ enum Call<'a> {
     Take(Option<&'a [u8]>),
 }
 
-// Returns true if the packer returns this.
+// Returns true if the packer returns the result of the call.
 fn answers(packer: &mut Packer, call: &Call<'_>) -> bool {
     match call {
         Call::Offer(rest, answer) => packer.offer(rest) == *answer,
@@ -23,8 +23,8 @@ fn answers(packer: &mut Packer, call: &Call<'_>) -> bool {
     }
 }
 
-// Returns the first of these calls, counted from 1, for which a new packer returns something else.
-// Call 0 creates it.
+// Returns the number, from 1, of the first call for which a new packer returns another result. Call
+// 0 creates the packer.
 fn first_wrong(alloc: Global, shape: Shape, calls: &[Call<'_>]) -> Option<usize> {
     let Ok(mut packer) = Packer::new(alloc, shape) else {
         return Some(0);
@@ -83,7 +83,7 @@ fn goes_on_with_a_record_when_its_block_was_taken(rt: HostRuntime) {
         Call::Take(Some(b"100181234567890123")),
         Call::Rest(false),
         Call::Offer(b"4567890", Ok(Offer::Taken)),
-        // A new record begins, although the last one has just ended in this block.
+        // A new record begins, although the previous record has just ended in this block.
         Call::Offer(b"A", Ok(Offer::Taken)),
         Call::Take(Some(b"30012456789000006A")),
     ];
@@ -93,8 +93,8 @@ fn goes_on_with_a_record_when_its_block_was_taken(rt: HostRuntime) {
     );
 }
 
-// Returns true if the packer accepts the first part of the rest of a record, and its block then
-// contains only that, as the segment with this number.
+// Returns true if the packer accepts `front`, the first bytes of `rest`, and its block then
+// contains only them, as segment number `n`.
 fn cuts(packer: &mut Packer, shape: &Shape, n: usize, rest: &[u8], front: &[u8]) -> bool {
     let span = match n {
         0 => Span::First,
@@ -117,7 +117,7 @@ fn cuts(packer: &mut Packer, shape: &Shape, n: usize, rest: &[u8], front: &[u8])
     }
 }
 
-// Returns so many bytes.
+// Returns `len` bytes.
 fn long_record(alloc: Global, len: u32) -> Result<Vec<u8>, AllocError> {
     let mut record = Vec::new(alloc);
     for n in 0..len {
@@ -126,8 +126,8 @@ fn long_record(alloc: Global, len: u32) -> Result<Vec<u8>, AllocError> {
     Ok(record)
 }
 
-// A record of 3,000,000 bytes, whose rest is offered to the packer: 300 segments of 9,994 bytes and
-// one of 1,800.
+// A record of 3,000,000 bytes, offered piece by piece: 300 segments of 9,994 bytes and one of
+// 1,800.
 #[test]
 fn cuts_a_long_record(rt: HostRuntime) -> Result<(), Fail> {
     let shape = shape(Format::Spanned, 9_999, 0, 0);

@@ -10,7 +10,7 @@ ghost use Rattle.tape_blocks.specs.Tight.{Packs};
 use std::alloc::Global;
 use tape_blocks::{Offer, PackFault, Packer, Shape};
 
-/// Appends a copy of the packer's block to the others, if it has one.
+/// Appends a copy of the packer's block to `blocks`, if it has one.
 fn give(alloc: Global, packer: &mut Packer, blocks: &mut Vec<Vec<u8>>) -> Result<(), PackFault>
     ensures err { IfErr result (λ e. e ≡ PackFault.OutOfMemory) }
     ensures taken { OnOk result (packer.new ≡ emptied packer.old) }
@@ -52,16 +52,16 @@ fn put_record(
     }
 }
 
-/// Packs these records and returns the blocks, in order: one at each `BlockReady`, and the last one
-/// at the end.
+/// Packs `records` and returns the blocks, in order: one at each `BlockReady`, and the last one at
+/// the end.
 ///
-/// Their parts join to the records, and they are packed tightly: no block was closed that had room
-/// for the next part.
+/// The parts of the blocks join to the records, and no block was closed that had room for the next
+/// part.
 ///
 /// # Errors
 ///
 /// `ShapeRange` if [`Packer::new`] returns it, `RecordLength` if a record has a length that the
-/// shape does not allow, and `OutOfMemory` if memory is refused.
+/// shape does not allow, and `OutOfMemory` if an allocation fails.
 pub fn pack_all(alloc: Global, shape: Shape, records: &[Vec<u8>]) -> Result<Vec<Vec<u8>>, PackFault>
     ensures writable { IfOk result (λ _. IsWritable shape) }
     ensures packed { IfOk result (λ blocks.

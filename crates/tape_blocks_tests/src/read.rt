@@ -38,8 +38,8 @@ fn records_of_format_f(rt: HostRuntime) {
     assert!(rt; refuses(&f, false, &block, 80, BlockCause::NotMultiple));
 }
 
-/// A name, whether a record is unfinished before the block, the block, whether one is unfinished
-/// after it, and its parts.
+/// A name, whether a record is unfinished before the block, the block, whether a record is
+/// unfinished after it, and the parts of the block.
 type Read<'a> = (&'a str, bool, &'a [u8], bool, &'a [(Span, &'a [u8])]);
 
 const SEGMENTS: &[Read<'_>] = &[
@@ -65,7 +65,7 @@ const SEGMENTS: &[Read<'_>] = &[
         &[(Span::Last, b"7890")],
     ),
     ("empty", false, b"00005", false, &[(Span::Whole, b"")]),
-    // A record ends, and the next one begins.
+    // A record ends, and the next record begins.
     (
         "two",
         true,

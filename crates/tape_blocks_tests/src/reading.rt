@@ -1,4 +1,4 @@
-//! Reads records again from the blocks that contain them, by plain programs.
+//! Reads records back from the blocks that contain them, with plain programs.
 
 ghost use Rattle.std.specs.Prelude.{◌≡◌, List, ℕ, map, IfOk, IfErr};
 ghost use Rattle.tape_blocks.specs.Block.{Portion, Holds};
@@ -15,7 +15,7 @@ use tape_blocks::{PackFault, Parts, Shape, Span};
 ///
 /// # Errors
 ///
-/// Only if memory is refused.
+/// Only if an allocation fails.
 pub fn spans_of(alloc: Global, shape: &Shape, block: &[u8]) -> Result<Vec<Span>, AllocError>
     requires { IsChecked shape.now block.now }
     ensures { IfOk result (λ spans. (parts : List Portion)
@@ -29,12 +29,12 @@ pub fn spans_of(alloc: Global, shape: &Shape, block: &[u8]) -> Result<Vec<Span>,
     Ok(spans)
 }
 
-/// Returns the records in these blocks: each block's parts are joined to those before. Blocks that
-/// were packed contain the records that they were packed from (`laws::packed_blocks_hold`).
+/// Returns the records in the blocks: each block's parts are joined to those before. Blocks into
+/// which records were packed contain those records (`laws::packed_blocks_hold`).
 ///
 /// # Errors
 ///
-/// Only if memory is refused.
+/// Only if an allocation fails.
 pub fn records_in_blocks(
     alloc: Global,
     shape: &Shape,
@@ -58,11 +58,11 @@ pub fn records_in_blocks(
     Ok(records)
 }
 
-/// Packs records, and reads them from their blocks again: they are the same.
+/// Packs records, and reads them back from their blocks: the result is equal to the input.
 ///
 /// # Errors
 ///
-/// Those of [`pack_all`].
+/// As for [`pack_all`].
 pub fn packed_again(
     alloc: Global,
     shape: Shape,

@@ -8,8 +8,8 @@ use tape_blocks::{
 };
 use tape_label::Format;
 
-/// Returns a shape that pads no block in full. In format F its records have at least one byte, as
-/// the type requires.
+/// Returns a shape that does not pad blocks in full. In format F its records have at least one
+/// byte, as the type requires.
 pub fn shape(format: Format, block_len: u32, rec_len: u32, offset: u8) -> Shape {
     let rec_len = match format {
         Format::Fixed => rec_len.max(1),
@@ -24,15 +24,14 @@ pub fn shape(format: Format, block_len: u32, rec_len: u32, offset: u8) -> Shape 
     }
 }
 
-/// The same, but each block is padded in full.
+/// Returns a shape that pads blocks in full.
 pub fn padded(format: Format, block_len: u32, rec_len: u32, offset: u8) -> Shape {
     let mut shape = shape(format, block_len, rec_len, offset);
     shape.pad_full = true;
     shape
 }
 
-/// Returns true if the block passes, leaves a record unfinished or not, and has exactly these
-/// parts.
+/// Returns true if the block passes, with `end` as the result, and has exactly the given parts.
 pub fn reads(
     shape: &Shape,
     begun: bool,
@@ -53,12 +52,12 @@ pub fn reads(
     parts.next().is_none()
 }
 
-/// Returns true if the block is refused at this place for this cause.
+/// Returns true if the block is refused with `cause` at `place`.
 pub fn refuses(shape: &Shape, begun: bool, block: &[u8], place: usize, cause: BlockCause) -> bool {
     check_block(shape, begun, block) == Err(BlockFault { place, cause })
 }
 
-/// Returns copies of these texts.
+/// Returns copies of `texts`.
 pub fn copies(alloc: Global, texts: &[&[u8]]) -> Result<Vec<Vec<u8>>, AllocError> {
     let mut all = Vec::new(alloc);
     for text in texts {
@@ -69,7 +68,7 @@ pub fn copies(alloc: Global, texts: &[&[u8]]) -> Result<Vec<Vec<u8>>, AllocError
     Ok(all)
 }
 
-/// Returns true if these records are packed into exactly these blocks.
+/// Returns true if `records` are packed into exactly the blocks `wanted`.
 pub fn packs(alloc: Global, shape: Shape, records: &[&[u8]], wanted: &[&[u8]]) -> bool {
     match (copies(alloc, records), copies(alloc, wanted)) {
         (Ok(records), Ok(wanted)) => match pack_all(alloc, shape, &records) {
@@ -80,7 +79,7 @@ pub fn packs(alloc: Global, shape: Shape, records: &[&[u8]], wanted: &[&[u8]]) -
     }
 }
 
-/// Returns why these records are not packed, if they are not.
+/// Returns why `records` are not packed, or `None` if they are.
 pub fn pack_fault(alloc: Global, shape: Shape, records: &[&[u8]]) -> Option<PackFault> {
     match copies(alloc, records) {
         Ok(records) => pack_all(alloc, shape, &records).err(),
@@ -88,8 +87,8 @@ pub fn pack_fault(alloc: Global, shape: Shape, records: &[&[u8]]) -> Option<Pack
     }
 }
 
-/// Returns true if both the shape and a packer say that blocks of this shape are written, or both
-/// that they are not.
+/// Returns true if the shape and a packer agree with `written` on whether blocks of this shape can
+/// be written.
 pub fn is_judged(alloc: Global, shape: Shape, written: bool) -> bool {
     let refused = if written {
         None

@@ -1,4 +1,4 @@
--- A reader at a lawful set, the section that it awaits, and the volume that is read.
+-- A reader of a valid set, the section that it expects, and the volume that is read.
 use Rattle.std.proofs.Common.{◌≡◌, ◌<◌, ◌≤◌, ◌⊎◌, ℕ, List, length, Bool, Some}
 use Rattle.tape_set.specs.declared.position.Position.TheVariants.{Awaits}
 use Rattle.tape_set.specs.Layout.{FileSet, Section, Volume, nth, section_of}
@@ -7,8 +7,8 @@ use Rattle.tape_set.specs.Lawful.{IsLawful}
 use Rattle.tape_core.specs.State.{State}
 use Rattle.tape_core.specs.Follows.{IsAt, IsReading}
 
--- w is the section with number sect, k the number of the volume v, and good says which of the items
--- so far were read well.
+-- `w` is section number `sect`, `v` is volume number `k`, and `good` says which of the items so far
+-- were readable.
 pub record Aim : Type 0 where
   pub set : FileSet
   pub l : IsLawful set
@@ -26,7 +26,7 @@ pub record Aim : Type 0 where
   pub vol : nth set.volumes k ≡ Some v
   pub good : List Bool
 
--- what a reading that began at a part of a block awaits
+-- the section expected by a reading that began at a part of a block
 abbrev pub aim_of : (set : FileSet) → IsLawful set → (core : State) (sect block part k : ℕ)
     (v : Volume) → nth set.volumes k ≡ Some v → (good : List Bool)
     → IsReading set (Awaits sect block part) k good core → Aim

@@ -1,4 +1,4 @@
--- What a reader knows of the section needed, and of the rest of the volume.
+-- Facts about the section needed, and about the rest of the volume.
 use Rattle.std.proofs.Common.{◌≡◌, ◌<◌, ◌⊎◌, List, [], ◌∷◌, ◌++◌, length, drop, Bool, true, false}
 use Rattle.std.proofs.Common.{Some, None, refl, sym, ap, ◌∙◌, subst, inl, inr, append_assoc}
 use Rattle.std.specs.Prelude.{◌||◌, MatchBool}
@@ -47,7 +47,7 @@ module _ (aim : Aim) where
   pub file_tells : FileTells set core.file told.0
   file_tells other s is = forms_alike set core.file l sect other w s told.0 found is told.1
 
-  -- what is known is nothing, or that form
+  -- the known form is `None`, or the form of the file
   pub known_cases : (core.known ≡ None) ⊎ (core.known ≡ Some told.0)
   known_cases = go (is_start core.position) at.stands.tells
     where
@@ -58,7 +58,7 @@ module _ (aim : Aim) where
       go true h = inl h
       go false h = inr (h.1 ∙ ap Some (one_form w h.0 told.0 (h.2 sect w found) told.1))
 
-  -- what is known after the start
+  -- the form known after the start of the file
   pub known_after : (p : Position) → is_start p ≡ false → (form : FileForm) → form ≡ told.0
       → KnownAt set core.file p (Some form)
   known_after p e form is = subst (λ b. MatchBool b (Some form ≡ None) ((f : FileForm)
@@ -71,7 +71,7 @@ module _ (aim : Aim) where
       → (form : FileForm) × TellsForm form x.section
   tells_each x later among = form_told set x.file l x.sect x.section (on_it x later among).found
 
-  -- the next entry, good or a data block
+  -- the next entry was read, and is readable or a data block
   pub on_with : (g : Bool) (heading : Heading) (wanted : Bool) (x : Placed) (e : Entry)
       (rest : List Entry)
       → Inside set core.file sect block part k good heading wanted x (e ∷ rest)
@@ -91,7 +91,7 @@ module _ (aim : Aim) where
       (i : Inside set core.file sect block part k good heading true x rest) → AtIt aim x i.later
   wanted_at {x} i = wanted_here aim x i.later i.among i.chosen.0 i.chosen.1
 
-  -- before its data nothing of the section needed is passed
+  -- before its data, no entry of the section needed was passed
   ahead_wanted : (x : Placed) (later : List Placed) (z : List Entry)
       → AtIt aim x later → Ahead aim
       ((z ++ a_mark ∷ data_group x.section.blocks ++ trailer_group x.section) ++ to_come later)
@@ -115,7 +115,7 @@ module _ (aim : Aim) where
       → Ahead aim (z ++ to_come i.later)
   ahead_passed heading x z i = ahead_later aim i.later z (next_among x i.later i.among i.chosen)
 
-  -- if its beginning was read completely and well, far is as from there
+  -- if everything before its data was passed, `far` depends only on the items after it
   pub far_there : (more : List Bool) → w.volume ≡ k → (g : Bool) → (seen : List Bool)
       → passes good (before_data set core.file sect w) ≡ true
       → drop (length (before_data set core.file sect w)) good ≡ seen

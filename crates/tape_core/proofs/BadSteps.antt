@@ -1,4 +1,4 @@
--- Whatever is expected, a bad item preserves the relation between the state and the reading.
+-- In every phase, a bad item preserves the relation between the state and the reading.
 use Rattle.std.proofs.Common.{◌≡◌, ◌<◌, ℕ, ◌+◌, List, [], ◌∷◌, ◌++◌, length, false, Some, refl, inl}
 use Rattle.std.proofs.Common.{inr, arith}
 use Rattle.std.specs.Prelude.{slice_get, map, is_some, nat_lt}
@@ -27,7 +27,7 @@ use Rattle.tape_core.proofs.StraySteps.{stray_over, stray_first, stray_bad, at_s
 module _ (aim : Aim) where
   open aim use {set, core, sect, block, part, k, v, good}
 
-  -- a bad item keeps it, whatever is expected
+  -- a bad item preserves the relation in every phase
   pub bad_next : (phase : Phase) → Follows set core.file sect block part k phase core.position good
       → (e : Entry) → slice_get (entries set k) (length good) ≡ Some e
       → Next aim false (at_bad core phase)

@@ -1,4 +1,4 @@
--- A reader of a later file skips what one of an earlier file reads.
+-- A reader of a later file skips the items that a reader of an earlier file reads.
 use Rattle.std.proofs.Common.{◌≡◌, ℕ, ◌+◌, ◌<◌, List, Bool, true, false}
 use Rattle.std.proofs.Common.{Option, Some, None, Result, Ok, Err, refl, sym, ap, subst, ◌∙◌, arith}
 use Rattle.std.specs.Prelude.{not, nat_lt, if◌then◌else◌, ◌==◌}
@@ -44,7 +44,8 @@ use Rattle.tape_core.specs.Behind.{passed_over, expected_over, PassesTo, AreInOr
 
 -- ---- if a section begins
 
--- by the tests of an HDR1: is it of the set, of an earlier file, of a later one, and the rest
+-- by the tests of an HDR1: whether it is of the set, of an earlier file, of a later file, and the
+-- others
 head1_by : (first later : State) (h : Head1) (s e l r q d s' e' l' r' q' d' : Bool)
     → s' ≡ s → (e ≡ true → e' ≡ true) → (e ≡ false → l ≡ false → e' ≡ true)
     → PassesTo (expected_over (if not s then useless first OtherSet

@@ -1,5 +1,5 @@
--- What the check, and the rule for a block of which some parts were delivered, find in a block that
--- contains its parts.
+-- The results of the check, and of the comparison with the block whose first parts were delivered,
+-- for a block that contains its parts.
 use Rattle.std.proofs.Common.{◌≡◌, ◌⊎◌, inl, inr, ◌<◌, ℕ, zero, suc, List, [], ◌∷◌, length, take}
 use Rattle.std.proofs.Common.{drop, Bool, false, Ok, refl, sym, ap, ◌∙◌, arith}
 use Rattle.std.specs.Prelude.{nat_le}
@@ -39,7 +39,7 @@ first_part Counted rec_len offset block p ps h = sym (ap continues h.1.units.0.0
 first_part Spanned rec_len offset block p ps h =
     ap first_goes_on (h.1.body ∙ spellings_first Spanned p ps h.0) ∙ by_indicator p.span
 
--- if a block continues in order, its first part determines the record state
+-- if a block continues in span order, its first part shows whether a record is unfinished before it
 pub first_begun : (form : FileForm) (block : List ℕ) (parts : List Portion)
     (begun end : Bool) (part : ℕ)
     → Holds form.format form.rec_len form.offset block parts → InOrder begun parts end
@@ -49,8 +49,8 @@ first_begun form block [] begun end part h o lt = absurd (omega arith)
 first_begun form block (p ∷ ps) begun end part h o lt =
     first_part form.format form.rec_len form.offset block p ps h ∙ o.0
 
--- the record state where the block begins, whether or not some of its parts were delivered; now is
--- the state after these
+-- whether a record is unfinished at the start of the block, also if some of its parts were
+-- delivered; `now` is the state after these parts
 pub before_it : (form : FileForm) (block : List ℕ) (parts : List Portion)
     (begun now end : Bool) (part : ℕ)
     → Holds form.format form.rec_len form.offset block parts → InOrder begun parts end
@@ -61,7 +61,7 @@ before_it form block parts begun now end (suc part) h o (inl e) is = absurd (ome
 before_it form block parts begun now end (suc part) h o (inr lt) is =
     first_begun form block parts begun end (suc part) h o lt
 
--- the check passes it
+-- the block passes the check
 pub checked : (form : FileForm) (block : List ℕ) (parts : List Portion)
     (begun now end : Bool) (part : ℕ)
     → Holds form.format form.rec_len form.offset block parts → InOrder begun parts end
@@ -71,7 +71,7 @@ checked form block parts begun now end part h o within is =
     rw (before_it form block parts begun now end part h o within is)
     (judged_only form.format form.rec_len form.offset begun end block parts h o)
 
--- and it is no other block
+-- the block does not differ from the one whose first parts were delivered
 pub same_front : (form : FileForm) (block : List ℕ) (parts : List Portion)
     (begun now end : Bool) (part : ℕ)
     → Holds form.format form.rec_len form.offset block parts → InOrder begun parts end

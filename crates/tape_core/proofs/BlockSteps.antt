@@ -1,4 +1,4 @@
--- The expected block comes, and preserves the relation between the state and the reading.
+-- The expected block preserves the relation between the state and the reading.
 use Rattle.std.proofs.Common.{◌≡◌, ◌<◌, ◌⊎◌, ℕ, ◌+◌, List, [], ◌∷◌, ◌++◌, length, take, drop, Bool}
 use Rattle.std.proofs.Common.{true, false, Some, refl, sym, ap, ◌∙◌, subst, inl, inr, append_assoc}
 use Rattle.std.proofs.Common.{arith, length-append}
@@ -36,8 +36,8 @@ use Rattle.tape_core.proofs.HeaderSteps.{Next}
 module _ (aim : Aim) where
   open aim use {set, l, core, at, sect, block, part, k, w, found, inside, within, good}
 
-  -- the part of the counted block that is expected: that of the start if this is the block,
-  -- otherwise none
+  -- the part expected in the current block: the starting part if reading started in this block,
+  -- otherwise the first
   part_now : (count : ℕ) → core.position ≡ stopped (here aim) sect block count → (d : Filled)
       → slice_get w.blocks count ≡ Some d
       → core.position ≡ Awaits sect count (part_of core.position) × ((part_of core.position ≡ 0)

@@ -1,4 +1,4 @@
--- Readers and labels that are written out, and that there are such.
+-- Readers and labels for the mistakes, and proofs that they can exist.
 use Rattle.std.proofs.Common.{◌≡◌, ℕ, Bool, true, false, refl, sym, ap, codes, arith}
 use Rattle.std.specs.Prelude.{Option, Some, None, Ok, not}
 use Rattle.tape_label.specs.declared.values.Format.TheVariants.{Fixed}
@@ -16,7 +16,7 @@ use Rattle.tape_core.specs.declared.event.Phase.{Phase}
 use Rattle.tape_core.specs.Known.{IsForm, PositionFits}
 use Rattle.tape_core.specs.State.{IsState, State, ToldFits, told}
 
--- ---- what is written out
+-- ---- readers and labels, written out
 
 -- the form of a file of format F, with records of four characters
 abbrev pub fixed : FileForm
@@ -38,7 +38,7 @@ at_start phase = record {
   phase = phase;
 }
 
--- the same inside the file, with no unfinished record
+-- a reader inside file 1, with no unfinished record
 abbrev pub inside : Position → Phase → State
 inside position phase = record (at_start phase) { position = position; known = Some fixed }
 
@@ -46,7 +46,7 @@ inside position phase = record (at_start phase) { position = position; known = S
 abbrev pub headed : Heading
 headed = record { sequence = 1; sect = 1; file_id = codes "PAYROLL          " }
 
--- HDR1 of this section of file 1
+-- an HDR1 of the given section of file 1
 abbrev pub head : ℕ → Head1
 head sect = record {
   file_id = codes "PAYROLL          ";
@@ -61,11 +61,11 @@ head sect = record {
   implementation = codes "             ";
 }
 
--- the trailer label of this section of file 1, with no block
+-- a trailer label of the given section of file 1, with no blocks
 abbrev pub trailer : Bool → ℕ → Trail1
 trailer eof sect = record { eof = eof; head = head sect; blocks = 0 }
 
--- ---- there are such readers
+-- ---- such readers exist
 
 -- the form of the file is in range
 pub fixed_can_be : IsForm fixed.format fixed.rec_len fixed.offset
@@ -80,7 +80,7 @@ told_fits : (told : Option FileForm) → ToldFits false told
 told_fits None = tt
 told_fits (Some form) = λ e. absurd (cc)
 
--- a reader at the start of a file, whatever is expected
+-- a reader at the start of a file, in any phase
 pub at_start_can_be : (phase : Phase) → IsState 1 (Awaits 1 0 0) false None phase
 at_start_can_be phase = record {
   numbered = (omega arith, omega arith);
@@ -109,7 +109,7 @@ inside_can_be p phase fits inside = record {
   told_fits = told_fits (told phase);
 }
 
--- ---- there are such labels
+-- ---- such labels exist
 
 -- a volume label with another identifier than the set's
 pub vol1_can_be :
@@ -127,7 +127,7 @@ pub hdr1_can_be :
 unfolding head1_at head_at
 hdr1_can_be = refl
 
--- its trailer, if the file ends there
+-- the trailer of that section, if the file ends with it
 pub eof1_can_be :
     trail1_at
     (codes "EOF1PAYROLL          ABC00100010001000100 00000 00000 000000                    ")
@@ -135,7 +135,7 @@ pub eof1_can_be :
 unfolding trail1_at end_at head_at
 eof1_can_be = refl
 
--- and if it continues
+-- the trailer of that section, if the file continues
 pub eov1_can_be :
     trail1_at
     (codes "EOV1PAYROLL          ABC00100010001000100 00000 00000 000000                    ")

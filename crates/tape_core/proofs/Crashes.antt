@@ -1,4 +1,5 @@
--- What calls of a sink add to what a crash may leave, one after another.
+-- Consecutive calls of a sink, and the contents that they add to those that may remain after a
+-- crash.
 use Rattle.std.proofs.Common.{◌⊎◌, List, inl, inr, arith}
 use Rattle.tape_blocks.specs.Block.{Portion}
 use Rattle.tape_core.specs.Crash.{AddsOnly, Crashes, Returns}
@@ -17,7 +18,7 @@ either : {A B C D : Type 0} → (A → C ⊎ D) → (B → D) → A ⊎ B → C 
 either f g (inl a) = f a
 either f g (inr b) = inr (g b)
 
--- these first, and then what is among them
+-- a call that adds some contents, and then a call that adds a subset of them
 pub only_then : (these those : Returns) (a b c : Crashes)
     → ((back : Point) (there : List Portion) → those back there → these back there)
     → AddsOnly these a b → AddsOnly those b c → AddsOnly these a c
@@ -30,7 +31,7 @@ only_then these those a b c f one two = record {
   survived = λ t le h. two.survived t (omega (arith, le, one.later)) (one.survived t le h);
 }
 
--- what is among these is among those
+-- contents added are among any larger collection
 pub only_among : (these those : Returns) (a b : Crashes)
     → ((back : Point) (there : List Portion) → these back there → those back there)
     → AddsOnly these a b → AddsOnly those a b
@@ -43,7 +44,7 @@ only_among these those a b f one = record {
   survived = one.survived;
 }
 
--- what was there, or nothing
+-- an alternative to the impossible
 pub or_nothing : {A : Type 0} → A ⊎ ⊥ → A
 or_nothing (inl a) = a
 or_nothing (inr none) = absurd none

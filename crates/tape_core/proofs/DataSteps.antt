@@ -1,4 +1,4 @@
--- In the data of the section needed each item preserves the relation between the state and the
+-- In the data of the section needed, each item preserves the relation between the state and the
 -- reading.
 use Rattle.std.proofs.Common.{◌≡◌, ◌<◌, ◌≤◌, ℕ, ◌+◌, ◌-◌, List, [], ◌∷◌, ◌++◌, length, drop, Bool}
 use Rattle.std.proofs.Common.{true, false, refl, sym, ap, ◌∙◌, subst, append_assoc, arith}
@@ -33,7 +33,7 @@ module _ (aim : Aim) where
   block_now heading form count x i = ap block_of i.awaited
       ∙ stopped_block sect block part (block + good_run (drop block i.seen))
 
-  -- before the block is reached, any item of a data block is skipped
+  -- before the expected block is reached, any item of a data block is skipped
   pub data_below : (g : Bool) (heading : Heading) (form : FileForm) (count : ℕ)
       (x : Placed) (d : Filled) (rest : List Filled)
       (i : InData set core.file sect block part k good heading form count core.position x)
@@ -71,7 +71,7 @@ module _ (aim : Aim) where
         },
       )
 
-  -- the expected block, or the mark after the last, is bad
+  -- the expected block, or the mark after the last block, is bad
   pub data_bad : (heading : Heading) (form : FileForm) (count : ℕ) (x : Placed)
       (i : InData set core.file sect block part k good heading form count core.position x)
       → block + good_run (drop block i.seen) ≡ count → Next aim false (useless core BadItem)
@@ -100,7 +100,7 @@ module _ (aim : Aim) where
           moved_bad (here aim) sect block w i.seen more f
           (let q = ap length e in omega (arith, q, n))
 
-  -- the expected position is known: the count is below it, or is it
+  -- the number of blocks seen is below that of the expected block, or equal to it
   pub count_cases : (heading : Heading) (form : FileForm) (count : ℕ) (x : Placed)
       (i : InData set core.file sect block part k good heading form count core.position x)
       → nat_lt count (block_of core.position) ≡ false → block + good_run (drop block i.seen) ≡ count
@@ -110,7 +110,7 @@ module _ (aim : Aim) where
       let le : count ≤ block + good_run (drop block i.seen) = i.not_behind in
       grind (arith, nat_tests)
 
-  -- with no block left the count is not below the expected position
+  -- if no block is left, the number of blocks seen is not below that of the expected block
   pub all_counted : (heading : Heading) (form : FileForm) (count : ℕ) (x : Placed)
       (i : InData set core.file sect block part k good heading form count core.position x)
       → i.blocks ≡ [] → count < block_of core.position → ⊥

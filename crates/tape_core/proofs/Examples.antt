@@ -1,4 +1,4 @@
--- The cases of a reader's definitions and of sinks.
+-- Proofs of the examples for readers and sinks.
 use Rattle.std.proofs.Common.{◌≡◌, ◌≤◌, ℕ, List, [], ◌∷◌, length, true, false, refl}
 use Rattle.std.proofs.Common.{Option, Some, None, Ok, ap, sym, subst, inl, inr, arith}
 use Rattle.tape_label.specs.Kinds.{kind_at}

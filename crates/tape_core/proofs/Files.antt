@@ -1,4 +1,4 @@
--- More of a file's sections, blocks and parts.
+-- Further facts about a file's sections, blocks and parts.
 use Rattle.std.proofs.Common.{◌≡◌, ◌≤◌, ℕ, zero, suc, List, [], ◌∷◌, ◌++◌, length, Bool, true}
 use Rattle.std.proofs.Common.{false, Some, None, refl, ap, ◌∙◌, arith}
 use Rattle.std.specs.Prelude.{slice_get, unwrap_or}
@@ -31,7 +31,7 @@ none_at (x ∷ xs) = none_at xs
 pub no_parts_at : (blocks : List Filled) → parts_at blocks (length blocks) ≡ []
 no_parts_at blocks = ap parts_of (none_at blocks)
 
--- a trailer ends its file as it reads
+-- a section ends its file exactly if its trailer says so
 pub ends_as : (s : Section) (t : Trail1) → IsTrail1 s.trailer t → ends_file s ≡ t.eof
 ends_as s t is = go t.eof is.kind.named
   where
@@ -39,7 +39,7 @@ ends_as s t is = go t.eof is.kind.named
     go true e = rw e refl
     go false e = rw e refl
 
--- a section has four digits
+-- a section number has at most four digits
 pub few_sections : (set : FileSet) (file sect : ℕ) (s : Section) → IsLawful set
     → section_of set file sect ≡ Some s → sect ≤ 9999
 few_sections set file sect s l found = (every_stands

@@ -1,4 +1,4 @@
--- The beginning of the section needed, compared with what was read.
+-- The beginning of the section needed, compared with the items read.
 use Rattle.std.proofs.Common.{◌≡◌, ◌<◌, ◌≤◌, ◌⊎◌, ℕ, ◌+◌, List, [], ◌∷◌, ◌++◌, length, drop, Bool}
 use Rattle.std.proofs.Common.{true, false, cond, Some, refl, sym, ap, ◌∙◌, subst, inl, inr}
 use Rattle.std.proofs.Common.{append_assoc, arith, length-append, eq-eqb, zero, suc}
@@ -20,7 +20,7 @@ use Rattle.tape_core.specs.Follows.{reading, to_come, Left, Among}
 use Rattle.tape_core.proofs.Aim.{Aim}
 use Rattle.tape_core.proofs.Lists.{passes_push, passes_bad, split_longer}
 
--- one more was read, good or a data block
+-- one more item was read, which is readable or a data block
 pub left_more : (set : FileSet) (k : ℕ) (good : List Bool)
     (g : Bool) (e : Entry) (todo : List Entry)
     → Left set k good (e ∷ todo) → (g || is_data e) ≡ true → Left set k (good ++ g ∷ []) todo
@@ -32,7 +32,7 @@ left_more set k good g e todo h t =
       fine = passes_push good g h.done e h.count h.fine t;
     }
 
--- the first of the rest is what comes next
+-- the next entry is the first of those not yet read
 pub first_left : (set : FileSet) (k : ℕ) (good : List Bool) (e e' : Entry) (todo : List Entry)
     → Left set k good (e' ∷ todo) → slice_get (entries set k) (length good) ≡ Some e → e' ≡ e
 first_left set k good e e' todo h s =
@@ -97,12 +97,12 @@ module _ (aim : Aim) where
   far_on is gs h =
       far_is gs ∙ (let t : (w.volume == k) ≡ true = eq-eqb w.volume k is in rw (t, h) refl)
 
-  -- nothing of the section needed was passed
+  -- no entry of the section needed was passed
   abbrev pub Ahead : List Entry → Type 0
   Ahead todo = w.volume ≡ k
       → (rest : List Entry) × (fr ++ rest ≡ entries set k) × (length rest < length todo)
 
-  -- a bad label or mark before the data ends all hope in this reading
+  -- after a bad label or mark before the data, this reading does not move the position
   pub over_bad : (good : List Bool) (e : Entry) (todo : List Entry) → Left set k good (e ∷ todo)
       → is_data e ≡ false → Ahead (e ∷ todo) → (more : List Bool)
       → far set file here (reading k ((good ++ false ∷ []) ++ more)) ≡ here
@@ -134,7 +134,7 @@ module _ (aim : Aim) where
   abbrev rest_from : List Placed → List Entry
   rest_from post = data_group w.blocks ++ trailer_group w ++ to_come post
 
-  -- the contents of the volume, cut at the data of the section needed
+  -- the contents of the volume, divided at the data of the section needed
   whole_at : (past later : List Placed) → w.volume ≡ k → past ++ later ≡ on k (sections set)
       → (lies : Lies set file sect k w past later) → fr ++ rest_from lies.post ≡ entries set k
   whole_at past later at all lies =
@@ -166,7 +166,7 @@ module _ (aim : Aim) where
     rising_behind among.past x later (subst Rising (sym among.all) (sections_on_rise set k l)),
   )
 
-  -- the first section to come is the one needed, if that is on the volume, or of an earlier file
+  -- the next section is the one needed, if that is on the volume, or belongs to an earlier file
   pub first_is : (x : Placed) (later : List Placed) → Among set k file (x ∷ later) → w.volume ≡ k
       → (x ≡ it) ⊎ (x.file < file)
   first_is x later among is =
@@ -220,7 +220,7 @@ module _ (aim : Aim) where
       ap length lies.here ∙ length-append lies.pre (it ∷ lies.post) in
       omega (arith, n)
 
-  -- before the end of the headers the position stays
+  -- before the end of the headers the position does not change
   pub far_ahead : (good : List Bool) (todo : List Entry) → Left set k good todo → Ahead todo
       → far set file here (reading k good) ≡ here
   far_ahead good todo left ahead = go (w.volume == k) refl

@@ -1,4 +1,4 @@
--- Whatever is expected, a good item preserves the relation between the state and the reading.
+-- In every phase, a readable item preserves the relation between the state and the reading.
 use Rattle.std.proofs.Common.{◌≡◌, ◌<◌, ℕ, List, [], ◌∷◌, ◌++◌, length, true, false, Some, refl}
 use Rattle.std.proofs.Common.{subst, inl, inr, arith}
 use Rattle.std.specs.Prelude.{slice_get, is_some, nat_lt}
@@ -37,7 +37,7 @@ use Rattle.tape_core.proofs.StraySteps.{stray_next, at_start}
 module _ (aim : Aim) where
   open aim use {set, l, core, sect, block, part, k, v, vol, good}
 
-  -- a good item is the next one of the volume
+  -- a readable item is the next item of the volume
   as_entry : (e e' : Entry) (phase : Phase) (todo : List Entry) → Left set k good (e' ∷ todo)
       → slice_get (entries set k) (length good) ≡ Some e
       → Next aim true (at_item core phase (item_of e'))
@@ -105,7 +105,7 @@ module _ (aim : Aim) where
       (λ t. data_awaited aim heading form count x d rest i q
       (count_cases aim heading form count x i t)))
 
-  -- a good item keeps it
+  -- a readable item preserves the relation
   pub good_next : (phase : Phase) → Follows set core.file sect block part k phase core.position good
       → (e : Entry) → slice_get (entries set k) (length good) ≡ Some e
       → Next aim true (at_item core phase (item_of e))

@@ -1,4 +1,4 @@
--- At the labels before a section's data each item preserves the relation between the state and the
+-- At the labels before a section's data, each item preserves the relation between the state and the
 -- reading.
 use Rattle.std.proofs.Common.{◌≡◌, ◌≢◌, ◌≤◌, ◌⊎◌, ◌+◌, List, [], ◌∷◌, ◌++◌, length, drop, Bool}
 use Rattle.std.proofs.Common.{true, false, cond, Option, Some, None, Ok, refl, sym, ap, ◌∙◌, subst}
@@ -48,7 +48,7 @@ module _ (aim : Aim) where
   abbrev pub Behind : Bool → Phase → Position → Type 0
   Behind g phase position = Follows set core.file sect block part k phase position (good ++ g ∷ [])
 
-  -- after the next item, good or not, the relation is preserved
+  -- after the next item, readable or not, the relation holds again
   pub record Next (g : Bool) (out : Outcome) : Type 0 where
     pub fits : IsAt set out.1
     pub same : out.1.file ≡ core.file
@@ -94,7 +94,7 @@ module _ (aim : Aim) where
   bad_here why e todo wait left d ahead =
       useless_next false why (λ more. over_bad aim good e todo left d ahead more ∙ sym wait)
 
-  -- the reading cannot reach the section
+  -- the section needed is not on this volume
   pub nothing_here : (g : Bool) (why : Reason) → core.position ≡ here aim → (w.volume ≡ k → ⊥)
       → Next g (useless core why)
   nothing_here g why wait off =

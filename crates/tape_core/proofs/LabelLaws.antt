@@ -1,5 +1,4 @@
--- What the labels of a lawful set are to the calls that read them, and that no block is two kinds
--- of label.
+-- How the labels of a valid set are read, and that no block is two kinds of label.
 use Rattle.std.proofs.Common.{◌≡◌, ◌⊎◌, inl, inr, ℕ, List, Bool, true, false, Option, Some, None}
 use Rattle.std.proofs.Common.{refl, eq-eqb}
 use Rattle.std.specs.Prelude.{◌==◌}
@@ -27,25 +26,25 @@ apart : (eof : Bool) → kinds.Hdr1 ≡ trailer eof → ⊥
 apart true q = cc
 apart false q = cc
 
--- a trailer is no header
+-- a trailer is not a header
 pub trailer_no_header : (b : List ℕ) (t : Trail1) → IsTrail1 b t → IsNoHeader b
 trailer_no_header b t is h head =
     apart t.eof (HasKind-unique b kinds.Hdr1 (trailer t.eof) head.kind is.kind)
 
--- a header fits no heading
+-- a header does not fit a heading
 pub header_no_trailer : (heading : Heading) (b : List ℕ) (h : Head1) → IsHead1 b h
     → FitsHeading heading b → ⊥
 header_no_trailer heading b h is fits = trailer_no_header b fits.0 fits.1 h is
 
--- a header is no volume label
+-- a header is not a volume label
 pub header_no_label : (b : List ℕ) (h : Head1) → IsHead1 b h → is_volume_label b ≡ false
 header_no_label b h is = no_volume_label b kinds.Hdr1 is.kind (λ e. cc)
 
--- a volume label is taken for one
+-- a volume label is recognized as such
 pub label_taken : (b : List ℕ) → IsVolumeLabel b → is_volume_label b ≡ true
 label_taken b is = volume_label_again b (is.size, is.named)
 
--- ---- what is known is compared with itself
+-- ---- the known form compared with itself
 
 pub same_id : (known : Option FileForm) (form : FileForm) (file_id : List ℕ)
     → (known ≡ None) ⊎ (known ≡ Some form) → form.file_id ≡ file_id

@@ -1,4 +1,4 @@
--- Parts whose bytes follow one another: adding, cutting off, lending and weighing.
+-- Parts whose bytes are consecutive: adding, removing, borrowing and weighing them.
 use Rattle.std.proofs.Common.{◌≡◌, ◌≤◌, ℕ, zero, suc, ◌+◌, ◌-◌, ◌*◌, List, [], ◌∷◌, ◌++◌, length}
 use Rattle.std.proofs.Common.{take, drop, Some, refl, sym, ap, ◌∙◌, subst, arith}
 use Rattle.std.specs.Prelude.{slice_get, slice_range}
@@ -46,7 +46,7 @@ laid_more start [] finish last l low high = (omega (arith, l, low), omega (arith
 laid_more start (e ∷ es) finish last l low high =
     (l.0, l.1, laid_more e.end es finish last l.2 low high)
 
--- bytes that are the same up to where the parts end make the same parts
+-- bytes that agree up to the end of the parts contain the same parts
 parts_same : (start : ℕ) (es : List Entry) (finish : ℕ) (xs ys : List ℕ)
     → AreLaid start es finish → take finish xs ≡ take finish ys
     → parts_from start es xs ≡ parts_from start es ys
@@ -69,7 +69,7 @@ parts_split start [] last bytes = refl
 parts_split start (e ∷ es) last bytes =
     ap (λ (ps : List Portion). part_at start e bytes ∷ ps) (parts_split e.end es last bytes)
 
--- bytes after the others, and an entry that ends with them, are one more part
+-- bytes appended to the others, with an entry that ends with them, are one more part
 pub parts_added : (es : List Entry) (bytes more : List ℕ) (last : Entry)
     → IsLaid es bytes → last.end ≡ length bytes + length more
     → parts_from 0 (es ++ last ∷ []) (bytes ++ more)
@@ -129,13 +129,13 @@ laid_cut n es bytes laid =
     length-take-le (end_from 0 (take n es)) bytes (end_front n 0 es (length bytes) laid) in
     subst (AreLaid 0 (take n es)) (sym long) (laid_front n 0 es (length bytes) laid)
 
--- a part for each entry
+-- there are as many parts as entries
 pub parts_length : (start : ℕ) (es : List Entry) (bytes : List ℕ)
     → length (parts_from start es bytes) ≡ length es
 parts_length start [] bytes = refl
 parts_length start (e ∷ es) bytes = ap suc (parts_length e.end es bytes)
 
--- the part of a number
+-- the part with a given number
 pub parts_get : (start : ℕ) (es : List Entry) (bytes : List ℕ) (n : ℕ) (e : Entry)
     → slice_get es n ≡ Some e
     → slice_get (parts_from start es bytes) n ≡ Some (part_at (end_from start (take n es)) e bytes)
@@ -145,7 +145,7 @@ parts_get start (x ∷ xs) bytes zero e h =
     ap (λ (z : Entry). Some (part_at start z bytes)) same
 parts_get start (x ∷ xs) bytes (suc n) e h = parts_get x.end xs bytes n e h
 
--- where the bytes of the part with a number are
+-- the range of the bytes of the part with a given number
 pub record LiesBetween (start : ℕ) (e : Entry) (finish : ℕ) : Type 0 where
   pub rises : start ≤ e.end
   pub short : e.end ≤ start + 99999
@@ -161,7 +161,7 @@ laid_get start (x ∷ xs) finish zero e l h =
     (record { rises = l.0; short = l.1; within = laid_below x.end xs finish l.2 })
 laid_get start (x ∷ xs) finish (suc n) e l h = laid_get x.end xs finish n e l.2 h
 
--- where the parts up to the one with a number end
+-- the end of the parts up to and including the one with a given number
 pub end_get : (start : ℕ) (es : List Entry) (n : ℕ) (e : Entry) → slice_get es n ≡ Some e
     → end_from start (take (suc n) es) ≡ e.end
 end_get start [] n e h = absurd (cc)
@@ -178,7 +178,7 @@ weight_laid start (e ∷ es) finish bytes l fits =
     let long = range_length bytes start e.end l.0 (omega (arith, below, fits)) in
     omega (arith, rest, long)
 
--- what the first parts weigh
+-- the weight of the first parts
 pub weight_front : (n : ℕ) (es : List Entry) (bytes : List ℕ) → IsLaid es bytes
     → n ≤ length es
     → weight_of (take n (parts_from 0 es bytes)) ≡ 5 * n + end_from 0 (take n es)
@@ -189,12 +189,12 @@ weight_front n es bytes laid within =
     let many = length-take-le n es within in
     ap weight_of (parts_front n 0 es bytes) ∙ omega (arith, w, many)
 
--- what all parts weigh
+-- the weight of all parts
 pub weight_all : (es : List Entry) (bytes : List ℕ) → IsLaid es bytes
     → weight_of (parts_from 0 es bytes) ≡ 5 * length es + length bytes
 weight_all es bytes laid = omega (arith, weight_laid 0 es (length bytes) bytes laid (omega arith))
 
--- what is left from a number on begins with the part with that number
+-- the parts after the first n begin with part number n
 pub drop_get : (ps : List Portion) (n : ℕ) (p : Portion) → slice_get ps n ≡ Some p
     → drop n ps ≡ p ∷ drop (n + 1) ps
 drop_get [] n p h = absurd (cc)

@@ -1,4 +1,4 @@
--- Lists of what was read, compared with the contents of a volume.
+-- Lists of items read, compared with the contents of a volume.
 use Rattle.std.proofs.Common.{◌≡◌, ◌<◌, ◌≤◌, ℕ, zero, suc, ◌+◌, ◌-◌, List, [], ◌∷◌, ◌++◌, length}
 use Rattle.std.proofs.Common.{take, drop, Bool, true, false, cond, ltb, refl, sym, ap, ◌∙◌, arith}
 use Rattle.std.proofs.Common.{length-append, eq-eqb}
@@ -11,7 +11,7 @@ use Rattle.tape_set.specs.declared.position.Position.TheVariants.{Awaits, Finish
 use Rattle.tape_set.specs.Position.{awaiting, block_of}
 use Rattle.std.proofs.lemmas.List.{drop-append-le, length-drop, drop_at, take_all, drop_all}
 
--- one more entry, read good or a data block
+-- one more entry, which was readable or is a data block
 pub passes_push : (good : List Bool) (g : Bool) (done : List Entry) (e : Entry)
     → length done ≡ length good → passes good done ≡ true → (g || is_data e) ≡ true
     → passes (good ++ g ∷ []) (done ++ e ∷ []) ≡ true
@@ -28,7 +28,7 @@ passes_push (b ∷ good) g (d ∷ done) e n h t =
     go true ev hv ih = rw ev (ih hv t)
     go false ev hv ih = absurd (cc)
 
--- a bad entry that is no data block
+-- a bad entry that is not a data block
 pub passes_bad : (good more : List Bool) (done rest : List Entry) (e : Entry)
     → length done ≡ length good → is_data e ≡ false
     → passes (good ++ false ∷ more) (done ++ e ∷ rest) ≡ false
@@ -42,7 +42,7 @@ passes_bad (b ∷ good) more (d ∷ done) rest e n t =
     and_false true = refl
     and_false false = refl
 
--- of two splits of one list, one is shorter: it continues inside the other
+-- a list is split in two ways; the longer first half continues inside the other's second half
 pub split_longer : {A : Type 0} (xs ys us vs : List A) → xs ++ ys ≡ us ++ vs → length vs < length ys
     → (e : A) × (more : List A) × (us ≡ xs ++ e ∷ more) × (ys ≡ e ∷ more ++ vs)
 split_longer [] [] us vs h n = absurd (omega arith)
@@ -60,7 +60,7 @@ run_all [] = omega arith
 run_all (true ∷ gs) = let ih = run_all gs in omega (arith, ih)
 run_all (false ∷ gs) = omega arith
 
--- a good one after good ones
+-- one more readable item after readable items
 pub run_push : (gs : List Bool) → good_run gs ≡ length gs
     → good_run (gs ++ true ∷ []) ≡ good_run gs + 1
 run_push [] h = refl
@@ -70,7 +70,7 @@ run_push (true ∷ gs) h =
     omega (arith, ih)
 run_push (false ∷ gs) h = absurd (omega arith)
 
--- after a bad one no more count
+-- after a bad item no further items count
 pub run_stop : (gs more : List Bool) (m : ℕ) → good_run gs ≡ length gs → length gs ≤ m
     → good_run (take m (gs ++ false ∷ more)) ≡ good_run gs
 run_stop [] more zero h n = refl
@@ -81,7 +81,7 @@ run_stop (true ∷ gs) more (suc m) h n =
     ap (λ v. v + 1) (run_stop gs more m e (omega arith))
 run_stop (false ∷ gs) more m h n = absurd (omega arith)
 
--- good ones alone count whole, cut to their number
+-- if all items are readable, the run has their full number
 pub run_whole : (gs more : List Bool) (m : ℕ) → good_run gs ≡ length gs → length gs ≡ m
     → good_run (take m (gs ++ more)) ≡ m
 run_whole [] more zero h n = refl
@@ -93,7 +93,7 @@ run_whole (true ∷ gs) more (suc m) h n =
     omega (arith, ih)
 run_whole (false ∷ gs) more m h n = absurd (omega (arith, run_all gs))
 
--- seen is all good from block on
+-- all items of `seen` from index `block` on are readable
 abbrev pub Full : ℕ → List Bool → Type 0
 Full block seen = block + good_run (drop block seen) ≡ length seen
 
@@ -131,7 +131,7 @@ moved_bad p sect block s seen more h lt =
     (let le : block ≤ length seen = omega (arith, h) in grind (arith, nat_tests)) in
     rw (full_bad block (length s.blocks) seen more h (omega arith), t, u) refl
 
--- the blocks are all read, and then
+-- all blocks were read, and further items after them
 pub moved_all : (p : Position) (sect block : ℕ) (s : Section) (seen rest : List Bool)
     → Full block seen → length seen ≡ length s.blocks
     → moved p sect block s (seen ++ rest)
@@ -147,7 +147,7 @@ moved_all p sect block s seen rest h e =
       drop_at seen rest (length s.blocks) e,
     ) refl
 
--- while the data are read, the position is the one reached
+-- while the data are read, the position is at the block that was reached
 pub moved_short : (p : Position) (sect block : ℕ) (s : Section) (seen : List Bool)
     → block ≤ length s.blocks → length seen ≤ length s.blocks
     → moved p sect block s seen ≡ stopped p sect block (block + good_run (drop block seen))
@@ -170,7 +170,7 @@ moved_short p sect block s seen h le =
         grind (arith, nat_tests) in
         ap (λ n. stopped p sect block n) same
 
--- ---- the position if a block is expected
+-- ---- the position while a block is expected
 
 pub stopped_block : (sect block part n : ℕ)
     → block_of (stopped (Awaits sect block part) sect block n) ≡ n
@@ -198,7 +198,7 @@ stopped_later p sect block n lt =
 pub stopped_here : (p : Position) (sect block : ℕ) → stopped p sect block block ≡ p
 stopped_here p sect block = let t : (block == block) ≡ true = eq-eqb block block refl in rw t refl
 
--- what was bad stays bad
+-- entries that were not passed are not passed with one more
 pub passes_stays_bad : (good : List Bool) (g : Bool) (done : List Entry) (e : Entry)
     → length done ≡ length good → passes good done ≡ false
     → passes (good ++ g ∷ []) (done ++ e ∷ []) ≡ false

@@ -1,5 +1,5 @@
--- Answers that the contract of `ReaderCore::step` excludes: each is what a wrong body would give.
--- That there are the readers and labels they speak of is said in Cases.
+-- Answers that the contract of `ReaderCore::step` excludes: each is the answer of a wrong body.
+-- `Cases` proves that the readers and labels used here can exist.
 use Rattle.std.proofs.Common.{◌≡◌, true, false, refl, sym, ap, ◌∙◌, arith}
 use Rattle.std.specs.Prelude.{Some, None, Ok}
 use denote.MutBor.{MutBor}
@@ -25,7 +25,7 @@ called r old event = (record r { now = old }, (event, tt))
 
 -- ---- headers
 
--- set_compared_with_volume: a volume label with another identifier is taken for another set
+-- set_compared_with_volume: a volume label with another identifier is reported as another set
 set_compared_with_volume : (κs : _) (r : MutBor State) (b : _) (s : _)
     → step.Learnt-named κs (called r (at_start phases.Volume) (events.Block b))
     (Useless reasons.OtherSet) s
@@ -49,7 +49,8 @@ section_number_not_compared κs r b s l h =
 
 -- ---- data
 
--- skips_unreadable_block: a bad item is skipped although block 3 is expected, and three were seen
+-- skips_unreadable_block: a bad item is skipped although block 3 is expected and three blocks were
+-- seen
 skips_unreadable_block : (κs : _) (r : MutBor State) (s : _)
     → step.Learnt-named κs
     (called r (inside (Awaits 1 3 0) (phases.DataWanted headed fixed 3)) events.Bad) Passed s
@@ -57,8 +58,8 @@ skips_unreadable_block : (κs : _) (r : MutBor State) (s : _)
 skips_unreadable_block κs r s l =
     let e : Passed ≡ Useless reasons.BadItem = ap (λ o. o.0) l.table in absurd (cc)
 
--- gives_up_at_delivered_block: a bad item is refused although one block was seen, and block 3 is
--- expected
+-- gives_up_at_delivered_block: a bad item is refused although only one block was seen and block 3
+-- is expected
 gives_up_at_delivered_block : (κs : _) (r : MutBor State) (s : _)
     → step.Learnt-named κs
     (called r (inside (Awaits 1 3 0) (phases.DataWanted headed fixed 1)) events.Bad)
@@ -66,15 +67,15 @@ gives_up_at_delivered_block : (κs : _) (r : MutBor State) (s : _)
 gives_up_at_delivered_block κs r s l =
     let e : Useless reasons.BadItem ≡ Passed = ap (λ o. o.0) l.table in absurd (cc)
 
--- later_block_taken: a block is delivered although one was seen, and block 3 is expected
+-- later_block_taken: a block is delivered although only one block was seen and block 3 is expected
 later_block_taken : (κs : _) (r : MutBor State) (b : _) (s : _)
     → step.Learnt-named κs
     (called r (inside (Awaits 1 3 0) (phases.DataWanted headed fixed 1)) (events.Block b))
     Deliver s → ⊥
 later_block_taken κs r b s l = let e : Deliver ≡ Passed = ap (λ o. o.0) l.table in absurd (cc)
 
--- part_kept_behind_block: after a block of which two parts were delivered, part 2 of the next block
--- is expected instead of its first
+-- part_kept_behind_block: after a block with two delivered parts, part 2 of the next block is
+-- expected instead of its first part
 part_kept_behind_block : (κs : _) (r : MutBor State) (b : _) (s : _)
     → step.Learnt-named κs
     (called r (inside (Awaits 1 0 2) (phases.DataWanted headed fixed 0)) (events.Block b))
@@ -98,7 +99,7 @@ trailer_numbers_not_compared κs r b s l t =
     = ap (λ o. o.0) (e ∙ ap (at_wanted_trailer old headed fixed) t) in
     absurd (cc)
 
--- whole_count_compared: a section of 1,000,000 blocks is refused, since its label counts 0
+-- whole_count_compared: a section of 1,000,000 blocks is refused because its label has the count 0
 whole_count_compared : (κs : _) (r : MutBor State) (b : _) (s : _)
     → step.Learnt-named κs
     (called r (inside (Awaits 1 1000000 0) (phases.TrailerWanted headed fixed)) (events.Block b))
@@ -125,7 +126,7 @@ complete_at_eov κs r b s l t =
     = ap (λ o. o.0) (e ∙ ap (at_wanted_trailer old headed fixed) t) in
     absurd (cc)
 
--- empty_section_tells_nothing: after a first section without blocks nothing is known of the file
+-- empty_section_tells_nothing: after a first section without blocks the form of the file is unknown
 empty_section_tells_nothing : (κs : _) (r : MutBor State) (b : _) (s : _)
     → step.Learnt-named κs
     (called r (at_start (phases.TrailerWanted headed fixed)) (events.Block b)) SectionDone s
@@ -138,7 +139,7 @@ empty_section_tells_nothing κs r b s l t w =
     = sym w ∙ ap (λ o. o.1.known) (e ∙ ap (at_wanted_trailer old headed fixed) t) in
     absurd (cc)
 
--- files_passed_by_counting_marks: after the mark of skipped data no trailer is looked at
+-- files_passed_by_counting_marks: after the mark that ends skipped data no trailer is checked
 files_passed_by_counting_marks : (κs : _) (r : MutBor State) (s : _)
     → step.Learnt-named κs
     (called r (record (at_start (phases.DataPassed headed)) { file = 2 }) events.Mark) Passed s
@@ -150,7 +151,8 @@ files_passed_by_counting_marks κs r s l w =
 
 -- ---- the end of a reading
 
--- complete_at_reel_end: the reel ends where the trailer is expected, and that completes the file
+-- complete_at_reel_end: the reel ends when the trailer is expected, and the file is reported as
+-- complete
 complete_at_reel_end : (κs : _) (r : MutBor State) (s : _)
     → step.Learnt-named κs
     (called r (inside (Awaits 1 2 0) (phases.TrailerWanted headed fixed)) events.ReelEnd)
@@ -158,8 +160,8 @@ complete_at_reel_end : (κs : _) (r : MutBor State) (s : _)
 complete_at_reel_end κs r s l =
     let e : Complete ≡ Useless reasons.ReelEnded = ap (λ o. o.0) l.table in absurd (cc)
 
--- useless_moves_position: the reel ends inside a block of which two parts were delivered, and then
--- its first part is expected
+-- useless_moves_position: after the reel ends inside a block with two delivered parts, its first
+-- part is expected
 useless_moves_position : (κs : _) (r : MutBor State) (s : _)
     → step.Learnt-named κs
     (called r (inside (Awaits 1 3 2) (phases.DataWanted headed fixed 3)) events.ReelEnd)

@@ -1,4 +1,4 @@
--- Every step, whatever is read, keeps the set and the file.
+-- No step changes the set or the file, whatever the item.
 use Rattle.std.proofs.Common.{◌≡◌, ℕ, List, Bool, true, false, cond, Option, Some, None, Result, Ok}
 use Rattle.std.proofs.Common.{Err, refl, ap, ◌∙◌}
 use Rattle.std.specs.Prelude.{◌==◌, not, nat_lt}
@@ -32,7 +32,7 @@ use Rattle.tape_core.specs.Table.{at_end, at_wanted_trailer, at_judged, at_await
 use Rattle.tape_core.specs.Table.{first_label, second_label, at_block, at_mark, at_bad, at_reel_end}
 use Rattle.tape_core.specs.Table.{at_arrival, unless_complete, step_of}
 
--- the outcome is one of the same file
+-- the set and the file after a step are those before it
 pub record Same (core : State) (out : Outcome) : Type 0 where
   pub set_id : out.1.set_id ≡ core.set_id
   pub file : out.1.file ≡ core.file
@@ -155,7 +155,7 @@ same_step : (core : State) (arrived : Option TapeItem) → Same core (step_of co
 same_step core arrived = same_unless core core.position (at_arrival core core.phase arrived)
     (same_arrival core core.phase arrived)
 
--- whatever comes, the file is the same
+-- the file is the same after any item
 pub step_set_id : (core : State) (out : Outcome) (arrived : Option TapeItem)
     → out ≡ step_of core arrived → out.1.set_id ≡ core.set_id
 step_set_id core out arrived is = ap (λ z. z.1.set_id) is ∙ (same_step core arrived).set_id

@@ -1,4 +1,4 @@
--- The checkpoint inside a block of which some parts were kept.
+-- The checkpoint inside a block, some of whose parts were kept.
 use Rattle.std.proofs.Common.{◌≡◌, ◌<◌, ◌≤◌, ℕ, zero, suc, ◌-◌, List, [], ◌∷◌, ◌++◌, length, take}
 use Rattle.std.proofs.Common.{drop, Bool, true, false, Some, None, refl, sym, ap, ◌∙◌, subst, inr}
 use Rattle.std.proofs.Common.{append_assoc, arith}
@@ -37,7 +37,7 @@ take_split (suc k) (suc n) (x ∷ xs) h =
     let e : suc n - suc k ≡ n - k = omega arith in
     rw e (ap (λ z. x ∷ z) (take_split k n xs (omega arith)))
 
--- what continues inside the block continues a record only in format S
+-- only units of format S continue a record
 goes_on : (format : Format) (rec_len : ℕ) (p : Portion) → IsUnit format rec_len p
     → continues p.span ≡ true → is_spanned format ≡ true
 goes_on Fixed rec_len p u e = absurd (let q = sym (ap continues u.0) ∙ e in cc)
@@ -81,7 +81,7 @@ later_part sect place part h =
     go true = refl
     go false = refl
 
--- If this many parts of the delivered block were kept, the checkpoint inside the block is valid.
+-- If `part` parts of the delivered block were kept, the checkpoint inside the block is valid.
 pub part_stands : (set : FileSet) (old new : State) (item : TapeItem) (staged part : ℕ)
     (begun : Bool) (n : ℕ)
     → IsAt set old → new.set_id ≡ set.set_id → new.file ≡ old.file → (d : Delivers set item old new)

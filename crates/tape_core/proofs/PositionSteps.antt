@@ -1,5 +1,5 @@
--- What is expected determines the position that the reading reaches, and what a complete volume
--- leaves.
+-- The phase determines the position that the reading reaches, and the state after a complete
+-- volume.
 use Rattle.std.proofs.Common.{◌≡◌, ◌+◌, List, [], ◌∷◌, ◌++◌, length, true, refl, sym, ap, ◌∙◌}
 use Rattle.std.proofs.Common.{subst, inl, inr, arith, length-append}
 use Rattle.std.specs.Prelude.{map, is_some}
@@ -35,7 +35,7 @@ module _ (aim : Aim) where
       ∙ sym (ap (λ z. far set core.file (here aim) (reading k z)) (sym (append-nil good))
       ∙ a.lost [])
 
-  -- the position is the one that the reading makes
+  -- the position is the one that the reading reaches
   pub position_is : (phase : Phase)
       → Follows set core.file sect block part k phase core.position good
       → core.position ≡ far set core.file (here aim) (reading k good)
@@ -104,7 +104,7 @@ module _ (aim : Aim) where
       ∙ (ap (λ z. a.done ++ z) (sym none) ∙ a.whole) in
       let w = sym (ap (λ z. passes good z) same ∙ h) ∙ a.bad in cc
 
-  -- a whole volume, with bad data alone, leaves nothing under way
+  -- after a complete volume in which only data blocks are bad, no reading is in progress
   pub whole_over : (phase : Phase)
       → Follows set core.file sect block part k phase core.position good
       → length good ≡ length (entries set k) → passes good (entries set k) ≡ true → phase ≡ Over

@@ -1,4 +1,4 @@
--- The meaning of the tests of a checkpoint's range.
+-- The tests of the range of a checkpoint agree with its invariant.
 use Rattle.std.proofs.Common.{◌≡◌, ◌≤◌, ◌&&◌, ◌||◌, not, nat_le, Bool, true, false, Option, Some}
 use Rattle.std.proofs.Common.{None, is_some, refl, sym, arith, rules}
 use Rattle.std.proofs.lemmas.Bool.{and_parts}
@@ -107,7 +107,7 @@ stand_fits point h =
 pub weight_fits : (point : Point) → in_range point ≡ true → point.staged ≤ most_staged
 weight_fits point h = let all = fits_of point h in grind (arith, nat_tests, all.light)
 
--- what is in range is a checkpoint
+-- numbers and flags that pass the tests are those of a checkpoint
 pub ranged : (point : Point) → in_range point ≡ true → IsPoint point
 ranged point h = record {
   numbered = number_fits point h;
@@ -115,7 +115,7 @@ ranged point h = record {
   light = weight_fits point h;
 }
 
--- a checkpoint is in range
+-- a checkpoint passes the tests
 pub in_range_is : (point : Point) → IsPoint point → in_range point ≡ true
 in_range_is point is =
     let place = position_passes point.position is.stands.numbers in

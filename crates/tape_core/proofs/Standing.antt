@@ -1,4 +1,4 @@
--- What the end of a reel, a mount and the way to a checkpoint leave, whatever was read.
+-- The states after the end of a reel, after a mount, and after a restart, whatever was read.
 use Rattle.std.proofs.Common.{◌≡◌, ℕ, List, Bool, true, false, cond, Option, None, Result, Ok, Err}
 use Rattle.std.proofs.Common.{refl, sym, ap, ◌∙◌, subst, eq-eqb, arith}
 use Rattle.std.specs.Prelude.{◌==◌, OnOk, OnErr}
@@ -61,7 +61,7 @@ mounted_stand core phase (Awaits sect b part) e = rest_as core phase e
 pub mount_stand : (core new : State) → new ≡ mount_of core → rest_of new ≡ rest_of core
 mount_stand core new is = ap rest_of is ∙ mounted_stand core core.phase core.position refl
 
--- ---- going to a checkpoint
+-- ---- moving to a checkpoint
 
 abbrev chosen : State → Point → Bool → Result (Unit {0}) CoreFault × State
 chosen core point t = cond t (Ok tt, restarted core point) (Err OtherFile, core)
@@ -108,7 +108,7 @@ stayed core point out is = subst (λ z. OnErr z.0 (z.1 ≡ core)) (sym is) (go (
     go true = tt
     go false = refl
 
--- ---- a reader with no reading under way
+-- ---- a reader with no reading in progress
 
 resting_sound : (phase : Phase) → is_broken phase ≡ false → is_broken (resting phase) ≡ false
 resting_sound Broken e = e
@@ -126,7 +126,7 @@ pub rested : (set : FileSet) (core : State) → IsAt set (rest_of core) → IsAt
 rested set core a =
     record { of_set = a.of_set; sound = sound_again core.phase a.sound; stands = a.stands }
 
--- a valid state is a place, and the other way round
+-- a valid checkpoint is a reader with parts, and conversely
 pub stood : (set : FileSet) (file : ℕ) (c : Point) (parts : List Portion) → Stands set file c parts
     → IsPlaced set (place_of c) parts
 stood set file c parts s = record {

@@ -1,4 +1,4 @@
--- The invariant of readers is preserved.
+-- Steps preserve the invariant of readers.
 use Rattle.std.proofs.Common.{◌≡◌, ◌<◌, ◌≤◌, ◌⊎◌, inl, inr, ℕ, zero, suc, ◌+◌, List, [], ◌∷◌, ◌++◌}
 use Rattle.std.proofs.Common.{length, take, Bool, true, false, Some, refl, sym, ap, ◌∙◌, arith}
 use Rattle.std.proofs.Common.{length-append}
@@ -33,13 +33,13 @@ later_start sect place =
     go true = refl
     go false = refl
 
--- ---- the parts of a block of which some were delivered
+-- ---- the parts of a block whose first parts were delivered
 
 pub one_more : (first : Bool) (ps : List Portion) (p : Portion)
     → begun_behind first (ps ++ p ∷ []) ≡ leaves p.span
 one_more first ps p = begun_behind-append first ps (p ∷ [])
 
--- this many parts are there, and one more
+-- the block has `part` parts and one more
 pub front_at : (form : FileForm) (part : ℕ) (begun going : Bool) (block : List ℕ)
     (seen more : List Portion) (p : Portion)
     → parts_in form block ≡ seen ++ p ∷ more → length seen ≡ part → (part ≡ 0 → ⊥)
@@ -60,7 +60,7 @@ front_at form (suc part) begun going block seen more p is n some g =
     take_front (x ∷ xs) ys zero h = absurd (omega arith)
     take_front (x ∷ xs) ys (suc m) h = ap (λ z. x ∷ z) (take_front xs ys m (omega arith))
 
--- there are no more
+-- the block has at most `part` parts
 pub front_short : (form : FileForm) (part : ℕ) (begun : Bool) (block : List ℕ)
     → length (parts_in form block) ≤ part → (part ≡ 0 → ⊥)
     → true ≡ other_front form part begun block
@@ -106,7 +106,8 @@ pub before_spans : (form : FileForm) (part : ℕ) (begun : Bool) (block : List �
 before_spans form zero begun block t e = t e
 before_spans form (suc part) begun block t e = goes_on_spans form.format form.offset block e
 
--- a block that may be the one that was begun contains the expected part
+-- a block that does not differ from the one whose first parts were delivered contains the expected
+-- part
 pub front_more : (form : FileForm) (part : ℕ) (begun : Bool) (block : List ℕ) (parts : List Portion)
     → parts_in form block ≡ parts → other_front form part begun block ≡ false
     → (part ≡ 0) ⊎ (part < length parts)
@@ -123,7 +124,7 @@ front_more form (suc part) begun block parts is e =
         let n : length (parts_in form block) ≡ length parts = ap length is in
         inr (grind (arith, nat_tests, q, n))
 
--- a state related to a reading is not broken
+-- a state that follows a reading is not broken
 pub follows_sound : (set : FileSet) (file sect block part k : ℕ) (phase : Phase)
     (position : Position)
     (good : List Bool)

@@ -22,7 +22,7 @@ use Rattle.tape_core.proofs.BadSteps.{bad_next}
 use Rattle.tape_core.proofs.GoodSteps.{good_next}
 use Rattle.tape_core.proofs.PositionSteps.{position_is}
 
--- at the end of the file no reading is under way
+-- at the end of the file no reading is in progress
 complete_over : (set : FileSet) (file sect block part k : ℕ) (good : List Bool)
     (phase : Phase) (position : Position)
     → position ≡ Finished → Follows set file sect block part k phase position good → phase ≡ Over
@@ -35,7 +35,7 @@ complete_over set file sect block part k good (TrailerWanted heading known) posi
 complete_over set file sect block part k good phase position q h =
     absurd (let d = sym q ∙ h.0 in cc)
 
--- so no more of the reading matters
+-- at the end of the file, further items of the reading do not matter
 over_complete : (set : FileSet) (file sect block part k : ℕ) (good : List Bool)
     (phase : Phase) (position : Position)
     → position ≡ Finished → Follows set file sect block part k phase position good
@@ -47,7 +47,7 @@ over_complete set file sect block part k good phase position q h gs more =
     (complete_over set file sect block part k good phase position q h) h in
     rw append_assoc (over (gs ++ more))
 
--- and a complete file stays so
+-- a complete file remains complete
 stays_complete : (set : FileSet) (file sect block part k : ℕ) (good : List Bool)
     (g : Bool) (phase : Phase) (position : Position)
     → position ≡ Finished → Follows set file sect block part k phase position good
@@ -57,7 +57,7 @@ stays_complete set file sect block part k good g phase position q h =
     (sym (complete_over set file sect block part k good phase position q h))
     (over_complete set file sect block part k good phase position q h (g ∷ []))
 
--- The whole law of a step.
+-- The complete law of a step.
 step_from : (set : FileSet) (l : IsLawful set) (core : State) (sect block part k : ℕ) (v : Volume)
     → nth set.volumes k ≡ Some v
     → (good : List Bool) (g : Bool) (e : Entry) → slice_get (entries set k) (length good) ≡ Some e
@@ -106,7 +106,7 @@ step_from set l core sect block part k v vol good g e s r Finished q =
           r.follows (g ∷ []);
     }
 
--- Whatever a valid volume yields next, good or bad, the state after the step is related to the
+-- Whatever item a valid volume has next, readable or bad, the state after the step follows the
 -- longer reading.
 pub step_keeps : (set : FileSet) (p : Position) (k : ℕ) (v : Volume) (good : List Bool)
     (g : Bool) (e : Entry) (core : State)
@@ -129,7 +129,7 @@ step_keeps set Finished k v good g e core l vol s r = go core.position r.follows
 step_keeps set (Awaits sect block part) k v good g e core l vol s r =
     step_from set l core sect block part k v vol good g e s r core.position refl
 
--- the position is `far` of what was read
+-- the position is the one that `far` gives for the items read
 pub reading_position : (set : FileSet) (p : Position) (k : ℕ) (v : Volume) (good : List Bool)
     (core : State)
     → IsLawful set → nth set.volumes k ≡ Some v → IsReading set p k good core

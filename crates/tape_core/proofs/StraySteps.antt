@@ -1,5 +1,5 @@
--- A reading that lost its position after a lost mark stays so: it yields nothing of the section
--- needed.
+-- A reading that lost its position after an unreadable mark does not find it again: it delivers
+-- nothing of the section needed.
 use Rattle.std.proofs.Common.{◌≡◌, ◌<◌, ℕ, zero, suc, List, [], ◌∷◌, ◌++◌, length, Bool, true}
 use Rattle.std.proofs.Common.{false, Some, Result, Ok, Err, refl, sym, ap, ◌∙◌, subst, inl}
 use Rattle.std.proofs.Common.{append_assoc, arith, length-append}
@@ -42,7 +42,7 @@ module _ (aim : Aim) where
   abbrev pub Strays : List Bool → (List Entry → Type 0) → Type 0
   Strays gs Barren = Astray set core.file sect block part k gs Barren
 
-  -- the next entry, of a reading gone astray
+  -- the next entry in a reading that lost its position
   stray_on : (g : Bool) (B C : List Entry → Type 0) (a : Strays good B)
       (e : Entry) (rest : List Entry)
       → a.todo ≡ e ∷ rest → C rest → Strays (good ++ g ∷ []) C
@@ -62,7 +62,7 @@ module _ (aim : Aim) where
   stray_over g why B wait a =
       useless_next aim g why (λ more. rw append_assoc (a.lost (g ∷ more)) ∙ sym wait)
 
-  -- there is a next entry
+  -- a next entry exists
   pub stray_first : (B : List Entry → Type 0) (a : Strays good B) (e : Entry)
       → slice_get (entries set k) (length good) ≡ Some e → (rest : List Entry) × (a.todo ≡ e ∷ rest)
   stray_first B a e s =
@@ -80,7 +80,7 @@ module _ (aim : Aim) where
       go (d ∷ done) zero c h = absurd (omega arith)
       go (d ∷ done) (suc n) c h = go done n (omega arith) h
 
-  -- any entry read bad, in skipped data
+  -- any bad entry in skipped data
   pub stray_bad : (heading : Heading) (e : Entry) → core.position ≡ here aim
       → (a : Strays good (BarrenData heading)) → (rest : List Entry) → a.todo ≡ e ∷ rest
       → Next aim false (passed core (DataPassed heading))
@@ -96,7 +96,7 @@ module _ (aim : Aim) where
       go (a_data_block b) h = h
       go a_mark h = h.1
 
-  -- any entry read well
+  -- any readable entry in skipped data
   pub stray_data : (heading : Heading) (e : Entry) → core.position ≡ here aim
       → (a : Strays good (BarrenData heading)) → (rest : List Entry) → a.todo ≡ e ∷ rest
       → Next aim true (at_item core (DataPassed heading) (item_of e))
@@ -134,7 +134,7 @@ module _ (aim : Aim) where
                 (h (t, trail1_found b t is, d))),
           ))
 
-  -- no HDR1 comes where the next file is expected
+  -- no HDR1 follows when the next file is expected
   stray_header : (b : List ℕ) → core.position ≡ here aim → (a : Strays good BarrenNext)
       → IsNoHeader b → Next aim true (at_head1 core (head1_at b))
   stray_header b wait a none = go (head1_at b) refl
@@ -189,7 +189,7 @@ module _ (aim : Aim) where
   barren_rest [] es h = h
   barren_rest (b ∷ blocks) es h = barren_rest blocks es h
 
-  -- a section after the one whose mark was lost has no trailer with its numbers
+  -- no trailer of a later section has the numbers of the section whose mark was lost
   barren_head : (heading : Heading) (y : Placed) (es : List Entry)
       → IsSection set.set_id (length set.volumes) y
       → BarrenTrailer heading (a_label y.section.hdr1 ∷ es)
@@ -244,7 +244,7 @@ module _ (aim : Aim) where
         )),
       )
 
-  -- the whole contents of the volume
+  -- the complete contents of the volume
   entries_is : entries set k
       ≡ a_label v.vol1 ∷ (map a_label v.labels ++ to_come (on k (sections set)))
   entries_is = subst (λ o. entries_on o k (sections set)

@@ -1,4 +1,4 @@
--- At a section's trailer label each item preserves the relation between the state and the reading.
+-- At a section's trailer label, each item preserves the relation between the state and the reading.
 use Rattle.std.proofs.Common.{◌≡◌, ◌<◌, ◌+◌, List, [], ◌∷◌, ◌++◌, length, Bool, true, false, cond}
 use Rattle.std.proofs.Common.{Option, Some, Ok, refl, sym, ap, ◌∙◌, subst, inl, inr, append_assoc}
 use Rattle.std.proofs.Common.{arith, eq-eqb}
@@ -51,7 +51,7 @@ module _ (aim : Aim) where
       ∙ (moved_all (here aim) sect block w i.seen (true ∷ false ∷ more) full n
       ∙ sym (i.awaited ∙ ap (λ z. stopped (here aim) sect block (length z.blocks)) at_it.same))))
 
-  -- at the end of the section needed no part of a block is expected
+  -- at the end of the section needed, no part of a block is expected
   end_front : core.position ≡ stopped (here aim) sect block (length w.blocks)
       → core.position ≡ awaiting sect (length w.blocks)
   end_front is = go (length w.blocks == block) refl

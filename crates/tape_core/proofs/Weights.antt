@@ -1,4 +1,4 @@
--- What parts weigh.
+-- The weight of parts.
 use Rattle.std.proofs.Common.{◌≡◌, ◌≤◌, ◌+◌, ◌<◌, ℕ, zero, suc, List, [], ◌∷◌, ◌++◌, length, take}
 use Rattle.std.proofs.Common.{refl, ap, ◌∙◌, arith, append-nil}
 use Rattle.tape_blocks.specs.Block.{Portion}
@@ -13,14 +13,15 @@ pub weight_of-append : (xs ys : List Portion) → weight_of (xs ++ ys) ≡ weigh
 weight_of-append [] ys = omega arith
 weight_of-append (x ∷ xs) ys = let rest = weight_of-append xs ys in omega (arith, rest)
 
--- one more
+-- the weight of one more part
 pub weight_of-one_more : (xs all : List Portion) (x : Portion) → all ≡ xs ++ x ∷ []
     → weight_of all ≡ weight_of xs + (5 + length x.bytes)
 weight_of-one_more xs all x is =
     let e = ap weight_of is ∙ weight_of-append xs (x ∷ []) in
     omega (arith, e, weight_more x [])
 
--- a prefix that weighs less than a longer one without its last part is a prefix of that too
+-- a prefix that weighs less than a longer prefix is also a prefix of the longer one without its
+-- last part
 pub front_of_less : (n : ℕ) (front all : List Portion) → IsFront front (take (suc n) all)
     → weight_of front < weight_of (take (suc n) all) → IsFront front (take n all)
 front_of_less n [] all f less = (take n all, refl)
@@ -38,7 +39,7 @@ front_of_less (suc n) (x ∷ xs) (y ∷ ys) (r, e) less =
     let rest = front_of_less n xs ys (r, b) below in
     (rest.0, ap (λ (z : Portion). z ∷ take n ys) a ∙ ap (λ (l : List Portion). x ∷ l) rest.1)
 
--- what weighs more than a number is not nothing
+-- parts that weigh more than some number are not empty
 pub front_has_parts : (n : ℕ) (all : List Portion) (most : ℕ) → most < weight_of (take n all)
     → 0 < n
 front_has_parts zero all most more = absurd (omega (arith, more))
@@ -48,7 +49,7 @@ nothing_weighs : (front r : List Portion) → weight_of r ≡ 0 → front ++ r �
 nothing_weighs front [] h = append-nil front
 nothing_weighs front (p ∷ ps) h = absurd (omega (arith, h, weight_more p ps))
 
--- a prefix that weighs as much is the whole
+-- a prefix that weighs as much as all parts is all parts
 pub front_of_all : (front all : List Portion) → IsFront front all → weight_of all ≤ weight_of front
     → all ≡ front
 front_of_all front all (r, e) less =

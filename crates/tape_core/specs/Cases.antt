@@ -1,5 +1,5 @@
--- Examples for the definitions of readers and sinks, so that none of them says less, or requires
--- more, than it should. They are the contract of the call `laws::cases`.
+-- Examples for the definitions of readers and sinks, which ensure that no definition says less, or
+-- requires more, than it should. They are the contract of the call `laws::cases`.
 use Rattle.std.specs.Prelude.{◌≡◌, ◌≢◌, ◌<◌, ◌≤◌, ◌+◌, ◌⊎◌, ℕ, Bool, true, false, List, []}
 use Rattle.std.specs.Prelude.{◌∷◌, ◌++◌, length, drop, replicate, codes, slice_get, Option, Some}
 use Rattle.std.specs.Prelude.{None, Result, Ok, Err}
@@ -49,7 +49,7 @@ user_label = codes "UVL1" ++ replicate 76 32
 abbrev pub hdr1 : List ℕ
 hdr1 = codes "HDR1PAYROLL          ABC00100010001000100 00000 00000 000000                    "
 
--- of section 3 of file 2
+-- an HDR1 of section 3 of file 2
 abbrev pub later_hdr1 : List ℕ
 later_hdr1 =
     codes "HDR1PAYROLL          ABC00100030002000100 00000 00000 000000                    "
@@ -61,29 +61,30 @@ other_hdr1 =
 abbrev pub hdr2 : List ℕ
 hdr2 = codes "HDR2S0001800000                                   00                            "
 
--- whether these items begin as a volume of the set ABC001
+-- whether the items begin as a volume of the set ABC001
 abbrev pub begins_set : List TapeItem → Bool
 begins_set items = starts_set (codes "ABC001") items
 
--- which reels begin as a volume of a set, and which are foreign
+-- reels that begin as a volume of a set, and foreign reels
 pub record CasesOfForeign : Type 0 where
   pub own_volume : (more : List TapeItem) → begins_set (block vol1 ∷ block hdr1 ∷ more) ≡ true
-  -- with further volume labels, and from a later section of a later file on
+  -- with further volume labels, and beginning with a later section of a later file
   pub own_labelled : begins_set (block vol1 ∷ block user_label ∷ block user_label
       ∷ block later_hdr1 ∷ []) ≡ true
   pub other_set : begins_set (block vol1 ∷ block user_label ∷ block other_hdr1 ∷ []) ≡ false
-  -- a reel without items, or with a mark, a bad item or no volume label first
+  -- a reel without items, and reels that begin with a mark, a bad item or a block other than a
+  -- volume label
   pub nothing : (id : List ℕ) → starts_set id [] ≡ false
   pub mark_first : (id : List ℕ) (rest : List TapeItem) → starts_set id (mark ∷ rest) ≡ false
   pub bad_first : (id : List ℕ) (rest : List TapeItem) → starts_set id (bad ∷ rest) ≡ false
   pub plain_first : begins_set (block (65 ∷ []) ∷ block hdr1 ∷ []) ≡ false
   pub header_first : begins_set (block hdr1 ∷ block hdr1 ∷ []) ≡ false
-  -- a reel that ends after its volume label, or has something other than an HDR1 there
+  -- a reel that ends after its volume label, or continues with something other than an HDR1
   pub label_alone : begins_set (block vol1 ∷ []) ≡ false
   pub mark_behind : (rest : List TapeItem) → begins_set (block vol1 ∷ mark ∷ rest) ≡ false
   pub bad_behind : (rest : List TapeItem) → begins_set (block vol1 ∷ bad ∷ rest) ≡ false
   pub second_behind : begins_set (block vol1 ∷ block hdr2 ∷ block hdr1 ∷ []) ≡ false
-  -- the rest of a reel after its volume label, and the rest of one that is not read
+  -- the rest of a reel after its volume label, and the rest of a reel that is no longer read
   pub left_behind_label : (id : List ℕ) (rest : List TapeItem)
       → IsForeignAt id rest (awaiting 2 1) VolumeLabels → labels_of_set id rest ≡ false
   pub left_unread : (id : List ℕ) (rest : List TapeItem) → IsForeignAt id rest start Over
@@ -99,10 +100,10 @@ five_bytes = record { span = First; bytes = codes "ABCDE" }
 abbrev pub no_bytes : Portion
 no_bytes = record { span = Whole; bytes = [] }
 
--- of states, checkpoints and the parts beside them
+-- states, checkpoints, and the parts that belong to them
 pub record CasesOfPlaces : Type 0 where
   pub weight : weight_of (five_bytes ∷ no_bytes ∷ []) ≡ 15
-  -- nothing is known at the start of a file, and elsewhere what all its sections agree on
+  -- at the start of a file the form is unknown; elsewhere it is the form of all sections
   pub start_unknown : (set : FileSet) (file : ℕ) → KnownAt set file start None
   pub start_known : (set : FileSet) (file : ℕ) (form : FileForm)
       → KnownAt set file start (Some form) → ⊥
@@ -110,18 +111,18 @@ pub record CasesOfPlaces : Type 0 where
   pub end_unknown : (set : FileSet) (file : ℕ) → KnownAt set file Finished None → ⊥
   pub behind_known : (set : FileSet) (file : ℕ) (form : FileForm)
       → KnownAt set file (awaiting 1 1) (Some form) → FileTells set file form
-  -- each section of the file has its form
+  -- each section of the file states its form
   pub told_by_sections : (set : FileSet) (file sect : ℕ) (form : FileForm) (s : Section)
       → FileTells set file form → section_of set file sect ≡ Some s → TellsForm form s
   -- the invariant of checkpoints
   pub point_fits : (point : Point) → IsPoint point → IsFileNumber point.file
       × StandFits point.position point.begun point.known × (point.staged ≤ most_staged)
-  -- parts in memory follow one another
+  -- parts in memory are consecutive
   pub parts_in_order : parts_from 0 (record { span = First; end = 2 }
       ∷ record { span = Whole; end = 2 } ∷ record { span = Whole; end = 3 } ∷ [])
       (65 ∷ 66 ∷ 67 ∷ []) ≡ record { span = First; bytes = 65 ∷ 66 ∷ [] }
       ∷ record { span = Whole; bytes = [] } ∷ record { span = Whole; bytes = 67 ∷ [] } ∷ []
-  -- what is known of a reader with a position in a file, and that this is all
+  -- everything that is known about a reader with a position in a file
   pub at : (set : FileSet) (core : State) → IsAt set core
       → (core.set_id ≡ set.set_id) × (is_broken core.phase ≡ false)
       × IsIn set core.file core.position
@@ -132,7 +133,7 @@ pub record CasesOfPlaces : Type 0 where
       → core.begun ≡ begun_behind false (before set core.file core.position)
       → KnownAt set core.file core.position core.known → IsAt set core
   pub broken_is_nowhere : (set : FileSet) (core : State) → core.phase ≡ Broken → IsAt set core → ⊥
-  -- the same of a checkpoint with parts
+  -- the same for a checkpoint with parts
   pub stands : (set : FileSet) (file : ℕ) (point : Point) (parts : List Portion)
       → Stands set file point parts
       → (point.set_id ≡ set.set_id) × (point.file ≡ file)
@@ -143,13 +144,14 @@ pub record CasesOfPlaces : Type 0 where
       → StandsAt set file point.position point.begun point.known
       → parts ≡ before set file point.position → point.staged ≡ weight_of parts
       → Stands set file point parts
-  -- and of a reader with parts
+  -- the same for a reader with parts
   pub placed : (set : FileSet) (core : State) (parts : List Portion) → IsPlaced set core parts
       → IsAt set core × (parts ≡ before set core.file core.position)
-  -- a checkpoint describes a reader without a reading under way; a broken reader stays broken in it
+  -- a checkpoint describes a reader that has no reading in progress; a broken reader stays broken
+  -- there
   pub read_is : (reading 2 (true ∷ false ∷ [])).volume ≡ 2
   pub read_of : (reading 2 (true ∷ false ∷ [])).good ≡ true ∷ false ∷ []
-  -- the checkpoint inside a block expects its part, with the weight that was passed
+  -- the checkpoint inside a block expects the given part, and has the given weight
   pub in_block : (point : Point) → point.known ≡ None
       → ((inside_block point (awaiting 2 1) 3 true 20).position ≡ Awaits 2 1 3)
       × ((inside_block point (awaiting 2 1) 3 true 20).begun ≡ false)
@@ -166,9 +168,9 @@ pub record CasesOfPlaces : Type 0 where
 
 -- ---- the effect of a step
 
--- of steps, restarts and shapes
+-- steps, restarts and shapes
 pub record CasesOfSteps : Type 0 where
-  -- what changes nothing leaves the position unchanged, and delivers nothing
+  -- a step that changes nothing leaves the position unchanged, and delivers nothing
   pub idle_stays : (set : FileSet) (p : Position) (k : ℕ) (good : List Bool) (core : State)
       (out : Outcome) → Idle set p k good core out → IsReading set p k good out.1
       × (out.1.file ≡ core.file) × (out.1.position ≡ core.position) × (out.0 ≢ Deliver)
@@ -181,8 +183,8 @@ pub record CasesOfSteps : Type 0 where
       × (IsFinal out.0 → (more : List Bool)
       → far set out.1.file p (reading k (good ++ more)) ≡ out.1.position)
   pub goes_on : (IsFinal Passed → ⊥) × (IsFinal Deliver → ⊥) × IsFinal Complete
-  -- a delivered block is the one of the section at the expected position, and its parts from the
-  -- expected one on are the next parts of the file
+  -- a delivered block is that of the section at the expected position, and its parts, beginning
+  -- with the expected one, are the next parts of the file
   pub delivered_block : (set : FileSet) (item : TapeItem) (old new : State)
       (d : Delivers set item old new)
       → (old.position ≡ Awaits d.sect d.place d.part)
@@ -201,7 +203,7 @@ pub record CasesOfSteps : Type 0 where
   pub passed_gives_none : (set : FileSet) (item : TapeItem) (old new : State)
       → Gives set item Passed old new
       → before set new.file new.position ≡ before set old.file old.position
-  -- in valid and invalid sets, a delivered block contains the expected part
+  -- a delivered block contains the expected part, in valid and invalid sets
   pub checked_block : (arrived : Option TapeItem) (old new : State) (c : Checked arrived old new)
       → (arrived ≡ Some (block c.bytes)) × (new.known ≡ Some c.form)
       × Holds c.form.format c.form.rec_len c.form.offset c.bytes c.parts
@@ -218,7 +220,7 @@ pub record CasesOfSteps : Type 0 where
 
 -- ---- sinks
 
--- a sink, described by the parts that may remain after a crash and whether anything remains, now
+-- a sink, described by the parts that may remain after a crash, and whether any parts remain, now
 -- and since each moment
 pub record Comes : Type 0 where
   pub back : List Portion
@@ -237,8 +239,8 @@ coming s = record {
   survived = λ t. s.survived t ≡ true;
 }
 
--- a walk over a sink: the parts of the sink and those to come, a weight, a count of refused calls,
--- and what may remain after a crash
+-- a walk over a sink: the parts of the sink and those still to come, a weight, a count of refused
+-- calls, and the contents that may remain after a crash
 pub record Walk : Type 0 where
   pub kept : List Portion
   pub ahead : List Portion
@@ -247,28 +249,28 @@ pub record Walk : Type 0 where
   pub comes : Comes
   pub left : ℕ
 
--- one call of such a walk
+-- one call of a walk over such a sink
 abbrev pub Walks : Walk → Result (Option Part) SinkFault → Walk → Type 0
 Walks old result new = HasGiven (λ s ps. s.kept ≡ ps) (λ s. s.weight) (λ s. s.refused)
     (λ s. coming s.comes) (λ s ps. s.ahead ≡ ps) (λ s. s.left)
     (λ s fault t. s.left ≡ 7) old result new
 
--- this alone remains
+-- only the given parts remain
 abbrev pub OneComesBack : List Portion → Returns
 OneComesBack parts back there = there ≡ parts
 
--- of parts, counts, walks and crashes
+-- parts, counts, walks and crashes
 pub record CasesOfSinks : Type 0 where
   pub front : IsFront (five_bytes ∷ []) (five_bytes ∷ no_bytes ∷ [])
   pub no_front : IsFront (no_bytes ∷ []) (five_bytes ∷ no_bytes ∷ []) → ⊥
   pub longer : IsFront (five_bytes ∷ []) [] → ⊥
-  -- a count that is unchanged did not rise, unless it is at its greatest value; and none falls
+  -- an unchanged count did not increase, unless it is at its greatest value; no count decreases
   pub stands_still : Rose 3 3 → ⊥
   pub falls : Rose 3 2 → ⊥
   pub rises : Rose 3 4
   pub stays_greatest : Rose 18446744073709551615 18446744073709551615
-  -- the part returned is the next one, a refused part is still to come, and a part is returned if
-  -- one is to come
+  -- the part returned is the next part; if the call is refused, the same part is still to come; a
+  -- part is returned if one is still to come
   pub given_is_next : (part : Part) (p : Portion) (parts : List Portion)
       → GivesPart (Ok (Some part)) (p ∷ []) (λ ps. ps ≡ parts) → (p ≡ view part) × (parts ≡ [])
   pub refused_is_ahead : (fault : SinkFault) (parts ahead : List Portion)
@@ -278,8 +280,8 @@ pub record CasesOfSinks : Type 0 where
   pub counted : (fault : SinkFault) → Counts (Err fault) 3 3 → ⊥
   pub lent : (part : Part) (old new : ℕ) → Lends (Ok (Some part)) old new
       → (length part.bytes.now ≤ longest_block) × (new < old)
-  -- a walk changes neither the parts nor their weight, and adds nothing to what may remain after a
-  -- crash
+  -- a walk changes neither the parts nor their weight, and adds nothing to the contents that may
+  -- remain after a crash
   pub walk_keeps : (old new : Walk) (result : Result (Option Part) SinkFault)
       → Walks old result new → (new.kept ≡ old.kept) × (new.weight ≡ old.weight)
       × AddsNothing (coming old.comes) (coming new.comes)
@@ -288,7 +290,8 @@ pub record CasesOfSinks : Type 0 where
       × Lends result old.left new.left × Counts result old.refused new.refused
   pub walk_refuses : (old new : Walk) (fault : SinkFault) → Walks old (Err fault) new
       → old.left ≡ 7
-  -- what may remain after a crash: what could before, or this, or this alone
+  -- the contents that may remain after a crash: those that could remain before or the given
+  -- contents, or only the given contents
   pub this : (point other : Point) (parts more : List Portion) → IsThis point parts other more
       → (other ≡ point) × (more ≡ parts)
   pub only_this : (point other : Point) (parts more : List Portion)
@@ -297,7 +300,8 @@ pub record CasesOfSinks : Type 0 where
   pub this_alone : (point : Point) (parts : List Portion) (s : Comes)
       → ThisAlone point parts (coming s)
       → (s.back ≡ parts) × (s.back_since s.moment ≡ parts)
-  -- for a call that adds nothing, and for one that adds these parts: now, and at each moment since
+  -- for a call that adds nothing, and for a call that adds the given contents: now, and at each
+  -- moment since
   pub adds_nothing : (old new : Comes) → AddsNothing (coming old) (coming new)
       → (new.back ≡ old.back) × (old.survives ≡ true → new.survives ≡ true)
   pub added_nothing : (old new : Comes) (t : ℕ) → t ≤ old.moment
@@ -311,7 +315,7 @@ pub record CasesOfSinks : Type 0 where
       → AddsOnly (OneComesBack these) (coming old) (coming new)
       → ((new.back_since t ≡ old.back_since t) ⊎ (new.back_since t ≡ these))
       × (old.survived t ≡ true → new.survived t ≡ true)
-  -- if every crash loses all, nothing remains
+  -- if every crash loses everything, nothing remains
   pub lost_now : (back : Point) (there : List Portion) → lost.returns back there → ⊥
   pub lost_since : (t : ℕ) (back : Point) (there : List Portion)
       → lost.returned t back there → ⊥

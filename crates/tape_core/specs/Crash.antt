@@ -1,15 +1,15 @@
--- What may remain after a crash.
+-- The contents that may remain after a crash.
 use Rattle.std.specs.Prelude.{◌≡◌, ◌⊎◌, ℕ, ◌≤◌, List}
 use Rattle.tape_blocks.specs.Block.{Portion}
 use Rattle.tape_core.specs.Point.{Point}
 
--- what may remain after a crash: a checkpoint, and parts
+-- the contents that may remain after a crash: a checkpoint, and parts
 abbrev pub Returns : Type 1
 Returns = Point → List Portion → Type 0
 
--- The effect of crashes on a sink: whether it may contain this after a crash now, and whether it
--- then always contains something; the current moment, a number that never falls; and the same for a
--- crash now or at any moment from a given one on, during a call or between two calls.
+-- The effect of crashes on a sink: the contents that may remain after a crash now, and whether some
+-- contents always remain; the current moment, a number that never decreases; and the same for a
+-- crash now or at any moment since a given one, during a call or between two calls.
 pub record Crashes : Type 1 where
   pub returns : Returns
   pub survives : Type 0
@@ -27,22 +27,24 @@ lost = record {
   survived = λ t. ⊥;
 }
 
--- this checkpoint with these parts
+-- the given checkpoint with the given parts
 abbrev pub IsThis : Point → List Portion → Returns
 IsThis point parts back there = (back ≡ point) × (there ≡ parts)
 
--- only this checkpoint with these parts may remain
+-- only the given checkpoint with the given parts may remain
 abbrev pub OnlyThis : Point → List Portion → Returns → Type 0
 OnlyThis point parts new = (back : Point) (there : List Portion)
     → new back there → IsThis point parts back there
 
--- only this checkpoint with these parts may remain, now and from this moment on
+-- only the given checkpoint with the given parts may remain, after a crash now or at any later
+-- moment
 abbrev pub ThisAlone : Point → List Portion → Crashes → Type 0
 ThisAlone point parts now =
     OnlyThis point parts now.returns × OnlyThis point parts (now.returned now.moment)
 
--- Only these may be added to what may remain, after a crash now or at any moment since old; and if
--- something remains after every crash in old, it does now, and did at each such moment.
+-- Only the contents `these` may be added to those that may remain after a crash now or at any
+-- moment since `old`; and if some contents remain after every crash at `old`, they do now, and did
+-- at each moment since.
 pub record AddsOnly (these : Returns) (old new : Crashes) : Type 0 where
   pub now : (back : Point) (there : List Portion) → new.returns back there
       → old.returns back there ⊎ these back there
@@ -52,7 +54,7 @@ pub record AddsOnly (these : Returns) (old new : Crashes) : Type 0 where
   pub survives : old.survives → new.survives
   pub survived : (t : ℕ) → t ≤ old.moment → old.survived t → new.survived t
 
--- nothing is added to what may remain, after a crash now or at any moment since old; and if
--- something remains after every crash in old, it does now, and did at each such moment
+-- nothing is added to the contents that may remain after a crash now or at any moment since `old`;
+-- and if some contents remain after every crash at `old`, they do now, and did at each moment since
 abbrev pub AddsNothing : Crashes → Crashes → Type 0
 AddsNothing old new = AddsOnly (λ back there. ⊥) old new

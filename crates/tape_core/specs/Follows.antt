@@ -1,5 +1,5 @@
--- How the reader's state relates to a reading of a valid set's volume: what is still to come of the
--- volume in each phase.
+-- How the reader's state relates to a reading of a volume of a valid set: in each phase, the
+-- entries of the volume still to come.
 use Rattle.std.specs.Prelude.{◌≡◌, ◌≢◌, ◌<◌, ◌≤◌, ◌⊎◌, ℕ, List, [], ◌∷◌, ◌++◌, ◌+◌, Bool, true}
 use Rattle.std.specs.Prelude.{false, Option, Some, None, map, drop, length, is_some, slice_get}
 use Rattle.std.specs.Prelude.{MatchBool}
@@ -38,24 +38,25 @@ use Rattle.tape_core.specs.Table.{Outcome, other_numbers}
 
 -- ---- the reader and its file
 
--- All sections of the file have this form.
+-- All sections of the file have the given form.
 abbrev pub FileTells : FileSet → ℕ → FileForm → Type 0
 FileTells set file form = (sect : ℕ) (s : Section) → section_of set file sect ≡ Some s
     → TellsForm form s
 
--- what is known at a position: nothing at the file's start, otherwise the form of the file
+-- the form known at a position: `None` at the start of the file, otherwise the form of the file
 abbrev pub KnownAt : FileSet → ℕ → Position → Option FileForm → Type 0
 KnownAt set file p known = MatchBool (is_start p) (known ≡ None)
     ((form : FileForm) × (known ≡ Some form) × FileTells set file form)
 
--- The position is one of the file, with the matching state of the record and the matching form.
+-- The position is in the file, and `begun` and `known` are right for it: whether a record is
+-- unfinished, and the form.
 pub record StandsAt (set : FileSet) (file : ℕ) (p : Position) (begun : Bool)
     (known : Option FileForm) : Type 0 where
   pub inside : IsIn set file p
   pub span : begun ≡ begun_behind false (before set file p)
   pub tells : KnownAt set file p known
 
--- The reader is one of the set, has a position in its file, and is not broken.
+-- The reader belongs to the set, has a position in its file, and is not broken.
 pub record IsAt (set : FileSet) (core : State) : Type 0 where
   pub of_set : core.set_id ≡ set.set_id
   pub sound : is_broken core.phase ≡ false
@@ -66,31 +67,32 @@ pub record IsAt (set : FileSet) (core : State) : Type 0 where
 abbrev pub reading : ℕ → List Bool → Reading
 reading k good = record { volume = k; good = good }
 
--- the contents of a volume from these sections on
+-- the contents of a volume from the sections `later`
 abbrev pub to_come : List Placed → List Entry
 to_come later = all_entries later ++ a_mark ∷ []
 
--- todo is the rest of volume k after what was read; only data blocks of what was read are bad
+-- `todo` is the rest of volume k after the items read; all bad items among those read are data
+-- blocks
 pub record Left (set : FileSet) (k : ℕ) (good : List Bool) (todo : List Entry) : Type 0 where
   pub done : List Entry
   pub whole : done ++ todo ≡ entries set k
   pub count : length done ≡ length good
   pub fine : passes good done ≡ true
 
--- later are the sections on volume k after some of earlier files
+-- `later` are the sections on volume k after some sections of earlier files
 pub record Among (set : FileSet) (k file : ℕ) (later : List Placed) : Type 0 where
   pub past : List Placed
   pub all : past ++ later ≡ on k (sections set)
   pub earlier_files : AllByRecursion (λ x. x.file < file) past
 
--- the form in the labels of the section's file, if they were read
+-- the form in the labels of the section, if they were read
 abbrev pub Tells : Option FileForm → Section → Type 0
 Tells None s = Unit {0}
 Tells (Some form) s = TellsForm form s
 
 -- ---- a reading that lost its position on the reel
 
--- The block reads as a trailer with the header's numbers.
+-- The block reads as a trailer whose numbers are those of the header.
 abbrev pub FitsHeading : Heading → List ℕ → Type 0
 FitsHeading heading b = (t : Trail1) × IsTrail1 b t × (other_numbers heading t ≡ false)
 
@@ -98,7 +100,7 @@ FitsHeading heading b = (t : Trail1) × IsTrail1 b t × (other_numbers heading t
 abbrev pub IsNoHeader : List ℕ → Type 0
 IsNoHeader b = (h : Head1) → IsHead1 b h → ⊥
 
--- If the next file is expected, the rest cannot move the position: no HDR1 can come.
+-- If the next file is expected, the rest cannot move the position: no HDR1 follows.
 abbrev pub BarrenNext : List Entry → Type 0
 BarrenNext (a_label b ∷ es) = IsNoHeader b
 BarrenNext (a_data_block b ∷ es) = IsNoHeader b
@@ -110,19 +112,21 @@ BarrenTrailers [] = Unit {0}
 BarrenTrailers (a_mark ∷ es) = BarrenNext es
 BarrenTrailers (_ ∷ es) = BarrenTrailers es
 
--- If a trailer with these numbers is expected, the rest cannot move the position.
+-- If a trailer with the numbers of `heading` is expected, the rest cannot move the position.
 abbrev pub BarrenTrailer : Heading → List Entry → Type 0
 BarrenTrailer heading (a_label b ∷ es) = FitsHeading heading b → BarrenTrailers es
 BarrenTrailer heading (a_data_block b ∷ es) = FitsHeading heading b → BarrenTrailers es
 BarrenTrailer heading _ = Unit {0}
 
--- If skipped data are expected, the rest cannot move the position, whether a mark is read or bad.
+-- If skipped data are expected, the rest cannot move the position, whether its next mark is
+-- readable or bad.
 abbrev pub BarrenData : Heading → List Entry → Type 0
 BarrenData heading [] = Unit {0}
 BarrenData heading (a_mark ∷ es) = BarrenTrailer heading es × BarrenData heading es
 BarrenData heading (_ ∷ es) = BarrenData heading es
 
--- ---- the phases, for a reading of volume k that began when this part of this block was expected
+-- ---- the phases, for a reading of volume k that began when the given part of the given block was
+-- expected
 
 module _ (set : FileSet) (file sect block part k : ℕ) where
   abbrev pub Here : Position
@@ -133,7 +137,7 @@ module _ (set : FileSet) (file sect block part k : ℕ) where
   IsChosen true x = (x.file ≡ file) × (x.sect ≡ sect)
   IsChosen false x = x.file < file
 
-  -- A section is being read, and this is the rest of it.
+  -- A section is being read, and `rest` are its remaining entries.
   pub record Inside (good : List Bool) (heading : Heading) (wanted : Bool) (x : Placed)
       (rest : List Entry) : Type 0 where
     pub later : List Placed
@@ -142,16 +146,17 @@ module _ (set : FileSet) (file sect block part k : ℕ) where
     pub chosen : IsChosen wanted x
     pub left : Left set k good (rest ++ to_come later)
 
-  -- Everything before the section's data was read, and then these items.
+  -- Everything before the section's data was read, and then the items that `seen` describes.
   pub record Reached (s : Section) (good seen : List Bool) : Type 0 where
     pub fine : passes good (before_data set file sect s) ≡ true
     pub rest : drop (length (before_data set file sect s)) good ≡ seen
 
-  -- the block expected after the data blocks that `seen` describes
+  -- the expected block after the data blocks that `seen` describes
   abbrev pub block_after : List Bool → ℕ
   block_after seen = block + good_run (drop block seen)
 
-  -- After the header of the section needed, with these of its blocks to come.
+  -- After the header of the section needed: `count` of its blocks were seen, and the others are
+  -- still to come.
   pub record InData (good : List Bool) (heading : Heading) (form : FileForm) (count : ℕ)
       (position : Position) (x : Placed) : Type 0 where
     pub seen : List Bool
@@ -166,7 +171,7 @@ module _ (set : FileSet) (file sect block part k : ℕ) where
     pub awaited : position ≡ stopped Here sect block (block_after seen)
     pub not_behind : count ≤ block_after seen
 
-  -- After the data of the section needed and the mark that closes it.
+  -- After the data of the section needed and its closing mark.
   pub record AtTrailer (good : List Bool) (heading : Heading) (form : FileForm)
       (position : Position) (x : Placed) : Type 0 where
     pub seen : List Bool
@@ -178,7 +183,8 @@ module _ (set : FileSet) (file sect block part k : ℕ) where
     pub all_awaited : block_after seen ≡ length x.section.blocks
     pub awaited : position ≡ stopped Here sect block (length x.section.blocks)
 
-  -- An unreadable mark was taken for data: whatever comes, this reading gets no further.
+  -- An unreadable mark was read as a data block: whatever follows, this reading does not move the
+  -- position.
   pub record Astray (good : List Bool) (Barren : List Entry → Type 0) : Type 0 where
     pub todo : List Entry
     pub done : List Entry
@@ -191,7 +197,7 @@ module _ (set : FileSet) (file sect block part k : ℕ) where
   abbrev pub Waits : Position → Type 0
   Waits position = position ≡ Here
 
-  -- The phase and the position after the items that good describes.
+  -- The phase and the position after the items that `good` describes.
   abbrev pub Follows : Phase → Position → List Bool → Type 0
   Follows Over position good = (more : List Bool) → far set file Here (reading k (good ++ more))
       ≡ position
@@ -233,14 +239,14 @@ module _ (set : FileSet) (file sect block part k : ℕ) where
   Follows (TrailerWanted heading form) position good = (x : Placed)
       × AtTrailer good heading form position x
 
--- the same of a reading that began at any position
+-- the same for a reading that began at any position
 abbrev pub FollowsFrom : FileSet → ℕ → Position → ℕ → List Bool → Phase → Position → Type 0
 FollowsFrom set file Finished k good phase position = position ≡ Finished
 FollowsFrom set file (Awaits sect b part) k good phase position =
     Follows set file sect b part k phase position good
 
--- The reader follows a reading of volume k that began at p, and good says which of the items so far
--- were read well.
+-- The reader follows a reading of volume k that began at p; `good` says which of the items so far
+-- were readable.
 pub record IsReading (set : FileSet) (p : Position) (k : ℕ) (good : List Bool)
     (core : State) : Type 0 where
   pub from : IsIn set core.file p
@@ -260,8 +266,8 @@ abbrev pub IsDone : FileSet → Position → ℕ → List Bool → State → Typ
 IsDone set p k good core = (more : List Bool) → far set core.file p (reading k (good ++ more))
     ≡ core.position
 
--- The expected block came: it contains its parts in the file's form, and those not delivered before
--- are the next parts of the file.
+-- The expected block came: it contains its parts in the file's form, and the parts not delivered
+-- already are the next parts of the file.
 pub record Delivers (set : FileSet) (item : TapeItem) (old new : State) : Type 0 where
   pub sect : ℕ
   pub place : ℕ
@@ -281,12 +287,13 @@ pub record Delivers (set : FileSet) (item : TapeItem) (old new : State) : Type 0
   pub next : before set new.file new.position ≡ before set old.file old.position
       ++ drop part filled.parts
 
--- A step delivers the next parts, or none.
+-- A step delivers the next parts, or no parts.
 abbrev pub Gives : FileSet → TapeItem → Answer → State → State → Type 0
 Gives set item Deliver old new = Delivers set item old new
 Gives set item _ old new = before set new.file new.position ≡ before set old.file old.position
 
--- What a step preserves and delivers; good says what was read together with its item.
+-- The effect of a step on a reading and on the delivered parts; `good` describes the items read,
+-- including the item of this step.
 pub record Kept (set : FileSet) (p : Position) (k : ℕ) (good : List Bool) (item : TapeItem)
     (core : State) (out : Outcome) : Type 0 where
   pub reads : IsReading set p k good out.1
@@ -294,7 +301,7 @@ pub record Kept (set : FileSet) (p : Position) (k : ℕ) (good : List Bool) (ite
   pub gives : Gives set item out.0 core out.1
   pub done : IsFinal out.0 → IsDone set p k good out.1
 
--- After a complete volume a step changes only what is expected next.
+-- After a complete volume a step changes only the phase.
 pub record Idle (set : FileSet) (p : Position) (k : ℕ) (good : List Bool) (core : State)
     (out : Outcome) : Type 0 where
   pub reads : IsReading set p k good out.1
@@ -302,8 +309,8 @@ pub record Idle (set : FileSet) (p : Position) (k : ℕ) (good : List Bool) (cor
   pub same_position : out.1.position ≡ core.position
   pub silent : out.0 ≢ Deliver
 
--- The block was delivered, in a valid or invalid set: it contains parts in order in the form that
--- is now known, at least up to the expected one, and the position is after the block.
+-- The block was delivered, in a valid or invalid set: it contains parts in span order in the form
+-- that is now known, including the expected part, and the position is after the block.
 pub record Checked (arrived : Option TapeItem) (old new : State) : Type 0 where
   pub bytes : List ℕ
   pub form : FileForm

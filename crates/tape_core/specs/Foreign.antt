@@ -20,12 +20,12 @@ use Rattle.tape_core.specs.State.{State}
 use Rattle.tape_core.specs.Table.{Outcome}
 use Rattle.tape_core.specs.Follows.{IsAt}
 
--- the block reads as HDR1 of this set
+-- the block reads as an HDR1 of the set
 abbrev pub is_of_set : List ℕ → Result Head1 LabelFault → Bool
 is_of_set set_id (Ok h) = bytes_eq h.set_id set_id
 is_of_set set_id (Err fault) = false
 
--- further volume labels, if any, and then HDR1 of this set
+-- further volume labels, if any, and then an HDR1 of the set
 abbrev pub labels_of_set : List ℕ → List TapeItem → Bool
 labels_of_set set_id (block b ∷ rest) = if is_volume_label b then labels_of_set set_id rest
     else is_of_set set_id (head1_at b)
@@ -35,24 +35,24 @@ abbrev pub is_vol1 : Option Kind → Bool
 is_vol1 (Some kinds.Vol1) = true
 is_vol1 _ = false
 
--- the reel begins as a volume of this set: VOL1, further volume labels, HDR1 of the set
+-- the reel begins as a volume of the set: VOL1, further volume labels, and an HDR1 of the set
 abbrev pub starts_set : List ℕ → List TapeItem → Bool
 starts_set set_id (block b ∷ rest) = is_vol1 (kind_at b) && labels_of_set set_id rest
 starts_set set_id _ = false
 
--- the rest of a reel that does not belong to the set, by what is expected next
+-- the rest of a reel that does not belong to the set, in each phase
 abbrev pub IsForeignIn : List ℕ → List TapeItem → Phase → Type 0
 IsForeignIn set_id rest Over = Unit {0}
 IsForeignIn set_id rest Volume = starts_set set_id rest ≡ false
 IsForeignIn set_id rest VolumeLabels = labels_of_set set_id rest ≡ false
 IsForeignIn set_id rest _ = ⊥
 
--- the same at a position; a complete file needs nothing
+-- the same at a position; a complete file needs nothing more
 abbrev pub IsForeignAt : List ℕ → List TapeItem → Position → Phase → Type 0
 IsForeignAt set_id rest Finished phase = Unit {0}
 IsForeignAt set_id rest (Awaits sect place part) phase = IsForeignIn set_id rest phase
 
--- A step over a foreign reel changes only what is expected next.
+-- A step over a foreign reel changes only the phase.
 pub record Unmoved (set : FileSet) (rest : List TapeItem) (core : State)
     (out : Outcome) : Type 0 where
   pub at : IsAt set out.1

@@ -1,4 +1,4 @@
--- What is known of a file from its labels, and the ranges of a checkpoint's numbers.
+-- The form of a file, known from its labels, and the ranges of a checkpoint's numbers.
 use Rattle.std.specs.Prelude.{◌≡◌, ℕ, ◌≤◌, List, Bool, true, false, not, Option}
 use Rattle.std.specs.Prelude.{Some, None, is_some}
 use Rattle.tape_label.specs.declared.values.Format.{Format}
@@ -10,15 +10,15 @@ use Rattle.tape_set.specs.declared.position.Position.TheVariants.{Awaits, Finish
 use Rattle.tape_set.specs.Position.{is_start}
 use Rattle.tape_set.specs.Lawful.{FileForm, binding_len, most_blocks}
 
--- The numbers are possible in a second label: the record length binds format F alone, and is 0 in
--- the others.
+-- The numbers are possible in a second label; the record length matters only in format F, and is 0
+-- in the other formats.
 pub record IsForm (format : Format) (rec_len offset : ℕ) : Type 0 where
   pub least : least_record format ≤ rec_len
   pub binding : binding_len format rec_len ≡ rec_len
   pub len_fits : rec_len ≤ longest_block
   pub offset_fits : offset ≤ 99
 
--- what is known of a file with these values
+-- the form of a file with the given values
 abbrev pub known_of : Format → ℕ → ℕ → List ℕ → FileForm
 known_of format rec_len offset file_id =
     record { file_id = file_id; format = format; rec_len = rec_len; offset = offset }
@@ -29,13 +29,13 @@ is_spanned Fixed = false
 is_spanned Counted = false
 is_spanned Spanned = true
 
--- whether records of this file may continue in the next block; false if nothing is known
+-- whether records of the file may continue in the next block; false if the form is unknown
 abbrev pub may_span : Option FileForm → Bool
 may_span None = false
 may_span (Some form) = is_spanned form.format
 
--- the numbers of a position are in range: sections from 1 to 9,999, blocks up to 4,294,967,295, and
--- a block has at most 99,999 parts
+-- the numbers of a position are in range: sections from 1 to 9,999, blocks up to 4,294,967,295,
+-- parts up to 99,999
 abbrev pub PositionFits : Position → Type 0
 PositionFits (Awaits sect block part) = (1 ≤ sect) × (sect ≤ 9999) × (block ≤ most_blocks)
     × (part ≤ longest_block)
@@ -46,9 +46,9 @@ abbrev pub is_finished : Position → Bool
 is_finished (Awaits sect block part) = false
 is_finished Finished = true
 
--- Valid positions of a reader: the form is known exactly if the position is not the file's start,
--- and a record is unfinished only if records may continue in the next block, and never at the
--- file's end.
+-- Valid positions of a reader: the form is known exactly if the position is not the start of the
+-- file, and a record is unfinished only if records may continue in the next block, and never at the
+-- end of the file.
 pub record StandFits (position : Position) (begun : Bool) (known : Option FileForm) : Type 0 where
   pub numbers : PositionFits position
   pub tells : is_some known ≡ not (is_start position)

@@ -1,4 +1,4 @@
--- Which blocks count as which labels, and how labels are compared.
+-- How blocks are read as labels, and how labels are compared.
 use Rattle.std.specs.Prelude.{ℕ, ◌==◌, ◌&&◌, not, Bool, false, if◌then◌else◌, List, length, Option}
 use Rattle.std.specs.Prelude.{Some, None}
 use Rattle.std.specs.Str.{bytes_eq}
@@ -14,11 +14,11 @@ use Rattle.tape_core.specs.declared.event.Heading.{Heading}
 abbrev pub not_of_kind : List ℕ → LabelFault
 not_of_kind block = if length block == 80 then faults.Identifier else faults.NotEighty
 
--- what is remembered of an HDR1 while its section is being read
+-- the fields of an HDR1 that are remembered while its section is read
 abbrev pub heading_of : Head1 → Heading
 heading_of h = record { sequence = h.sequence; sect = h.sect; file_id = h.file_id }
 
--- what the labels of a section say of its file
+-- the form of the file that the labels of a section state
 abbrev pub form_at : Heading → Head2 → FileForm
 form_at heading g =
     record {
@@ -28,17 +28,17 @@ form_at heading g =
       offset = g.offset;
     }
 
--- the form is known, with another file identifier
+-- the form is known and has another file identifier
 abbrev pub other_file_id : Option FileForm → List ℕ → Bool
 other_file_id None file_id = false
 other_file_id (Some known) file_id = not (bytes_eq known.file_id file_id)
 
--- the record format, the record length that binds and the offset are the same
+-- the record format, the record length (in format F) and the offset are the same
 abbrev pub same_shape : FileForm → FileForm → Bool
 same_shape a b = (letter a.format == letter b.format) && (a.rec_len == b.rec_len)
     && (a.offset == b.offset)
 
--- the form is known, with another format, record length or offset
+-- the form is known and has another format, record length or offset
 abbrev pub other_shape : Option FileForm → FileForm → Bool
 other_shape None form = false
 other_shape (Some known) form = not (same_shape known form)

@@ -1,15 +1,15 @@
 -- Definitions to believe for a reader over a valid set: its state, how it follows a reading, valid
--- checkpoints, and which reels are foreign.
+-- checkpoints, and foreign reels.
 pub mod State
 pub mod Follows
 pub mod Stands
 pub mod Place
 pub mod Foreign
--- Checkpoints: their invariant, and the same as tests.
+-- Checkpoints: their invariant, as a proposition and as a decidable test.
 pub mod Known
 pub mod Point
 pub mod Range
--- Sinks: the contracts of their calls, and what the sink in memory contains.
+-- Sinks: the contracts of their calls, and the contents of the sink in memory.
 pub mod Weight
 pub mod Crash
 pub mod Walks
@@ -22,5 +22,5 @@ pub mod Parts
 pub mod Table
 pub mod Behind
 pub mod Faults
--- Examples, which keep the definitions from saying too little.
+-- Examples, which ensure that the definitions do not say too little.
 pub mod Cases

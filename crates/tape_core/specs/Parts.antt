@@ -1,5 +1,5 @@
--- The block of which some parts were delivered: whether a record is unfinished where it begins, and
--- after its first parts.
+-- The block whose first parts were delivered: whether a record is unfinished at its start, and
+-- after these parts.
 use Rattle.std.specs.Prelude.{ℕ, zero, suc, nat_le, ◌||◌, not, Bool, false, List, [], ◌∷◌, length}
 use Rattle.std.specs.Prelude.{take, drop, Option, Some, None}
 use Rattle.tape_label.specs.declared.values.Format.{Format}
@@ -12,7 +12,7 @@ use Rattle.tape_blocks.specs.Judged.{begun_behind}
 use Rattle.tape_blocks.specs.Parts.{parts_of}
 use Rattle.tape_set.specs.Lawful.{FileForm}
 
--- whether a unit with this indicator continues a record
+-- whether a unit with the given indicator continues a record
 abbrev pub goes_on_by : Option Span → Bool
 goes_on_by None = false
 goes_on_by (Some span) = continues span
@@ -21,8 +21,8 @@ abbrev pub first_goes_on : List ℕ → Bool
 first_goes_on [] = false
 first_goes_on (c ∷ cs) = goes_on_by (span_by c)
 
--- whether the first unit after the offset continues a record, by its indicator, which format S
--- alone has
+-- whether the first unit after the offset continues a record, according to its indicator, which
+-- only format S has
 abbrev pub goes_on_at : Format → ℕ → List ℕ → Bool
 goes_on_at Fixed offset block = false
 goes_on_at Counted offset block = false
@@ -32,14 +32,14 @@ goes_on_at Spanned offset block = first_goes_on (drop offset block)
 abbrev pub parts_in : FileForm → List ℕ → List Portion
 parts_in form block = parts_of form.format form.rec_len (drop form.offset block)
 
--- whether a record is unfinished where the block begins, if this many parts were delivered and
--- begun is the state before the next part
+-- whether a record is unfinished at the start of the block, after the given number of its parts
+-- were delivered; `begun` says whether a record is unfinished before the next part
 abbrev pub begun_before : FileForm → ℕ → Bool → List ℕ → Bool
 begun_before form zero begun block = begun
 begun_before form (suc part) begun block = goes_on_at form.format form.offset block
 
--- whether the block cannot be the one of which this many parts were delivered: it has no more, or
--- the record state after them differs
+-- whether the block differs from the one of which the given number of parts were delivered: it has
+-- no further part, or the state of the record after them is not `begun`
 abbrev pub other_front : FileForm → ℕ → Bool → List ℕ → Bool
 other_front form zero begun block = false
 other_front form (suc part) begun block =

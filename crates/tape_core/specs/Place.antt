@@ -9,12 +9,12 @@ use Rattle.tape_core.specs.State.{State}
 use Rattle.tape_core.specs.Point.{Point}
 use Rattle.tape_core.specs.Follows.{IsAt}
 
--- what remains of the phase: only whether the reader is broken
+-- the phase between two reels, which says only whether the reader is broken
 abbrev pub resting : Phase → Phase
 resting Broken = Broken
 resting _ = Over
 
--- the state with no reading under way
+-- the state with no reading in progress
 abbrev pub rest_of : State → State
 rest_of core = record core { phase = resting core.phase }
 
@@ -31,7 +31,7 @@ place_of c =
       phase = Over;
     }
 
--- The reader has a position in a file of the set, and these are the parts before it.
+-- The reader has a position in a file of the set, and `parts` are the parts before it.
 pub record IsPlaced (set : FileSet) (core : State) (parts : List Portion) : Type 0 where
   pub at : IsAt set core
   pub all : parts ≡ before set core.file core.position

@@ -1,4 +1,4 @@
--- The invariant of a checkpoint, as tests.
+-- The invariant of a checkpoint, as decidable tests.
 use Rattle.std.specs.Prelude.{ℕ, nat_le, ◌==◌, ◌&&◌, ◌||◌, not, Bool, true, Option, Some, None}
 use Rattle.tape_label.specs.declared.values.Format.{Format}
 use Rattle.tape_label.specs.declared.values.Format.TheVariants.{Fixed, Counted, Spanned}
@@ -10,7 +10,7 @@ use Rattle.tape_set.specs.Lawful.{FileForm, most_blocks}
 use Rattle.tape_core.specs.Known.{may_span, is_finished, most_staged}
 use Rattle.tape_core.specs.Point.{Point}
 
--- records of format F have a length, from 1 to 99,999; in the other formats it is 0
+-- records of format F have a length from 1 to 99,999; in the other formats the length is 0
 abbrev pub length_in_range : Format → ℕ → Bool
 length_in_range Fixed rec_len = nat_le 1 rec_len && nat_le rec_len longest_block
 length_in_range Counted rec_len = rec_len == 0
@@ -26,12 +26,12 @@ position_in_range (Awaits sect block part) = nat_le 1 sect && nat_le sect 9999
     && nat_le block most_blocks && nat_le part longest_block
 position_in_range Finished = true
 
--- the form is known exactly if the position is not the file's start
+-- the form is known exactly if the position is not the start of the file
 abbrev pub known_where_due : Option FileForm → Position → Bool
 known_where_due None position = is_start position
 known_where_due (Some form) position = not (is_start position)
 
--- a record may be unfinished before the end of a file of format S
+-- a record may be unfinished only in format S, and not at the end of the file
 abbrev pub may_begin : Option FileForm → Position → Bool
 may_begin known position = may_span known && not (is_finished position)
 

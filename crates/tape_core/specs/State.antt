@@ -1,4 +1,4 @@
--- A reader's state, as contracts see it.
+-- A reader's state, as seen by contracts.
 use Rattle.std.specs.Prelude.{◌≡◌, ℕ, Bool, true, false, List, Option, Some, None}
 use Rattle.tape_set.specs.declared.position.Position.{Position}
 use Rattle.tape_set.specs.Lawful.{FileForm}
@@ -20,7 +20,7 @@ abbrev pub is_broken : Phase → Bool
 is_broken Broken = true
 is_broken _ = false
 
--- whether data of the section needed come next
+-- whether data of the section needed are expected next
 abbrev pub wants_data : Phase → Bool
 wants_data (DataWanted heading form seen) = true
 wants_data _ = false
@@ -32,7 +32,7 @@ told (DataWanted heading form seen) = Some form
 told (TrailerWanted heading form) = Some form
 told _ = None
 
--- an unfinished record may continue by the labels, if they were read
+-- if a record is unfinished, the labels read since then, if any, allow records to continue
 abbrev pub ToldFits : Bool → Option FileForm → Type 0
 ToldFits begun None = Unit {0}
 ToldFits begun (Some form) = begun ≡ true → is_spanned form.format ≡ true

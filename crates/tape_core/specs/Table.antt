@@ -49,23 +49,23 @@ use Rattle.tape_core.specs.State.{State}
 abbrev pub Outcome : Type 0
 Outcome = Answer × State
 
--- something else is expected next, and the position stays
+-- the state with another phase; the position does not change
 abbrev pub in_phase : State → Phase → State
 in_phase core phase = record core { phase = phase }
 
--- the item was expected; sets what is expected next
+-- the item was expected, and the next phase begins
 abbrev pub passed : State → Phase → Outcome
 passed core phase = (Passed, in_phase core phase)
 
--- the reading is over, and the position stays
+-- the reading ends, and the position does not change
 abbrev pub useless : State → Reason → Outcome
 useless core why = (Useless why, in_phase core Over)
 
--- the same, and no reading begins before a restart
+-- the reading ends, and no reading begins before a restart
 abbrev pub broken : State → Reason → Outcome
 broken core why = (Useless why, in_phase core Broken)
 
--- the position, with the record state and the form there
+-- the state at the given position, with the given state of the record, form and phase
 abbrev pub moved_to : State → Position → Bool → FileForm → Phase → State
 moved_to core position begun form phase =
     record core { position = position; begun = begun; known = Some form; phase = phase }
@@ -95,36 +95,37 @@ abbrev pub first_labels : State → List ℕ → Option Kind → Outcome
 first_labels core bytes (Some kinds.Hdr1) = at_head1 core (head1_at bytes)
 first_labels core bytes _ = useless core NotLabelled
 
--- HDR2 of the section needed: format, record length and offset are those that are known
+-- HDR2 of the section needed: format, record length and offset must be those already known
 abbrev pub at_head2 : State → Heading → Result Head2 LabelFault → Outcome
 at_head2 core heading (Err fault) = useless core (BadLabel fault)
 at_head2 core heading (Ok g) =
     if other_shape core.known (form_at heading g) then useless core SectionDiffers
     else passed core (Headers heading (Some (form_at heading g)))
 
--- HDR2 is expected; in a skipped section only its kind is checked
+-- an HDR2 is expected; in a skipped section only its kind is checked
 abbrev pub second_label : State → Heading → Bool → List ℕ → Option Kind → Outcome
 second_label core heading false bytes (Some kinds.Hdr2) = passed core (Headers heading None)
 second_label core heading true bytes (Some kinds.Hdr2) = at_head2 core heading (head2_at bytes)
 second_label core heading wanted bytes _ = useless core (BadLabel (not_of_kind bytes))
 
--- the mark after the headers: data follow, of the section needed or of a skipped one
+-- the phase after the mark that ends the headers: data, of the section needed or of a skipped
+-- section
 abbrev pub data_phase : Heading → Option FileForm → Phase
 data_phase heading None = DataPassed heading
 data_phase heading (Some form) = DataWanted heading form 0
 
--- the expected block is the next one of the file
+-- the expected block is the next block of the file
 abbrev pub delivered : State → Heading → FileForm → Bool → Outcome
 delivered core heading form end =
     let behind = DataWanted heading form (block_of core.position + 1) in
     (Deliver, moved_to core (next_block core.position) end form behind)
 
--- the expected block, if it leaves a record unfinished or not, or is not the one
+-- the expected block: the result is whether it leaves a record unfinished, or why it is refused
 abbrev pub found_awaited : State → Heading → FileForm → Result Bool Reason → Outcome
 found_awaited core heading form (Err why) = useless core why
 found_awaited core heading form (Ok end) = delivered core heading form end
 
--- the expected block, by the result of its check; it must be the one of which some parts were
+-- the expected block, by the result of its check; it must be the block whose first parts were
 -- delivered
 abbrev pub at_judged : State → Heading → FileForm → List ℕ → Result Bool BlockFault → Outcome
 at_judged core heading form bytes (Err fault) = useless core (BadBlock fault)
@@ -132,45 +133,45 @@ at_judged core heading form bytes (Ok end) =
     if other_front form (part_of core.position) core.begun bytes then useless core SectionDiffers
     else delivered core heading form end
 
--- the expected block is checked; there is none after the greatest number
+-- the expected block is checked; after the greatest block number no block is expected
 abbrev pub at_awaited : State → Heading → FileForm → List ℕ → Outcome
 at_awaited core heading form bytes =
     if not (nat_lt (block_of core.position) most_blocks) then useless core SectionDiffers
     else at_judged core heading form bytes (judged form.format form.rec_len form.offset
     (begun_before form (part_of core.position) core.begun bytes) bytes)
 
--- a block of the section needed: one that was delivered before is skipped
+-- a block of the section needed: a block that was delivered already is skipped
 abbrev pub at_data : State → Heading → FileForm → ℕ → List ℕ → Outcome
 at_data core heading form seen bytes =
     if nat_lt seen (block_of core.position) then passed core (DataWanted heading form (seen + 1))
     else at_awaited core heading form bytes
 
--- an unreadable item: one that was delivered before is skipped
+-- an unreadable item: it is skipped if it is a block that was delivered already
 abbrev pub at_bad_data : State → Heading → FileForm → ℕ → Outcome
 at_bad_data core heading form seen =
     if nat_lt seen (block_of core.position) then passed core (DataWanted heading form (seen + 1))
     else useless core BadItem
 
--- the mark after the data: no block that was delivered before may be missing
+-- the mark after the data: no block that was delivered already may be missing
 abbrev pub at_data_end : State → Heading → FileForm → ℕ → Outcome
 at_data_end core heading form seen =
     if nat_lt seen (block_of core.position) then useless core SectionDiffers
     else passed core (TrailerWanted heading form)
 
--- the trailer has other numbers than the header
+-- whether the numbers in the trailer differ from those in the header
 abbrev pub other_numbers : Heading → Trail1 → Bool
 other_numbers heading t =
     not ((t.head.sequence == heading.sequence) && (t.head.sect == heading.sect))
 
--- the trailer of a skipped section: its numbers are those of the header
+-- the trailer of a skipped section: its numbers must be those of the header
 abbrev pub at_passed_trailer : State → Heading → Result Trail1 LabelFault → Outcome
 at_passed_trailer core heading (Err fault) = useless core (BadLabel fault)
 at_passed_trailer core heading (Ok t) =
     if other_numbers heading t then useless core SectionDiffers
     else passed core Trailers
 
--- EOF1 ends the file, which leaves no record unfinished; EOV1 ends the section, if the next one has
--- a number
+-- EOF1 ends the file, which must not leave a record unfinished; EOV1 ends the section, if the next
+-- section has a valid number
 abbrev pub at_end : State → FileForm → Bool → Outcome
 at_end core form true =
     if core.begun then useless core SpanLeft
@@ -179,7 +180,8 @@ at_end core form false =
     if not (nat_lt (sect_of core.position) 9999) then useless core SectionDiffers
     else (SectionDone, moved_to core (next_section core.position) core.begun form Over)
 
--- the trailer of the section needed, all of whose blocks were seen: its numbers, then its count
+-- the trailer of the section needed, after all its blocks were seen: first its numbers are checked,
+-- then its count
 abbrev pub at_wanted_trailer :
     State → Heading → FileForm → Result Trail1 LabelFault → Outcome
 at_wanted_trailer core heading form (Err fault) = useless core (BadLabel fault)
@@ -189,7 +191,7 @@ at_wanted_trailer core heading form (Ok t) =
     then broken core (BlockCount t.blocks (block_of core.position))
     else at_end core form t.eof
 
--- ---- the table: the item, by what is expected
+-- ---- the table: the effect of each item, by phase
 
 -- a block
 abbrev pub at_block : State → Phase → List ℕ → Outcome
@@ -254,13 +256,13 @@ abbrev pub unless_complete : State → Position → Outcome → Outcome
 unless_complete core Finished other = (Complete, core)
 unless_complete core (Awaits sect b part) other = other
 
--- one step, for an item, or for none at the reel's end
+-- one step, for an item, or for `None` at the end of the reel
 abbrev pub step_of : State → Option TapeItem → Outcome
 step_of core arrived = unless_complete core core.position (at_arrival core core.phase arrived)
 
 -- ---- the other calls
 
--- a reader of a file that begins
+-- a reader at the start of a file
 abbrev pub reader_of : List ℕ → ℕ → State
 reader_of set_id file = record {
   set_id = set_id;
@@ -271,7 +273,7 @@ reader_of set_id file = record {
   phase = Over;
 }
 
--- what is expected first on a reel
+-- the phase at the start of a reel
 abbrev pub mounted : Phase → Position → Phase
 mounted Broken p = Broken
 mounted _ Finished = Over
@@ -280,7 +282,7 @@ mounted _ (Awaits sect b part) = Volume
 abbrev pub mount_of : State → State
 mount_of core = in_phase core (mounted core.phase core.position)
 
--- the reader's shape of blocks is that of the form
+-- the shape of the reader's blocks is that of the form
 pub record IsShapeOf (form : FileForm) (shape : Shape) : Type 0 where
   pub format : shape.format ≡ form.format
   pub rec_len : shape.rec_len ≡ form.rec_len
@@ -288,7 +290,7 @@ pub record IsShapeOf (form : FileForm) (shape : Shape) : Type 0 where
   pub block_len : shape.block_len ≡ 0
   pub pad_full : shape.pad_full ≡ false
 
--- the shape is that of what is known, and there is none if nothing is
+-- the shape is that of the form; there is no shape if the form is unknown
 abbrev pub Shows : Option FileForm → Option Shape → Type 0
 Shows None None = Unit {0}
 Shows (Some form) (Some shape) = IsShapeOf form shape
@@ -305,7 +307,7 @@ saved core staged = record {
   staged = staged;
 }
 
--- the reader at the checkpoint's position, with no reading under way
+-- the reader at the checkpoint's position, with no reading in progress
 abbrev pub restarted : State → Point → State
 restarted core point = record core {
   position = point.position;
@@ -314,7 +316,7 @@ restarted core point = record core {
   phase = Over;
 }
 
--- whether the checkpoint is one of the reader's set and file
+-- whether the checkpoint belongs to the reader's set and file
 abbrev pub is_of_file : State → Point → Bool
 is_of_file core point = bytes_eq core.set_id point.set_id && (core.file == point.file)
 

@@ -1,4 +1,4 @@
--- What a sink returns.
+-- The results of a sink.
 use Rattle.std.specs.Prelude.{◌≡◌, ℕ, ◌<◌, ◌≤◌, length, List, [], ◌∷◌, Option, Some, None, Result}
 use Rattle.std.specs.Prelude.{Ok, Err, IfErr}
 use Rattle.tape_blocks.specs.declared.parts.Part.{Part}
@@ -9,7 +9,8 @@ use Rattle.tape_core.specs.Crash.{AddsNothing, Crashes}
 use Rattle.tape_core.specs.Weight.{Rose}
 use Rattle.tape_core.specs.declared.sink.SinkFault.{SinkFault}
 
--- what was to come, by the answer: nothing, the part returned and others, or the same
+-- the parts that were to come, by the answer: no parts; the part returned, followed by those still
+-- to come; after a fault, those still to come
 abbrev pub GivesPart : Result (Option Part) SinkFault → List Portion → (List Portion → Type 0)
     → Type 0
 GivesPart (Ok None) parts Ahead = (parts ≡ []) × Ahead []
@@ -17,18 +18,18 @@ GivesPart (Ok (Some part)) parts Ahead = (rest : List Portion) × (parts ≡ vie
     × Ahead rest
 GivesPart (Err fault) parts Ahead = Ahead parts
 
--- the refused calls are counted, and no others
+-- only refused calls are counted
 abbrev pub Counts : Result (Option Part) SinkFault → ℕ → ℕ → Type 0
 Counts (Ok given) old new = new ≡ old
 Counts (Err fault) old new = Rose old new
 
--- a part that was lent is short enough to be put, and less is left
+-- a part that is returned is short enough for `put`, and fewer are left
 abbrev pub Lends : Result (Option Part) SinkFault → ℕ → ℕ → Type 0
 Lends (Ok (Some part)) old new = (length part.bytes.now ≤ longest_block) × (new < old)
 Lends _ old new = Unit {0}
 
 -- The sink's contents are unchanged, and it returned the next of the parts to come, or refused the
--- call for its reason.
+-- call with a stated reason.
 pub record HasGiven {S : Type 0} (holds : S → List Portion → Type 0) (weighs refusals : S → ℕ)
     (crashes : S → Crashes) (ahead : S → List Portion → Type 0) (left : S → ℕ)
     (refuses : S → SinkFault → S → Type 0) (old : S)

@@ -1,4 +1,4 @@
-//! Checkpoints, what they know of the file, and their valid values.
+//! Checkpoints, the form of a file stored in them, and their valid values.
 
 ghost use Rattle.std.specs.Prelude.{◌≡◌, ◌↔◌, ◌<◌, ◌≤◌, ◌-◌, ◌++◌, ℕ, List, true, false, length};
 ghost use Rattle.std.specs.Prelude.{take, drop, is_some, IfSome, IsSome};
@@ -19,28 +19,28 @@ use tape_set::Position;
 
 /// A position in the reading of a file, with the weight of the parts kept before it.
 ///
-/// Invariant, which whoever creates a checkpoint proves: its numbers are in range; the form of the
-/// file is known exactly if the position is not its start; a record is unfinished only in format S,
-/// and never at the file's end.
+/// Invariant, which anyone who creates a checkpoint proves: its numbers are in range; the form of
+/// the file is known exactly if the position is not the start of the file; a record is unfinished
+/// only in format S, and never at the end of the file.
 #[derive(Clone, Copy, Debug, PartialEq, Eq)]
 pub struct Checkpoint {
     /// The number of the file in its set, 1 to 9,999.
     pub file: u16,
-    /// Whether a record is unfinished there.
+    /// Whether a record is unfinished at the position.
     pub begun: bool,
-    /// The weight of the parts before the position, at most 999,999,999,999,999: 5 for each part,
-    /// and one for each of its bytes.
+    /// The weight of the parts before the position, at most 999,999,999,999,999: 5 for each part
+    /// and 1 for each of its bytes.
     pub staged: u64,
     /// The identifier of the file set.
     pub set_id: Field<6>,
-    /// The next part expected: a section of 1 to 9,999, and a part of at most 99,999; `None` at the
-    /// file's end.
+    /// The next part expected: a section from 1 to 9,999, and a part of at most 99,999; `None` at
+    /// the end of the file.
     pub position: Position,
-    /// What is known of the file; `None` at its start.
+    /// The form of the file; `None` at the start of the file.
     pub known: Option<Known>,
 }
 
-// Contracts see it as the record of these six fields.
+// In contracts a checkpoint is the record of these six fields.
 impl Model for Checkpoint {
     ghost use Rattle.tape_core.specs.Point.{Point, IsPoint, point_of};
 
@@ -68,7 +68,7 @@ impl Checkpoint {
     ghost use Rattle.tape_core.specs.Follows.{IsAt, Delivers};
     ghost use Rattle.tape_core.specs.Stands.{Stands, weight_of, inside_block};
 
-    /// Returns the checkpoint with these values, or `None` if they violate the invariant of the
+    /// Returns the checkpoint with the given values, or `None` if they violate the invariant of the
     /// type.
     pub fn from_parts(
         set_id: Field<6>,
@@ -91,7 +91,7 @@ impl Checkpoint {
         Some(Checkpoint::of(set_id, file, position, begun, known, staged))
     }
 
-    /// Returns the checkpoint with these values, which must satisfy the invariant.
+    /// Returns the checkpoint with the given values, which must satisfy the invariant.
     pub(crate) fn of(
         set_id: Field<6>,
         file: u16,
@@ -124,8 +124,9 @@ impl Checkpoint {
     }
 
     /// Returns the checkpoint inside a block, if `self` is the checkpoint after that block. `p` is
-    /// a position in the block, `part` the number of its parts that are kept, `staged` the weight
-    /// of all parts kept, and `begun` says whether the last of them leaves a record unfinished.
+    /// a position in the block, `part` the number of the block's parts that are kept, `staged` the
+    /// weight of all parts kept, and `begun` says whether the last part kept leaves a record
+    /// unfinished.
     pub fn inside_block(&self, p: Position, part: u32, begun: bool, staged: u64) -> Checkpoint
         requires numbers { PositionFits p }
         requires waits { is_finished p ≡ false }
@@ -133,7 +134,7 @@ impl Checkpoint {
         requires known { is_some self.now.known ≡ true }
         requires light { staged ≤ most_staged }
         ensures value { result ≡ inside_block self.now p part begun staged }
-        // If that block was delivered, and exactly `part` of its parts are kept, the checkpoint is
+        // If the block was delivered, and exactly `part` of its parts are kept, the checkpoint is
         // valid.
         ensures stands { (set : FileSet) (old new : State) (item : TapeItem) (n : ℕ)
             → self.now ≡ saved new n → p ≡ old.position → IsAt set old
@@ -157,7 +158,7 @@ impl Checkpoint {
         requires light { staged ≤ most_staged }
         ensures value { result ≡ inside_block self.now p part begun staged }
     {
-        // In a file of another format no record is ever unfinished: callers need not know the
+        // In a file of another format no record is ever unfinished, so callers need not know the
         // format.
         let begun = begun && may_span(&self.known);
         let position = p.at_part(part);
@@ -165,11 +166,11 @@ impl Checkpoint {
     }
 }
 
-/// What all sections of a file have in common, as their HDR1 and HDR2 say. Invariant, which whoever
-/// creates a value proves: its numbers are in range.
+/// The form that all sections of a file share, as stated in their HDR1 and HDR2. Invariant, which
+/// anyone who creates a value proves: its numbers are in range.
 #[derive(Clone, Copy, Debug, PartialEq, Eq)]
 pub struct Known {
-    /// F, D or S.
+    /// The record format.
     pub format: Format,
     /// The record length of format F, 1 to 99,999; 0 in the other formats, where readers ignore it.
     pub rec_len: u32,
@@ -179,7 +180,7 @@ pub struct Known {
     pub file_id: Field<17>,
 }
 
-// Contracts see it as the form of the file.
+// In contracts this is the form of the file.
 impl Model for Known {
     ghost use Rattle.tape_set.specs.Lawful.{FileForm};
     ghost use Rattle.tape_core.specs.Known.{IsForm};
@@ -204,8 +205,8 @@ impl Model for Known {
 }
 
 impl Known {
-    /// Returns the form with these values, or `None` if one is out of range: the record length is 1
-    /// to 99,999 in format F and 0 in the others, and the offset at most 99.
+    /// Returns the form with the given values, or `None` if a value is out of range: the record
+    /// length is 1 to 99,999 in format F and 0 in the other formats, and the offset is at most 99.
     pub fn from_parts(format: Format, rec_len: u32, offset: u8, file_id: Field<17>) -> Option<Known>
         ensures value { IfSome result (λ known. known ≡ known_of format rec_len offset file_id) }
         ensures rules { IsSome result ↔ IsForm format rec_len offset }
@@ -224,7 +225,7 @@ impl Known {
     }
 }
 
-/// Returns whether this record length is possible in this format.
+/// Returns whether the record length is possible in the format.
 fn length_in_range(format: Format, rec_len: u32) -> bool
     ensures { result ≡ length_in_range format rec_len }
 {
@@ -237,7 +238,7 @@ fn length_in_range(format: Format, rec_len: u32) -> bool
 /// The greatest weight of staged parts.
 pub(crate) const MOST_STAGED: u64 = 999_999_999_999_999;
 
-/// Returns whether these can be the numbers and flags of a checkpoint.
+/// Returns whether the numbers and flags can be those of a checkpoint.
 pub(crate) fn is_in_range(
     file: u16,
     position: Position,
@@ -256,7 +257,7 @@ pub(crate) fn is_in_range(
         && staged <= MOST_STAGED
 }
 
-/// Returns whether the position's numbers are in range.
+/// Returns whether the numbers of the position are in range.
 fn position_in_range(position: Position) -> bool
     ensures { result ≡ position_in_range position }
 {
@@ -266,7 +267,7 @@ fn position_in_range(position: Position) -> bool
     }
 }
 
-/// Returns whether the form is known exactly if the position is not the file's start.
+/// Returns whether the form is known exactly if the position is not the start of the file.
 fn known_where_due(known: &Option<Known>, position: Position) -> bool
     ensures { result ≡ known_where_due known.now position }
 {
@@ -276,7 +277,7 @@ fn known_where_due(known: &Option<Known>, position: Position) -> bool
     }
 }
 
-/// Returns whether a record may be unfinished there.
+/// Returns whether a record may be unfinished at the position.
 fn may_begin(known: &Option<Known>, position: Position) -> bool
     ensures { result ≡ may_begin known.now position }
 {

@@ -1,4 +1,4 @@
-//! The events that come from reels, the answers to them, and what a reader expects next.
+//! The events from reels, the answers to them, and the items that a reader expects next.
 
 ghost use Rattle.std.specs.Prelude.{◌≡◌};
 ghost use Rattle.tape_core.specs.Faults.{number};
@@ -11,24 +11,25 @@ use thiserror::Error;
 /// The next event from the mounted reel.
 #[derive(Clone, Copy, Debug)]
 pub enum Event<'a> {
-    /// A block that was read well.
+    /// A readable block.
     Block(&'a [u8]),
-    /// An unreadable block, or an unreadable mark, which looks the same.
+    /// An unreadable block or tape mark; the two cannot be distinguished.
     Bad,
     /// A tape mark.
     Mark,
-    /// Nothing more comes from this reel: it ended, or its reader failed.
+    /// The reel ended, or its reader failed: no more items follow.
     ReelEnd,
 }
 
-/// The answer to an event. A reading continues after `Passed` and `Deliver`, and is over after the
-/// others.
+/// The answer to an event. A reading continues after `Passed` and `Deliver`, and ends after all
+/// other answers.
 #[derive(Clone, Copy, Debug, PartialEq, Eq)]
 pub enum Answer {
     /// The item was expected, and contains no part that is needed.
     Passed,
-    /// The block just passed in is the expected one, and its contents were checked: its parts from
-    /// the expected one on are the next parts of the file. The position is now after the block.
+    /// The block just passed in is the expected one, and its contents were checked: its parts,
+    /// beginning with the expected one, are the next parts of the file. The position is now after
+    /// the block.
     Deliver,
     /// The section is complete, and the file continues in the next section.
     SectionDone,
@@ -44,10 +45,10 @@ pub enum Reason {
     /// The reel does not begin with VOL1, further volume labels and HDR1 (ECMA-13, 4th edition,
     /// label groups).
     NotLabelled,
-    /// HDR1 has another file set identifier.
+    /// HDR1 names another file set.
     OtherSet,
-    /// The section needed is not on this reel: the header of a later file, or the volume's end,
-    /// comes first.
+    /// The section needed is not on this reel: the header of a later file, or the end of the
+    /// volume, comes first.
     NotOnReel,
     /// A later section of the file begins here.
     LaterSection,
@@ -55,38 +56,39 @@ pub enum Reason {
     EarlierSection,
     /// An item that is needed is unreadable.
     BadItem,
-    /// The reel ended, or no reading is under way.
+    /// The reel ended, or no reading is in progress.
     ReelEnded,
-    /// The expected block does not contain records as the labels describe them, or not those that
-    /// come next in the file.
+    /// The expected block does not contain records as described by the labels, or its records do
+    /// not continue the file.
     BadBlock(BlockFault),
-    /// The trailer label counts other blocks than were seen. Nothing is read before a restart.
+    /// The trailer label gives a different number of blocks than were seen. Nothing is read before
+    /// a restart.
     BlockCount {
-        /// The count of the label, which has only the last six digits.
+        /// The label's count, which contains only the last six digits.
         label: u32,
-        /// The data blocks of the section, including unreadable ones.
+        /// The number of data blocks in the section, including unreadable blocks.
         seen: u32,
     },
     /// The file's last section ends inside a record.
     SpanLeft,
-    /// The section's labels differ from those of earlier sections, or its trailer from its own
-    /// header; or the section is too long; or the block cannot be the one of which some parts were
-    /// delivered.
+    /// The section's labels differ from those of earlier sections, or its trailer differs from its
+    /// own header, or the section is too long, or the block differs from the one whose first parts
+    /// were delivered.
     SectionDiffers,
-    /// A block that should be a label cannot be read as one. For a tape mark in its place the cause
-    /// is `Identifier`.
+    /// A block that should be a label cannot be read as a label. For a tape mark instead of a label
+    /// the cause is `Identifier`.
     BadLabel(LabelFault),
-    /// After a `BlockCount` nothing is read before a restart.
+    /// After `BlockCount` nothing is read before a restart.
     Broken,
 }
 
-/// Why a reader is not created, or does not return to a checkpoint.
+/// Why a reader is not created, or does not roll back to a checkpoint.
 #[derive(Clone, Copy, Debug, PartialEq, Eq, Error)]
 pub enum CoreFault {
     /// Files are numbered from 1 to 9,999.
     #[error("the file number is not 1 to 9,999")]
     FileNumber,
-    /// The checkpoint is one of another file or file set.
+    /// The checkpoint belongs to another file or file set.
     #[error("the checkpoint belongs to another file")]
     OtherFile,
 }
@@ -103,7 +105,7 @@ impl CoreFault {
     }
 }
 
-/// What is remembered of an HDR1 while its section is being read.
+/// The fields of an HDR1 that are remembered while its section is read.
 #[derive(Clone, Copy, Debug)]
 pub(crate) struct Heading {
     /// The number of the file in its set.
@@ -114,25 +116,26 @@ pub(crate) struct Heading {
     pub file_id: Field<17>,
 }
 
-/// What is expected next on the mounted reel. For the section needed, the form from its labels is
-/// remembered until its end; for a skipped section, the numbers of its HDR1.
+/// The items expected next on the mounted reel. The numbers of HDR1 are remembered until the end of
+/// a section, and for the section needed also the form from its labels.
 #[derive(Clone, Copy, Debug)]
 pub(crate) enum Phase {
-    /// Nothing: no reading is under way.
+    /// Nothing: no reading is in progress.
     Over,
-    /// Nothing, and no reading begins before a restart.
+    /// Nothing: no reading begins before a restart.
     Broken,
     /// VOL1.
     Volume,
     /// A further volume label, or HDR1.
     VolumeLabels,
-    /// HDR2 of the section needed (`true`) or of a skipped one.
+    /// HDR2 of the section needed (`true`) or of a skipped section.
     Header2(Heading, bool),
-    /// Further headers, or the mark after them. The form is that of the section needed.
+    /// Further headers, or the mark after them. The form is `None` for a skipped section.
     Headers(Heading, Option<Known>),
     /// Data of a skipped section, or the mark after them.
     DataPassed(Heading),
-    /// Data of the section needed, of which this many blocks were seen, or the mark after them.
+    /// Data of the section needed, or the mark after them; the number is that of the blocks already
+    /// seen.
     DataWanted(Heading, Known, u32),
     /// EOF1 or EOV1 of a skipped section.
     TrailerPassed(Heading),
@@ -144,11 +147,11 @@ pub(crate) enum Phase {
     NextFile,
 }
 
-/// How a part belongs to its record, and where its bytes end.
+/// The position of a part within its record, and the offset at which its bytes end.
 #[derive(Clone, Copy)]
 pub(crate) struct Entry {
-    /// How the part belongs to its record.
+    /// The position of the part within its record.
     pub span: Span,
-    /// The total number of bytes of all parts up to and including this one.
+    /// The total number of bytes of all parts up to and including this part.
     pub end: usize,
 }

@@ -7,8 +7,8 @@ ghost use Rattle.tape_core.specs.Table.{step_of};
 ghost use Rattle.tape_core.specs.Behind.{AreInOrder, PassesTo, expected_over, passed_over};
 ghost use Rattle.tape_core.specs.Cases.{CasesOfForeign, CasesOfPlaces, CasesOfSteps, CasesOfSinks};
 
-/// Examples for the definitions of readers and sinks: which reels are foreign, valid positions, the
-/// effect of a step, and what a sink returns.
+/// Examples for the definitions of readers and sinks: foreign reels, valid positions, the effect of
+/// a step, and the results of a sink.
 pub fn cases()
     ensures foreign { CasesOfForeign }
     ensures places { CasesOfPlaces }
@@ -17,7 +17,8 @@ pub fn cases()
 {}
 
 /// The section that a reader of one file reads is skipped by a reader of a later file of the set;
-/// if the first reader completed the section, the second then expects what follows a trailer label.
+/// if the first reader completed the section, the second then expects the items that follow a
+/// trailer label.
 pub fn passes_over()
     ensures { (first later : State) (x : TapeItem) → AreInOrder first later
         → later.phase ≡ passed_over first.phase

@@ -1,6 +1,6 @@
-//! Reads one file of a set as a sequence of events: it takes what comes from the reels, and answers
-//! which blocks are the next ones of the file. It also has the sinks that receive the parts of the
-//! blocks, and the checkpoints that both can return to.
+//! Reads one file of a set as a sequence of events: takes the items of the reels, and reports which
+//! blocks are the next blocks of the file. Also contains the sinks that receive the parts of the
+//! blocks, and the checkpoints to which a reader and a sink can roll back.
 #![tactic(auto)]
 
 mod checkpoint;

@@ -16,17 +16,17 @@ use crate::sink::{PartSink, PartWalk, SinkFault};
 use std::alloc::{AllocError, Global};
 use tape_blocks::Part;
 
-/// A sink in memory. Nothing survives a crash.
+/// A sink in memory, which does not survive a crash.
 ///
-/// All bytes are in one allocation, and an entry of 16 bytes for each part is in another. Each
+/// All bytes are in one allocation, and the entries of the parts, 16 bytes each, in another. Each
 /// allocation grows by doubling.
 #[derive(Drop)]
 pub struct MemorySink {
-    /// The bytes of all parts, one part after another.
+    /// The bytes of all parts, in order.
     bytes: Vec<u8>,
-    /// The entry of each part, in order.
+    /// The entries of the parts, in order.
     entries: Vec<Entry>,
-    /// How many calls were refused.
+    /// The number of refused calls.
     refused: u64,
     /// The number of parts that the current walk has returned.
     given: usize,
@@ -58,7 +58,7 @@ impl MemorySink {
         self.entries.len()
     }
 
-    /// Returns the part with this number, counted from 0, or `None` after the last.
+    /// Returns part number `number`, counted from 0, or `None` if there is no such part.
     pub fn part(&self, number: usize) -> Option<Part<'_>>
         ensures { viewed result ≡ slice_get (portions self.now) number }
     {
@@ -69,7 +69,7 @@ impl MemorySink {
         }
     }
 
-    /// Lends the part with this number.
+    /// Borrows part number `number`.
     #[inline(always)]
     fn lent(&self, number: usize) -> Part<'_>
         requires { number < length (portions self.now) }
@@ -84,7 +84,7 @@ impl MemorySink {
         }
     }
 
-    /// Returns where the bytes of the first `n` parts end.
+    /// Returns the offset at which the bytes of the first `number` parts end.
     #[inline(always)]
     fn end_of(&self, number: usize) -> usize
         requires { number ≤ length (portions self.now) }
@@ -96,7 +96,7 @@ impl MemorySink {
         self.entries[number - 1].end
     }
 
-    /// Returns the weight of the first parts.
+    /// Returns the weight of the first `number` parts.
     #[inline(always)]
     fn weight_to(&self, number: usize) -> u64
         requires { number ≤ length (portions self.now) }
@@ -106,7 +106,7 @@ impl MemorySink {
         5 * number as u64 + self.end_of(number) as u64
     }
 
-    /// Returns how many of the first parts fit within this weight.
+    /// Returns the number of leading parts whose total weight is at most `most`.
     fn front(&self, most: u64) -> usize
         ensures within { result ≤ length (portions self.now) }
         ensures light { weight_of (take result (portions self.now)) ≤ most }
@@ -120,7 +120,7 @@ impl MemorySink {
         number
     }
 
-    /// Appends a part. If there is no memory for it, nothing changes.
+    /// Appends a part. If an allocation fails, nothing changes.
     #[inline(always)]
     fn add(&mut self, part: Part<'_>) -> Result<(), AllocError>
         requires short { length part.bytes.now ≤ longest_block }

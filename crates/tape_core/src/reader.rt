@@ -24,8 +24,8 @@ use tape_blocks::Shape;
 use tape_label::Field;
 use tape_set::{Position, Want};
 
-/// Reads one file of a set, item by item, from reels that are mounted in any order. It tracks the
-/// position in the file; it does not allocate, and stores no byte of a record.
+/// Reads one file of a set, item by item, from reels that are mounted in any order. Tracks the
+/// position in the file. Does not allocate, and stores no bytes of records.
 #[derive(Debug, Drop)]
 pub struct ReaderCore {
     /// The identifier of the file set.
@@ -34,15 +34,15 @@ pub struct ReaderCore {
     file: u16,
     /// The position: the next part expected.
     position: Position,
-    /// Whether a record is unfinished there.
+    /// Whether a record is unfinished at the position.
     begun: bool,
-    /// What is known of the file; `None` at its start.
+    /// The form of the file; `None` at the start of the file.
     known: Option<Known>,
-    /// What is expected next on the reel.
+    /// The items expected next on the reel.
     phase: Phase,
 }
 
-// Contracts see it as the record of these six fields.
+// In contracts a reader is the record of these six fields.
 impl Model for ReaderCore {
     ghost use Rattle.tape_core.specs.State.{State, IsState};
 
@@ -71,15 +71,16 @@ impl ReaderCore {
     ghost use Rattle.tape_core.specs.Stands.{Stands, weight_of};
     ghost use Rattle.tape_core.specs.Known.{IsFileNumber, most_staged};
 
-    /// Creates a reader of this file of the set, at the file's start. Files are numbered from 1.
+    /// Creates a reader of file number `file` of the set, at the start of the file. Files are
+    /// numbered from 1.
     ///
     /// # Errors
     ///
-    /// Returns `FileNumber` if the file's number is not 1 to 9,999.
+    /// Returns `FileNumber` if `file` is not 1 to 9,999.
     pub fn new(set_id: Field<6>, file: u16) -> Result<ReaderCore, CoreFault>
         ensures begins { IsFileNumber file → result ≡ Ok (Table.reader_of set_id file) }
         ensures value { IfOk result (λ core. core ≡ Table.reader_of set_id file) }
-        // Its position is the start of the file, in each set with this identifier that has the
+        // Its position is the start of the file, in every set with this identifier that has the
         // file.
         ensures stands { IfOk result (λ core. (set : FileSet) → set_id ≡ set.set_id
             → IsIn set file start → IsAt set core) }
@@ -98,26 +99,27 @@ impl ReaderCore {
         })
     }
 
-    /// Begins a reading of a new reel. A broken reader stays broken, and a reader whose file is
-    /// complete needs no reel.
+    /// Begins reading a new reel. A broken reader stays broken, and a reader whose file is complete
+    /// needs no reel.
     pub fn mount(&mut self)
         ensures table { self.new ≡ Table.mount_of self.old }
-        // A reader with a position in a file of a set follows each reading that begins.
+        // A reader with a position in a file of a set is then at the start of a reading, whatever
+        // the volume.
         ensures begins { (set : FileSet) (k : ℕ) → IsAt set self.old
             → IsReading set self.old.position k [] self.new }
         // The same for a reel that does not belong to the set.
         ensures foreign { (set : FileSet) (reel : List TapeItem) → IsAt set self.old
             → starts_set set.set_id reel ≡ Bool.false
             → IsForeignAt set.set_id reel self.new.position self.new.phase }
-        // Only what is expected next changes.
+        // Only the phase changes.
         ensures same { rest_of self.new ≡ rest_of self.old }
     {
         self.begin()
     }
 
-    /// Begins a reading after a trailer label at which a reader of an earlier file of the set
-    /// completed a section. It misses nothing that came before. A broken reader stays broken, and a
-    /// reader whose file is complete needs no reel.
+    /// Begins reading after a trailer label, where the reader of an earlier file of the set has
+    /// completed a section. This misses nothing that came before. A broken reader stays broken, and
+    /// a reader whose file is complete needs no reel.
     pub fn mount_behind(&mut self)
         ensures table { self.new ≡ behind_of self.old }
         ensures same { rest_of self.new ≡ rest_of self.old }
@@ -125,7 +127,7 @@ impl ReaderCore {
         self.begin_behind()
     }
 
-    /// Continues the reading after a trailer label.
+    /// Continues reading after a trailer label.
     fn begin_behind(&mut self)
         ensures table { self.new ≡ behind_of self.old }
     {
@@ -136,16 +138,16 @@ impl ReaderCore {
         };
     }
 
-    /// Processes the next event from the reel, and returns what it means for the file.
+    /// Processes the next event from the reel, and returns its meaning for the file.
     ///
     /// If the file is complete, the answer is always `Complete`. After `BlockCount` it is
-    /// `Useless(Broken)` until `restart`, and if no reading is under way, `Useless(ReelEnded)`.
-    /// `Useless` never moves the position. `Reason` says which refusal comes when.
+    /// `Useless(Broken)` until `restart`, and if no reading is in progress, `Useless(ReelEnded)`.
+    /// `Useless` never moves the position; `Reason` describes its causes.
     #[inline(always)]
     pub fn step(&mut self, event: Event<'_>) -> Answer
         ensures table { (result, self.new) ≡ Table.step_of self.old (arrival event.entry) }
-        // The next item of a volume of a valid set, or a bad item in its place, extends the reading
-        // that is followed by one item; the parts delivered are the next ones of the file.
+        // The next item of a volume of a valid set, or a bad item instead of it, extends the
+        // reading by one item; the parts delivered are the next parts of the file.
         ensures item { (set : FileSet) (p : Position) (k : ℕ) (good : List Bool) (g : Bool)
             (item : TapeItem) → IsLawful set → IsSome (nth set.volumes k)
             → slice_get (items set k) (length good) ≡ Some item
@@ -165,23 +167,23 @@ impl ReaderCore {
             → Unmoved set rest self.old (result, self.new) }
         // Complete is answered only at the end of the file.
         ensures complete { result ≡ Answer.Complete → self.new.position ≡ Position.Finished }
-        // For any input: a delivered block was checked, and contains the expected part.
+        // For any input, a delivered block was checked, and contains the expected part.
         ensures checked { result ≡ Answer.Deliver
             → Checked (arrival event.entry) self.old self.new }
-        // For any input: it remains the reader of its file.
+        // For any input, the reader's set and file do not change.
         ensures set_id { self.new.set_id ≡ self.old.set_id }
         ensures file { self.new.file ≡ self.old.file }
-        // The end of the reel ends the reading; only what is expected next changes.
+        // The end of the reel ends the reading; only the phase changes.
         ensures left { arrival event.entry ≡ None
             → (rest_of self.new ≡ rest_of self.old) × IsFinal result }
     {
         self.advance(event)
     }
 
-    /// Returns what is needed next, or `None` exactly if the file is complete.
+    /// Returns the part needed next, or `None` exactly if the file is complete.
     pub fn want(&self) -> Option<Want>
         ensures value { result ≡ want_at self.now.file self.now.position }
-        // It is the position that the reading reaches.
+        // The result is the part needed next at the position that the reading reaches.
         ensures far { (set : FileSet) (p : Position) (k : ℕ) (good : List Bool) → IsLawful set
             → IsSome (nth set.volumes k) → IsReading set p k good self.now
             → result ≡ want_at self.now.file (far set self.now.file p (reading k good)) }
@@ -189,10 +191,10 @@ impl ReaderCore {
         self.position.want(self.file)
     }
 
-    /// Returns the position.
+    /// Returns the position of the reader.
     pub fn position(&self) -> Position
         ensures value { result ≡ self.now.position }
-        // It is the position that the reading reaches.
+        // The result is the position that the reading reaches.
         ensures far { (set : FileSet) (p : Position) (k : ℕ) (good : List Bool) → IsLawful set
             → IsSome (nth set.volumes k) → IsReading set p k good self.now
             → result ≡ far set self.now.file p (reading k good) }
@@ -200,8 +202,8 @@ impl ReaderCore {
         self.position
     }
 
-    /// Returns the shape of the file's blocks as far as readers check it: block length 0 and full
-    /// padding `false`. `None` at the file's start.
+    /// Returns the shape of the file's blocks as far as readers check it: the block length is 0 and
+    /// full padding `false`. Returns `None` at the start of the file.
     pub fn shape(&self) -> Option<Shape>
         ensures { Table.Shows self.now.known result }
     {
@@ -231,16 +233,16 @@ impl ReaderCore {
         )
     }
 
-    /// Moves the reader to the checkpoint. This ends a reading under way, and a broken reader is
-    /// usable again.
+    /// Moves the reader to the checkpoint. This ends a reading in progress, and makes a broken
+    /// reader usable again.
     ///
     /// # Errors
     ///
-    /// Returns `OtherFile` if the checkpoint is one of another set or file; then nothing changes,
-    /// and a reading under way continues.
+    /// Returns `OtherFile` if the checkpoint belongs to another set or file; then nothing changes,
+    /// and a reading in progress continues.
     pub fn restart(&mut self, checkpoint: &Checkpoint) -> Result<(), CoreFault>
         ensures value { (result, self.new) ≡ Table.restart_of self.old checkpoint.now }
-        // It accepts every checkpoint of its own set and file.
+        // A reader accepts every checkpoint of its own set and file.
         ensures taken { checkpoint.now.set_id ≡ self.old.set_id
             → checkpoint.now.file ≡ self.old.file → result ≡ Ok tt }
         ensures there { OnOk result (rest_of self.new ≡ place_of checkpoint.now) }
@@ -251,7 +253,7 @@ impl ReaderCore {
 }
 
 impl ReaderCore {
-    /// Answers that the item was expected, and sets what is expected next.
+    /// Answers that the item was expected, and expects `phase` next.
     pub(crate) fn passed(&mut self, phase: Phase) -> Answer
         requires { ToldFits self.old.begun (told phase) }
         ensures table { (result, self.new) ≡ Table.passed self.old phase }
@@ -261,7 +263,7 @@ impl ReaderCore {
         Answer::Passed
     }
 
-    /// Ends the reading for this reason.
+    /// Ends the reading, with the reason `why`.
     pub(crate) fn useless(&mut self, why: Reason) -> Answer
         ensures table { (result, self.new) ≡ Table.useless self.old why }
         ensures silent { result ≢ Answer.Deliver }
@@ -270,7 +272,7 @@ impl ReaderCore {
         Answer::Useless(why)
     }
 
-    /// Ends the reading, and allows no other before a restart.
+    /// Ends the reading with the reason `why`, and allows no other reading before a restart.
     pub(crate) fn broken(&mut self, why: Reason) -> Answer
         ensures table { (result, self.new) ≡ Table.broken self.old why }
         ensures silent { result ≢ Answer.Deliver }
@@ -279,7 +281,7 @@ impl ReaderCore {
         Answer::Useless(why)
     }
 
-    /// Returns the number of the expected section; 0 if the file is complete.
+    /// Returns the number of the expected section, or 0 if the file is complete.
     pub(crate) fn sect(&self) -> u16
         ensures { result ≡ sect_of self.now.position }
     {
@@ -289,7 +291,7 @@ impl ReaderCore {
         }
     }
 
-    /// Returns the number of the expected block; 0 if the file is complete.
+    /// Returns the number of the expected block, or 0 if the file is complete.
     pub(crate) fn block(&self) -> u32
         ensures { result ≡ block_of self.now.position }
     {
@@ -299,7 +301,7 @@ impl ReaderCore {
         }
     }
 
-    /// Returns how many parts of the expected block were delivered; 0 if the file is complete.
+    /// Returns the number of delivered parts of the expected block, or 0 if the file is complete.
     pub(crate) fn part(&self) -> u32
         ensures { result ≡ part_of self.now.position }
     {

@@ -14,14 +14,14 @@ use tape_blocks::Part;
 pub struct Refusing<S> {
     /// The inner sink.
     inner: S,
-    /// The number of calls before the one that is refused.
+    /// The number of calls before the refused call.
     left: usize,
-    /// How many calls were refused here.
+    /// How many calls this sink refused itself.
     refused: u64,
 }
 
 impl<S: PartSink> Refusing<S> {
-    /// Creates a sink that refuses the call after the next `left`, and no other.
+    /// Creates a sink that refuses only the call after the next `left` calls.
     pub fn new(inner: S, left: usize) -> Self
         ensures inner { result.inner ≡ inner }
         ensures left { result.left ≡ left }
@@ -41,7 +41,7 @@ impl<S: PartSink> Refusing<S> {
         &self.inner
     }
 
-    /// Returns whether this call is the one to refuse.
+    /// Returns whether this call must be refused.
     fn is_refused(&mut self) -> bool
         ensures inner { self.new.inner ≡ self.old.inner }
         ensures due { IsTrue result ↔ (self.old.left ≡ 0) }

@@ -1,4 +1,4 @@
-//! Sinks, which receive the parts of a file and return them.
+//! Sinks, which receive the parts of a file, and can return them.
 
 ghost use Rattle.std.specs.Prelude.{◌≡◌, ◌≢◌, ◌<◌, ◌≤◌, ◌+◌, ◌++◌, ◌∷◌, [], ℕ, List, length, OnOk};
 ghost use Rattle.std.specs.Prelude.{OnErr, IfErr, Err};
@@ -29,10 +29,10 @@ pub enum SinkFault {
     /// The device of the sink failed in this call.
     #[error("the sink's device failed")]
     Device,
-    /// All parts would weigh more than 999,999,999,999,999.
+    /// The total weight of the parts would exceed 999,999,999,999,999.
     #[error("the sink is full")]
     Full,
-    /// An earlier call failed, and since then the contents are unknown.
+    /// An earlier call failed, and the contents have been unknown since.
     #[error("the sink failed before")]
     Failed,
 }
@@ -53,27 +53,27 @@ impl SinkFault {
 
 /// Receives the parts of a file, in order.
 ///
-/// `holds` relates a sink to its contents. An untrusted sink holds no list of parts; then only its
-/// weight and its count of refused calls are specified.
+/// `holds` relates a sink to its contents. It relates an untrusted sink to no contents; then only
+/// the sink's weight and its count of refused calls are specified.
 pub trait PartSink {
     /// The sink contains these parts.
     ghost holds: { Self → List Portion → Type 0 };
 
-    /// The weight that the sink reports, for any sink.
+    /// The weight that any sink reports.
     ghost weighs: { Self → ℕ };
 
-    /// How many calls it refused.
+    /// The number of refused calls.
     ghost refusals: { Self → ℕ };
 
-    /// What may remain after a crash: now, and at each moment since a given one.
+    /// The contents that may remain after a crash: now, and at each moment since a given one.
     ghost crashes: { Self → Crashes };
 
     /// Appends a part of at most 99,999 bytes.
     ///
     /// # Errors
     ///
-    /// Returns `Full` if the total weight would exceed 999,999,999,999,999, otherwise the refusal
-    /// of the sink's memory or device. On error the contents are unchanged.
+    /// Returns `Full` if the total weight would exceed 999,999,999,999,999, otherwise the error of
+    /// the sink's memory or device. On error the contents are unchanged.
     fn put(&mut self, part: Part<'_>) -> Result<(), SinkFault>
         requires { length part.bytes.now ≤ longest_block }
         ensures ok { OnOk result ((parts : List Portion) → holds self.old parts
@@ -90,11 +90,11 @@ pub trait PartSink {
         ensures crash { (parts : List Portion) → holds self.old parts
             → AddsNothing (crashes self.old) (crashes self.new) };
 
-    /// Keeps the first parts, up to the weight recorded in the checkpoint, and drops the others.
+    /// Keeps the leading parts up to the weight recorded in the checkpoint, and drops the rest.
     ///
     /// # Errors
     ///
-    /// Returns the refusal of the sink's device. On any error but `Device` the contents are
+    /// Returns the error of the sink's device. On any error except `Device` the contents are
     /// unchanged.
     fn cut_to(&mut self, point: &Checkpoint) -> Result<(), SinkFault>
         requires { point.now.staged ≤ weighs self.old }
@@ -114,7 +114,7 @@ pub trait PartSink {
     ///
     /// # Errors
     ///
-    /// Returns the refusal of the sink's device. The contents are unchanged.
+    /// Returns the error of the sink's device. The contents are unchanged.
     fn keep(&mut self, point: &Checkpoint) -> Result<(), SinkFault>
         requires { point.now.staged ≡ weighs self.old }
         ensures same_weight { weighs self.new ≡ weighs self.old }
@@ -126,37 +126,38 @@ pub trait PartSink {
         ensures kept { OnOk result ((parts : List Portion) → holds self.old parts
             → ThisAlone point.now parts (crashes self.new)) };
 
-    /// Returns the weight of the parts: their bytes and 5 for each.
+    /// Returns the weight of the parts: 5 for each part and 1 for each of its bytes.
     fn weight(&self) -> u64
         ensures value { result ≡ weighs self.now }
         ensures of { (parts : List Portion) → holds self.now parts → result ≡ weight_of parts }
         ensures limit { result ≤ most_staged };
 
-    /// What a crash now may leave is among what one may have left since an earlier moment.
+    /// The contents that may remain after a crash now are among those that may remain after a crash
+    /// since an earlier moment.
     ghost returned_now: { (sink : Self) (t : ℕ) (back : Point) (there : List Portion)
         → (crashes sink).returns back there → (crashes sink).returned t back there };
 
-    /// What survived every crash since a moment survives one now.
+    /// If contents survive every crash since a moment, they survive a crash now.
     ghost survived_now: { (sink : Self) (t : ℕ) → (crashes sink).survived t
         → (crashes sink).survives };
 }
 
-/// A sink whose parts can be read back.
+/// A sink whose parts can be read back, in a walk that begins at the first part.
 ///
-/// Returns a walk that begins at the first part. In the sinks in memory and on disk each `put` and
-/// `cut_to` starts the walk again; of other sinks nothing is known about a walk that was under way,
-/// and `rewind` starts it again.
+/// In the sinks in memory and on disk, each `put` and `cut_to` restarts the walk. For other sinks
+/// the state of the walk is unspecified after these calls, until `rewind` restarts it.
 pub trait PartWalk: PartSink {
-    /// These parts are still to come.
+    /// The given parts are still to come.
     ghost ahead: { Self → List Portion → Type 0 };
 
-    /// An upper bound of what is still to come, for any sink.
+    /// An upper bound of the number of parts to come, for any sink.
     ghost left: { Self → ℕ };
 
-    /// If a call is refused with this fault, its cause, by the sink before and after.
+    /// The condition under which a call is refused with the given fault, in terms of the sink
+    /// before and after it.
     ghost refuses: { Self → SinkFault → Self → Type 0 };
 
-    /// Starts the walk again at the first part.
+    /// Restarts the walk at the first part.
     fn rewind(&mut self)
         ensures keeps { (parts : List Portion) → Self.holds self.old parts
             → Self.holds self.new parts }
@@ -165,11 +166,11 @@ pub trait PartWalk: PartSink {
         ensures same_weight { Self.weighs self.new ≡ Self.weighs self.old }
         ensures calm { Self.refusals self.new ≡ Self.refusals self.old };
 
-    /// Lends the next part, or returns `None` after the last, however often it is called.
+    /// Returns the next part, or `None` after the last part, however often it is called.
     ///
     /// # Errors
     ///
-    /// Returns the refusal of the sink's device. The same part is still to come.
+    /// Returns the error of the sink's device. The same part is still to come.
     fn next_part(&mut self) -> Result<Option<Part<'_>>, SinkFault>
         ensures* after_borrow { sem 𝓛 (Rests Self.row self.entry (λ new.
             HasGiven Self.holds Self.weighs Self.refusals Self.crashes Self.ahead Self.left

@@ -1,4 +1,4 @@
-//! Which checkpoints there are, and going to them.
+//! Valid and invalid values of checkpoints, and restarts at them.
 
 use crate::readers::{front, go_on, go_to, known, read_section, reader, set_id, wanted, wants};
 use crate::reels::{HDR1, HDR2, HDR2_S};
@@ -12,10 +12,10 @@ use tape_set::{Position, Want};
 
 const MOST: u64 = 999_999_999_999_999;
 
-/// What a checkpoint says of its position.
+/// The position of a checkpoint, whether a record is unfinished there, and the form.
 type Told = (Position, bool, Option<Known>);
 
-/// Returns whether the checkpoint has these values.
+/// Returns whether the checkpoint has the given values.
 fn tells(point: &Checkpoint, (position, begun, known): Told) -> bool {
     point.set_id == set_id()
         && point.position() == position
@@ -23,7 +23,7 @@ fn tells(point: &Checkpoint, (position, begun, known): Told) -> bool {
         && point.known == known
 }
 
-/// There is a checkpoint with these values, which it returns.
+/// Checks that a checkpoint with the given values can be created, and returns them.
 fn is_one(rt: &impl Abort, name: &str, file: u16, told: Told, staged: u64) {
     let (position, begun, known) = told;
     let point = Checkpoint::from_parts(set_id(), file, position, begun, known, staged);
@@ -32,14 +32,14 @@ fn is_one(rt: &impl Abort, name: &str, file: u16, told: Told, staged: u64) {
     assert!(rt; same, "{name}");
 }
 
-/// There is no checkpoint with these values.
+/// Checks that no checkpoint with the given values can be created.
 fn is_none(rt: &impl Abort, name: &str, file: u16, told: Told, staged: u64) {
     let (position, begun, known) = told;
     let point = Checkpoint::from_parts(set_id(), file, position, begun, known, staged);
     assert!(rt; point.is_none(), "{name}");
 }
 
-/// The forms of a file of format F, and of one of format S.
+/// Returns the form of a file of format F.
 fn fixed(rt: &impl Abort) -> Option<Known> {
     Some(known(rt, Format::Fixed, 80))
 }
@@ -48,7 +48,7 @@ fn spanned(rt: &impl Abort) -> Option<Known> {
     Some(known(rt, Format::Spanned, 0))
 }
 
-/// So many parts of the file's first block were delivered, or of a block inside the file.
+/// Returns the position after `part` parts of the first block of the file.
 fn at_start(part: u32) -> Position {
     Position::start().at_part(part)
 }
@@ -68,12 +68,13 @@ fn checkpoints_at_the_start_of_a_file(rt: HostRuntime) {
     is_none(&rt, "file 10,000", 10_000, (at_start(0), false, None), 0);
 }
 
-/// A part of a block of a file of format F.
+/// Returns the values at a part of a block of a file of format F.
 fn at_part(rt: &impl Abort, part: u32, begun: bool) -> Told {
     (inside(part), begun, fixed(rt))
 }
 
-/// The first part of a block of a file of format S, with an unfinished record.
+/// Returns the values at the first part of a block of a file of format S, with an unfinished
+/// record.
 fn in_spanned(rt: &impl Abort) -> Told {
     (inside(0), true, spanned(rt))
 }
@@ -88,7 +89,7 @@ fn checkpoints_inside_a_file(rt: HostRuntime) {
     is_none(&rt, "too heavy", 1, at_part(&rt, 0, false), MOST + 1);
 }
 
-/// A block of this section of a file of format F.
+/// Returns the values at a block of section `sect` of a file of format F.
 fn in_section(rt: &impl Abort, sect: u16, block: u32) -> Told {
     (Position::awaiting(sect, block), false, fixed(rt))
 }
@@ -125,7 +126,7 @@ fn checkpoints_at_the_end_of_a_file(rt: HostRuntime) {
     );
 }
 
-/// There is a form with these values, which it returns.
+/// Checks that a form with the given values can be created, and returns them.
 fn is_form(rt: &impl Abort, format: Format, rec_len: u32, offset: u8) {
     let file_id = Field::of_bytes(*b"PAYROLL          ");
     let form = Known::from_parts(format, rec_len, offset, file_id);
@@ -137,7 +138,7 @@ fn is_form(rt: &impl Abort, format: Format, rec_len: u32, offset: u8) {
     assert!(rt; same, "{format:?}, {rec_len}, {offset}");
 }
 
-/// There is no form with these values.
+/// Checks that no form with the given values can be created.
 fn is_no_form(rt: &impl Abort, format: Format, rec_len: u32, offset: u8) {
     let file_id = Field::of_bytes(*b"PAYROLL          ");
     let form = Known::from_parts(format, rec_len, offset, file_id);
@@ -158,7 +159,7 @@ fn forms_in_range_and_out_of_it(rt: HostRuntime) {
     is_no_form(&rt, Format::Spanned, 0, 100);
 }
 
-/// Returns whether there is a reader of this file, or the file's number is refused.
+/// Returns whether a reader of file number `file` can be created, rather than refused.
 fn is_numbered(file: u16) -> bool {
     match ReaderCore::new(set_id(), file) {
         Ok(_) => true,
@@ -186,7 +187,7 @@ fn faults_have_numbers(rt: HostRuntime) {
     assert!(rt; numbers == [1, 2], "{numbers:?}");
 }
 
-/// The reader does not go to this checkpoint.
+/// Checks that the reader refuses to restart at the checkpoint `other`.
 fn refuses(rt: &impl Abort, core: &mut ReaderCore, name: &str, other: &Checkpoint) {
     assert_eq!(rt; core.restart(other), Err(CoreFault::OtherFile), "{name}");
 }
@@ -210,14 +211,14 @@ fn a_checkpoint_of_another_file_changes_nothing(rt: HostRuntime) {
     wants(&rt, &core, "goes on", wanted(1, 2, 0));
 }
 
-/// Moves the reader to the checkpoint, and compares its position.
+/// Restarts the reader at the checkpoint, and compares its position.
 fn stands_at(rt: &impl Abort, core: &mut ReaderCore, point: &Checkpoint, want: Option<Want>) {
     go_to(rt, core, point);
     assert!(rt; core.save(point.staged) == *point);
     wants(rt, core, "there", want);
 }
 
-/// Reads a section of format S, of which this is the first block.
+/// Reads a section of format S whose first block is `block`.
 fn deliver(rt: &impl Abort, core: &mut ReaderCore, block: &[u8]) {
     front(rt, core, "headers", HDR1, HDR2_S);
     go_on(rt, core, "its first block", &[(Block(block), Deliver)]);
@@ -233,7 +234,7 @@ fn a_restart_goes_back_in_all(rt: HostRuntime) {
     assert!(rt; told && later.staged == 18);
     stands_at(&rt, &mut core, &start, wanted(1, 0, 0));
     assert!(rt; core.shape().is_none());
-    // The reading is over, no record is unfinished, and nothing is known.
+    // The reading has ended, no record is unfinished, and the form is unknown.
     go_on(
         &rt,
         &mut core,

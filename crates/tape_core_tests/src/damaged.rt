@@ -12,7 +12,8 @@ use tape_core::{Answer, Event, ReaderCore, Reason};
 use tape_label::LabelFault;
 use tape_set::Want;
 
-/// Reads what follows the headers of the file's only section; then this is expected.
+/// Reads the items after the headers of the file's only section, and checks which part is then
+/// expected.
 fn read_data(
     rt: &impl Abort,
     core: &mut ReaderCore,
@@ -56,8 +57,8 @@ fn a_lost_mark_gives_no_block_of_another_file(rt: HostRuntime) {
         (HDR1, HDR2),
         &[
             (Block(b"AAAA"), Passed),
-            // The mark after the data is unreadable: the trailers count as data, and their mark as
-            // that mark.
+            // The mark after the data is unreadable: the trailers are read as data, and the mark
+            // after them as the closing mark.
             (Bad, Passed),
             (Block(&counted(EOF1, b"000001")), Passed),
             (Block(EOF2), Passed),
@@ -76,7 +77,7 @@ fn a_lost_mark_gives_no_block_of_another_file(rt: HostRuntime) {
     );
 }
 
-/// Reads five blocks that the trailer counts as four.
+/// Reads five blocks of a section whose trailer has the count four.
 fn read_with_wrong_count(rt: &impl Abort, core: &mut ReaderCore) {
     let five = [(Block(b"AAAA".as_slice()), Deliver); 5];
     read_section(
@@ -139,7 +140,7 @@ fn a_reel_that_ends_before_its_trailer_completes_nothing(rt: HostRuntime) {
     read_data(&rt, &mut core, "nothing comes twice", &again, None);
 }
 
-/// A section of one block that leaves a record unfinished is refused by its trailer.
+/// Checks that the trailer refuses a section of one block that leaves a record unfinished.
 fn refused_trailer(rt: &impl Abort, name: &str, label: &[u8], answer: Reason) {
     let row = [
         (Block(b"10018abcdefghijklm".as_slice()), Deliver),

@@ -1,4 +1,4 @@
-//! Which labels are refused, and in which order.
+//! Labels that are refused, and the order of the checks.
 
 use crate::readers::{go_to, known, point_at, reader, reader_at};
 use crate::reels::{HDR1, HDR2, HDR2_D, HDR2_S, VOL1, numbered};
@@ -12,7 +12,7 @@ use tape_core::{Answer, ReaderCore, Reason};
 use tape_label::{Format, LabelFault};
 use tape_set::Position;
 
-/// The label with other bytes from this place on.
+/// Returns the label with `bytes` at offset `place`.
 fn changed(label: &[u8; 80], place: usize, bytes: &[u8]) -> [u8; 80] {
     let mut label = *label;
     for (at, byte) in label.iter_mut().skip(place).zip(bytes.iter()) {
@@ -21,14 +21,15 @@ fn changed(label: &[u8; 80], place: usize, bytes: &[u8]) -> [u8; 80] {
     label
 }
 
-/// The answer of a reader to HDR1, after VOL1.
+/// Returns the answer of a reader to HDR1, after VOL1.
 fn at_head1(core: &mut ReaderCore, label: &[u8]) -> Answer {
     core.mount();
     let _ = core.step(Block(VOL1));
     core.step(Block(label))
 }
 
-/// A reader of file 3 that expects section 2 refuses this HDR1, and its position stays.
+/// Checks that a reader of file 3 that expects section 2 refuses the HDR1, and that its position
+/// does not change.
 fn refused_head1(rt: &impl Abort, name: &str, label: &[u8; 80], answer: Reason) {
     let at = Position::awaiting(2, 0);
     let mut core = reader(rt, 3);
@@ -38,7 +39,7 @@ fn refused_head1(rt: &impl Abort, name: &str, label: &[u8; 80], answer: Reason) 
     assert!(rt; core.position() == at, "{name}");
 }
 
-/// The same of HDR1 with these numbers.
+/// The same check for an HDR1 with the given numbers.
 fn refused_numbers(
     rt: &impl Abort,
     name: &str,
@@ -70,7 +71,7 @@ fn first_headers_are_compared_in_order(rt: HostRuntime) {
     refused_numbers(&rt, "a later section", b"0003", b"0003", LaterSection);
 }
 
-/// The reader gives this answer to HDR2, after VOL1 and HDR1 of section 2.
+/// Checks the answer of the reader to HDR2, after VOL1 and HDR1 of section 2.
 fn at_head2(rt: &impl Abort, name: &str, core: &mut ReaderCore, label: &[u8; 80], answer: Answer) {
     let _ = at_head1(core, &numbered(HDR1, b"0002", b"0001"));
     assert_eq!(rt; core.step(Block(label)), answer, "{name}");
@@ -94,7 +95,7 @@ fn what_is_known_is_compared(rt: HostRuntime) {
     at_head2(&rt, "offset", &mut core, &changed(HDR2, 51, b"1"), differs);
     at_head2(&rt, "format D", &mut core, HDR2_D, differs);
     at_head2(&rt, "format S", &mut core, HDR2_S, differs);
-    // The block length binds no reader.
+    // Readers ignore the block length.
     at_head2(
         &rt,
         "block length",
@@ -108,7 +109,7 @@ fn what_is_known_is_compared(rt: HostRuntime) {
 fn of_format_d_no_record_length_is_compared(rt: HostRuntime) {
     let counted = known(&rt, Format::Counted, 0);
     let mut core = reader_at(&rt, Position::awaiting(2, 0), false, counted);
-    // 14 in one section, 99 in the next.
+    // The record length is 14 in one section, and 99 in the next.
     at_head2(&rt, "14", &mut core, HDR2_D, Passed);
     at_head2(&rt, "99", &mut core, &changed(HDR2_D, 13, b"99"), Passed);
 }
@@ -136,7 +137,7 @@ fn a_volume_of_the_name_of_the_set_may_hold_another(rt: HostRuntime) {
     assert_eq!(rt; at_head1(&mut reader(&rt, 1), &head), Useless(OtherSet));
 }
 
-/// A second header with this byte there is refused at the file's start.
+/// Checks that a second header with `byte` at offset `place` is refused at the start of the file.
 fn refused_head2(rt: &impl Abort, place: usize, byte: &[u8], fault: LabelFault) {
     let mut core = reader(rt, 1);
     let first = at_head1(&mut core, HDR1);

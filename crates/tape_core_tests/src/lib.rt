@@ -1,4 +1,4 @@
-//! Tests of `tape_core`: the reader's answers to labels and blocks that are written out,
+//! Tests of `tape_core`: the reader's answers to labels and blocks written out by hand,
 //! checkpoints, and the sinks.
 #![tactic(auto)]
 

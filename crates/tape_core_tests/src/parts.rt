@@ -1,4 +1,4 @@
-//! Blocks of which some parts were delivered.
+//! Blocks whose first parts were delivered.
 
 use crate::readers::{front, go_on, go_to, known, read_section, reader, reader_at, wanted, wants};
 use crate::reels::{EOF1, HDR1, HDR2_D, HDR2_S, counted};
@@ -11,7 +11,7 @@ use tape_core::{Answer, Checkpoint, ReaderCore};
 use tape_label::Format;
 use tape_set::{Position, Want};
 
-/// A reader that continues inside the first block of the file answers it like this.
+/// Checks the answer of a reader that continues inside the first block of the file.
 fn at_block(
     rt: &impl Abort,
     number: usize,
@@ -32,8 +32,8 @@ fn at_block(
 /// Two records: `AB`, and an empty one.
 const TWO: &[u8] = b"0006AB0004^^^^^^^^";
 
-/// The checkpoint inside a block of two records, of which the first was kept, with a weight of 5
-/// and 2, and the second was refused.
+/// Returns the checkpoint inside a block of two records: the first was kept, with the weight 5 + 2,
+/// and the second was refused.
 fn inside(rt: &impl Abort, core: &mut ReaderCore) -> Checkpoint {
     front(rt, core, "the block comes", HDR1, HDR2_D);
     let before = core.save(0).position();
@@ -41,7 +41,8 @@ fn inside(rt: &impl Abort, core: &mut ReaderCore) -> Checkpoint {
     core.save(0).inside_block(before, 1, false, 7)
 }
 
-/// Processes this block as the first of the file with this answer; then this is expected.
+/// Processes a block as the first of the file, and checks the answer and which part is then
+/// expected.
 fn take(
     rt: &impl Abort,
     core: &mut ReaderCore,
@@ -80,7 +81,7 @@ fn a_block_has_more_parts_than_were_delivered(rt: HostRuntime) {
     }
 }
 
-/// A block of format S whose second part continues no record.
+/// A block of format S whose second part does not continue the record.
 const BROKEN: Answer = Useless(BadBlock(BlockFault {
     place: 6,
     cause: BlockCause::SpanBroken,
@@ -88,16 +89,16 @@ const BROKEN: Answer = Useless(BadBlock(BlockFault {
 
 const DIFFERS: Answer = Useless(SectionDiffers);
 
-/// Blocks of which one part was delivered: the answers if a record is unfinished after that part,
-/// and if none is.
+/// Blocks with one delivered part: the answers if a record is unfinished after that part, and if no
+/// record is.
 const SPANS: &[(&[u8], Answer, Answer)] = &[
-    // The end of a record that began in an earlier block, and a whole one.
+    // The end of a record that began in an earlier block, and a whole record.
     (b"30006Z00006Y", DIFFERS, Deliver),
     // The middle of such a record, and its end.
     (b"20006Z30006Y", Deliver, DIFFERS),
     // A complete record, and the first piece of another.
     (b"00006Z10006Y", DIFFERS, Deliver),
-    // The first piece of a record, and then another first piece: no file has such a block.
+    // The first piece of a record, and then another first piece: no valid file has such a block.
     (b"10006Z00006Y", BROKEN, BROKEN),
 ];
 

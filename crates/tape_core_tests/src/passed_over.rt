@@ -68,7 +68,7 @@ fn the_trailer_of_a_section_passed_over_is_expected(rt: HostRuntime) {
         &[
             (Block(EOF1), Passed),
             (Block(EOV1), Passed),
-            // In a skipped section nothing is counted.
+            // In a skipped section blocks are not counted.
             (Block(&counted(EOF1, b"000007")), Passed),
             (Block(&numbered(EOF1, b"0002", b"0001")), differs),
             (Block(&numbered(EOF1, b"0001", b"0002")), differs),

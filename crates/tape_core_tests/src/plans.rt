@@ -1,4 +1,4 @@
-//! Small sets, laid out by plan.
+//! Small sets, laid out according to a plan.
 
 use crate::readers::set_id;
 use crate::reels::{
@@ -22,11 +22,11 @@ pub(crate) struct Planned {
     pub(crate) is_last: bool,
 }
 
-/// What all files of a small set have in common.
+/// The style that all files of a small set share.
 #[derive(Clone, Copy)]
 pub(crate) struct Style {
     pub(crate) format: Format,
-    /// Whether there are labels that a reader skips.
+    /// Whether there are further labels, which a reader skips.
     pub(crate) further: bool,
 }
 
@@ -39,7 +39,7 @@ impl Style {
         }
     }
 
-    /// What a reader knows of the record length: nothing if records contain their own.
+    /// Returns the record length that a reader knows: 0 if records contain their own length.
     pub(crate) fn record_length(&self) -> u32 {
         match self.format {
             Format::Fixed => 4,
@@ -54,7 +54,8 @@ impl Style {
         }
     }
 
-    /// The n-th of this many blocks of a file, counted from 0. In format S they contain one record.
+    /// Returns block `n` of `count` blocks of a file, counted from 0. In format S the blocks
+    /// contain one record.
     fn block(&self, rt: &impl Abort, alloc: Global, n: u32, count: u32) -> BlockLayout {
         let whole = (Span::Whole, b"AB".as_slice());
         match self.format {
@@ -78,7 +79,7 @@ impl Style {
 
 pub(crate) const NO_MEMORY: &str = "no memory";
 
-/// The piece of the one record that the n-th of this many blocks contains, and the block.
+/// Returns the piece of the record in block `n` of `count` blocks, and the block.
 fn span_at(n: u32, count: u32) -> (Span, &'static [u8]) {
     match (n == 0, n.saturating_add(1) == count) {
         (true, true) => (Span::Whole, b"00006A"),
@@ -92,7 +93,7 @@ fn bytes(rt: &impl Abort, alloc: Global, text: &[u8]) -> Sequence<u8> {
     Sequence::of_vec(text.to_vec(alloc).expect(rt, NO_MEMORY))
 }
 
-/// A block with these bytes, which contains these parts.
+/// Returns a block with the bytes `text`, which contains the parts `contents`.
 fn laid(rt: &impl Abort, alloc: Global, text: &[u8], contents: &[(Span, &[u8])]) -> BlockLayout {
     let mut parts = Vec::new(alloc);
     for (span, content) in contents {
@@ -108,20 +109,20 @@ fn laid(rt: &impl Abort, alloc: Global, text: &[u8], contents: &[(Span, &[u8])])
     }
 }
 
-/// A number of one digit, in four.
+/// Returns a one-digit number in four digits.
 fn four_digits(number: u16) -> [u8; 4] {
     let [_, low] = number.to_be_bytes();
     [b'0', b'0', b'0', low.saturating_add(b'0')]
 }
 
-/// The blocks of the file's sections with numbers below this one, or of all of them.
+/// Returns the number of blocks in the file's sections before section `sect`.
 pub(crate) fn blocks_before(plan: &[Planned], file: u16, sect: u16) -> u32 {
     plan.iter()
         .filter(|each| each.file == file && each.sect < sect)
         .fold(0, |sum: u32, each| sum.saturating_add(each.blocks))
 }
 
-/// The data blocks of a section.
+/// Returns the data blocks of a section.
 fn blocks(
     rt: &impl Abort,
     alloc: Global,
@@ -139,7 +140,7 @@ fn blocks(
     Sequence::of_vec(blocks)
 }
 
-/// The first label of a section, and its trailer.
+/// Returns the first header label of a section, and its first trailer label.
 fn first_labels(planned: Planned) -> ([u8; 80], [u8; 80]) {
     let (sect, sequence) = (four_digits(planned.sect), four_digits(planned.file));
     let [_, _, _, low] = planned.blocks.to_be_bytes();
@@ -188,7 +189,7 @@ fn volume(rt: &impl Abort, alloc: Global, style: Style) -> VolumeLayout {
     }
 }
 
-/// The set that is planned so, on two volumes.
+/// Returns the planned set, on two volumes.
 pub(crate) fn layout(rt: &impl Abort, alloc: Global, style: Style, plan: &[Planned]) -> Layout {
     let mut volumes = Vec::new(alloc);
     let mut files = Vec::new(alloc);
@@ -205,7 +206,7 @@ pub(crate) fn layout(rt: &impl Abort, alloc: Global, style: Style, plan: &[Plann
     }
 }
 
-/// A section as it is planned.
+/// Returns a planned section.
 pub(crate) fn on_volume(
     file: u16,
     sect: u16,

@@ -12,13 +12,13 @@ pub(crate) fn set_id() -> Field<6> {
     Field::of_bytes(*b"ABC001")
 }
 
-/// The form in an HDR1 and a second label of this format.
+/// Returns the form in an HDR1 and a second label with the given format.
 pub(crate) fn known(rt: &impl Abort, format: Format, rec_len: u32) -> Known {
     let file_id = Field::of_bytes(*b"PAYROLL          ");
     Known::from_parts(format, rec_len, 0, file_id).expect(rt, "no form")
 }
 
-/// A checkpoint at this position of the file, with this form.
+/// Returns a checkpoint at a position of the file, with the given form.
 pub(crate) fn point_at(
     rt: &impl Abort,
     file: u16,
@@ -29,18 +29,18 @@ pub(crate) fn point_at(
     point.expect(rt, "no checkpoint")
 }
 
-/// A reader of this file, at its start.
+/// Returns a reader of file number `file`, at the start of the file.
 pub(crate) fn reader(rt: &impl Abort, file: u16) -> ReaderCore {
     ReaderCore::new(set_id(), file).expect(rt, "no reader")
 }
 
-/// The reader goes to the checkpoint.
+/// Restarts the reader at the checkpoint.
 pub(crate) fn go_to(rt: &impl Abort, core: &mut ReaderCore, point: &Checkpoint) {
     let went = core.restart(point).is_ok();
     assert!(rt; went, "another file");
 }
 
-/// A reader of file 1 that continues at this position, where the form is known.
+/// Returns a reader of file 1 that continues at the given position, with the form known.
 pub(crate) fn reader_at(
     rt: &impl Abort,
     position: Position,
@@ -56,7 +56,7 @@ pub(crate) fn reader_at(
     core
 }
 
-/// The part of file 1 that is expected next.
+/// Returns the given part of file 1, as a `Want`.
 pub(crate) fn wanted(sect: u16, block: u32, part: u32) -> Option<Want> {
     Some(Want {
         file: 1,
@@ -66,7 +66,7 @@ pub(crate) fn wanted(sect: u16, block: u32, part: u32) -> Option<Want> {
     })
 }
 
-/// The reader expects this.
+/// Checks the part that the reader expects next.
 pub(crate) fn wants(rt: &impl Abort, core: &ReaderCore, name: &str, want: Option<Want>) {
     assert_eq!(rt; core.want(), want, "{name}");
 }
@@ -94,7 +94,7 @@ pub(crate) fn play(
     go_on(rt, core, name, row);
 }
 
-/// Mounts a reel, and reads a section's beginning, up to the mark after its headers.
+/// Mounts a reel, and reads the beginning of a section, up to the mark after its headers.
 pub(crate) fn front<'x>(
     rt: &impl Abort,
     core: &mut ReaderCore,
@@ -115,7 +115,7 @@ pub(crate) fn front<'x>(
     );
 }
 
-/// The same, and processes what follows the mark; then this is expected.
+/// Does the same, processes the items after the mark, and checks the part that is then expected.
 pub(crate) fn read_section<'x>(
     rt: &impl Abort,
     core: &mut ReaderCore,

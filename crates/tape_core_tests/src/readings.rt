@@ -1,4 +1,4 @@
-//! Every reading of small volumes, beside a simple program that says where it leads.
+//! Every reading of small volumes, compared with a simple program for the resulting position.
 
 use crate::readers::{go_to, known, point_at, reader};
 use crate::reels::{EOF1, EOF2, EOV1, HDR1, HDR2, VOL1, counted, numbered};
@@ -8,7 +8,7 @@ use tape_core::{Checkpoint, Event, ReaderCore};
 use tape_label::Format;
 use tape_set::Position;
 
-/// An item of a volume, as a section of it sees the item.
+/// An item of a volume, as classified for one section.
 #[derive(Clone, Copy)]
 enum Kind {
     /// A label or a mark before the section's data.
@@ -19,12 +19,12 @@ enum Kind {
     Data,
     /// The mark after the data, and the trailer.
     Closing,
-    /// What follows the trailer.
+    /// An item after the trailer.
     Behind,
 }
 
-/// The position after a section that was read up to this block: `closed` says whether all of its
-/// blocks and its trailer were read, `last` whether it ends its file.
+/// Returns the position after a section that was read up to block `block`: `closed` says whether
+/// all its blocks and its trailer were read, `last` whether it ends its file.
 fn behind((sect, block): (u16, u32), closed: bool, last: bool) -> Position {
     if !closed {
         Position::awaiting(sect, block)
@@ -35,9 +35,9 @@ fn behind((sect, block): (u16, u32), closed: bool, last: bool) -> Position {
     }
 }
 
-/// The position after a reading of the beginning of a volume: `good` says, from its lowest bit on,
-/// which of the items were read well. `ends` says whether the volume's section ends its file; it is
-/// `None` if the expected section is on another volume.
+/// Returns the position after a reading of the beginning of a volume: `good` says, beginning with
+/// its lowest bit, which items were readable. `ends` says whether the volume's section ends its
+/// file, or is `None` if the expected section is on another volume.
 fn far(
     volume: &[(Event<'_>, Kind)],
     good: u32,
@@ -66,7 +66,7 @@ fn far(
     }
 }
 
-/// Reads the beginning of a volume in one way, from this position on.
+/// Reads the beginning of a volume in one way, from the given position.
 fn read_so(
     rt: &impl Abort,
     core: &mut ReaderCore,
@@ -86,7 +86,7 @@ fn read_so(
     assert!(rt; core.position() == led, "{good:b} of {}", front.len());
 }
 
-/// Reads the volume in every way, and answers how many ways there are.
+/// Reads the volume in every way, and returns the number of ways.
 fn each_reading(
     rt: &impl Abort,
     core: &mut ReaderCore,
@@ -165,7 +165,7 @@ fn each_of_second(
     )
 }
 
-/// The checkpoint at a position of this file of format F.
+/// Returns the checkpoint at a position of a file of format F.
 fn point_of(rt: &impl Abort, file: u16, (sect, block): (u16, u32)) -> Checkpoint {
     let position = Position::awaiting(sect, block);
     let known = if position.is_start() {
@@ -197,7 +197,7 @@ fn each_reading_leads_where_it_should(rt: HostRuntime) {
     }
 }
 
-/// Reads from this block on a volume that begins with another file.
+/// Reads a volume that begins with another file, from block `block`.
 fn each_behind(rt: &impl Abort, block: u32) {
     let head = numbered(HDR1, b"0001", b"0002");
     let end = counted(&numbered(EOF1, b"0001", b"0002"), b"000001");

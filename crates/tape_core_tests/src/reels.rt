@@ -1,4 +1,4 @@
-//! Labels that are written out, and how they are changed.
+//! Labels, written out by hand, and changes to them.
 
 pub(crate) const VOL1: &[u8; 80] =
     b"VOL1ABC001                                                                     4";
@@ -33,21 +33,21 @@ pub(crate) const HDR2_S: &[u8; 80] =
 pub(crate) const HDR3: &[u8; 80] =
     b"HDR3 of some system                                                             ";
 
-/// The label with this section number.
+/// Returns the label with section number `sect`.
 pub(crate) fn in_section(label: &[u8; 80], sect: &[u8; 4]) -> [u8; 80] {
     let mut label = *label;
     label[27..31].copy_from_slice(sect);
     label
 }
 
-/// The label with this section and sequence number.
+/// Returns the label with the given section and sequence numbers.
 pub(crate) fn numbered(label: &[u8; 80], sect: &[u8; 4], sequence: &[u8; 4]) -> [u8; 80] {
     let mut label = in_section(label, sect);
     label[31..35].copy_from_slice(sequence);
     label
 }
 
-/// The trailer label with this count of blocks.
+/// Returns the trailer label with the block count `count`.
 pub(crate) fn counted(label: &[u8; 80], count: &[u8; 6]) -> [u8; 80] {
     let mut label = *label;
     label[54..60].copy_from_slice(count);

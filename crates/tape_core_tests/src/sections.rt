@@ -20,7 +20,7 @@ use tape_set::{Position, Want};
 /// How many blocks the long section has.
 const MANY: u32 = 1_000_003;
 
-/// Reads a section of this many such items, each with this answer, and the mark after them.
+/// Reads a section of `MANY` items, checks the answer to each, and reads the mark after them.
 fn read_many(rt: &impl Abort, core: &mut ReaderCore, event: Event<'_>, answer: Answer) {
     front(rt, core, "a long section", HDR1, HDR2);
     for n in 0..MANY {
@@ -58,7 +58,7 @@ fn a_long_section_is_counted_without_its_millions(rt: HostRuntime) {
     wants(&rt, &core, "a wrong count", wanted(1, MANY, 0));
 }
 
-/// The second section of file 1 comes, with these blocks, and completes the file.
+/// Reads the second section of file 1, with the given blocks, which completes the file.
 fn complete_second(
     rt: &impl Abort,
     core: &mut ReaderCore,
@@ -75,7 +75,7 @@ fn complete_second(
     wants(rt, core, name, None);
 }
 
-/// Reads a first section without blocks, whose form is known only after its end.
+/// Reads a first section without blocks; the form is known only after its end.
 fn read_empty_section(rt: &impl Abort, core: &mut ReaderCore) {
     front(rt, core, "no blocks", HDR1, HDR2);
     assert!(rt; core.shape().is_none());
@@ -86,7 +86,7 @@ fn read_empty_section(rt: &impl Abort, core: &mut ReaderCore) {
         &[
             (Mark, Passed),
             (Block(EOV1), SectionDone),
-            // The reading is over: nothing after the trailer is looked at.
+            // The reading has ended: no item after the trailer is read.
             (Bad, Useless(ReelEnded)),
         ],
     );
@@ -114,7 +114,8 @@ fn a_first_section_without_blocks_tells_the_form(rt: HostRuntime) {
     complete_second(&rt, &mut core, "the same format", HDR2, &row, b"000001");
 }
 
-/// A reader that expects section 9,999 reads one without blocks, with this trailer.
+/// Checks a reader that expects section 9,999 and reads that section without blocks, with the given
+/// trailer.
 fn read_last_section(
     rt: &impl Abort,
     name: &str,
@@ -137,7 +138,7 @@ fn the_last_section_that_has_a_number(rt: HostRuntime) {
     read_last_section(&rt, "EOF1", EOF1, Complete, None);
 }
 
-/// VOL1 with another byte at a place.
+/// Returns VOL1 with `byte` at offset `place`.
 fn changed_volume(place: usize, byte: u8) -> [u8; 80] {
     let mut label = *VOL1;
     if let Some(at) = label.get_mut(place) {
@@ -146,14 +147,14 @@ fn changed_volume(place: usize, byte: u8) -> [u8; 80] {
     label
 }
 
-/// HDR2 of a system that uses the reserved positions, with two spaces as buffer offset.
+/// Returns the HDR2 of a system that uses the reserved positions, with two spaces as buffer offset.
 fn odd_second_header() -> [u8; 80] {
     let mut odd = *HDR2;
     odd[15..52].copy_from_slice(b"whatever the system has put in here  ");
     odd
 }
 
-/// Takes items that are all passed.
+/// Checks that the answer to each item is `Passed`.
 fn pass(rt: &impl Abort, core: &mut ReaderCore, name: &str, items: &[Event<'_>]) {
     for (n, item) in items.iter().enumerate() {
         assert!(rt; core.step(*item) == Passed, "{name}: item {n}");
@@ -220,7 +221,8 @@ const MIDDLE: &[u8] = b"20018nopqrstuvwxyz";
 
 const LAST: &[u8] = b"300090123^^^^^^^^^";
 
-/// The answers to a block that continues a record if none is unfinished, or the other way round.
+/// Returns the answer to a block that continues a record although no record is unfinished, or the
+/// converse.
 const fn span_broken() -> Answer {
     Useless(BadBlock(BlockFault {
         place: 0,
@@ -228,7 +230,7 @@ const fn span_broken() -> Answer {
     }))
 }
 
-/// Reads the first section, of format S, with these items; then this is expected.
+/// Reads the items of the first section, of format S, and checks the part that is then expected.
 fn read_spanned(
     rt: &impl Abort,
     core: &mut ReaderCore,
@@ -270,7 +272,7 @@ fn records_run_on_over_blocks_and_volumes(rt: HostRuntime) {
     complete_second(&rt, &mut core, "its end", HDR2_S, &row, b"000002");
 }
 
-/// The first volume comes, and its section is read.
+/// Reads the first volume with its section.
 fn read_first_volume(rt: &impl Abort, core: &mut ReaderCore) {
     let row = [
         (Block(b"AAAA".as_slice()), Deliver),
@@ -280,7 +282,7 @@ fn read_first_volume(rt: &impl Abort, core: &mut ReaderCore) {
     read_section(rt, core, "volume 1", (HDR1, HDR2), &row, wanted(2, 0, 0));
 }
 
-/// A volume comes whose section is not the expected one.
+/// Reads a volume whose section is not the expected one.
 fn refuse_volume(rt: &impl Abort, core: &mut ReaderCore, name: &str, head: &[u8], answer: Answer) {
     play(
         rt,

@@ -1,4 +1,4 @@
-//! Sinks: what they keep, return and refuse.
+//! Sinks: the parts that they keep and return, and the calls that they refuse.
 
 use crate::readers::reader;
 use std::alloc::Global;
@@ -19,19 +19,19 @@ fn put(rt: &impl Abort, sink: &mut MemorySink, (span, bytes): (Span, &[u8])) {
     assert!(rt; kept, "{span:?}");
 }
 
-/// Puts the three parts, which weigh 5 and 2, 5 and 0, 5 and 10.
+/// Puts the three parts, with the weights 5 + 2, 5 + 0 and 5 + 10.
 fn fill(rt: &impl Abort, sink: &mut MemorySink) {
     put(rt, sink, FIRST);
     put(rt, sink, SECOND);
     put(rt, sink, THIRD);
 }
 
-/// The checkpoint after the first parts with this weight.
+/// Returns the checkpoint after the first parts, with staged size `staged`.
 fn front(rt: &impl Abort, staged: u32) -> Checkpoint {
     reader(rt, 1).save(u64::from(staged))
 }
 
-/// Cuts the sink to this weight, at most its own.
+/// Cuts the sink to weight `staged`, which is at most its own.
 fn cut(rt: &impl Abort, sink: &mut impl PartSink, staged: u32) -> Result<(), SinkFault> {
     let point = front(rt, staged);
     let (staged, weight) = (point.staged, sink.weight());
@@ -39,7 +39,7 @@ fn cut(rt: &impl Abort, sink: &mut impl PartSink, staged: u32) -> Result<(), Sin
     sink.cut_to(&point)
 }
 
-/// Saves a checkpoint with this weight, which is the sink's own.
+/// Saves a checkpoint with weight `staged`, which is the sink's own.
 fn note(rt: &impl Abort, sink: &mut impl PartSink, staged: u32) -> Result<(), SinkFault> {
     let point = front(rt, staged);
     let (staged, weight) = (point.staged, sink.weight());
@@ -47,13 +47,13 @@ fn note(rt: &impl Abort, sink: &mut impl PartSink, staged: u32) -> Result<(), Si
     sink.keep(&point)
 }
 
-/// There is a part, and it is this one.
+/// Checks that `part` is the given part.
 fn is_part(rt: &impl Abort, name: &str, part: Option<Part<'_>>, (span, bytes): (Span, &[u8])) {
     let part = part.expect(rt, "no part");
     assert!(rt; part.span == span && part.bytes == bytes, "{name}");
 }
 
-/// It contains this many parts, with this weight.
+/// Checks that the sink contains `count` parts, with the given weight.
 fn keeps(rt: &impl Abort, name: &str, sink: &MemorySink, count: usize, weight: u64) {
     assert!(rt; sink.count() == count && sink.weight() == weight, "{name}");
 }
@@ -68,7 +68,7 @@ fn parts_are_kept_and_weighed(rt: HostRuntime) {
     assert!(rt; sink.part(3).is_none());
 }
 
-/// A cut of three parts to this weight keeps this many.
+/// Checks that a cut of three parts to weight `staged` keeps `count` parts.
 fn is_cut(rt: &impl Abort, alloc: Global, staged: u32, count: usize) {
     let mut sink = MemorySink::new(alloc);
     fill(rt, &mut sink);
@@ -102,12 +102,12 @@ fn parts_go_behind_a_cut(rt: HostRuntime) {
     is_part(&rt, "part 4", sink.part(4), THIRD);
 }
 
-/// The next part is this one.
+/// Checks that the next part is the given one.
 fn gives(rt: &impl Abort, name: &str, sink: &mut MemorySink, wanted: (Span, &[u8])) {
     is_part(rt, name, sink.next_part().expect(rt, "refused"), wanted);
 }
 
-/// There is no other part.
+/// Checks that no part is left.
 fn gives_none(rt: &impl Abort, sink: &mut MemorySink) {
     let is_none = sink.next_part().expect(rt, "refused").is_none();
     assert!(rt; is_none);
@@ -131,7 +131,7 @@ fn parts_are_given_back_in_order(rt: HostRuntime) {
     walks(&rt, &mut sink);
 }
 
-/// A put of two bytes has this answer, and then the inner sink has this many parts.
+/// Checks the answer to a put of two bytes, and then the number of parts in the inner sink.
 fn puts(
     rt: &impl Abort,
     name: &str,

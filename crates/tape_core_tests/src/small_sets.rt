@@ -1,4 +1,4 @@
-//! Readings of some hundred small sets, beside the simple calls that say where each leads.
+//! Readings of some hundred small sets, compared with the simple programs for positions and parts.
 
 use crate::plans::{NO_MEMORY, Planned, Style, blocks_before, layout, on_volume};
 use crate::readers::{go_to, known, point_at, reader};
@@ -10,14 +10,14 @@ use tape_label::Format;
 use tape_set::{Layout, Position};
 use tape_set_tests::{EntryLayout, before, entries, far};
 
-/// Returns whether a record is unfinished before this block of a section.
+/// Returns whether a record is unfinished before block `block` of a section.
 fn is_begun(style: Style, plan: &[Planned], file: u16, sect: u16, block: u32) -> bool {
     let before = blocks_before(plan, file, sect).saturating_add(block);
     let count = blocks_before(plan, file, u16::MAX);
     style.format == Format::Spanned && before > 0 && before < count
 }
 
-/// The checkpoint at a position of the file, with what is known there.
+/// Returns the checkpoint at a position of the file, with the form known there.
 fn point_in(
     rt: &impl Abort,
     set: &Set,
@@ -41,8 +41,8 @@ fn event_of(entry: &EntryLayout) -> Event<'_> {
     }
 }
 
-/// Reads the beginning of a volume, each item well or not, and returns the number of blocks
-/// delivered.
+/// Reads the beginning of a volume; `good` says which items are readable. Returns the number of
+/// blocks delivered.
 fn read(core: &mut ReaderCore, volume: &[EntryLayout], good: &[bool]) -> u32 {
     core.mount();
     let mut delivered = 0u32;
@@ -62,7 +62,7 @@ fn parts_before(rt: &impl Abort, alloc: Global, set: &Set, position: &Position) 
         .len()
 }
 
-/// A reading led from one position to the other, as it must.
+/// Checks that a reading led from one position to the other, as the definition says.
 fn leads(
     rt: &impl Abort,
     alloc: Global,
@@ -78,7 +78,7 @@ fn leads(
     );
 }
 
-/// Compares what the reading delivered.
+/// Compares the parts that the reading delivered.
 fn gives(
     rt: &impl Abort,
     alloc: Global,
@@ -88,11 +88,12 @@ fn gives(
 ) {
     let old = parts_before(rt, alloc, set, from);
     let new = parts_before(rt, alloc, set, to);
-    // If the position moved, its block's first parts were delivered.
+    // If the position moved, the first parts of its block were delivered.
     assert!(rt; new.saturating_sub(old) == parts_given(&set.style, from, delivered));
 }
 
-/// Makes one reading from the position, and compares where it leads and what it delivers.
+/// Makes one reading from the position, and compares the resulting position and the parts
+/// delivered.
 fn compare(
     rt: &impl Abort,
     alloc: Global,
@@ -110,7 +111,7 @@ fn compare(
     }
 }
 
-/// Returns how many parts this many blocks have, from the position on.
+/// Returns the number of parts in the next `blocks` blocks, without those already delivered.
 fn parts_given(style: &Style, from: &Position, blocks: u32) -> usize {
     let first = match from {
         Position::Awaits { part, .. } if blocks > 0 => *part,
@@ -128,8 +129,8 @@ struct Set {
     style: Style,
 }
 
-/// Reads the beginning of a volume in every way: each of the items well or not, with at most this
-/// many of them unreadable. Returns the number of readings.
+/// Reads the beginning of a volume in every way: each item readable or not, but at most a given
+/// number unreadable. Returns the number of readings.
 fn each_of_front(
     rt: &impl Abort,
     alloc: Global,
@@ -171,7 +172,7 @@ fn each_reading(
     readings
 }
 
-/// False if a bit is set.
+/// Returns the bits as flags: false if a bit is set.
 fn flags(bits: u32) -> [bool; 20] {
     let mut good = [true; 20];
     let mut left = bits;
@@ -262,7 +263,8 @@ fn files_of_one_section_and_of_two(rt: HostRuntime) {
     assert!(rt; readings > 100_000, "{readings}");
 }
 
-/// Reads two files, with this many blocks, on one volume, and with a volume change in the first.
+/// Reads two files, with `a` and `b` blocks, on one volume, and with a volume change in the first
+/// file.
 fn two_files(rt: &impl Abort, alloc: Global, style: Style, a: u32, b: u32) -> u32 {
     let two = [on_volume(1, 1, 1, a, true), on_volume(2, 1, 1, b, true)];
     let readings = each_file(rt, alloc, style, &two);

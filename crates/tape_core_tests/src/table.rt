@@ -11,20 +11,20 @@ use tape_core::{Answer, Event, ReaderCore};
 use tape_label::{Format, LabelFault};
 use tape_set::Position;
 
-/// Items that are all passed.
+/// Checks that the answer to each item is `Passed`.
 fn passes(rt: &impl Abort, core: &mut ReaderCore, before: &[Event<'_>]) {
     for (n, each) in before.iter().enumerate() {
         assert!(rt; core.step(*each) == Passed, "item {n} before the row");
     }
 }
 
-/// A refusal leaves the position, and ends the reading.
+/// Checks that a refusal does not move the position, and ends the reading.
 fn is_over(rt: &impl Abort, core: &mut ReaderCore, number: usize, stood: Position) {
     let is_over = core.position() == stood && core.step(Mark) == Useless(ReelEnded);
     assert!(rt; is_over, "row {number}");
 }
 
-/// One row: after items that are all passed comes an event, with this answer.
+/// Checks one row: the answer to an event after items that are all passed.
 fn row(
     rt: &impl Abort,
     core: &mut ReaderCore,
@@ -41,7 +41,7 @@ fn row(
     }
 }
 
-/// The same for each event, with a new reader of this file.
+/// Does the same for each event, with a new reader of file number `file`.
 pub(crate) fn rows(
     rt: &impl Abort,
     file: u16,
@@ -174,7 +174,7 @@ fn the_block_awaited_is_delivered(rt: HostRuntime) {
     );
 }
 
-/// A reader of a file of format F that awaits block 2.
+/// Returns a reader of a file of format F that expects block 2.
 fn behind_two_blocks(rt: &impl Abort) -> ReaderCore {
     reader_at(
         rt,
@@ -184,7 +184,7 @@ fn behind_two_blocks(rt: &impl Abort) -> ReaderCore {
     )
 }
 
-/// If block 2 is expected, this comes in place of the first block.
+/// Checks the answer to an event that replaces the first block, if block 2 is expected.
 fn instead_of_first(rt: &impl Abort, number: usize, event: Event<'_>, answer: Answer) {
     let before = [Block(VOL1), Block(HDR1), Block(HDR2), Mark];
     row(

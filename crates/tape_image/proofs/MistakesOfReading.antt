@@ -1,5 +1,5 @@
--- Results of `ImageReader::next`, and what the reader then is, that its contract excludes: each is
--- the result of a wrong body for the bytes that are written out.
+-- Results of `ImageReader::next`, and states of the reader after it, that its contract excludes:
+-- each is the result of a wrong body for the given bytes.
 use Rattle.std.proofs.Common.{◌≡◌, ◌≢◌, ◌≤◌, ◌+◌, ℕ, List, [], ◌∷◌, ◌++◌, length, refl, sym, ap}
 use Rattle.std.proofs.Common.{◌∙◌}
 use Rattle.std.proofs.Common.{subst, arith, length-append}
@@ -24,7 +24,7 @@ use Rattle.tape_image.proofs.reader.ImageReader.next.Reads as next
 
 -- ---- readers and bytes
 
--- a reader that continues at a place, whose device has these bytes left
+-- a reader in the state `going` at an offset, whose device has the bytes `left`
 abbrev at : ℕ → List ℕ → ℕ → ℕ → Reader
 at place left device room = record {
   place = place;
@@ -44,7 +44,7 @@ at_once : (p : ℕ) (xs : List ℕ) (stop : Stop) → p ≤ image_limit → Stop
 at_once p xs stop near stops =
     record { rest = xs; walks = Walks-nil p xs; within = near; stops = stops }
 
--- the item that a call gave is the first that the bytes begin with
+-- the item that a call returned is the first of those that the bytes begin with
 gives_first : (p : ℕ) (xs : List ℕ) (device room : ℕ) (old new : Reader)
     (result : Result (Option Item) ImageFault) (item : TapeItem) (items : List TapeItem) (end : ℕ)
     (stop : Stop) → HasMoved old result new → old ≡ at p xs device room
@@ -60,7 +60,7 @@ gives_first p xs device room old new result item items end stop h e w b =
     (Walks-item p new.place xs ys item takes) gave.within b in
     (more, same)
 
--- so no item is returned of bytes that begin with none
+-- so no item is returned for bytes that begin with no item
 gives_none : (p : ℕ) (xs : List ℕ) (device room : ℕ) (old new : Reader)
     (result : Result (Option Item) ImageFault) (item : TapeItem) (end : ℕ) (stop : Stop)
     → HasMoved old result new → old ≡ at p xs device room
@@ -69,7 +69,7 @@ gives_none p xs device room old new result item end stop h e w b =
     let (more, same) = gives_first p xs device room old new result item [] end stop h e w b in
     absurd (cc same)
 
--- what a call took of the bytes for the fault that it returned
+-- the bytes that a call read for the fault that it returned
 takes_fault : (p : ℕ) (xs : List ℕ) (device room : ℕ) (old new : Reader)
     (result : Result (Option Item) ImageFault) (f : ImageFault) → HasMoved old result new
     → old ≡ at p xs device room → seen result ≡ Err f
@@ -80,7 +80,7 @@ takes_fault p xs device room old new result f h e w =
     let met : MeetsFault here f new = subst (λ r. Meets here r new) w moved.answers in
     IfKnown-at (Some xs) new.left (TakesFault p [] f) xs refl met.takes
 
--- a fault that is not the device's is the one stop of the bytes, with no item before it
+-- a fault other than the device's is the one stop of the bytes, with no item before it
 fails_so : (p : ℕ) (xs : List ℕ) (device room : ℕ) (old new : Reader)
     (result : Result (Option Item) ImageFault) (q : ℕ) (cause : ImageCause)
     (items : List TapeItem) (end : ℕ) (stop : Stop) → HasMoved old result new
@@ -91,7 +91,7 @@ fails_so p xs device room old new result q cause items end stop h e w other b =
     Begins-one p xs [] items q end (faults cause) stop
     (TakesFault-begins p [] (fault q cause) xs ys takes other) b
 
--- the block of one byte, its pad byte and its words
+-- the encoding of a block of one byte: its words, the byte and its pad byte
 abbrev one_byte : List ℕ
 one_byte = 1 ∷ 0 ∷ 0 ∷ 0 ∷ 7 ∷ 0 ∷ 1 ∷ 0 ∷ 0 ∷ 0 ∷ []
 
@@ -141,21 +141,21 @@ gap_begins = record {
   stops = nothing refl refl;
 }
 
--- how many bytes the first item has, where it is a block
+-- the number of bytes of the first item, if it is a block
 abbrev first_length : List TapeItem → ℕ
 first_length (block bytes ∷ items) = length bytes
 first_length (bad ∷ items) = 0
 first_length (mark ∷ items) = 0
 first_length [] = 0
 
--- ---- one call of `next`, over any reader of bytes
+-- ---- one call of `next`, for any reader of bytes
 
 module _ (T : _) (L : _) (g : _) (d : _) (κs : _) (a : _) (z : _) (s : _)
     (h : next.tells T L g d κs a z s) (device room : ℕ) where
   abbrev new : Reader
   new = h.0.lender-at-none
 
-  -- words_not_compared: a block is returned whose leading word is 1, and its trailing word 2
+  -- words_not_compared: a block is returned although its leading word is 1 and its trailing word 2
   words_not_compared : a.0.now ≡ at 0 (1 ∷ 0 ∷ 0 ∷ 0 ∷ 7 ∷ 0 ∷ 2 ∷ 0 ∷ 0 ∷ 0 ∷ []) device room
       → seen z ≡ Ok (Some (block (7 ∷ []))) → ⊥
   words_not_compared e w =
@@ -166,8 +166,8 @@ module _ (T : _) (L : _) (g : _) (d : _) (κs : _) (a : _) (z : _) (s : _)
       (words_differ (omega arith) 1 refl (omega arith) (omega arith)
       (λ same. let n : 2 ≡ 1 = same in omega arith) refl))
 
-  -- bad_block_words_not_compared: a block that was recorded with an error is reported as such, and
-  -- its trailing word is another one
+  -- bad_block_words_not_compared: a block recorded with an error is reported as bad although its
+  -- trailing word differs
   bad_block_words_not_compared :
       a.0.now ≡ at 0 (1 ∷ 0 ∷ 0 ∷ 128 ∷ 7 ∷ 0 ∷ 1 ∷ 0 ∷ 0 ∷ 0 ∷ []) device room
       → seen z ≡ Ok (Some bad) → ⊥
@@ -179,7 +179,7 @@ module _ (T : _) (L : _) (g : _) (d : _) (κs : _) (a : _) (z : _) (s : _)
       (words_differ (omega arith) 1 refl (omega arith) (omega arith)
       (λ same. let n : 1 ≡ 2147483649 = same in omega arith) refl))
 
-  -- block_before_trailing_word: a block is returned, and the bytes end before its trailing word
+  -- block_before_trailing_word: a block is returned although the bytes end before its trailing word
   block_before_trailing_word : a.0.now ≡ at 0 (1 ∷ 0 ∷ 0 ∷ 0 ∷ 7 ∷ 0 ∷ []) device room
       → seen z ≡ Ok (Some (block (7 ∷ []))) → ⊥
   block_before_trailing_word e w =
@@ -189,7 +189,8 @@ module _ (T : _) (L : _) (g : _) (d : _) (κs : _) (a : _) (z : _) (s : _)
       (at_once 0 xs (faults Truncated) (omega arith)
       (in_block (omega arith) 10 refl (omega arith) (omega arith) refl))
 
-  -- pad_byte_forgotten: a block of one byte is returned, with no pad byte before its trailing word
+  -- pad_byte_forgotten: a block of one byte is returned although no pad byte precedes its trailing
+  -- word
   pad_byte_forgotten : a.0.now ≡ at 0 (1 ∷ 0 ∷ 0 ∷ 0 ∷ 7 ∷ 1 ∷ 0 ∷ 0 ∷ 0 ∷ []) device room
       → seen z ≡ Ok (Some (block (7 ∷ []))) → ⊥
   pad_byte_forgotten e w =
@@ -199,8 +200,8 @@ module _ (T : _) (L : _) (g : _) (d : _) (κs : _) (a : _) (z : _) (s : _)
       (at_once 0 xs (faults Truncated) (omega arith)
       (in_block (omega arith) 10 refl (omega arith) (omega arith) refl))
 
-  -- pad_byte_forgotten_in_pieces: the same of a block that is passed by, as one that was recorded
-  -- with an error
+  -- pad_byte_forgotten_in_pieces: the same for a block whose content is skipped because it was
+  -- recorded with an error
   pad_byte_forgotten_in_pieces :
       a.0.now ≡ at 0 (1 ∷ 0 ∷ 0 ∷ 128 ∷ 7 ∷ 1 ∷ 0 ∷ 0 ∷ 128 ∷ []) device room
       → seen z ≡ Ok (Some bad) → ⊥
@@ -255,7 +256,7 @@ module _ (T : _) (L : _) (g : _) (d : _) (κs : _) (a : _) (z : _) (s : _)
       (past_limit (omega arith) 4 refl (omega arith) refl)) in
       absurd (cc same)
 
-  -- too_long_after_the_data: a block that would end past the limit is taken whole before the fault
+  -- too_long_after_the_data: a block that would end past the limit is read whole before the fault
   too_long_after_the_data : a.0.now ≡ at 4294967290 one_byte device room
       → seen z ≡ Err (fault 4294967290 TooLong) → new.left ≡ Some [] → ⊥
   too_long_after_the_data e w none =
@@ -267,7 +268,7 @@ module _ (T : _) (L : _) (g : _) (d : _) (κs : _) (a : _) (z : _) (s : _)
       let word : 4294967290 + length takes.given ≡ 4294967290 + 4 = takes.cause.1 in
       absurd (omega (arith, whole, word, ap length left))
 
-  -- place_behind_the_fault: the reader is after the word that begins nothing
+  -- place_behind_the_fault: after the fault the reader's place is after the reserved word
   place_behind_the_fault : (p w : ℕ) → a.0.now.status ≡ going
       → seen z ≡ Err (fault p (Reserved w)) → new.place ≡ p + 4 → ⊥
   place_behind_the_fault p w on e far =
@@ -275,7 +276,7 @@ module _ (T : _) (L : _) (g : _) (d : _) (κs : _) (a : _) (z : _) (s : _)
       (from_going a.0.now z new h.0.holds-at-none on) in
       absurd (omega (arith, far, m.place))
 
-  -- fault_not_kept: after a word that begins nothing the reader continues
+  -- fault_not_kept: after a reserved word the reader is still in the state `going`
   fault_not_kept : (p w : ℕ) → a.0.now.status ≡ going → seen z ≡ Err (fault p (Reserved w))
       → new.status ≡ going → ⊥
   fault_not_kept p w on e goes_on =
@@ -283,12 +284,12 @@ module _ (T : _) (L : _) (g : _) (d : _) (κs : _) (a : _) (z : _) (s : _)
       (from_going a.0.now z new h.0.holds-at-none on) in
       absurd (let d : going ≡ failed (fault p (Reserved w)) = sym goes_on ∙ m.failed in cc)
 
-  -- end_answered_once: after the end that it returned the reader continues
+  -- end_answered_once: after it returned the end, the reader is in the state `going` again
   end_answered_once : a.0.now.status ≡ ended Marked → new.status ≡ going → ⊥
   end_answered_once e goes_on =
       let (_, same) = stays_ended a.0.now z new Marked h.0.holds-at-none e in
       absurd (let d : going ≡ ended Marked = sym goes_on ∙ ap (λ r. r.status) same ∙ e in cc)
 
-  -- memory_taken_at_each_call: a call doubles the buffer's memory
+  -- memory_taken_at_each_call: a call doubles the buffer's capacity
   memory_taken_at_each_call : a.0.now.room ≡ 100000 → new.room ≡ 200000 → ⊥
   memory_taken_at_each_call e w = absurd (omega (arith, e, w, h.0.holds-at-none.same_room))

@@ -1,5 +1,5 @@
--- Results of a writer, and what its device then holds, that its contracts exclude: each is the
--- result of a wrong body.
+-- Results of a writer, and contents of its device after them, that its contracts exclude: each is
+-- the result of a wrong body.
 use Rattle.std.proofs.Common.{◌≡◌, ℕ, List, [], ◌∷◌, length, sum, sym, ap, ◌∙◌, subst, arith}
 use Rattle.std.specs.Prelude.{Bool, true, false, MatchBool, ◌==◌, ◌||◌, nat_lt, Result, Ok, Err}
 use Rattle.std.specs.Prelude.{Some}
@@ -18,11 +18,11 @@ use Rattle.tape_image.proofs.writer.ImageWriter.block.Reads as block
 use Rattle.tape_image.proofs.writer.ImageWriter.mark.Reads as mark_call
 use Rattle.tape_image.proofs.writer.ImageWriter.finish.Reads as finish
 
--- a writer that counts this many bytes, and what its device holds
+-- a writer with the given size, and the contents of its device
 abbrev at : ℕ → Standing → List ℕ → Writer
 at size standing held = record { size = size; standing = standing; contents = Some held }
 
--- what a call for a mark or an end-of-medium marker gives and leaves, where the states are written
+-- the result and effect of a call for a mark or an end-of-medium marker, with the states written
 -- out
 puts : (bytes : List ℕ) (after : Standing) (result : Result (Unit {0}) ImageWriteFault)
     (old new before behind : Writer)
@@ -32,7 +32,7 @@ puts bytes after result old new before behind h e w =
     subst (λ r. PutsFrom before.standing bytes after before result r) w
     (subst (λ r. PutsFrom r.standing bytes after r result new) e h)
 
--- the same of a call for a block
+-- the same for the call for a block
 puts_block : (content bytes : List ℕ) (result : Result (Unit {0}) ImageWriteFault)
     (old new before behind : Writer)
     → BlockFrom old.standing content old result new → content ≡ bytes → old ≡ before
@@ -43,7 +43,7 @@ puts_block content bytes result old new before behind h c e w =
     (subst (λ r. BlockFrom r.standing bytes r result new) e
     (subst (λ b. BlockFrom old.standing b old result new) c h))
 
--- end_word_counted_at_first: four bytes are counted before anything was written
+-- end_word_counted_at_first: a new writer counts four bytes
 end_word_counted_at_first : (T : _) (L : _) (g : _) (d : _) (f : _) (κs : _) (a : _) (z : _) (s : _)
     → new.Learnt T L g d f κs a z s → z.size ≡ 4 → ⊥
 end_word_counted_at_first T L g d f κs a z s h e =
@@ -54,7 +54,7 @@ size_one_less : (T : _) (L : _) (g : _) (d : _) (f : _) (κs : _) (a : _) (s : _
     → size.Learnt T L g d f κs a 3 s → a.0.now.size ≡ 4 → ⊥
 size_one_less T L g d f κs a s h e = absurd (let d : 3 ≡ 4 = h ∙ e in omega arith)
 
--- pad_byte_is_one: a byte 1 follows the block's one byte
+-- pad_byte_is_one: the pad byte after a block of one byte is 1
 pad_byte_is_one : (T : _) (L : _) (g : _) (d : _) (f : _) (κs : _) (a : _) (s : _)
     → block.Learnt T L g d f κs a (Ok tt) s → a.1.0.now ≡ 7 ∷ []
     → a.0.now ≡ at 0 writing []
@@ -64,7 +64,7 @@ pad_byte_is_one T L g d f κs a s h c e w =
     (at 10 writing (1 ∷ 0 ∷ 0 ∷ 0 ∷ 7 ∷ 1 ∷ 1 ∷ 0 ∷ 0 ∷ 0 ∷ [])) h c e w in
     absurd (let d : 10 ≡ 9 = ap sum p.wrote in omega arith)
 
--- size_without_the_pad_byte: a block of one byte is counted as 9 bytes, and takes 10
+-- size_without_the_pad_byte: a block of one byte is counted as 9 bytes, although it takes 10
 size_without_the_pad_byte : (T : _) (L : _) (g : _) (d : _) (f : _) (κs : _) (a : _) (s : _)
     → block.Learnt T L g d f κs a (Ok tt) s → a.1.0.now ≡ 7 ∷ []
     → a.0.now ≡ at 0 writing []
@@ -84,7 +84,7 @@ block_without_bytes_written T L g d f κs a s h c e w =
     (at 8 writing (0 ∷ 0 ∷ 0 ∷ 0 ∷ 0 ∷ 0 ∷ 0 ∷ 0 ∷ [])) h c e w in
     absurd (let d : Ok tt ≡ Err BlockLength = p.0 in cc)
 
--- where content is a block's, its length is not refused
+-- if the content is that of a block, its length is not refused
 is_block : (b : Bool) (Refused : Type 0) → MatchBool b Refused ⊥ → b ≡ false → ⊥
 is_block true Refused h e = absurd (cc e)
 is_block false Refused h e = absurd h
@@ -97,7 +97,7 @@ longest_block_refused T L g d f κs a s h n e =
     let P : Standing → Type 0 = λ r. BlockFrom r a.1.0.now a.0.now (Err BlockLength) s.0.now in
     is_block (is_no_block a.1.0.now) _ (subst P e h) (ap (λ l. (l == 0) || nat_lt 99999 l) n)
 
--- too_long_after_the_write: a block that would end past the limit is refused, and is there
+-- too_long_after_the_write: a block that would end past the limit is refused, but was written
 too_long_after_the_write : (T : _) (L : _) (g : _) (d : _) (f : _) (κs : _) (a : _) (s : _)
     → block.Learnt T L g d f κs a (Err TooLong) s → a.1.0.now ≡ 7 ∷ []
     → a.0.now ≡ at 4294967290 writing []
@@ -117,7 +117,8 @@ mark_ends_the_image T L g d f κs a s h e w =
     (at 4 finished (0 ∷ 0 ∷ 0 ∷ 0 ∷ [])) h e w in
     absurd (let d : finished ≡ writing = p.stands in cc)
 
--- taking_nothing_is_success: a mark is written and counted, and the device holds nothing of it
+-- taking_nothing_is_success: a mark is counted as written, although the device contains no byte of
+-- it
 taking_nothing_is_success : (T : _) (L : _) (g : _) (d : _) (f : _) (κs : _) (a : _) (s : _)
     → mark_call.Learnt T L g d f κs a (Ok tt) s → a.0.now ≡ at 0 writing []
     → s.0.now ≡ at 4 writing [] → ⊥

@@ -1,11 +1,11 @@
--- Bytes that are written piece after piece.
+-- Bytes that are written in several pieces.
 use Rattle.std.proofs.Common.{◌≡◌, ◌≤◌, ℕ, zero, suc, refl, arith, replicate, List, [], ◌∷◌, ◌++◌}
 use Rattle.std.proofs.Common.{Option, Result, Ok, Err, OnErr, sym, ap, ◌∙◌, append_assoc, take}
 use Rattle.std.specs.Io.KnownBytes.{Appends}
 use Rattle.std.proofs.KnownBytes.{Appends-trans}
 use Rattle.tape_image.specs.Written.{AppendsFront}
 
--- a prefix of the piece after those that are done is a prefix of all
+-- a prefix of the next piece, after those already written, is a prefix of all pieces
 pub front_behind : (a b c : Option (List ℕ)) (done piece : List ℕ) → Appends a b done
     → AppendsFront b c piece → AppendsFront a c (done ++ piece)
 front_behind a b c done piece whole (front, rest, some, e) = (
@@ -15,19 +15,19 @@ front_behind a b c done piece whole (front, rest, some, e) = (
   ap (λ l. done ++ l) e ∙ sym (append_assoc done front rest),
 )
 
--- a prefix of some bytes is a prefix of these and more
+-- a prefix of `bytes` is a prefix of `bytes` followed by more
 pub front_more : (a b : Option (List ℕ)) (bytes more : List ℕ) → AppendsFront a b bytes
     → AppendsFront a b (bytes ++ more)
 front_more a b bytes more (front, rest, some, e) =
     (front, rest ++ more, some, ap (λ l. l ++ more) e ∙ append_assoc front rest more)
 
--- at most one zero
+-- a prefix of at most one zero
 pub take_one : (k : ℕ) → k ≤ 1 → take {A = ℕ} k (0 ∷ []) ≡ replicate k 0
 take_one zero h = refl
 take_one (suc zero) h = refl
 take_one (suc (suc k)) h = absurd (omega arith)
 
--- what an error leaves holds whatever the answer
+-- a fact that is always true is true on an error
 pub on_err : {T E : Type 0} (r : Result T E) (P : Type 0) → P → OnErr r P
 on_err (Ok x) P p = tt
 on_err (Err e) P p = p

@@ -1,4 +1,5 @@
--- The examples of `specs/Examples`, by computation and from the clauses that they hold.
+-- Proofs of the test cases in `specs/Examples`, by computation and from the clauses of the
+-- definitions.
 use Rattle.std.proofs.Common.{[], ◌∷◌, length, refl, ap, arith, length-append}
 use Rattle.tape_image.specs.declared.item.Ending.TheVariants.{Marked, Physical}
 use Rattle.tape_image.specs.Tape.{mark}

@@ -1,4 +1,4 @@
--- A block's content and what follows it, taken at once.
+-- A block's content and the bytes after it, read in one call.
 use Rattle.std.proofs.Common.{◌≡◌, ℕ, ◌+◌, ◌-◌, ◌≤◌, ◌%◌, List, ◌++◌, length, take, drop, Option}
 use Rattle.std.proofs.Common.{Some, None, refl, sym, ap, subst, ◌∙◌, arith, append_assoc}
 use Rattle.std.proofs.Common.{length-drop}
@@ -10,7 +10,7 @@ use Rattle.byteorder.specs.Numbers.{little_from-take}
 use Rattle.tape_image.specs.Device.{TakesRest}
 use Rattle.tape_image.proofs.Words.{word-append}
 
--- the word after the pad bytes, as the code cuts it
+-- the word after the pad bytes, as the code cuts it out
 pub trail_word : (pads n : ℕ) (held more : List ℕ) → 4 ≤ n → length held ≡ pads + 4
     → little_number 4 (take n (drop pads (held ++ more))) ≡ little_number 4 (drop pads held)
 trail_word pads n held more room long =
@@ -18,7 +18,7 @@ trail_word pads n held more room long =
     ∙ ap (little_number 4) (drop-append-le pads held more (omega arith))
     ∙ word-append (drop pads held) more (omega (arith, length-drop pads held))
 
--- bytes that were taken at once were taken one piece after the other
+-- bytes that were read at once were read in two consecutive pieces
 two_pieces : (old new : Option (List ℕ)) (front back : List ℕ) → Consumes old new (front ++ back)
     → (mid : Option (List ℕ)) × Consumes old mid front × Consumes mid new back
 two_pieces None new front back taken = (None, tt, tt)
@@ -26,7 +26,7 @@ two_pieces (Some xs) None front back taken = absurd taken
 two_pieces (Some xs) (Some ys) front back taken =
     (Some (back ++ ys), taken ∙ append_assoc front back ys, refl)
 
--- content, pad byte and word that were taken at once into the start of the buffer
+-- content, pad byte and word read at once into the start of the buffer
 pub rest_at_once : (old new : Option (List ℕ)) (w n end long v : ℕ) (held more : List ℕ)
     → Consumes old new held → length held ≡ end → end ≡ n + (n % 2 + 4) → 4 ≤ long
     → v ≡ little_number 4 (take long (drop (end - 4) (held ++ more)))

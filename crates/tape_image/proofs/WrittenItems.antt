@@ -1,4 +1,4 @@
--- What a writer wrote encodes its items.
+-- The bytes that a writer writes encode its items.
 use Rattle.std.proofs.Common.{◌≡◌, ℕ, ◌+◌, ◌<◌, ◌≤◌, ◌%◌, ◌^◌, Bool, true, false, List, [], ◌∷◌}
 use Rattle.std.proofs.Common.{◌++◌, length, replicate, Option, Some, None, Ok, Err, refl, sym, ap}
 use Rattle.std.proofs.Common.{◌∙◌, arith, append_assoc, append-nil, length-append}
@@ -20,7 +20,7 @@ use Rattle.tape_image.specs.Writer.{PutsFrom, BlockFrom, PutItem, PutItems, Fail
 use Rattle.tape_image.specs.Writer.{FailedHoldsFront}
 use Rattle.tape_image.proofs.Leads.{Leads-nil, Leads-then, Leads-before, Leads-trans}
 
--- the four bytes of a word are that word
+-- the four bytes of a word encode the word
 pub word_bytes : (w : ℕ) → w < 256 ^ 4 → IsWord (little_bytes 4 w) w
 word_bytes w h = record {
   four = refl;
@@ -31,7 +31,7 @@ word_bytes w h = record {
 block_word : (n : ℕ) → 0 < n → n ≤ 99999 → block_len n ≡ Some n
 block_word n some few = grind (arith, nat_tests)
 
--- a block's written encoding is one
+-- the bytes written for a block are an encoding of it
 pub block_spelled : (content : List ℕ) → is_no_block content ≡ false
     → IsSpelling (written_block content) (block content ∷ [])
 block_spelled content is =
@@ -53,7 +53,7 @@ block_spelled content is =
 pub mark_spelled : IsSpelling (written mark) (mark ∷ [])
 mark_spelled = a_mark (word_bytes mark_word (omega arith)) refl
 
--- so is a bad block's
+-- the bytes written for a bad block are an encoding of it
 pub bad_spelled : IsSpelling (written bad) (bad ∷ [])
 bad_spelled = a_block 0x80000001 (0 ∷ []) refl
     (record {
@@ -67,7 +67,7 @@ bad_spelled = a_block 0x80000001 (0 ∷ []) refl
     })
     refl
 
--- a call that answered success put all the bytes
+-- a call that returned Ok wrote all the bytes
 pub put_all : (s after : Standing) (bytes : List ℕ) (old new : Writer)
     → PutsFrom s bytes after old (Ok tt) new → PutsAll bytes after old new
 put_all writing after bytes old new h = h
@@ -95,14 +95,14 @@ put_item (block content) old new h =
 put_item bad old new h = (bad_spelled, put_all old.standing writing _ old new h)
 put_item mark old new h = (mark_spelled, put_all old.standing writing _ old new h)
 
--- known bytes stay known
+-- contents that are known stay known after an append
 pub known_after : (old new : Option (List ℕ)) (xs bytes : List ℕ) → old ≡ Some xs
     → Appends old new bytes → new ≡ Some (xs ++ bytes)
 known_after None new xs bytes e h = absurd (cc e)
 known_after (Some ys) None xs bytes e h = absurd h
 known_after (Some ys) (Some zs) xs bytes e h = let same : ys ≡ xs = cc in cc
 
--- the calls for these items wrote one encoding of each
+-- the calls for the items wrote one encoding of each
 put_items : (items : List TapeItem) (old new : Writer) (before : List ℕ)
     → old.contents ≡ Some before → PutItems items old new
     → (new.contents ≡ Some (before ++ flat_map written items)) × Leads (flat_map written
@@ -153,7 +153,7 @@ written_spells old mid new items before after known end puts done =
       ),
     )
 
--- what a call wrote that failed: nothing where the device failed before, and else a prefix
+-- the bytes that a failed call wrote: none if the device had failed before, otherwise a prefix
 pub record FailsWith (bytes : List ℕ) (old new : Writer) : Type 0 where
   pub front : List ℕ
   pub rest : List ℕ

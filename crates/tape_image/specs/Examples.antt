@@ -1,4 +1,4 @@
--- Test cases for the definitions: small images and results, and what each definition accepts or
+-- Test cases for the definitions: small images and results that each definition accepts or
 -- excludes.
 use Rattle.std.specs.Prelude.{◌≡◌, ◌⊎◌, ◌≤◌, ◌<◌, ◌+◌, ℕ, List, [], ◌∷◌, ◌++◌, length, Option}
 use Rattle.std.specs.Prelude.{Result, Ok, Err, None}
@@ -27,18 +27,19 @@ use Rattle.tape_image.specs.Writer.{PutsFrom, BlockFrom}
 
 -- images and their items
 pub record ImagesAreHeld : Type 0 where
-  -- a tape mark and an end-of-medium marker encode one mark, whatever follows the marker
+  -- a tape mark and an end-of-medium marker encode the items of a tape with one mark, whatever
+  -- follows the marker
   pub marked : Spells (0 ∷ 0 ∷ 0 ∷ 0 ∷ 255 ∷ 255 ∷ 255 ∷ 255 ∷ 7 ∷ []) (mark ∷ [])
   pub no_empty_block : IsTapeItem (block []) → ⊥
   pub no_longer_block : (bytes : List ℕ) → length bytes ≡ 100000 → IsTapeItem (block bytes) → ⊥
   pub least_odd : least_extent (block (7 ∷ [])) ≡ 10
   pub least_bad : least_extent bad ≡ 10
 
--- results of `next` and the reader's state after it
+-- results of `next`, and the reader's state after them
 pub record AnswersAreHeld : Type 0 where
   pub no_calls : (r : Reader) → Gave r [] r
   pub mark_moves : (old new : Reader) → GivesItem old mark new → old.place + 4 ≤ new.place
-  -- after the end of the medium or a fault every further call returns the same
+  -- after the end of the medium or a fault every further call returns the same result
   pub end_stays :
       (old new : Reader) (ending : Ending) (r : Result (Option TapeItem) ImageFault)
       → Answers (ended ending) old r new → (r ≡ Ok None) × (new ≡ old)
@@ -48,7 +49,7 @@ pub record AnswersAreHeld : Type 0 where
   pub fault_is_kept :
       (old new : Reader) (fault : ImageFault)
       → MeetsFault old fault new → (new.status ≡ failed fault) × (new.place ≡ fault.place)
-  -- at the limit no end-of-medium marker fits, so the end does not move the reader
+  -- at the limit no end-of-medium marker fits, so reaching the end does not move the reader
   pub end_moves :
       (old new : Reader) → old.place ≡ image_limit → MeetsEnd old new → new.place ≡ image_limit
   pub same_device_and_room :
@@ -67,7 +68,7 @@ pub record TakingIsHeld : Type 0 where
       (w : ℕ) (xs given : List ℕ) → IsCause (Reserved w) 0 [] 0 xs given → length given ≡ 4
   pub too_long_at_once :
       (xs given : List ℕ) → IsCause TooLong 0 [] 0 xs given → length given ≡ 4
-  -- the whole block is read, up to the last byte of its second word
+  -- the whole block is read, up to the last byte of its trailing word
   pub differ_at_the_end :
       (xs given : List ℕ) (h : IsCause LengthsDiffer 0 [] 0 xs given) → length given ≡ h.1
   pub truncated_takes_all :
@@ -77,7 +78,7 @@ pub record TakingIsHeld : Type 0 where
       → (stop : Stop) × Begins 0 given [] 0 stop
       × ((stop ≡ ends Physical) ⊎ (stop ≡ faults Truncated))
 
--- laws: each is applied, so that no law has premises that nothing satisfies
+-- the laws, each applied, so that no law has premises that nothing satisfies
 pub record LawsAreHeld : Type 0 where
   pub unique :
       SpellingsAreUnique → (s t x y : List ℕ) (given other : List TapeItem)
@@ -99,7 +100,7 @@ pub record LawsAreHeld : Type 0 where
       → Walks 0 xs taken at ys → at ≤ image_limit → Begins 0 xs items end stop
       → (more : List TapeItem) × (items ≡ taken ++ more)
 
--- what a writer's call writes and returns, and the writer's state after it
+-- the bytes that a writer's call writes, its result, and the writer's state after it
 pub record WritingIsHeld : Type 0 where
   pub three_bytes :
       written (block (7 ∷ 8 ∷ 9 ∷ []))
@@ -108,7 +109,7 @@ pub record WritingIsHeld : Type 0 where
   pub counted :
       (bytes : List ℕ) (after : Standing) (old new : Writer) → PutsAll bytes after old new
       → (new.standing ≡ after) × (new.size ≡ old.size + length bytes) × (new.size ≤ image_limit)
-  -- a failed device contains a prefix, which is not counted, and the writer stays broken
+  -- a failed device contains a prefix, which is not counted, and the writer remains broken
   pub failed_at :
       (bytes : List ℕ) (after : Standing) (old new : Writer)
       → Puts bytes after old (Err refusal.Device) new
@@ -122,7 +123,7 @@ pub record WritingIsHeld : Type 0 where
   pub no_bytes :
       (old new : Writer) (r : Result (Unit {0}) ImageWriteFault)
       → BlockFrom writing [] old r new → (r ≡ Err refusal.BlockLength) × (new ≡ old)
-  -- a finished or failed writer is reported before the block's length is checked
+  -- for a finished or failed writer this is reported before the block's length is checked
   pub finished_stays :
       (old new : Writer) (r : Result (Unit {0}) ImageWriteFault)
       → BlockFrom finished [] old r new → (r ≡ Err refusal.Finished) × (new ≡ old)

@@ -7,7 +7,7 @@ use Rattle.tape_image.specs.declared.item.ImageCause.TheVariants.{OutOfMemory}
 use Rattle.tape_image.specs.declared.item.ImageWriteFault.{ImageWriteFault}
 use Rattle.tape_image.specs.declared.item.ImageWriteFault.TheVariants as w
 
--- the number of a cause, which programs print
+-- the number of a cause, as programs print it
 abbrev pub number_of : ImageCause → ℕ
 number_of Truncated = 1
 number_of LengthsDiffer = 2

@@ -10,10 +10,10 @@ pub mod Next
 pub mod Calls
 pub mod Written
 pub mod Writer
--- laws about them:
+-- laws about these definitions:
 pub mod Laws
 pub mod Examples
--- definitions about private code, proved to agree with those above:
+-- definitions about private code, proved to agree with the definitions above:
 pub mod Device
 pub mod Kind
 pub mod Front

@@ -1,4 +1,4 @@
--- What callers see of an `ImageWriter`, and the effects of its calls.
+-- The state of an `ImageWriter` that callers see, and the effects of its calls.
 use Rattle.std.specs.Prelude.{◌≡◌, ℕ, ◌+◌, ◌<◌, ◌≤◌, List, [], ◌∷◌, ◌++◌, length, Option, Some}
 use Rattle.std.specs.Prelude.{Result, Ok, Err, MatchBool}
 use Rattle.std.specs.List.{flat_map}
@@ -43,7 +43,7 @@ pub record PutsSome (bytes : List ℕ) (old new : Writer) : Type 0 where
   pub rest : List ℕ
   pub front : bytes ≡ some ++ rest
 
--- the result of writing these bytes to an open writer, and the writer after it
+-- the result of writing the bytes to an open writer, and the writer after it
 abbrev pub Puts : List ℕ → Standing → Writer → Result (Unit {0}) ImageWriteFault → Writer → Type 0
 Puts bytes after old (Ok _) new = PutsAll bytes after old new
 Puts bytes after old (Err TooLong) new = (image_limit < old.size + length bytes) × (new ≡ old)
@@ -51,14 +51,14 @@ Puts bytes after old (Err Device) new = PutsSome bytes old new
 Puts bytes after old (Err BlockLength) new = ⊥
 Puts bytes after old (Err Finished) new = ⊥
 
--- the result of a call, and the writer after it: a failed or finished writer stays so
+-- the result of a call, and the writer after it: a failed or finished writer does not change
 abbrev pub PutsFrom :
     Standing → List ℕ → Standing → Writer → Result (Unit {0}) ImageWriteFault → Writer → Type 0
 PutsFrom writing bytes after old result new = Puts bytes after old result new
 PutsFrom finished bytes after old result new = (result ≡ Err Finished) × (new ≡ old)
 PutsFrom broken bytes after old result new = (result ≡ Err Device) × (new ≡ old)
 
--- the same for a block, whose length is only checked if the writer is open
+-- the same for a block; its length is only checked if the writer is open
 abbrev pub BlockFrom :
     Standing → List ℕ → Writer → Result (Unit {0}) ImageWriteFault → Writer → Type 0
 BlockFrom writing content old result new =
@@ -67,25 +67,25 @@ BlockFrom writing content old result new =
 BlockFrom finished content old result new = (result ≡ Err Finished) × (new ≡ old)
 BlockFrom broken content old result new = (result ≡ Err Device) × (new ≡ old)
 
--- the call for this item succeeded
+-- the call for the item succeeded
 abbrev pub PutItem : TapeItem → Writer → Writer → Type 0
 PutItem (block content) old new = BlockFrom old.standing content old (Ok tt) new
 PutItem bad old new = PutsFrom old.standing (written bad) writing old (Ok tt) new
 PutItem mark old new = PutsFrom old.standing (written mark) writing old (Ok tt) new
 
--- the calls for these items, one after another, succeeded
+-- the calls for the items, one after another, succeeded
 abbrev pub PutItems : List TapeItem → Writer → Writer → Type 0
 PutItems [] old new = new ≡ old
 PutItems (item ∷ items) old new = (mid : Writer) × PutItem item old mid × PutItems items mid new
 
--- the call for this item returned that the device failed
+-- the call for the item returned that the device failed
 abbrev pub FailItem : TapeItem → Writer → Writer → Type 0
 FailItem (block content) old new = BlockFrom old.standing content old (Err Device) new
 FailItem bad old new = PutsFrom old.standing (written bad) writing old (Err Device) new
 FailItem mark old new = PutsFrom old.standing (written mark) writing old (Err Device) new
 
--- If the calls for these items and `finish` succeeded, the bytes that were appended encode the
--- items: the one encoding that is written for each, and a final end-of-medium marker.
+-- If the calls for the items and `finish` succeeded, the bytes that were appended encode the items:
+-- the encoding `written` of each item, and a final end-of-medium marker.
 abbrev pub WrittenSpells : Type 0
 WrittenSpells =
     (old mid new : Writer) (items : List TapeItem) (before after : List ℕ)
@@ -96,9 +96,9 @@ WrittenSpells =
     × (bytes ≡ flat_map written items ++ little_bytes 4 end_word)
     × Spells bytes items × (new.size ≡ old.size + length bytes)
 
--- If the calls for these items succeeded, and that for the next one returned that the device
+-- If the calls for the items succeeded, and the call for the next item returned that the device
 -- failed, the bytes that were appended are the encodings of the items and a prefix of the next
--- one's. Only the items are counted.
+-- item's encoding. Only the items are counted.
 abbrev pub FailedHoldsFront : Type 0
 FailedHoldsFront =
     (old mid new : Writer) (items : List TapeItem) (item : TapeItem) (before after : List ℕ)

@@ -6,7 +6,7 @@ use Rattle.byteorder.specs.Endian.{little_bytes}
 use Rattle.tape_image.specs.Tape.{TapeItem, block, bad, mark}
 use Rattle.tape_image.specs.Word.{mark_word, longest_block}
 
--- the word of the block's length, its bytes, a pad byte 0 if their number is odd, and the word
+-- the word of the block's length, its bytes, a zero pad byte if their number is odd, and the word
 -- again
 abbrev pub written_block : List ℕ → List ℕ
 written_block content =
@@ -23,10 +23,10 @@ written (block content) = written_block content
 written bad = written_bad
 written mark = little_bytes 4 mark_word
 
--- no block has this length: 0, or above 99,999
+-- whether the length is not that of a block: 0, or above 99,999
 abbrev pub is_no_block : List ℕ → Bool
 is_no_block content = (length content == 0) || nat_lt longest_block (length content)
 
--- a prefix of these bytes was appended to the contents of the device, if they are known
+-- a prefix of `all` was appended to the contents of the device, if they are known
 abbrev pub AppendsFront : Option (List ℕ) → Option (List ℕ) → List ℕ → Type 0
 AppendsFront old new all = (front rest : List ℕ) × Appends old new front × (all ≡ front ++ rest)

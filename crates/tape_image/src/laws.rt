@@ -10,8 +10,7 @@ ghost use Rattle.tape_image.specs.Writer.{WrittenSpells, FailedHoldsFront};
 ghost use Rattle.tape_image.specs.Examples.{ImagesAreHeld, AnswersAreHeld, TakingIsHeld};
 ghost use Rattle.tape_image.specs.Examples.{LawsAreHeld, WritingIsHeld};
 
-/// Two encodings at the start of the same bytes are equal, and no encoding is a proper prefix of
-/// another.
+/// Bytes begin with at most one encoding, and no encoding is a proper prefix of another.
 pub fn no_spelling_begins_another()
     ensures unique { SpellingsAreUnique }
     ensures prefix { NoSpellingBeginsAnother }
@@ -34,28 +33,29 @@ pub fn bytes_begin_with_one_list_of_items()
 {}
 
 /// Bytes that encode items up to the end of the medium, within the limit, begin with these items
-/// and end there. Conversely, bytes that begin with items up to the end of the medium encode them.
+/// and end there. Conversely, bytes that begin with items up to the end of the medium encode those
+/// items.
 pub fn spelled_bytes_begin_with_their_items()
     ensures begins { SpelledBegins }
     ensures spells { BegunSpells }
 {}
 
-/// However a device splits its bytes: up to the end or a fault, the calls of `ImageReader::next`
-/// return the items that the bytes begin with, and no others.
+/// However a device splits its bytes, the calls of `ImageReader::next` up to the end or a fault
+/// return exactly the items that the bytes begin with.
 pub fn calls_give_the_items_that_bytes_begin_with()
     ensures end { GiveUpToEnd }
     ensures fault { GiveUpToFault }
 {}
 
-/// The items read so far are the first ones that the bytes begin with, and the remaining bytes
-/// begin with the others.
+/// The items read so far are the first of those that the bytes begin with, and the remaining bytes
+/// begin with the other items.
 pub fn walked_items_come_first()
     ensures { WalkedIsFront }
 {}
 
-/// The calls of `ImageWriter` up to `finish` write an encoding of the items: without gaps, with pad
-/// bytes 0 and nothing after the end-of-medium marker. If the device fails, it contains a prefix of
-/// that.
+/// The calls of `ImageWriter` up to `finish` write an encoding of the items: without gaps, with
+/// zero pad bytes, and with nothing after the end-of-medium marker. If the device fails, it
+/// contains a prefix of that encoding.
 pub fn written_items_are_spelled()
     ensures spells { WrittenSpells }
     ensures front { FailedHoldsFront }

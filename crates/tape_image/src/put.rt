@@ -1,7 +1,7 @@
-//! Writes bytes to a writer, however few of them it accepts at a time.
+//! Writes bytes to a writer, however few of them the writer accepts at a time.
 //!
 //! This loop replaces std's `write_all`, which calls an interrupted writer again: here any error is
-//! a failure. A writer that accepts no byte has failed too, and is not called again.
+//! a failure. A writer that accepts no bytes has failed too, and is not called again.
 
 ghost use Rattle.std.specs.Prelude.{◌≡◌, ◌≤◌, length, take, replicate, OnOk, OnErr, IsOkUnless};
 ghost use Rattle.std.specs.Io.KnownBytes.{Appends};
@@ -14,13 +14,13 @@ use byteorder::{ByteOrder, LittleEndian};
 use std::io::Write;
 
 /// The length of the longest block that is assembled in memory before it is written. A buffered
-/// writer then gets it in one call, not in three.
+/// writer then receives the block in one call instead of three.
 const SHORT: usize = 119;
 
-/// The size of the longest such block, including its two words and its pad byte.
+/// The size of the encoding of the longest such block, with its two words and its pad byte.
 const SPELLED: usize = SHORT + 9;
 
-/// Writes all the bytes, or a prefix of them if the writer fails.
+/// Writes all of `bytes`, or a prefix of them if the writer fails.
 pub(crate) fn put<W: Write>(device: &mut W, bytes: &[u8]) -> Result<(), ImageWriteFault>
     ensures ok { OnOk result (Appends (W.contents device.old) (W.contents device.new) bytes.now) }
     ensures err { OnErr result

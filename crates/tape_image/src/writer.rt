@@ -26,9 +26,9 @@ enum Phase {
 /// Writes an image to a device, one item after another, in the format of "SIMH Magtape
 /// Representation and Handling".
 ///
-/// Does not allocate. A block takes up to four calls of the device: wrap it in a `BufWriter` if its
-/// calls are slow. The device is flushed once, after the end-of-medium marker. Bytes that the
-/// device already contains stay, and are not counted.
+/// Does not allocate. Writing a block takes up to four calls of the device: wrap the device in a
+/// `BufWriter` if its calls are slow. The device is flushed once, after the end-of-medium marker.
+/// Existing contents of the device are kept, and are not counted.
 #[derive(Drop)]
 pub struct ImageWriter<W: Write + Drop> {
     device: W,
@@ -59,7 +59,7 @@ impl<W: Write + Drop> ImageWriter<W> {
     ghost use Rattle.tape_image.specs.Writer.{writing, finished, PutsFrom, BlockFrom};
     ghost use Rattle.tape_image.specs.Standing.{standing_of, MayWrite, HasRoom, noted};
 
-    /// Creates a writer that appends to the device.
+    /// Creates a writer that appends to `device`.
     pub fn new(device: W) -> ImageWriter<W>
         ensures { result ≡ record { size = 0; standing = writing; contents = W.contents device } }
     {
@@ -70,7 +70,7 @@ impl<W: Write + Drop> ImageWriter<W> {
         }
     }
 
-    /// Returns how many bytes the items that were written take, including the end-of-medium marker.
+    /// Returns the number of bytes of the items written, including the end-of-medium marker.
     pub fn size(&self) -> u64
         ensures { result ≡ self.now.size }
     {
@@ -78,7 +78,7 @@ impl<W: Write + Drop> ImageWriter<W> {
         self.size
     }
 
-    /// Writes a block of 1 to 99,999 bytes: its word, its bytes, a pad byte 0 if their number is
+    /// Writes a block of 1 to 99,999 bytes: its word, its bytes, a zero pad byte if their number is
     /// odd, and its word again.
     ///
     /// # Errors
@@ -119,7 +119,7 @@ impl<W: Write + Drop> ImageWriter<W> {
     ///
     /// # Errors
     ///
-    /// The errors of `mark`, for this block.
+    /// As for `mark`, for this block.
     pub fn bad(&mut self) -> Result<(), ImageWriteFault>
         ensures { PutsFrom self.old.standing (written bad) writing self.old result self.new }
     {
@@ -133,7 +133,7 @@ impl<W: Write + Drop> ImageWriter<W> {
     ///
     /// # Errors
     ///
-    /// The errors of `mark`, for the marker; `Device` also if the flush fails.
+    /// As for `mark`, for the marker; also `Device` if the flush fails.
     pub fn finish(&mut self) -> Result<(), ImageWriteFault>
         ensures { PutsFrom self.old.standing (little_bytes 4 end_word) finished
             self.old result self.new }
@@ -162,7 +162,7 @@ impl<W: Write + Drop> ImageWriter<W> {
         }
     }
 
-    /// Returns `TooLong` if so many more bytes would end after the limit.
+    /// Returns `TooLong` if `extent` more bytes would exceed the limit.
     fn has_room(&self, extent: u64) -> Result<(), ImageWriteFault>
         ensures { HasRoom self.now.size extent result }
     {

@@ -1,4 +1,4 @@
-//! Comparisons, one function for each kind of value. One that fails prints its row.
+//! Comparisons, one function for each kind of value. A comparison that fails prints its row.
 
 use std::process::Abort;
 use tape_image::{Ending, ImageFault, ImageWriteFault};

@@ -27,7 +27,7 @@ const EOF2: &[u8; 80] =
 #[derive(Clone, Copy)]
 pub(super) enum WorkedItem {
     Label(&'static [u8; 80]),
-    /// The records from this one on, and their number.
+    /// The number of the first record, and how many records there are.
     Records(u8, u8),
     Mark,
 }
@@ -55,7 +55,7 @@ const STARTS: [usize; 13] = [
 ];
 
 /// Returns how many items end within the first `size` bytes of the worked image, and the offset of
-/// the next one.
+/// the next item.
 pub(super) fn whole_items(size: usize) -> (usize, usize) {
     let mut whole = (0, 0);
     for (items, &start) in STARTS.iter().enumerate() {
@@ -66,7 +66,7 @@ pub(super) fn whole_items(size: usize) -> (usize, usize) {
     whole
 }
 
-/// Returns the first `count` bytes, or all if there are fewer.
+/// Returns the first `count` bytes, or all bytes if there are fewer.
 pub(super) fn front(bytes: &[u8], count: usize) -> &[u8] {
     &bytes[..count.min(bytes.len())]
 }
@@ -114,7 +114,7 @@ impl Image<'_> {
         self.bytes.extend_from_slice(&word)
     }
 
-    /// Appends a block of these bytes, or a mark.
+    /// Appends a block with the bytes `content`, or a mark.
     fn item(&mut self, content: Option<&[u8]>) -> Result<(), AllocError> {
         match content {
             Some(content) => self.block(content),
@@ -134,7 +134,7 @@ impl Image<'_> {
     }
 }
 
-/// Returns the worked image, with these bytes before each item and before its end-of-medium marker.
+/// Returns the worked image, with `before` before each item and before its end-of-medium marker.
 pub(super) fn worked(alloc: Global, before: &[u8]) -> Result<Vec<u8>, AllocError> {
     let mut image = Image {
         bytes: Vec::new(alloc),

@@ -1,4 +1,4 @@
-//! Blocks of the greatest lengths, and images at the limit.
+//! Blocks of the greatest lengths.
 
 use super::checks::same_count;
 use super::devices::{Endless, LONGEST_EXTENT};
@@ -7,7 +7,7 @@ use std::alloc::{AllocError, Global};
 use std::test::Fail;
 use tape_image::{Ending, ImageCause, ImageFault, ImageReader, Item};
 
-/// Returns so many digits.
+/// Returns `count` digits.
 fn digits(alloc: Global, count: u32) -> Result<Vec<u8>, AllocError> {
     let mut digits = Vec::new(alloc);
     for place in 0..count {
@@ -16,7 +16,7 @@ fn digits(alloc: Global, count: u32) -> Result<Vec<u8>, AllocError> {
     Ok(digits)
 }
 
-/// Returns a block of these 99,999 digits, one of 100,000 digits and a mark.
+/// Returns a block of the given 99,999 digits, one of 100,000 digits, and a mark.
 fn two_blocks(alloc: Global, longest: &[u8]) -> Result<Vec<u8>, AllocError> {
     let longer = digits(alloc, 100_000)?;
     let pieces: [&[u8]; 5] = [

@@ -7,7 +7,7 @@ use std::process::Abort;
 use std::test::Fail;
 use tape_image::{Ending, ImageFault, ImageReader, Item};
 
-/// The reader returns this item, which ends at this offset.
+/// Checks that the reader returns `item`, which ends at offset `place`.
 pub(super) fn gives<R: Read>(
     rt: &impl Abort,
     row: usize,
@@ -19,7 +19,7 @@ pub(super) fn gives<R: Read>(
     same_count(rt, row, reader.place(), place);
 }
 
-/// The reader returns so many items, whatever they are.
+/// Checks that the reader returns `count` items, whatever they are.
 pub(super) fn passes<R: Read>(
     rt: &impl Abort,
     row: usize,
@@ -31,7 +31,7 @@ pub(super) fn passes<R: Read>(
     }
 }
 
-/// The reader is at the end of the medium, and stays there.
+/// Checks that the reader is at the end of the medium, and stays there.
 pub(super) fn ends<R: Read>(
     rt: &impl Abort,
     row: usize,
@@ -46,7 +46,7 @@ pub(super) fn ends<R: Read>(
     }
 }
 
-/// The reader fails, and every further call returns the same.
+/// Checks that the reader fails, and that every further call returns the same fault.
 pub(super) fn fails<R: Read>(
     rt: &impl Abort,
     row: usize,
@@ -60,8 +60,8 @@ pub(super) fn fails<R: Read>(
     }
 }
 
-/// A reader of these bytes returns these items, each of which ends at its offset, and then the
-/// bytes end.
+/// Checks that a reader of `bytes` returns the given items, each of which ends at its offset, and
+/// that the bytes then end.
 pub(super) fn reads(
     rt: &impl Abort,
     alloc: Global,
@@ -78,7 +78,7 @@ pub(super) fn reads(
     Ok(())
 }
 
-/// A reader of the device returns so many items, and then fails for good.
+/// Checks that a reader of the device returns `count` items, and then fails for good.
 pub(super) fn fails_behind<R: Read>(
     rt: &impl Abort,
     alloc: Global,

@@ -3,15 +3,15 @@
 use std::io;
 use std::io::{Error, ErrorKind, Write};
 
-/// Accepts one byte for each call, and after so many bytes fails, or accepts nothing.
+/// Accepts one byte at each call; after a number of bytes, it fails or accepts nothing.
 #[derive(Drop)]
 pub(super) struct Narrow {
     pub(super) taken: Vec<u8>,
-    /// How many bytes it will still accept.
+    /// How many bytes this writer will still accept.
     pub(super) left: usize,
-    /// The error with which it fails then. It accepts nothing if there is none.
+    /// The error with which this writer then fails, or `None` if it then accepts nothing.
     pub(super) kind: Option<ErrorKind>,
-    /// How often it accepted nothing, or failed.
+    /// How often this writer accepted nothing or failed.
     pub(super) failures: u32,
 }
 
@@ -39,12 +39,12 @@ impl Write for Narrow {
     }
 }
 
-/// Fails at one call, and accepts all bytes at each other.
+/// Fails at one call, and accepts all bytes at every other call.
 #[derive(Drop)]
 pub(super) struct FailsOnce {
-    /// The number of the call at which it fails, from 0.
+    /// The number, from 0, of the call that fails.
     pub(super) fails_at: u32,
-    /// How often it was called.
+    /// How often this writer was called.
     pub(super) calls: u32,
 }
 
@@ -66,9 +66,9 @@ impl Write for FailsOnce {
 /// Accepts all bytes, keeps none, and counts them.
 #[derive(Drop)]
 pub(super) struct Counting {
-    /// How many bytes it accepted.
+    /// How many bytes this writer accepted.
     pub(super) taken: u64,
-    /// How often it was called.
+    /// How often this writer was called.
     pub(super) calls: u64,
 }
 

@@ -14,7 +14,7 @@ pub(super) enum Call<'a> {
 }
 
 impl Call<'_> {
-    /// Makes the call, and returns its fault, if it is refused.
+    /// Makes the call, and returns its fault if it is refused.
     pub(super) fn on<W: Write + Drop>(
         self,
         writer: &mut ImageWriter<W>,
@@ -31,7 +31,7 @@ impl Call<'_> {
 /// A call, its fault if it is refused, and the size of the image after it.
 pub(super) type Row<'a> = (Call<'a>, Option<ImageWriteFault>, u64);
 
-/// The writer returns this for these calls, one after another.
+/// Checks the results of calls of the writer, one after another.
 pub(super) fn answers<W: Write + Drop>(
     rt: &impl Abort,
     writer: &mut ImageWriter<W>,

@@ -19,7 +19,7 @@ const IMAGE: [u8; 30] = [
     0xFF,
 ];
 
-/// The calls that write it, and the size after each.
+/// The calls that write `IMAGE`, and the size after each call.
 const CALLS: [Row<'static>; 4] = [
     (Call::Block(&[7, 8, 9]), None, 12),
     (Call::Mark, None, 16),
@@ -27,7 +27,7 @@ const CALLS: [Row<'static>; 4] = [
     (Call::Finish, None, 30),
 ];
 
-/// Returns what a new writer writes in these calls, after checking their results.
+/// Returns the bytes that a new writer writes in the calls of `rows`, after checking their results.
 fn written(rt: &impl Abort, alloc: Global, rows: &[Row<'_>]) -> Vec<u8> {
     let mut image = Vec::new(alloc);
     let mut writer = ImageWriter::new(&mut image);
@@ -119,7 +119,8 @@ fn whole_items(left: usize) -> u64 {
     }
 }
 
-/// A device that accepts so many bytes, and then fails or accepts nothing, contains a prefix.
+/// Checks that a device that accepts `left` bytes, and then fails or accepts nothing, contains a
+/// prefix.
 fn holds_a_front(rt: &impl Abort, alloc: Global, left: usize, kind: Option<ErrorKind>) {
     let mut device = Narrow {
         taken: Vec::new(alloc),
@@ -145,7 +146,7 @@ fn a_device_that_fails_holds_a_front(rt: HostRuntime) -> Result<(), Fail> {
     Ok(())
 }
 
-/// A device fails at this call of a block. It is not called after that.
+/// Checks that a device that fails at call `fails_at` of a block is not called again.
 fn is_left_alone(rt: &impl Abort, content: &[u8], fails_at: u32) {
     let rows = [
         (Call::Block(content), Some(Device), 0),
@@ -164,7 +165,7 @@ fn is_left_alone(rt: &impl Abort, content: &[u8], fails_at: u32) {
     );
 }
 
-// A short block is one call, a longer one is three.
+// A short block takes one call, a longer block three.
 #[test]
 fn a_device_that_failed_is_not_called_again(rt: HostRuntime) -> Result<(), Fail> {
     is_left_alone(&rt, &[7, 8], 0);

@@ -1,4 +1,4 @@
--- Any of the labels: what reading a block by its kind gives is that label, and a label is so read.
+-- Labels of any kind: a block that is read as a label is that label, and every label is read.
 use Rattle.std.proofs.Common.{◌≡◌, ◌≢◌, ◌==◌, ℕ, List, length, Bool, true, false, Option, Some}
 use Rattle.std.proofs.Common.{None, Ok, Err, refl, subst, arith}
 use Rattle.std.proofs.lemmas.Bool.Decides.{nat_tests}
@@ -18,9 +18,9 @@ use Rattle.tape_label.proofs.First.{trail1_again}
 use Rattle.tape_label.proofs.Second.{head2_found, head2_again}
 use Rattle.tape_label.proofs.Apart.{kind_found, kind_again, HasKind-unique}
 
--- ---- what is read
+-- ---- blocks that are read
 
--- a second label of the kind that the block has
+-- a second label of the block's kind
 second_found : (block : List ℕ) (kind : Kind) (label : Label) → kind_at block ≡ Some kind
     → (head2_at block >>= λ fields. Ok (labels.Second kind fields)) ≡ Ok label → IsLabel block label
 second_found block kind label k e =
@@ -58,7 +58,7 @@ pub label_found : (block : List ℕ) (label : Label) → label_at block ≡ Ok l
 unfolding label_at
 label_found block label e = found_as block (kind_at block) label refl e
 
--- ---- what is a label
+-- ---- blocks that are labels
 
 second_again : (block : List ℕ) (kind : Kind) (fields : Head2) → IsSecond kind
     → IsHead2 block kind fields
@@ -88,7 +88,7 @@ label_again block (labels.Trail1 t) is =
       trail1_again block t is,
     ) refl
 
--- ---- what is none
+-- ---- blocks that are not labels
 
 none_at : (block : List ℕ) (kind : Option Kind) → kind_at block ≡ kind
     → ((k : Kind) → HasKind block k → ⊥)

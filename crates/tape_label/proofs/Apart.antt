@@ -1,4 +1,4 @@
--- No block is two kinds of label, and a reading call refuses the kinds that are not its own.
+-- No block is two kinds of label, and a reading function refuses all other kinds.
 use Rattle.std.proofs.Common.{◌≡◌, ℕ, List, [], ◌∷◌, length, Bool, true, false, cond, eqb, Option}
 use Rattle.std.proofs.Common.{None, Some, Err, refl, sym, subst, ◌∙◌}
 use Rattle.std.specs.List.{find}

@@ -27,7 +27,7 @@ digits-number_after k n (d ∷ ds) e =
     rw widths (digits-number_after (suc k) (n * 10 + (d - 48)) ds parts.1
     ∙ rw (high, low, append_assoc) refl)
 
--- digits are those of their number
+-- digits that are read as a number are the digits of that number
 pub digits-number_of : (ds : List ℕ) → all_ascii_digits ds ≡ true
     → digits (length ds) (number_of ds) ≡ ds
 digits-number_of ds e =
@@ -49,11 +49,11 @@ number_after-digits a (suc k) n small =
     number_after-append a (digits k (n / 10)) ((48 + n % 10) ∷ []) in
     last ∙ rw (front, more) (omega arith)
 
--- a number that fits is that of its digits
+-- a number that fits in k digits is read back from them
 pub number_of-digits : (k n : ℕ) → n < 10 ^ k → number_of (digits k n) ≡ n
 number_of-digits k n small = number_after-digits 0 k n small ∙ omega arith
 
--- ---- what digits are
+-- ---- properties of digits
 
 pub length-digits : (k n : ℕ) → length (digits k n) ≡ k
 length-digits zero n = refl
@@ -74,7 +74,7 @@ all_ascii_digits-digits zero n = refl
 all_ascii_digits-digits (suc k) n = all_ascii_digits-append (digits k (n / 10))
     ((48 + n % 10) ∷ []) (all_ascii_digits-digits k (n / 10)) (last_digit n)
 
--- ---- how large a number its digits allow
+-- ---- the greatest number with a given number of digits
 
 widens : (a b p : ℕ) → a ≤ b → a * p ≤ b * p
 widens a b p le = grind arith
@@ -108,7 +108,7 @@ fits_nineteen n i small lt =
 
 pub ruleset counted_digits = (one_more_digit, fits_nineteen)
 
--- the loop at its end: all bytes are digits, and the number is theirs
+-- the loop at its end: all bytes are digits, and the number is that of the text
 pub read_all : (number i : ℕ) (text : List ℕ) → length text ≤ i
     → number_after number (drop i text) ≡ number_of text
     → all_ascii_digits (drop i text) ≡ all_ascii_digits text

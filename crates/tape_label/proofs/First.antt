@@ -1,5 +1,5 @@
--- The volume label, first header labels and first trailer labels: the result of their functions is
--- the label with this encoding, and each encoding has its result.
+-- The volume label, first header labels and first trailer labels: a label that is read has the
+-- fields returned, and every label is read.
 use Rattle.std.proofs.Common.{◌≡◌, ℕ, List, length, Bool, true, false, cond, Ok, Err, refl, subst}
 use Rattle.std.proofs.Common.{arith, inl, inr, ◌⊎◌}
 use Rattle.tape_label.specs.declared.label.LabelFault.TheVariants as faults
@@ -56,7 +56,7 @@ pub vol1_kind : (label : List ℕ) → HasKind label kinds.Vol1 → vol1_at labe
 unfolding vol1_at
 vol1_kind label has = rw (size_again label has.size, named_again label kinds.Vol1 has.named) refl
 
--- ---- what first header and first trailer labels share
+-- ---- fields that first header and first trailer labels share
 
 head_found : (label : List ℕ) (h : Head1) → length label ≡ 80 → head_at label ≡ Ok h
     → HasHead label h

@@ -1,5 +1,5 @@
--- Results that the contracts of labels exclude: each is the result of a wrong body. A lemma has the
--- name of the edit that makes this mistake.
+-- Results that the contracts of labels exclude: each is the result of a wrong body. Each lemma is
+-- named after the edit that makes its mistake.
 use Rattle.std.proofs.Common.{◌≡◌, ◌≤◌, ℕ, List, [], length, true, false, refl, sym, ap, ◌∙◌, subst}
 use Rattle.std.proofs.Common.{arith, codes, lit≤}
 use Rattle.std.specs.Prelude.{◌++◌, ◌-◌, replicate, slice_index, Some, None, unwrap_or, IfNone}
@@ -76,18 +76,18 @@ payroll = record {
   implementation = replicate 13 32;
 }
 
--- what was read, or the other value where nothing was
+-- the value that was read, or `other` after a fault
 abbrev pub value_or : {A : Type 0} → A → Result A LabelFault → A
 value_or other (Ok x) = x
 value_or other (Err fault) = other
 
 -- ---- characters, digits and fields
 
--- at_sign_allowed: `@`, which is 64, is taken for an a-character
+-- at_sign_allowed: `@`, which is 64, is accepted as an a-character
 at_sign_allowed : (κs : _) (s : _) → is_a_character.Learnt κs (64, tt) true s → ⊥
 at_sign_allowed κs s h = absurd (let e : true ≡ false = h in cc)
 
--- first_a_character: of `AB#` the `A` is found, and not the `#`
+-- first_a_character: in `AB#` the index of `A` is returned, not that of `#`
 first_a_character : (κs : _) (a : _) (s : _) → first_other_found.Learnt κs a (Some 0) s
     → a.0.now ≡ codes "AB#" → ⊥
 first_a_character κs a s h e =
@@ -107,7 +107,7 @@ spaces_as_digits κs a s l e =
     let same : a.0.now ≡ digits 4 25 = subst (λ w. a.0.now ≡ digits w 25) n l.found in
     absurd (let d : 32 ≡ 48 = ap (λ v. slice_index v 0) (sym e ∙ same) in omega arith)
 
--- last_digit_lost_on_the_way_back: 25 comes back as 2
+-- last_digit_lost_on_the_way_back: 25 is read back as 2
 last_digit_lost_on_the_way_back : (f : _) (κs : _) (s : _)
     → digits_again.Learnt 4 f κs (25, tt) (Some 2) s → ⊥
 last_digit_lost_on_the_way_back f κs s h =
@@ -128,7 +128,7 @@ bytes_lost : (f : _) (κs : _) (s : _)
     → of_bytes.Learnt 3 f κs (codes "ABC", tt) (codes "   ") s → ⊥
 bytes_lost f κs s h = absurd (let n : 32 ≡ 65 = ap (λ v. slice_index v 0) h in omega arith)
 
--- bytes_without_the_last: of a field of three characters two are returned
+-- bytes_without_the_last: only two characters of a field of three are returned
 bytes_without_the_last : (f : _) (κs : _) (a : _) (r : _) (s : _)
     → bytes.Learnt-named 3 f κs a r s → r.now ≡ codes "AB" → ⊥
 bytes_without_the_last f κs a r s l e =
@@ -140,25 +140,26 @@ bytes_without_the_last f κs a r s l e =
 counted_as_v : (κs : _) (a : _) (s : _) → letter.Learnt κs a 86 s → a.0.now ≡ Counted → ⊥
 counted_as_v κs a s h e = absurd (let n : 86 ≡ 68 = h ∙ ap letter_told e in omega arith)
 
--- eov2_named_eof2: the kind EOV2 begins `EOF2`
+-- eov2_named_eof2: the identifier of the kind EOV2 is `EOF2`
 eov2_named_eof2 : (κs : _) (a : _) (r : _) (s : _) → identifier.Learnt κs a r s
     → r.now ≡ codes "EOF2" → a.0.now ≡ kinds.Eov2 → ⊥
 eov2_named_eof2 κs a r s h w e =
     absurd (let n : 70 ≡ 86 = ap (λ v. slice_index v 2) (sym w ∙ h ∙ ap identifier_told e)
     in omega arith)
 
--- eof2_no_second: EOF2 is no second label
+-- eof2_no_second: EOF2 is not a second label
 eof2_no_second : (κs : _) (a : _) (s : _) → is_second.Learnt κs a false s
     → a.0.now ≡ kinds.Eof2 → ⊥
 eof2_no_second κs a s h e =
     absurd (let n : false ≡ true = h.1 (subst IsSecond (sym e) tt) in cc)
 
--- range_without_number: a number out of its range has the number of one that is no digits
+-- range_without_number: the fault of a number out of range has the fixed number of the fault for a
+-- character that is not a digit
 range_without_number : (κs : _) (a : _) (s : _) → number.Learnt κs a 3 s
     → a.0.now ≡ faults.FieldRange 28 → ⊥
 range_without_number κs a s h e = absurd (let n : 3 ≡ 5 = h ∙ ap number_told e in omega arith)
 
--- kind_of_any_length: four bytes are taken for a label
+-- kind_of_any_length: a block of four bytes is accepted as a label
 kind_of_any_length : (κs : _) (a : _) (s : _) → kind.Learnt-named κs a (Some kinds.Vol1) s
     → a.0.now ≡ codes "VOL1" → ⊥
 unfolding kind_at
@@ -176,7 +177,7 @@ version_judged κs a s l e =
     let n : Err faults.Identifier ≡ Ok (vol1_fields a.0.now) = l.any is in
     absurd (cc)
 
--- reserved_positions_judged: a volume label with its reserved positions filled is refused
+-- reserved_positions_judged: a volume label with text in its reserved positions is refused
 reserved_positions_judged : (κs : _) (a : _) (s : _)
     → read_vol1.Learnt-named κs a (Err faults.Identifier) s
     → a.0.now ≡ vol1_with_reserved_filled → ⊥
@@ -193,7 +194,7 @@ unfolding head1_at head_at
 fault_for_every_label κs a s l e =
     absurd (let n : Err (faults.NotDigits 28) ≡ Ok payroll = l.fault ∙ ap head1_at e in cc)
 
--- field_shifted: the set identifier is read from position 21 on
+-- field_shifted: the set identifier is read from position 21
 field_shifted : (κs : _) (a : _) (fields : Head1) (s : _)
     → read_head1.Learnt-named κs a (Ok fields) s → a.0.now ≡ hdr1
     → fields.set_id ≡ codes " ABC00" → ⊥
@@ -208,7 +209,7 @@ range_not_judged : (κs : _) (a : _) (fields : Head1) (s : _)
 range_not_judged κs a fields s l e =
     absurd (let n : 1 ≤ fields.sect = l.found.head.sect.at_least in omega arith)
 
--- every_trailer_ends_its_file: EOV1 is read as the end of its file
+-- every_trailer_ends_its_file: EOV1 is read as the end of the file
 every_trailer_ends_its_file : (κs : _) (a : _) (fields : Trail1) (s : _)
     → read_trail1.Learnt-named κs a (Ok fields) s → a.0.now ≡ eov1 → fields.eof ≡ true → ⊥
 every_trailer_ends_its_file κs a fields s l e w =
@@ -217,7 +218,7 @@ every_trailer_ends_its_file κs a fields s l e w =
     ∙ ap (λ b. identifier_told (trailer b)) w in
     absurd (let n : 86 ≡ 70 = ap (λ v. slice_index v 2) same in omega arith)
 
--- block_length_of_eof2_elsewhere: the block length of EOF2 is read from position 7 on
+-- block_length_of_eof2_elsewhere: the block length of EOF2 is read from position 7
 block_length_of_eof2_elsewhere : (κs : _) (a : _) (fields : Head2) (s : _)
     → read_head2.Learnt-named κs a (Ok fields) s → a.0.now ≡ eof2
     → fields.block_len ≡ 8000 → ⊥

@@ -1,5 +1,5 @@
--- Results that the contracts of writing, and of the laws, exclude: each is the result of a wrong
--- body. A lemma has the name of the edit that makes this mistake.
+-- Results that the contracts of writing functions and of laws exclude: each is the result of a
+-- wrong body. Each lemma is named after the edit that makes its mistake.
 use Rattle.std.proofs.Common.{◌≡◌, ◌≤◌, true, false, sym, ap, ◌∙◌, arith, codes}
 use Rattle.std.specs.Prelude.{slice_index, Ok}
 use Rattle.tape_label.specs.declared.values.Kind.TheVariants as kinds
@@ -35,28 +35,28 @@ section_number_shifted κs a r s l w e =
     = sym w ∙ l.label.head.sect.spelled ∙ ap (digits 4) e in
     absurd (let n : 48 ≡ 49 = ap (λ v. slice_index v 3) same in omega arith)
 
--- what replaces the block count of a first header
+-- the block count of a first header
 block_count : (κs : _) (a : _) (r : _) (s : _) → write_head1.Learnt-named κs a r s
     → a.0.now ≡ payroll → positions r 55 60 ≡ codes "000000"
 block_count κs a r s l e =
     ap (λ v. positions v 55 60) (l.text ∙ ap (λ f. text_of (head1_pieces f)) e)
 
--- count_left_spaces: a first header has spaces in the place of its block count
+-- count_left_spaces: a first header has spaces instead of its block count
 count_left_spaces : (κs : _) (a : _) (r : _) (s : _) → write_head1.Learnt-named κs a r s
     → a.0.now ≡ payroll → positions r 55 60 ≡ codes "      " → ⊥
 count_left_spaces κs a r s l e w =
     absurd (let n : 32 ≡ 48
     = ap (λ v. slice_index v 0) (sym w ∙ block_count κs a r s l e) in omega arith)
 
--- one_block_in_a_header: a first header counts one block
+-- one_block_in_a_header: a first header has the block count 1
 one_block_in_a_header : (κs : _) (a : _) (r : _) (s : _) → write_head1.Learnt-named κs a r s
     → a.0.now ≡ payroll → positions r 55 60 ≡ codes "000001" → ⊥
 one_block_in_a_header κs a r s l e w =
     absurd (let n : 49 ≡ 48
     = ap (λ v. slice_index v 5) (sym w ∙ block_count κs a r s l e) in omega arith)
 
--- two_fields_swapped: the block length 800 is written where the record length belongs, and the
--- record length 80 in its place
+-- two_fields_swapped: the block length 800 and the record length 80 are each written in the other's
+-- field
 two_fields_swapped : (κs : _) (a : _) (r : _) (s : _) → write_head2.Learnt-named κs a r s
     → positions r 6 10 ≡ codes "00080" → a.0.now.block_len ≡ 800 → ⊥
 two_fields_swapped κs a r s l w e =
@@ -72,7 +72,7 @@ second_label_always_hdr2 κs a r s l w e =
     = sym (ap (λ v. positions v 1 4) w) ∙ l.label.kind.named ∙ ap identifier e in
     absurd (let n : 72 ≡ 69 = ap (λ v. slice_index v 0) same in omega arith)
 
--- ends_swapped: the trailer of a file's end is written as EOV1
+-- ends_swapped: the trailer label at the end of a file is written as EOV1
 ends_swapped : (κs : _) (a : _) (r : _) (s : _) → write_trail1.Learnt-named κs a r s
     → r ≡ text_of (head_pieces kinds.Eov1 a.0.now.head a.0.now.blocks) → a.0.now.eof ≡ true → ⊥
 ends_swapped κs a r s l w e =
@@ -83,31 +83,31 @@ ends_swapped κs a r s l w e =
 
 -- ---- laws
 
--- accessibility_lost_on_the_way_back: the accessibility `X` comes back as a space
+-- accessibility_lost_on_the_way_back: the accessibility `X` is read back as a space
 accessibility_lost_on_the_way_back : (κs : _) (a : _) (s : _)
     → vol1_again.Learnt κs a (Ok (record a.0.now { access = 32 })) s → a.0.now.access ≡ 88 → ⊥
 accessibility_lost_on_the_way_back κs a s h e =
     absurd (let n : 32 ≡ 88 = ap (λ r. (value_or a.0.now r).access) h ∙ e in omega arith)
 
--- section_number_lost_on_the_way_back: section 2 comes back as section 1
+-- section_number_lost_on_the_way_back: section 2 is read back as section 1
 section_number_lost_on_the_way_back : (κs : _) (a : _) (s : _)
     → head1_again.Learnt κs a (Ok (record a.0.now { sect = 1 })) s → a.0.now.sect ≡ 2 → ⊥
 section_number_lost_on_the_way_back κs a s h e =
     absurd (let n : 1 ≡ 2 = ap (λ r. (value_or a.0.now r).sect) h ∙ e in omega arith)
 
--- offset_lost_on_the_way_back: the buffer offset 99 comes back as 0
+-- offset_lost_on_the_way_back: the buffer offset 99 is read back as 0
 offset_lost_on_the_way_back : (κs : _) (a : _) (s : _)
     → head2_again.Learnt κs a (Ok (record a.0.now { offset = 0 })) s → a.0.now.offset ≡ 99 → ⊥
 offset_lost_on_the_way_back κs a s h e =
     absurd (let n : 0 ≡ 99 = ap (λ r. (value_or a.0.now r).offset) h ∙ e in omega arith)
 
--- every_trailer_back_as_eof1: EOV1 comes back as EOF1
+-- every_trailer_back_as_eof1: EOV1 is read back as EOF1
 every_trailer_back_as_eof1 : (κs : _) (a : _) (s : _)
     → trail1_again.Learnt κs a (Ok (record a.0.now { eof = true })) s → a.0.now.eof ≡ false → ⊥
 every_trailer_back_as_eof1 κs a s h e =
     absurd (let n : true ≡ false = ap (λ r. (value_or a.0.now r).eof) h ∙ e in cc)
 
--- volume_label_counted_for_a_header: a block that two of the four calls read
+-- volume_label_counted_for_a_header: two of the four reading functions accept a block
 volume_label_counted_for_a_header : (κs : _) (a : _) (s : _) → readings.Learnt-named κs a 2 s → ⊥
 volume_label_counted_for_a_header κs a s l =
     absurd (let n : 2 ≤ 1 = l.at_most_one in omega arith)

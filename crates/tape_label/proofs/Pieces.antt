@@ -4,7 +4,7 @@ use Rattle.std.proofs.Common.{◌∙◌, arith, append_assoc, length-append}
 use Rattle.std.proofs.lemmas.List.{take_at, drop_at, append-nil}
 use Rattle.tape_label.specs.Written.{Piece, text_of, HaveWidths}
 
--- From this position on the pieces follow one another.
+-- From position `i` on, the label consists of the pieces, one after another.
 abbrev pub StandAt : ℕ → List Piece → List ℕ → Type 0
 StandAt i [] label = length label ≡ i
 StandAt i (p ∷ ps) label = (take p.width (drop i label) ≡ p.text) × StandAt (i + p.width) ps label

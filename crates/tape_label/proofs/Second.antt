@@ -1,5 +1,5 @@
--- Second header and trailer labels: the result of their function is the label with this encoding,
--- and each encoding has its result.
+-- Second header and trailer labels: a label that is read has the fields returned, and every second
+-- label is read.
 use Rattle.std.proofs.Common.{◌≡◌, ℕ, ◌+◌, ◌/◌, ◌%◌, ◌<◌, List, [], ◌∷◌, length, get_or, Bool, true}
 use Rattle.std.proofs.Common.{false, cond, eqb, Ok, Err, refl, sym, subst, arith, rules, inl, inr}
 use Rattle.std.proofs.Common.{◌⊎◌}

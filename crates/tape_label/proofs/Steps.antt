@@ -1,4 +1,5 @@
--- What a step of reading that does not fail says of a label, and the step from what the label says.
+-- The meaning of each reading step that does not fail, and conversely the step's result from the
+-- label.
 use Rattle.std.proofs.Common.{◌≡◌, ℕ, ◌-◌, ◌^◌, ◌<◌, ◌≤◌, Bool, true, false, cond, ltb, eqb, List}
 use Rattle.std.proofs.Common.{[], ◌∷◌, length, get_or, take, drop, Result, Ok, Err, refl, sym}
 use Rattle.std.proofs.Common.{subst, arith}
@@ -17,7 +18,7 @@ use Rattle.tape_label.specs.Reading.{◌>>=◌, eighty, begins_as, of_kind, numb
 use Rattle.tape_label.proofs.DigitLaws.{digits-number_of, number_of-digits, number_of-lt}
 use Rattle.tape_label.proofs.DigitLaws.{all_ascii_digits-digits}
 
--- the value of a step that did not fail
+-- a step that did not fail, and the steps before it
 pub bind_ok : {A B : Type 0} (r : Result A LabelFault) (f : A → Result B LabelFault) (y : B)
     → (r >>= f) ≡ Ok y → (x : A) × (r ≡ Ok x) × (f x ≡ Ok y)
 bind_ok (Ok x) f y e = (x, refl, e)
@@ -35,7 +36,7 @@ done x = Ok x
 pub ok_is : {A : Type 0} (x y : A) → done x ≡ done y → x ≡ y
 ok_is x y e = cc
 
--- what a call gives, from what its function says
+-- a result has a property if the value of its function has it
 pub is_found : {A : Type 0} (r : Result A LabelFault) (P : A → Type 0)
     → ((x : A) → r ≡ Ok x → P x) → IfOk r P
 is_found (Ok x) P h = h x refl

@@ -1,4 +1,4 @@
--- The text of a label is a label of its fields.
+-- The text written for a label is a label with its fields.
 use Rattle.std.proofs.Common.{ℕ, List, arith, inl}
 use Rattle.tape_label.specs.declared.values.Kind.{Kind}
 use Rattle.tape_label.specs.declared.values.Kind.TheVariants as kinds
@@ -28,7 +28,7 @@ vol1_text_is v widths =
       version = s.1.1.1.1.1.1.1.0;
     }
 
--- the fields of a first label's text
+-- the text of a first label has its fields
 head_text_has : (kind : Kind) (h : Head1) (blocks : ℕ) (label : List ℕ) → HeadFits h
     → StandAt 0 (head_pieces kind h blocks) label → HasHead label h
 head_text_has kind h blocks label fits s = record {

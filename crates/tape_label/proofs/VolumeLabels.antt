@@ -1,4 +1,4 @@
--- Volume labels of any sort: the test and what it says.
+-- Volume labels of any sort: the test agrees with the definition.
 use Rattle.std.proofs.Common.{◌≡◌, ◌≢◌, ℕ, List, [], ◌∷◌, take, true}
 use Rattle.std.proofs.Common.{false, refl, inl, inr}
 use Rattle.tape_label.specs.declared.values.Kind.{Kind}

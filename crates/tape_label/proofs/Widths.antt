@@ -1,4 +1,4 @@
--- Fields as wide as their positions make pieces that are.
+-- Fields as wide as their positions give pieces that are as wide as theirs.
 use Rattle.std.proofs.Common.{◌≡◌, ℕ, length, drop, refl}
 use Rattle.tape_label.specs.declared.values.Kind.{Kind}
 use Rattle.tape_label.specs.declared.values.Kind.TheVariants as kinds
@@ -24,7 +24,7 @@ pub vol1_wide : (v : Vol1) → IsWideVolume v → HaveWidths (vol1_pieces v)
 vol1_wide v w =
     (refl, (w.volume, (refl, (refl, (w.implementation, (w.owner, (refl, (refl, tt))))))))
 
--- what follows the section and sequence number
+-- the pieces after the section and sequence number
 head_rest : (h : Head1) (blocks : ℕ) → IsWide h
     → HaveWidths (drop 5 (head_pieces kinds.Hdr1 h blocks))
 head_rest h blocks w = (

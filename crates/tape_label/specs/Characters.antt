@@ -1,4 +1,4 @@
--- The a-characters, the only ones in the fields of written labels.
+-- The a-characters: the only characters in the fields of written labels.
 use Rattle.std.specs.Prelude.{ℕ, Bool, nat_le, ◌==◌, ◌&&◌, ◌||◌, not, Option, List}
 use Rattle.std.specs.List.{position}
 

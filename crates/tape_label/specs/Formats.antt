@@ -3,7 +3,7 @@ use Rattle.std.specs.Prelude.{ℕ}
 use Rattle.tape_label.specs.declared.values.Format.{Format}
 use Rattle.tape_label.specs.declared.values.Format.TheVariants.{Fixed, Counted, Spanned}
 
--- `F`, `D` and `S`
+-- the letters `F`, `D` and `S`
 abbrev pub letter : Format → ℕ
 letter Fixed = 70
 letter Counted = 68

@@ -19,12 +19,13 @@ pub record HasHead (label : List ℕ) (fields : Head1) : Type 0 where
   pub access : positions label 54 54 ≡ fields.access ∷ []
   pub implementation : positions label 61 73 ≡ fields.implementation
 
--- the first header label with these fields, and any block count at positions 55 to 60
+-- the label is a first header label with the given fields, and any block count at positions 55 to
+-- 60
 pub record IsHead1 (label : List ℕ) (fields : Head1) : Type 0 where
   pub kind : HasKind label kinds.Hdr1
   pub head : HasHead label fields
 
--- The numbers fit their digits, and count from 1.
+-- The numbers fit their digits and are at least 1.
 pub record HeadFits (fields : Head1) : Type 0 where
   pub sect : (1 ≤ fields.sect) × (fields.sect ≤ 9999)
   pub sequence : (1 ≤ fields.sequence) × (fields.sequence ≤ 9999)

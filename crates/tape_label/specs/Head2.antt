@@ -11,8 +11,8 @@ abbrev pub HasOffset : List ℕ → ℕ → Type 0
 HasOffset label offset =
     HasNumber label 51 52 0 offset ⊎ ((positions label 51 52 ≡ codes "  ") × (offset ≡ 0))
 
--- the second label of this kind with these fields; positions 16 to 50 and 53 to 80 may contain
--- anything
+-- the label is a second label of the given kind with the given fields; positions 16 to 50 and 53 to
+-- 80 may contain anything
 pub record IsHead2 (label : List ℕ) (which : Kind) (fields : Head2) : Type 0 where
   pub second : IsSecond which
   pub kind : HasKind label which

@@ -18,13 +18,12 @@ identifier Eof2 = codes "EOF2"
 identifier Eov1 = codes "EOV1"
 identifier Eov2 = codes "EOV2"
 
--- a label of this kind, whatever its fields contain
+-- the label is of the given kind, whatever its fields contain
 pub record HasKind (label : List ℕ) (kind : Kind) : Type 0 where
   pub size : length label ≡ 80
   pub named : positions label 1 4 ≡ identifier kind
 
--- the kind of a first trailer label: at the end of the file, or of a section after which the file
--- continues
+-- the kind of a first trailer label: EOF1 at the end of the file, EOV1 if the file continues
 abbrev pub trailer : Bool → Kind
 trailer eof = if eof then Eof1 else Eov1
 
@@ -41,12 +40,12 @@ IsSecond Eof2 = Unit {0}
 IsSecond Eov2 = Unit {0}
 IsSecond _ = ⊥
 
--- the kind with this identifier
+-- the kind with the given identifier
 abbrev pub kind_named : List ℕ → Option Kind
 kind_named text =
     find (λ kind. bytes_eq text (identifier kind))
     (Vol1 ∷ Hdr1 ∷ Hdr2 ∷ Eof1 ∷ Eof2 ∷ Eov1 ∷ Eov2 ∷ [])
 
--- the kind of label that a block is, if it is one
+-- the kind of label that a block is, or `None`
 unfoldable pub kind_at : List ℕ → Option Kind
 kind_at block = if length block == 80 then kind_named (positions block 1 4) else None

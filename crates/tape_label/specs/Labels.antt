@@ -1,4 +1,4 @@
--- The label that a block is.
+-- The label in a block.
 use Rattle.std.specs.Prelude.{ℕ, ◌==◌, List, length, if◌then◌else◌, Option, Some, None, Result, Ok}
 use Rattle.std.specs.Prelude.{Err}
 use Rattle.tape_label.specs.declared.label.LabelFault.{LabelFault}
@@ -15,18 +15,18 @@ use Rattle.tape_label.specs.Head2.{IsHead2}
 use Rattle.tape_label.specs.Trail1.{IsTrail1}
 use Rattle.tape_label.specs.Reading.{◌>>=◌, vol1_at, head1_at, head2_at, trail1_at}
 
--- the block is this label, with these fields
+-- the block is the given label, with its fields
 abbrev pub IsLabel : List ℕ → Label → Type 0
 IsLabel block (labels.Vol1 fields) = IsVol1 block fields
 IsLabel block (labels.Head1 fields) = IsHead1 block fields
 IsLabel block (labels.Second kind fields) = IsHead2 block kind fields
 IsLabel block (labels.Trail1 fields) = IsTrail1 block fields
 
--- why a block that is none of the seven kinds is not a label
+-- why a block that is not of any of the seven kinds is not a label
 abbrev pub no_kind : List ℕ → LabelFault
 no_kind block = if length block == 80 then Identifier else NotEighty
 
--- the block read as a label of this kind
+-- the block read as a label of the given kind
 abbrev pub read_as : List ℕ → Option Kind → Result Label LabelFault
 read_as block None = Err (no_kind block)
 read_as block (Some Vol1) = vol1_at block >>= λ fields. Ok (labels.Vol1 fields)

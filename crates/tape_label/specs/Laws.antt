@@ -11,7 +11,7 @@ use Rattle.tape_label.specs.Reading.{vol1_at, head1_at, head2_at, trail1_at}
 abbrev pub HasOneKind : List ℕ → Type 0
 HasOneKind block = (a b : Kind) → HasKind block a → HasKind block b → a ≡ b
 
--- No block is both a label of the one sort and a label of the other, whatever the fields.
+-- No block is a label of both sorts, whatever the fields.
 abbrev pub IsNotBoth : {A B : Type 0} → (List ℕ → A → Type 0) → (List ℕ → B → Type 0)
     → List ℕ → Type 0
 IsNotBoth {A} {B} One Other block = (a : A) (b : B) → One block a → Other block b → ⊥
@@ -20,7 +20,7 @@ IsNotBoth {A} {B} One Other block = (a : A) (b : B) → One block a → Other bl
 abbrev pub IsSecondLabel : List ℕ → Head2 → Type 0
 IsSecondLabel block fields = (which : Kind) × IsHead2 block which fields
 
--- 1 for a block that was read
+-- 1 for a block that was read, 0 for a fault
 abbrev pub one_if_read : {A : Type 0} → Result A LabelFault → ℕ
 one_if_read (Ok fields) = 1
 one_if_read (Err fault) = 0

@@ -14,5 +14,5 @@ pub mod Widths
 pub mod Written
 pub mod Faults
 pub mod Laws
--- only for the order of the faults:
+-- only needed for the order of the faults:
 pub mod Reading

@@ -2,11 +2,11 @@
 use Rattle.std.specs.Prelude.{◌≡◌, ℕ, ◌-◌, ◌^◌, ◌<◌, ◌≤◌, List, slice_range}
 use Rattle.tape_label.specs.Digits.{digits}
 
--- the characters at these positions
+-- the characters at the positions `first` to `last`
 abbrev pub positions : List ℕ → ℕ → ℕ → List ℕ
 positions label first last = slice_range label (first - 1) last
 
--- These positions contain the number n in digits with leading zeros, and n is at least `least`.
+-- The positions contain the number n in decimal with leading zeros, and n is at least `least`.
 pub record HasNumber (label : List ℕ) (first last least n : ℕ) : Type 0 where
   pub spelled : positions label first last ≡ digits (last - (first - 1)) n
   pub at_least : least ≤ n

@@ -1,5 +1,5 @@
--- The results of the reading functions, as functions of a block: the fields, or the first test that
--- fails. The tests are made in the order of the lines.
+-- The results of the reading functions, as functions of a block: the fields, or the fault of the
+-- first test that fails. The tests are in the order of the lines.
 use Rattle.std.specs.Prelude.{ℕ, ◌-◌, ◌==◌, nat_lt, ◌||◌, List, length, codes, slice_index, Bool}
 use Rattle.std.specs.Prelude.{true, false, if◌then◌else◌, Result, Ok, Err}
 use Rattle.std.specs.Str.{bytes_eq, all_ascii_digits}
@@ -18,7 +18,7 @@ use Rattle.tape_label.specs.Formats.{letter, least_record}
 use Rattle.tape_label.specs.Kinds.{identifier}
 use Rattle.tape_label.specs.Positions.{positions}
 
--- the next step, if none has failed yet
+-- the next step, unless a step has failed already
 infixl 10 ◌>>=◌
 abbrev pub ◌>>=◌ : {A B : Type 0} → Result A LabelFault → (A → Result B LabelFault)
     → Result B LabelFault
@@ -29,19 +29,19 @@ abbrev pub ◌>>=◌ : {A B : Type 0} → Result A LabelFault → (A → Result 
 abbrev pub eighty : List ℕ → Result (Unit {0}) LabelFault
 eighty label = if length label == 80 then Ok tt else Err faults.NotEighty
 
--- it begins like a label of this kind
+-- whether the block begins with the identifier of the given kind
 abbrev pub begins_as : List ℕ → Kind → Bool
 begins_as label kind = bytes_eq (positions label 1 4) (identifier kind)
 
--- otherwise it is not a label of this kind
+-- a fault if the block does not begin with the identifier of the given kind
 abbrev pub of_kind : List ℕ → Kind → Result (Unit {0}) LabelFault
 of_kind label kind = if begins_as label kind then Ok tt else Err faults.Identifier
 
--- the character at this position, counted from 1
+-- the character at a position, counted from 1
 abbrev pub character_at : List ℕ → ℕ → ℕ
 character_at label position = slice_index label (position - 1)
 
--- the number at these positions in digits, which must be at least `least`
+-- the decimal number at the given positions, which must be at least `least`
 abbrev pub number_at : List ℕ → ℕ → ℕ → ℕ → Result ℕ LabelFault
 number_at label first last least =
     let ds = positions label first last
@@ -51,7 +51,7 @@ number_at label first last least =
 
 -- ---- the volume label
 
--- its fields, at their positions
+-- the fields of a volume label, at their positions
 abbrev pub vol1_fields : List ℕ → Vol1
 vol1_fields label = record {
   volume = positions label 5 10;
@@ -61,7 +61,7 @@ vol1_fields label = record {
   version = character_at label 80;
 }
 
--- 80 characters, and the identifier
+-- checks: 80 characters, and the identifier
 unfoldable pub vol1_at : List ℕ → Result Vol1 LabelFault
 vol1_at label = do
   _ ← eighty label
@@ -70,7 +70,7 @@ vol1_at label = do
 
 -- ---- first header and trailer labels
 
--- the fields, with these numbers
+-- the fields of a first label, with the given section and sequence number
 abbrev pub head_fields : List ℕ → ℕ → ℕ → Head1
 head_fields label sect sequence = record {
   file_id = positions label 5 21;
@@ -85,14 +85,14 @@ head_fields label sect sequence = record {
   implementation = positions label 61 73;
 }
 
--- the shared fields: the two numbers are checked, in this order
+-- the fields that first labels share: the two numbers are checked, in this order
 unfoldable pub head_at : List ℕ → Result Head1 LabelFault
 head_at label = do
   sect ← number_at label 28 31 1
   sequence ← number_at label 32 35 1
   Ok (head_fields label sect sequence)
 
--- 80 characters, the identifier, and the numbers
+-- checks: 80 characters, the identifier, and the numbers
 unfoldable pub head1_at : List ℕ → Result Head1 LabelFault
 head1_at label = do
   _ ← eighty label
@@ -105,7 +105,7 @@ end_at label =
     if begins_as label kinds.Eof1 then Ok true
     else (if begins_as label kinds.Eov1 then Ok false else Err faults.Identifier)
 
--- 80 characters, the identifier, the numbers, and the block count
+-- checks: 80 characters, the identifier, the numbers, and the block count
 unfoldable pub trail1_at : List ℕ → Result Trail1 LabelFault
 trail1_at label = do
   _ ← eighty label
@@ -116,13 +116,13 @@ trail1_at label = do
 
 -- ---- second header and trailer labels
 
--- it begins like one of the three second labels
+-- a fault if the block does not begin with the identifier of one of the three second labels
 abbrev pub second : List ℕ → Result (Unit {0}) LabelFault
 second label =
     if begins_as label kinds.Hdr2 || begins_as label kinds.Eof2 || begins_as label kinds.Eov2
     then Ok tt else Err faults.Identifier
 
--- the record format of the letter at position 5
+-- the record format whose letter is at position 5
 unfoldable pub format_at : List ℕ → Result Format LabelFault
 format_at label =
     let c = character_at label 5
@@ -130,12 +130,12 @@ format_at label =
     else (if c == letter Counted then Ok Counted
     else (if c == letter Spanned then Ok Spanned else Err (faults.Format c)))
 
--- the buffer offset; two spaces are 0
+-- the buffer offset; two spaces are read as 0
 unfoldable pub offset_at : List ℕ → Result ℕ LabelFault
 offset_at label =
     if bytes_eq (positions label 51 52) (codes "  ") then Ok 0 else number_at label 51 52 0
 
--- 80 characters, the identifier, and the fields in the order of their positions
+-- checks: 80 characters, the identifier, and the fields in the order of their positions
 unfoldable pub head2_at : List ℕ → Result Head2 LabelFault
 head2_at label = do
   _ ← eighty label

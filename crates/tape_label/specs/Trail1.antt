@@ -5,8 +5,8 @@ use Rattle.tape_label.specs.Head1.{HasHead, HeadFits}
 use Rattle.tape_label.specs.Kinds.{HasKind, trailer}
 use Rattle.tape_label.specs.Positions.{HasNumber}
 
--- the first trailer label with these fields: `EOF1` at the end of the file, `EOV1` if the file
--- continues on another volume
+-- the label is a first trailer label with the given fields: `EOF1` at the end of the file, `EOV1`
+-- if the file continues on another volume
 pub record IsTrail1 (label : List ℕ) (fields : Trail1) : Type 0 where
   pub kind : HasKind label (trailer fields.eof)
   pub head : HasHead label fields.head

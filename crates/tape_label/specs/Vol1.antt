@@ -5,8 +5,8 @@ use Rattle.tape_label.specs.declared.values.Vol1.{Vol1}
 use Rattle.tape_label.specs.Kinds.{HasKind}
 use Rattle.tape_label.specs.Positions.{positions}
 
--- the volume label with these fields; positions 12 to 24 and 52 to 79 are reserved and may contain
--- anything
+-- the label is a volume label with the given fields; positions 12 to 24 and 52 to 79 are reserved
+-- and may contain anything
 pub record IsVol1 (label : List ℕ) (fields : Vol1) : Type 0 where
   pub kind : HasKind label kinds.Vol1
   pub volume : positions label 5 10 ≡ fields.volume

@@ -3,13 +3,13 @@ use Rattle.std.specs.Prelude.{◌≡◌, ◌==◌, ◌&&◌, ◌||◌, ◌⊎◌
 use Rattle.std.specs.Str.{bytes_eq}
 use Rattle.tape_label.specs.Positions.{positions}
 
--- 80 characters that begin with `VOL`, or with `UVL` like a user's own labels
+-- 80 characters that begin with `VOL`, or with `UVL` as a user's own volume labels do
 abbrev pub IsOfVolume : List ℕ → Type 0
 IsOfVolume block =
     (length block ≡ 80)
     × ((positions block 1 3 ≡ codes "VOL") ⊎ (positions block 1 3 ≡ codes "UVL"))
 
--- the same as a test
+-- the same, as a decidable test
 unfoldable pub is_volume_label : List ℕ → Bool
 is_volume_label block =
     (length block == 80)

@@ -1,5 +1,5 @@
--- The one text that is written for each label: its pieces in the order of their positions, with
--- spaces in reserved positions.
+-- The text that is written for each label: its pieces in the order of their positions, with spaces
+-- in reserved positions.
 use Rattle.std.specs.Prelude.{◌≡◌, ℕ, List, [], ◌∷◌, ◌++◌, length, replicate}
 use Rattle.tape_label.specs.declared.values.Kind.{Kind}
 use Rattle.tape_label.specs.declared.values.Kind.TheVariants as kinds
@@ -16,7 +16,7 @@ pub record Piece : Type 0 where
   pub width : ℕ
   pub text : List ℕ
 
--- this text, in this number of positions
+-- the text `text`, in `width` positions
 abbrev pub chars : ℕ → List ℕ → Piece
 chars width text = record { width = width; text = text }
 
@@ -24,11 +24,11 @@ chars width text = record { width = width; text = text }
 abbrev pub spaces : ℕ → Piece
 spaces width = chars width (replicate width 32)
 
--- this number in digits, in this number of positions
+-- the number n in decimal, in `width` positions
 abbrev pub number : ℕ → ℕ → Piece
 number width n = chars width (digits width n)
 
--- the pieces, one after another
+-- the texts of the pieces, one after another
 abbrev pub text_of : List Piece → List ℕ
 text_of [] = []
 text_of (p ∷ ps) = p.text ++ text_of ps
@@ -45,7 +45,7 @@ vol1_pieces fields =
     ∷ spaces 13 ∷ chars 13 fields.implementation ∷ chars 14 fields.owner
     ∷ spaces 28 ∷ chars 1 (fields.version ∷ []) ∷ []
 
--- a first header or trailer label with this block count
+-- a first header or trailer label with the block count `blocks`
 abbrev pub head_pieces : Kind → Head1 → ℕ → List Piece
 head_pieces kind fields blocks =
     chars 4 (identifier kind) ∷ chars 17 fields.file_id ∷ chars 6 fields.set_id

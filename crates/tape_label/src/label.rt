@@ -1,4 +1,4 @@
-//! The kinds of labels, the label that a block is, and the faults of labels.
+//! The kinds of labels, reading a block as a label, and the faults of labels.
 
 ghost use Rattle.std.specs.Prelude.{◌≡◌, ◌≢◌, IfOk, Ok, Err, length, ◌↔◌, IfSome, Some, IsTrue};
 ghost use Rattle.std.specs.Prelude.{false};
@@ -11,20 +11,20 @@ use crate::reading::{read_head1, read_head2, read_trail1, read_vol1};
 use crate::values::{Head1, Head2, Kind, Trail1, Vol1};
 use thiserror::Error;
 
-/// Why a block is not a valid label, or a text not a valid field. Positions in a label are counted
-/// from 1.
+/// Why a block is not a valid label, or a text is not a valid field. Positions in a label are
+/// counted from 1.
 #[derive(Clone, Copy, Debug, PartialEq, Eq, Hash, Error)]
 pub enum LabelFault {
     /// The block does not have 80 characters.
     #[error("a label has 80 characters")]
     NotEighty,
-    /// The first four characters are not the identifier of a label that the function reads.
+    /// The block does not begin with the identifier of a label that the function reads.
     #[error("the block does not begin with the expected label identifier")]
     Identifier,
     /// The number that begins at this position contains a character that is not a digit.
     #[error("the number at position {0} contains a character that is not a digit")]
     NotDigits(u8),
-    /// This character, at position 5, is not one of the record formats `F`, `D` and `S`.
+    /// The character at position 5 is not one of the record formats `F`, `D` and `S`.
     #[error("byte {0} is not a record format")]
     Format(u8),
     /// The number that begins at this position is less than its minimum.
@@ -55,9 +55,9 @@ impl LabelFault {
     }
 }
 
-/// Returns the kind of label that the block is, judged only by its length of 80 characters and the
-/// first four of them. Returns `None` if it is none of these (ECMA-13, 4th edition, label
-/// identifier and label number).
+/// Returns the kind of label that the block is, judged only by its length of 80 characters and its
+/// first four characters, or `None` if it is no such label (ECMA-13, 4th edition, label identifier
+/// and label number).
 #[tactic(auto, unfolding(crate::specs::Kinds::kind_at))]
 pub fn kind(block: &[u8]) -> Option<Kind>
     ensures found { IfSome result (HasKind block.now) }
@@ -85,7 +85,7 @@ pub fn kind(block: &[u8]) -> Option<Kind>
 #[tactic(auto, unfolding(crate::specs::VolumeLabels::is_volume_label))]
 pub fn is_volume_label(block: &[u8]) -> bool
     ensures found { IsTrue result ↔ IsOfVolume block.now }
-    // Of the kinds that can be read only VOL1 is one.
+    // The only such kind that can be read is VOL1.
     ensures other { (kind : Kind) → HasKind block.now kind → kind ≢ Kind.Vol1 → result ≡ false }
     // The same as a function of the block.
     ensures exact { result ≡ is_volume_label block.now }
@@ -111,16 +111,16 @@ pub enum Label {
 ///
 /// # Errors
 ///
-/// `NotEighty` if the block does not have 80 characters; `Identifier` if it does not begin like one
-/// of the seven kinds of labels; otherwise the fault of the function that reads its kind.
+/// `NotEighty` if the block does not have 80 characters; `Identifier` if it does not begin with the
+/// identifier of one of the seven kinds; otherwise the fault of the function for its kind.
 pub fn read_label(block: &[u8]) -> Result<Label, LabelFault>
     // A label that is read has these fields,
     ensures found { IfOk result (IsLabel block.now) }
     // and every block that is a label with some fields is read.
     ensures only { (label : Label) → IsLabel block.now label → result ≡ Ok label }
-    // A block of another length,
+    // A block of another length is refused as such,
     ensures other_length { length block.now ≢ 80 → result ≡ Err LabelFault.NotEighty }
-    // or one that begins like none of the seven, is refused as such.
+    // and so is one that begins with none of the seven identifiers.
     ensures no_kind { length block.now ≡ 80 → ((kind : Kind) → HasKind block.now kind → ⊥)
         → result ≡ Err LabelFault.Identifier }
     // The result as a function of the block.
@@ -145,7 +145,7 @@ fn label_at(block: &[u8]) -> Result<Label, LabelFault>
     })
 }
 
-/// Returns why a block that is none of the seven kinds is not a label.
+/// Returns why a block that is not of any of the seven kinds is not a label.
 fn no_kind(block: &[u8]) -> LabelFault
     ensures { result ≡ no_kind block.now }
 {

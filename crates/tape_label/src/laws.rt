@@ -15,7 +15,7 @@ use crate::reading::{digits_of, digits_value, read_head1, read_head2, read_trail
 use crate::values::{Field, Head1, Head2, Kind, Trail1, Vol1};
 use crate::writing::{write_head1, write_head2, write_trail1, write_vol1};
 
-/// A number that fits its digits is read from them again.
+/// A number that fits its digits is read back from them.
 pub fn digits_again<const W: usize>(number: u64) -> Option<u64>
     requires width { W ≤ 19 }
     requires fits { number < 10 ^ W }
@@ -24,14 +24,14 @@ pub fn digits_again<const W: usize>(number: u64) -> Option<u64>
     digits_value(&digits_of::<W>(number))
 }
 
-/// A volume label that was written is read again.
+/// A volume label that was written is read back.
 pub fn vol1_again(fields: &Vol1) -> Result<Vol1, LabelFault>
     ensures { result ≡ Ok fields.now }
 {
     read_vol1(&write_vol1(fields))
 }
 
-/// A first header label that was written is read again.
+/// A first header label that was written is read back.
 pub fn head1_again(fields: &Head1) -> Result<Head1, LabelFault>
     requires { HeadFits fields.now }
     ensures { result ≡ Ok fields.now }
@@ -39,7 +39,7 @@ pub fn head1_again(fields: &Head1) -> Result<Head1, LabelFault>
     read_head1(&write_head1(fields))
 }
 
-/// A second label that was written is read again.
+/// A second label that was written is read back.
 pub fn head2_again(fields: &Head2, kind: Kind) -> Result<Head2, LabelFault>
     requires second { IsSecond kind }
     requires fits { Head2Fits fields.now }
@@ -48,7 +48,7 @@ pub fn head2_again(fields: &Head2, kind: Kind) -> Result<Head2, LabelFault>
     read_head2(&write_head2(fields, kind))
 }
 
-/// A first trailer label that was written is read again.
+/// A first trailer label that was written is read back.
 pub fn trail1_again(fields: &Trail1) -> Result<Trail1, LabelFault>
     requires { TrailFits fields.now }
     ensures { result ≡ Ok fields.now }
@@ -57,8 +57,8 @@ pub fn trail1_again(fields: &Trail1) -> Result<Trail1, LabelFault>
 }
 
 /// Returns how many of the four reading functions accept the block: at most one, because no block
-/// is two kinds of label. No block is both a header and a trailer, and no header or trailer is a
-/// volume label.
+/// is two kinds of label. No block is both a header and a trailer label, and no header or trailer
+/// label is a volume label.
 pub fn readings(block: &[u8]) -> usize
     ensures count { result ≡ readings block.now }
     ensures at_most_one { result ≤ 1 }

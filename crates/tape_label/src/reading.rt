@@ -16,8 +16,8 @@ ghost use Rattle.tape_label.specs.Digits.{digits, number_of};
 use crate::label::LabelFault;
 use crate::values::{Format, Head1, Head2, Kind, Trail1, Vol1, field_at};
 
-/// Returns the number with these digits, which may have leading zeros, or `None` if one of the
-/// bytes is not a digit. An empty text is the number 0. Nineteen digits always fit a `u64`.
+/// Returns the number with the given digits, which may have leading zeros, or `None` if a byte is
+/// not a digit. For an empty text the number is 0. Nineteen digits always fit in a `u64`.
 #[tactic(auto, using(crate::proofs::DigitLaws::counted_digits))]
 pub fn digits_value(text: &[u8]) -> Option<u64>
     requires { length text.now ≤ 19 }
@@ -39,7 +39,7 @@ pub fn digits_value(text: &[u8]) -> Option<u64>
     Some(number)
 }
 
-/// Returns the number in `W` digits, with leading zeros.
+/// Returns `number` in `W` digits, with leading zeros.
 pub fn digits_of<const W: usize>(number: u64) -> [u8; W]
     requires { number < 10 ^ W }
     ensures { result ≡ digits W number }
@@ -55,7 +55,7 @@ pub fn digits_of<const W: usize>(number: u64) -> [u8; W]
     text
 }
 
-/// Returns the character at this position, counted from 1.
+/// Returns the character at `position`, counted from 1.
 pub(crate) fn character_at(label: &[u8], position: usize) -> u8
     requires first { 1 ≤ position }
     requires last { position ≤ length label.now }
@@ -64,7 +64,7 @@ pub(crate) fn character_at(label: &[u8], position: usize) -> u8
     label[position - 1]
 }
 
-/// Reads the number in digits at the positions `first` to `last`, counted from 1, which must be at
+/// Reads the decimal number at the positions `first` to `last`, counted from 1, which must be at
 /// least `least`.
 pub(crate) fn number_at(label: &[u8], first: u8, last: u8, least: u64) -> Result<u64, LabelFault>
     requires first { 1 ≤ first }
@@ -108,7 +108,8 @@ pub(crate) fn format_at(label: &[u8]) -> Result<Format, LabelFault>
     }
 }
 
-/// Reads the buffer offset of a second label. Some systems leave it blank for 0.
+/// Reads the buffer offset of a second label. Some systems leave the field blank if the offset is
+/// 0.
 #[tactic(auto, unfolding(crate::specs::Reading::offset_at))]
 pub(crate) fn offset_at(label: &[u8]) -> Result<u8, LabelFault>
     requires { length label.now ≡ 80 }
@@ -126,18 +127,18 @@ pub(crate) fn offset_at(label: &[u8]) -> Result<u8, LabelFault>
 ///
 /// # Errors
 ///
-/// `NotEighty`, then `Identifier` if it does not begin with `VOL1`.
+/// `NotEighty`, then `Identifier` if the label does not begin with `VOL1`.
 pub fn read_vol1(label: &[u8]) -> Result<Vol1, LabelFault>
     // A label that is read has these fields,
     ensures found { IfOk result (IsVol1 label.now) }
     // every block that is a label with some fields is read,
     ensures only { (fields : Vol1) → IsVol1 label.now fields → result ≡ Ok fields }
-    // a block that begins like one is read, whatever its fields contain,
+    // a block with the identifier of a volume label is read, whatever its fields contain,
     ensures any { HasKind label.now Kind.Vol1 → result ≡ Ok (vol1_fields label.now) }
     // a label of another kind is refused as such, whatever its fields contain,
     ensures other { (kind : Kind) → HasKind label.now kind → kind ≢ Kind.Vol1
         → result ≡ Err LabelFault.Identifier }
-    // and anything else has the first fault.
+    // and for any other block the first fault is returned.
     ensures fault { result ≡ vol1_at label.now }
 {
     vol1_at(label)
@@ -148,9 +149,9 @@ pub fn read_vol1(label: &[u8]) -> Result<Vol1, LabelFault>
 ///
 /// # Errors
 ///
-/// In this order: `NotEighty`; `Identifier` if it does not begin with `HDR1`; `NotDigits(28)` and
-/// `FieldRange(28)` for the section number; `NotDigits(32)` and `FieldRange(32)` for the sequence
-/// number.
+/// In this order: `NotEighty`; `Identifier` if the label does not begin with `HDR1`;
+/// `NotDigits(28)` and `FieldRange(28)` for the section number; `NotDigits(32)` and
+/// `FieldRange(32)` for the sequence number.
 pub fn read_head1(label: &[u8]) -> Result<Head1, LabelFault>
     ensures found { IfOk result (IsHead1 label.now) }
     ensures only { (fields : Head1) → IsHead1 label.now fields → result ≡ Ok fields }
@@ -162,13 +163,14 @@ pub fn read_head1(label: &[u8]) -> Result<Head1, LabelFault>
 }
 
 /// Reads a second header or trailer label, `HDR2`, `EOF2` or `EOV2` (ECMA-13, 4th edition, "Second
-/// File Header Label"). Two spaces as buffer offset are 0. Accepts anything in reserved positions.
+/// File Header Label"). Reads two spaces as the buffer offset 0. Accepts anything in reserved
+/// positions.
 ///
 /// # Errors
 ///
-/// In this order: `NotEighty`; `Identifier` for any other identifier; `Format`; `NotDigits(6)` for
-/// the block length; `NotDigits(11)` for the record length, and `FieldRange(11)` if it is 0 and the
-/// format is `Fixed`; `NotDigits(51)` for the buffer offset.
+/// In this order: `NotEighty`; `Identifier` if the label begins otherwise; `Format`; `NotDigits(6)`
+/// for the block length; `NotDigits(11)` for the record length, and `FieldRange(11)` if it is 0 and
+/// the format is `Fixed`; `NotDigits(51)` for the buffer offset.
 pub fn read_head2(label: &[u8]) -> Result<Head2, LabelFault>
     ensures found { IfOk result (λ fields. (which : Kind) × IsHead2 label.now which fields) }
     ensures only { (which : Kind) (fields : Head2) → IsHead2 label.now which fields
@@ -185,8 +187,8 @@ pub fn read_head2(label: &[u8]) -> Result<Head2, LabelFault>
 ///
 /// # Errors
 ///
-/// The errors of `read_head1`, for the identifiers `EOF1` and `EOV1`, and then `NotDigits(55)` for
-/// the block count.
+/// As for `read_head1`, with the identifiers `EOF1` and `EOV1`, and then `NotDigits(55)` for the
+/// block count.
 pub fn read_trail1(label: &[u8]) -> Result<Trail1, LabelFault>
     ensures found { IfOk result (IsTrail1 label.now) }
     ensures only { (fields : Trail1) → IsTrail1 label.now fields → result ≡ Ok fields }
@@ -197,7 +199,7 @@ pub fn read_trail1(label: &[u8]) -> Result<Trail1, LabelFault>
     trail1_at(label)
 }
 
-/// Returns the volume label, or the first test that fails.
+/// Returns the volume label, or the fault of the first test that fails.
 #[tactic(auto, unfolding(crate::specs::Reading::vol1_at))]
 fn vol1_at(label: &[u8]) -> Result<Vol1, LabelFault>
     ensures { result ≡ vol1_at label.now }
@@ -239,7 +241,7 @@ fn head_at(label: &[u8]) -> Result<Head1, LabelFault>
     })
 }
 
-/// Returns the first header label, or the first test that fails.
+/// Returns the first header label, or the fault of the first test that fails.
 #[tactic(auto, unfolding(crate::specs::Reading::head1_at))]
 fn head1_at(label: &[u8]) -> Result<Head1, LabelFault>
     ensures { result ≡ head1_at label.now }
@@ -253,7 +255,7 @@ fn head1_at(label: &[u8]) -> Result<Head1, LabelFault>
     head_at(label)
 }
 
-/// Returns the first trailer label, or the first test that fails.
+/// Returns the first trailer label, or the fault of the first test that fails.
 #[tactic(auto, unfolding(crate::specs::Reading::trail1_at))]
 fn trail1_at(label: &[u8]) -> Result<Trail1, LabelFault>
     ensures { result ≡ trail1_at label.now }
@@ -267,7 +269,7 @@ fn trail1_at(label: &[u8]) -> Result<Trail1, LabelFault>
     Ok(Trail1 { eof, head, blocks })
 }
 
-/// Returns the second label, or the first test that fails.
+/// Returns the second label, or the fault of the first test that fails.
 #[tactic(auto, unfolding(crate::specs::Reading::head2_at))]
 fn head2_at(label: &[u8]) -> Result<Head2, LabelFault>
     ensures { result ≡ head2_at label.now }

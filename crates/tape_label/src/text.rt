@@ -15,7 +15,7 @@ use arrayvec::ArrayVec;
 
 const SPACES: [u8; 80] = [b' '; 80];
 
-/// Appends a text.
+/// Appends `text`.
 fn put(label: &mut ArrayVec<u8, 80>, text: &[u8])
     requires { array_vec_len label.old + length text.now ≤ 80 }
     ensures items { label.new.items ≡ label.old.items ++ text.now }
@@ -33,7 +33,7 @@ fn put_spaces(label: &mut ArrayVec<u8, 80>, count: usize)
     put(label, &SPACES[..count]);
 }
 
-/// Appends the number in `W` digits.
+/// Appends `number` in `W` digits.
 fn put_number<const W: usize>(label: &mut ArrayVec<u8, 80>, number: u64)
     requires fits { number < 10 ^ W }
     requires room { array_vec_len label.old + W ≤ 80 }
@@ -43,7 +43,7 @@ fn put_number<const W: usize>(label: &mut ArrayVec<u8, 80>, number: u64)
     put(label, &digits_of::<W>(number));
 }
 
-/// Returns the label, which has all its 80 characters.
+/// Returns the complete label of 80 characters.
 fn whole(label: ArrayVec<u8, 80>) -> [u8; 80]
     requires { array_vec_len label ≡ 80 }
     ensures { result ≡ label.items }
@@ -68,7 +68,7 @@ pub(crate) fn vol1_text(fields: &Vol1) -> [u8; 80]
     whole(label)
 }
 
-/// Returns a first header or trailer label with this block count.
+/// Returns a first header or trailer label with the block count `blocks`.
 pub(crate) fn head_text(kind: Kind, fields: &Head1, blocks: u32) -> [u8; 80]
     requires fits { HeadFits fields.now }
     requires blocks { blocks ≤ 999999 }

@@ -16,7 +16,7 @@ pub fn is_a_character(byte: u8) -> bool
 }
 
 /// Returns the index, counted from 0, of the first byte that is not an a-character, or `None` if
-/// there is none.
+/// all bytes are a-characters.
 pub fn first_other(text: &[u8]) -> Option<usize>
     ensures { result ≡ first_other text.now }
 {
@@ -68,7 +68,7 @@ impl<const N: usize> Field<N> {
         Ok(Field { characters })
     }
 
-    /// Creates a field of exactly these bytes, whatever they are.
+    /// Creates a field of exactly the given bytes, whatever they are.
     pub fn of_bytes(bytes: [u8; N]) -> Field<N>
         ensures { result ≡ bytes.entry }
     {
@@ -84,7 +84,7 @@ impl<const N: usize> Field<N> {
     }
 }
 
-/// Returns the field that begins at this position, counted from 1.
+/// Returns the field that begins at position `first`, counted from 1.
 pub(crate) fn field_at<const N: usize>(label: &[u8], first: usize) -> Field<N>
     requires first { 1 ≤ first }
     requires last { first - 1 + N ≤ length label.now }

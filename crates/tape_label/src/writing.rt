@@ -60,7 +60,7 @@ pub fn write_trail1(fields: &Trail1) -> [u8; 80]
     head_text(trailer(fields.eof), &fields.head, fields.blocks)
 }
 
-/// Returns the kind of a first trailer label.
+/// Returns the kind of a first trailer label, `EOF1` if `eof` is true.
 fn trailer(eof: bool) -> Kind
     ensures { result ≡ trailer eof }
 {

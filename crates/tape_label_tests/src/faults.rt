@@ -5,7 +5,7 @@ use std::process::Abort;
 use std::test::*;
 use tape_label::*;
 
-/// Returns the fault of each of the four reading functions for the block: volume label, first
+/// Returns the faults of the four reading functions for the block, in the order volume label, first
 /// header, second label, first trailer.
 fn faults(block: &[u8]) -> [Option<LabelFault>; 4] {
     [
@@ -16,7 +16,7 @@ fn faults(block: &[u8]) -> [Option<LabelFault>; 4] {
     ]
 }
 
-/// The block is not a label, because it does not have 80 characters.
+/// Checks that the block is not a label because it does not have 80 characters.
 fn is_not_eighty(rt: &impl Abort, name: &str, block: &[u8]) {
     let not_eighty = Some(LabelFault::NotEighty);
     assert_eq!(rt; faults(block), [not_eighty; 4], "{name}");
@@ -52,7 +52,8 @@ fn other_identifiers(rt: HostRuntime) {
     }
 }
 
-/// The length is checked before the identifier, and this before the contents of the fields.
+/// The length is checked before the identifier, and the identifier before the contents of the
+/// fields.
 #[test]
 fn blocks_that_are_none_of_the_labels(rt: HostRuntime) {
     for (block, fault) in [

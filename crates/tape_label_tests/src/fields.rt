@@ -28,7 +28,7 @@ fn fields_of_a_text(rt: HostRuntime) {
     }
 }
 
-/// The length is counted in bytes, of which the last letter has two, and it is checked first.
+/// The length is counted in bytes (`Ä` has two) and is checked before the characters.
 #[test]
 fn fields_count_bytes(rt: HostRuntime) {
     assert_eq!(rt; Field::<2>::new("AÄ"), Err(LabelFault::FieldLength));

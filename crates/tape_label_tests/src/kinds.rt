@@ -1,10 +1,10 @@
-//! Which label a block is.
+//! The kind of label that a block is.
 
 use crate::samples::{EOF1, EOF2, EOV1, EOV2, HDR1, HDR2, VOL1};
 use std::test::*;
 use tape_label::*;
 
-/// Returns a block of which only the first four characters have a meaning.
+/// Returns a block in which only the first four characters are significant.
 fn beginning(identifier: &[u8; 4]) -> [u8; 80] {
     let mut block = [0xff; 80];
     block[..4].copy_from_slice(identifier);
@@ -26,8 +26,8 @@ fn kinds_of_a_written_volume(rt: HostRuntime) {
     }
 }
 
-/// The characters after the identifier do not matter, and a user's label or a third one has no
-/// kind.
+/// The characters after the identifier do not matter, and a user label or a third header label has
+/// no kind.
 #[test]
 fn kinds_by_identifier_alone(rt: HostRuntime) {
     for (identifier, want) in [

@@ -1,4 +1,4 @@
-//! Tests of the labels, with bytes that were written out from the description of the format.
+//! Tests of the labels, with bytes written out from the standard's description of the format.
 #![tactic(auto)]
 
 #[cfg(test)]

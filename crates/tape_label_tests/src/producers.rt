@@ -3,7 +3,7 @@
 use std::test::*;
 use tape_label::*;
 
-/// Reserved positions are filled, and the version is not the one of this edition.
+/// Reserved positions are filled, and the version is not that of the fourth edition.
 #[test]
 fn volume_labels_of_another_producer(rt: HostRuntime) {
     let vol1 = b"VOL1ABC001X~~~~~~~~~~~~~SOMEONE ELSE THE OWNER     ############################3";

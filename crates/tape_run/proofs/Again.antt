@@ -1,4 +1,4 @@
--- The result of reading images in passes, and of a fault that ended that.
+-- The result of reading images in passes, or of a fault that ended the passes.
 use Rattle.std.proofs.Common.{◌≡◌, Bool, ℕ, List, ◌++◌, map, Option, length}
 use Rattle.std.proofs.Common.{[], None, refl, sym, ap, subst, ◌∙◌, inl, arith, append-nil, true}
 use Rattle.std.specs.Io.KnownBytes.{Appends}

@@ -1,4 +1,4 @@
--- A script that names what exists is refused only by a sink or by want of memory.
+-- A script whose checkpoints exist is refused only by a sink or for lack of memory.
 use Rattle.std.proofs.Common.{Bool, ◌≡◌, ℕ, zero, suc, ◌+◌, ◌<◌, List, [], ◌∷◌, length, map}
 use Rattle.std.proofs.Common.{take, drop, Option, Some, ap, subst, ◌∙◌, arith, length-append}
 use Rattle.std.specs.List.{slice_get}

@@ -1,4 +1,4 @@
--- Whole readings of all volumes give a whole file.
+-- Complete readings of all volumes recover a complete file.
 use Rattle.std.proofs.Common.{◌≡◌, ℕ, zero, suc, ◌+◌, ◌<◌, ◌≤◌, Bool, true, false, List}
 use Rattle.std.proofs.Common.{[], ◌∷◌, ◌++◌}
 use Rattle.std.proofs.Common.{length, map, Option, Some, None, refl, sym, ap, subst, ◌∙◌, arith}
@@ -22,7 +22,7 @@ use Rattle.tape_run.specs.Back.{reels_of, AreVolumes}
 
 -- ---- a history of readings
 
--- where it leads is as far as its readings move the position
+-- the position that it leads to is as far as its readings move the position
 pub course_over : (set : FileSet) (file : ℕ) (c : Course) (rs : List Reading)
     → (course set file c (map reads rs)).at ≡ far_over set file c.at rs
 course_over set file c [] = refl
@@ -72,7 +72,7 @@ volumes_history set k (b ∷ bs) (less, (end, stop, begins_so), rest) =
     (items set (k + 1), end, stop, begins_so, whole_copy set k less) in
     (omega (arith, next.0), (mount, next.1))
 
--- ---- if no reader failed everything was returned
+-- ---- if no reader failed, everything was returned
 
 least_up : (n c : ℕ) → 1 ≤ c → 1 ≤ counted_up n c
 least_up zero c h = h
@@ -93,7 +93,7 @@ none_of (true ∷ which) (b ∷ bytes) (g ∷ given) (l ∷ left) none a = absur
 none_of (false ∷ which) (b ∷ bytes) (g ∷ given) (l ∷ left) none (is, rest) =
     ap (λ z. z ∷ given) is ∙ ap (λ z. b ∷ z) (none_of which bytes given left none rest)
 
--- All images of the set, none of a failed reader, and the file is whole.
+-- If all images of the set are read and no reader fails, the file is complete.
 pub came_back : (set : FileSet) (file : ℕ) (f : List Section) (bytes : List (List ℕ))
     (left : List (Option (List ℕ))) (s : Seen)
     → IsLawful set → file_of set file ≡ Some f → AreVolumes set 0 bytes → s.failures ≡ 0

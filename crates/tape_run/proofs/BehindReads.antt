@@ -1,4 +1,4 @@
--- Where the table leads over a mount of a lawful set, that mount was read.
+-- If the table leads over a mount of a valid set, that mount was read.
 use Rattle.std.proofs.Common.{◌≡◌, ◌≢◌, ◌⊎◌, inl, inr, ℕ, ◌+◌, ◌<◌, List, [], ◌∷◌, ◌++◌, length}
 use Rattle.std.proofs.Common.{drop, Some, refl, sym, ap, subst, ◌∙◌, arith, append-nil}
 use Rattle.std.proofs.Common.{append_assoc, length-append}
@@ -43,7 +43,7 @@ slice_at : (taken rest : List TapeItem) (x : TapeItem)
 slice_at [] rest x = refl
 slice_at (y ∷ taken) rest x = slice_at taken rest x
 
--- an item of a mount under way was taken: the place is right again with the parts that it delivers
+-- an item of a mount under way was processed: the position agrees with the parts delivered
 placed_behind : (core : State) (x : TapeItem) (set : FileSet) (held : List Portion) (p : Position)
     (xs : List TapeItem) (i : ℕ) (h : MountEvent) → IsPlaced set (rest_of core) held
     → Both set p xs i h (Some x) core (step_of core (Some x))
@@ -71,7 +71,7 @@ placed_behind core x set held p xs i h at b =
       ];
     }
 
--- what is left of a mount under way is read by the table
+-- the table reads the rest of a mount under way
 read_on : (set : FileSet) (p : Position) (h : MountEvent) (taken rest whole : List TapeItem)
     (core : State) (held : List Portion) → IsLawful set → whole ≡ taken ++ rest
     → IsMount set whole h → IsPlaced set (rest_of core) held

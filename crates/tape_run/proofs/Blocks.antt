@@ -17,7 +17,7 @@ use Rattle.tape_core.proofs.StateLaws.{one_more}
 use Rattle.tape_run.specs.Crash.{BringsNoMore}
 use Rattle.tape_run.proofs.Crashes.{adds_then}
 
--- ---- parts from a number on
+-- ---- the parts from a number on
 
 drop_all : (n : ℕ) (ys : List Portion) → length ys ≤ n → drop n ys ≡ []
 drop_all zero [] h = refl
@@ -31,7 +31,7 @@ drop_push zero ys p h = refl
 drop_push (suc n) [] p h = absurd (omega (arith, h))
 drop_push (suc n) (y ∷ ys) p h = drop_push n ys p (omega (arith, h))
 
--- Of the parts of a block, those from the first on were put.
+-- Of the parts of a block, the first ones were put.
 pub record PutSoFar {S : Type 0} (g : Ghosts S) (old new : S) (first seen : ℕ) (begun going : Bool)
     (came : List Portion) : Type 0 where
   pub count : seen ≡ length came
@@ -44,7 +44,7 @@ module _ {S : Type 0} (g : Ghosts S) (old : S) (first : ℕ) (begun : Bool) wher
   abbrev Puts : S → ℕ → Bool → List Portion → Type 0
   Puts new seen going came = PutSoFar g old new first seen begun going came
 
-  -- before the first part came
+  -- before the first part is put
   pub none_put : Puts old 0 begun []
   none_put =
       let none = drop_all first [] (omega arith) in
@@ -92,9 +92,9 @@ module _ {S : Type 0} (g : Ghosts S) (old : S) (first : ℕ) (begun : Bool) wher
         crash = λ held was. adds_then _ _ _ (s.crash held was) (crash _ (s.held_now held was));
       }
 
--- ---- the place of a part
+-- ---- the index of a part
 
--- this many parts precede the part at this place
+-- this many parts precede the part at this index
 pub number_of : (ps ys rest : List Portion) (p : Portion) → ps ≡ ys ++ p ∷ rest
     → length ys < length ps
 number_of ps ys rest p e = omega (arith, ap length e, length-append ys (p ∷ rest))
@@ -106,7 +106,7 @@ front_is ps ys rest e = ap (take (length ys)) e ∙ go ys rest
     go [] rest = refl
     go (y ∷ ys) rest = ap (λ (l : List Portion). y ∷ l) (go ys rest)
 
--- what an iterator over a block's parts has yielded precedes what it has left
+-- the parts that an iterator over a block has yielded precede those that are left
 pub stands_here : (s t u : Parts) (xs : List Part) (parts left : List Portion)
     → parts_left s ≡ parts → t ≡ s → Yields (YieldsFirstBy view parts_left) t xs u
     → parts_left u ≡ left → parts ≡ map view xs ++ left

@@ -1,4 +1,4 @@
--- Items that are taken one after another by the table.
+-- Items that the table processes one after another.
 use Rattle.std.proofs.Common.{zero, suc, ◌+◌, ◌-◌, ◌<◌, ◌≤◌, arith, take, length, length-drop}
 use Rattle.std.proofs.Math.Seq.{take-nil}
 use Rattle.std.proofs.Common.{◌≡◌, ◌≢◌, ℕ, List, [], ◌∷◌, ◌++◌, drop, Option, Some, None, refl, sym}
@@ -68,7 +68,7 @@ none_came core new answer (Some x) step ne =
     by_none (step_of core (Some x)).0 x core.position (step_of core (Some x)).1.known
     (λ e. ne (ap (λ (z : Answer × State). z.0) step ∙ e))
 
--- no parts, if the item is not one that is delivered
+-- no parts, if the item delivers none
 pub puts_none : (core new : State) (answer : Answer) (came : Option TapeItem) (held : List Portion)
     → (answer, new) ≡ step_of core came → answer ≢ Deliver
     → held ≡ held ++ parts_of_arrival core came
@@ -115,7 +115,7 @@ parts_more old mid held now then items item puts e f =
     (sym (append-nil (parts_at (behind_items old items) item)))
     ∙ sym (delivered_app old items (item ∷ []))))))
 
--- after a final answer the other items of the reel count for nothing
+-- after a final answer the other items of the reel do not matter
 pub led_by_final : (old mid new : State) (answer : Answer) (held then : List Portion)
     (items more xs : List TapeItem) (item : TapeItem)
     → (answer, new) ≡ step_of mid (Some item) → IsFinal answer
@@ -148,7 +148,7 @@ led_to_end old mid new held now items xs same core parts e = record {
   parts = parts ∙ ap (λ (z : List TapeItem). held ++ delivered_parts old z) (sym e);
 }
 
--- ---- what is preserved from reel to reel
+-- ---- preserved properties, from reel to reel
 
 mounted_resting : (phase : Phase) (p : Position) → mounted (resting phase) p ≡ mounted phase p
 mounted_resting Broken p = refl
@@ -164,12 +164,12 @@ resting_twice : (phase : Phase) → resting (resting phase) ≡ resting phase
 resting_twice Broken = refl
 resting_twice _ = refl
 
--- a mount begins alike, whatever reading was under way
+-- a mount begins in the same way, whatever reading was under way
 pub mount_rest : (core : State) → mount_of core ≡ mount_of (rest_of core)
 mount_rest core =
     ap (λ (z : Phase). record core { phase = z }) (sym (mounted_resting core.phase core.position))
 
--- of a file that is complete nothing is read
+-- if a file is complete, nothing is read
 pub led_nowhere : (core : State) (held : List Portion) (xs : List TapeItem)
     → core.position ≡ Finished
     → IsLed xs (mount_of (rest_of core)) (rest_of core) held held

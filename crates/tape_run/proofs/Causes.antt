@@ -1,4 +1,5 @@
--- Why records were not written: a call after others none of which was refused.
+-- The causes for which records were not written: the cause of one call, if no call before it was
+-- refused.
 use Rattle.std.proofs.Common.{◌≡◌, ◌<◌, ℕ, suc, ◌+◌, List, [], ◌∷◌, ◌++◌, length, take}
 use Rattle.std.proofs.Common.{Bool, true, false, Result, Ok, Err, OnOk, IfErr}
 use Rattle.std.proofs.Common.{refl, sym, ap, inl, inr, subst, ◌∙◌, arith}
@@ -15,6 +16,7 @@ use Rattle.tape_core.specs.Weight.{IsFront}
 use Rattle.tape_core.specs.declared.sink.PartSink.{Ghosts}
 use Rattle.tape_blocks.specs.declared.parts.Form.{Form}
 use Rattle.tape_run.specs.Causes.{WritingFails, EndingFails, ExtractFails, IsExtractFault, IsCalm}
+use Rattle.tape_run.specs.Crash.{IsWalked}
 use Rattle.tape_run.specs.Seen.{seen, IsKept, IfSeen, IsSeen}
 use Rattle.tape_run.specs.Steps.{Refuses, RefusesRestart, Saved, WentBack}
 use Rattle.tape_run.specs.SessionState.{SessionState}
@@ -52,6 +54,17 @@ calm_then g old mid new a b = record {
       let (now, has, still) = a.kept held was kept in b.kept now has still;
 }
 
+-- the sink was only read after that
+pub calm_ended : {S V : Type 0} (g : Ghosts S) (old mid new : SessionState S)
+    (result : Result V EngineFault) → IsCalm g old mid → IsWalked g mid new
+    → OnOk result (g.refusals new.sink ≡ g.refusals mid.sink) → OnOk result (IsCalm g old new)
+calm_ended g old mid new (Ok value) a w calm = calm_then g old mid new a (record {
+  calm = calm;
+  notes = λ none. sym w.notes ∙ none;
+  kept = λ held was kept. (held, w.kept held was, rw (w.core, w.notes) kept);
+})
+calm_ended g old mid new (Err fault) a w calm = tt
+
 -- a call after others none of which was refused
 pub then_fails : {S : Type 0} (g : Ghosts S) (back : Bool) (fault : EngineFault)
     (old mid new : SessionState S) → IsCalm g old mid → ExtractFails g back fault mid new
@@ -66,7 +79,7 @@ then_fails g back (Run OutOfMemory) old mid new a h = h ∙ a.calm
 then_fails g back (Run OtherFile) old mid new a h = h
 then_fails g back WriteFailed old mid new a h = h ∙ a.calm
 
--- a reel was not read to its end, or nothing was noted
+-- a reel was not read to its end, or no checkpoint was made
 pub step_fails : {S : Type 0} (g : Ghosts S) (back : Bool) (fault : RunFault) (old new : SessionState S)
     → Refuses g fault old new → ExtractFails g back (Run fault) old new
 step_fails g back (Sink cause) old new h = inl h.1
@@ -75,7 +88,7 @@ step_fails g back TooFewReels old new h = absurd h
 step_fails g back OutOfMemory old new h = ap (λ s. g.refusals s.sink) h
 step_fails g back OtherFile old new h = absurd h
 
--- the session did not go back to its last note
+-- the session did not roll back to its last checkpoint
 pub back_fails : {S : Type 0} (g : Ghosts S) (n : ℕ) (fault : RunFault) (old new : SessionState S)
     → length old.notes ≡ n + 1 → RefusesRestart g n fault old new
     → ExtractFails g true (Run fault) old new
@@ -102,7 +115,7 @@ calm_saved g old new point calm notes ok = record {
       let (now, has, (keeps, saved)) = ok held was in (now, has, keeps kept);
 }
 
--- the checkpoints up to one of them are not none
+-- the list of checkpoints up to one of them is not empty
 none_taken : (n : ℕ) (notes : List Point) → take (n + 1) notes ≡ [] → notes ≡ []
 none_taken n [] e = refl
 none_taken n (c ∷ notes) e = absurd (
@@ -155,7 +168,7 @@ pub if_err_then : {A B : Type 0} (r : Result A B) (P Q : B → Type 0) → ((e :
 if_err_then (Ok x) P Q f h = tt
 if_err_then (Err e) P Q f h = f e h
 
--- the file was not written after images that were read
+-- the file was not written after the images were read
 pub file_fails : {S A : Type 0} (g : Ghosts S) (back : Bool) (old mid new : SessionState S)
     (r : Result A EngineFault) → IsCalm g old mid
     → IfErr r (WritingFails g.holds g.refusals mid.sink new.sink)
@@ -180,7 +193,7 @@ of_causes holds refusals = record {
   crashes = λ s. lost;
 }
 
--- of one that does not go back
+-- the same for a session that does not roll back
 pub images_fault : {S : Type 0} (holds : S → List Portion → Type 0) (refusals : S → ℕ)
     (fault : EngineFault) (old new : SessionState S)
     → ExtractFails (of_causes holds refusals) false fault old new → IsExtractFault fault
@@ -209,7 +222,7 @@ on_both (Err e) P Q R f p q = tt
 
 -- ---- counts
 
--- a count that is unchanged, and not at its greatest value, did not rise
+-- a count that is unchanged, and not at its greatest value, did not increase
 pub not_rose : (old new : ℕ) → new ≡ old → old < 18446744073709551615 → Rose old new → ⊥
 not_rose old new same few (inl e) = absurd (omega (arith, same, e))
 not_rose old new same few (inr e) = absurd (omega (arith, same, few, e))

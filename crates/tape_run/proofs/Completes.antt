@@ -1,4 +1,4 @@
--- A step that ends at the file's end answers Complete.
+-- A step that reaches the file's end answers Complete.
 use Rattle.std.proofs.Common.{◌≡◌, ℕ, ◌+◌, Bool, true, false, List, Option, Some, None, Result, Ok}
 use Rattle.std.proofs.Common.{Err, refl, sym, ap, ◌∙◌}
 use Rattle.std.specs.Prelude.{if◌then◌else◌, not, nat_lt, ◌==◌}
@@ -157,6 +157,6 @@ by_position : (core : State) (came : Option TapeItem) (p : Position) → core.po
 by_position core came Finished e = record { told = λ f. refl }
 by_position core came (Awaits sect b part) e = arrival_tells core sect b part e core.phase came
 
--- If a step ends at the file's end it answers Complete.
+-- If a step reaches the file's end, it answers Complete.
 pub step_tells : (core : State) (came : Option TapeItem) → Tells (step_of core came)
 step_tells core came = by_position core came core.position refl

@@ -1,4 +1,4 @@
--- What a crash leaves is valid.
+-- The state that a crash leaves is valid.
 use Rattle.std.proofs.Common.{Bool, ◌≡◌, ◌⊎◌, ℕ, List, [], ◌∷◌, ◌++◌, Option, Some, Result}
 use Rattle.std.proofs.Common.{Ok, Err, OnOk, length, map, refl, sym, ap, subst, ◌∙◌, inl, inr}
 use Rattle.std.specs.List.{slice_get}
@@ -25,7 +25,7 @@ use Rattle.tape_core.specs.Crash.{OnlyThis, Returns}
 use Rattle.tape_run.proofs.Headline.{headline}
 use Rattle.tape_run.proofs.Begin.{is_resumed}
 
--- what belongs to a session is valid
+-- a position or checkpoint of a session is valid
 of_stands : (set : FileSet) (s : Seen) (back : Point) (there : List Portion) → IsSession set s
     → IsOf s back there → Stands set s.place.file back there × IsPlaceOf (course_of s) back.position
 of_stands set s back there is (inl (e, f)) =
@@ -38,7 +38,7 @@ of_stands set s back there is (inr (n, (e, f, w))) =
     slice_get-map (λ (c : Point). c.position) s.notes n ∙ rw e refl in
     (rw same note.stands, inr ((n, found)))
 
--- some of the steps were made, and it belongs to the session after them
+-- some of the steps were made, and the checkpoint belongs to the session after them
 record Behind (old : Seen) (steps : List Step) (reels left : List (Option (List ℕ)))
     (back : Point) (there : List Portion) : Type 0 where
   done : List Step
@@ -147,7 +147,7 @@ resumed_session set c ps s r st =
       refusals = s.refusals;
     })) (sym r.parts) at
 
--- what is left of one run is valid
+-- the state that one run leaves is valid
 one_life : (set : FileSet) (c : Point) (ps : List Portion) (life : CrashRun) (hs : List MountEvent)
     (back : Point) (there : List Portion)
     → IsLawful set → Stands set c.file c ps → IsResumed c ps life.began
@@ -177,7 +177,7 @@ across set c ps (life ∷ lives) (hs ∷ hss) back there l st (r, (mid, front, h
     (subst (λ (f : ℕ). Stands set f mid front) (sym file) there_now) left more in
     subst (λ (f : ℕ). Stands set f back there) file next
 
--- one run, up to what a crash left
+-- one run, up to the state that a crash left
 one_more_life : (c : Point) (ps : List Portion) (s : Seen) (steps : List Step)
     (reels left : List (Option (List ℕ))) (bytes : List (List ℕ))
     (old : Point → List Portion → Type 0) (back : Point) (there : List Portion)

@@ -1,4 +1,4 @@
--- What a crash leaves of a session.
+-- The states that a crash leaves of a session.
 use Rattle.std.proofs.Common.{◌≡◌, ℕ, List, [], ◌∷◌, ◌++◌, Option, Some, None, sym, subst}
 use Rattle.std.proofs.Common.{slice_get, inl}
 use Rattle.tape_blocks.specs.Block.{Portion}
@@ -20,7 +20,7 @@ pub only_nothing : (these : Returns) (a b : Crashes) → AddsNothing a b → Add
 only_nothing these a b =
     only_among (λ back there. ⊥) these a b (λ back there h. absurd h)
 
--- it is of the session that makes the steps
+-- the state belongs to the session that makes the steps
 pub stood_here : (s : Seen) (steps : List Step) (reels left : List (Option (List ℕ)))
     (back : Point) (there : List Portion)
     → IsOf s back there → StoodAt s steps reels left back there
@@ -32,14 +32,14 @@ stood_here s (Reel ∷ steps) (Some bytes ∷ reels) (l ∷ left) back there h =
 stood_here s (Save ∷ steps) reels left back there h = inl h
 stood_here s (Restart n ∷ steps) reels left back there h = inl h
 
--- the sink may come back with a note
+-- a crash may leave the sink with a checkpoint
 pub noted_only : (s : Seen) (c : Point) (n : ℕ) (ps : List Portion) (a b : Crashes)
     → slice_get s.notes n ≡ Some c → IsFront ps s.parts → weight_of ps ≡ c.staged
     → AddsOnly (IsThis c ps) a b → AddsOnly (IsNoteOf n s) a b
 noted_only s c n ps a b e f w = only_among (IsThis c ps) (IsNoteOf n s) a b
     (λ back there (p, q). (rw p e, rw q f, rw (p, q) w))
 
--- the sink may come back with the note that it was cut to
+-- a crash may leave the sink with the checkpoint that it was cut to
 pub cut_only : (s : Seen) (n : ℕ) (c : Point) (a b : Crashes)
     → slice_get s.notes n ≡ Some c → IsKept s
     → (holds : List Portion → Type 0) → holds s.parts

@@ -1,4 +1,4 @@
--- A run that a fault ended is where its steps before lead, or at a part that was refused.
+-- A run that ended with a fault is where its earlier steps lead, or at a part that was refused.
 use Rattle.std.proofs.Common.{Bool, ◌≡◌, ℕ, suc, ◌≤◌, List, [], ◌∷◌, length, map, take, drop}
 use Rattle.std.proofs.Common.{Option, Some, Result, Ok, Err, refl, sym, ap, subst, ◌∙◌, arith}
 use Rattle.std.proofs.lemmas.List.{drop-map}
@@ -42,9 +42,9 @@ pub told_err : {A B : Type 0} (r : Result A B) (e : B) (P : B → Type 0)
 told_err (Ok x) e P h p = tt
 told_err (Err x) e P h p = subst P (sym h) p
 
--- ---- the step that was not made
+-- ---- the step that failed
 
--- a session that is unchanged, except for the count of refused calls, is where it was
+-- a session that is unchanged, except for the count of refused calls, has the same position
 stayed : (set : FileSet) (old mid new : Seen) (hs : List MountEvent) → Unmoved mid new
     → Ran set old hs mid → Ran set old hs new
 stayed set old mid new hs u r = record {
@@ -171,7 +171,7 @@ restart_led t old new n bs TooFewReels h s = absurd h
 restart_led t old new n bs OutOfMemory h s = absurd h
 restart_led t old new n bs OtherFile h s = absurd h
 
--- ---- its count of failed readers
+-- ---- the count of readers that failed
 
 reel_count : (b : List ℕ) (fault : RunFault) (old new : Seen) → ReelFails b fault old new
     → new.failures ≡ old.failures
@@ -197,7 +197,7 @@ restart_count n TooFewReels old new h = absurd h
 restart_count n OutOfMemory old new h = absurd h
 restart_count n OtherFile old new h = absurd h
 
--- ---- of whatever kind it is
+-- ---- for a step of any kind
 
 fails_count : (step : Step) (bs : List (List ℕ)) (fault : RunFault) (mid new : Seen)
     → Fails step (map Some bs) fault mid new → new.failures ≡ mid.failures
@@ -226,13 +226,13 @@ fails_led Reel (b ∷ bs) fault t mid new h s = reel_led t mid new b bs fault h 
 fails_led Save bs fault t mid new h s = save_led t mid new bs fault h s
 fails_led (Restart n) bs fault t mid new h s = restart_led t mid new n bs fault h s
 
--- A step was not made, and these readers failed before.
+-- A step failed, and these readers failed before.
 abbrev pub StoppedSo : List Bool → Seen → List Step → List (List ℕ) → List (Option (List ℕ)) → ℕ
     → RunFault → Seen → Type 0
 StoppedSo which old steps bytes left n fault new =
     (end : HasStopped old steps bytes left n fault new) × (end.which ≡ which)
 
--- Where the steps before the failed one lead, and why it failed.
+-- The position that the steps before the failed one lead to, and why it failed.
 stopped : (which : List Bool) (old new : Seen) (steps : List Step) (bytes : List (List ℕ))
     (unread : List (Option (List ℕ))) (n : ℕ)
     (fault : RunFault) → RunsUpTo which old steps (map Some bytes) unread n fault new
@@ -279,7 +279,7 @@ kept_restart_fails n TooFewReels old new h k = absurd h
 kept_restart_fails n OutOfMemory old new h k = absurd h
 kept_restart_fails n OtherFile old new h k = absurd h
 
--- over readers that tell their bytes
+-- if all readers know their bytes
 pub stopped_so : (which : List Bool) (old new : Seen) (steps : List Step)
     (reels left : List (Option (List ℕ))) (n : ℕ) (fault : RunFault)
     → RunsUpTo which old steps reels left n fault new → (bytes : List (List ℕ))

@@ -1,4 +1,4 @@
--- The cases of a session and of its history.
+-- The test cases for sessions and their histories.
 use Rattle.std.proofs.Common.{◌≡◌, ℕ, zero, suc, List, [], ◌∷◌, ◌++◌, ◌∙◌, inr, arith, append-nil}
 use Rattle.std.proofs.Common.{length, true, false, Option, Some, None, refl, sym, ap, subst, inl}
 use Rattle.std.proofs.Common.{◌+◌, length-append}
@@ -185,9 +185,9 @@ cases_of_sessions = record {
       (led.0, led.1, r.are_given, r.count);
 }
 
--- ---- steps that were made, and runs that were stopped
+-- ---- steps that succeeded, and runs that stopped
 
--- the step that is reported
+-- the step that is reported as failed
 step_is : (step told : Step) → Some step ≡ Some told → told ≡ step
 step_is step told e = cc
 

@@ -1,4 +1,4 @@
--- The examples of a catalogue, and of reports of what is on reels.
+-- The examples for catalogues, and for reports on reels.
 use Rattle.std.proofs.Common.{◌≡◌, ℕ, zero, suc, List, [], ◌∷◌, ◌++◌, length}
 use Rattle.std.proofs.Common.{true, refl, ap, inl, inr, arith, ◌∙◌, Some, None, option_map}
 use Rattle.std.specs.Prelude.{slice_index, get_or}

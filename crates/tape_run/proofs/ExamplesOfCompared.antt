@@ -1,4 +1,4 @@
--- The cases of copies that are compared.
+-- The test cases for copies that are compared.
 use Rattle.std.proofs.Common.{◌≡◌, ℕ, true, List, [], ◌++◌, ◌∙◌, refl, sym, ap, chars, codes}
 use Rattle.std.proofs.Common.{encode_utf8_all}
 use Rattle.std.proofs.lemmas.Str.{chars-encodes}
@@ -9,7 +9,7 @@ use Rattle.tape_run.specs.CasesOfCompared.{CasesOfCompared}
 use Rattle.tape_run.specs.Quoting.{name_text, quoted}
 use Rattle.tape_run.specs.SurveyDigest.{digest_by, words_of}
 
--- a name that is printed as it is
+-- a name that is printed unchanged
 plain : (name : List ℕ) → scalars name ≡ true → encode_utf8_all name ≡ name
     → flat_map quoted name ≡ name → name_text name ≡ name
 plain name is same shown =
@@ -24,7 +24,7 @@ b_tap : name_text (codes "b.tap") ≡ codes "b.tap"
 unfolding encode
 b_tap = plain (codes "b.tap") refl refl refl
 
--- the line and the row of two names
+-- the line and the row for two names
 abbrev line_of : List ℕ → List ℕ → List ℕ
 line_of a b = (codes "ABC001 file 1 section 2: CONFLICT, " ++ a ++ codes " and " ++ b
     ++ codes " differ ('tape compare' shows where)\n") ++ []

@@ -1,4 +1,4 @@
--- The cases of files got back.
+-- The test cases for recovered files.
 use Rattle.std.proofs.Common.{◌≡◌, ◌⊎◌, inl, inr, ℕ, List, [], ◌∷◌, Some, None}
 use Rattle.std.proofs.Common.{refl, sym, ap, subst, ◌∙◌, false, true, length, arith}
 use Rattle.std.specs.Prelude.{IfSome, Option, get_or, map, set, ◌++◌, slice_get, ◌-◌}
@@ -37,7 +37,7 @@ use Rattle.tape_run.specs.Extracting.{IsWritten, TellsEnd}
 use Rattle.tape_set.specs.declared.position.Want.{Want}
 use Rattle.tape_set.specs.Position.{want_at}
 
--- the last of two notes is the second
+-- the last of two checkpoints is the second
 went_to_last : (old new : Seen) (c d : Point) → old.notes ≡ c ∷ d ∷ []
     → IsNoted true false true false old new
     → WentBack 1 old new
@@ -127,7 +127,7 @@ text known (more, is, none) =
     let e : known ≡ 7 ∷ more = cc is in
     e ∙ ap (λ m. 7 ∷ m) (none refl)
 
--- a session without notes keeps its own
+-- a session without checkpoints keeps its own
 none_kept : (session : Listed) → session.notes ≡ []
     → IsKeptFor (goes_back session.notes)
     (seen as_sink session session.sink)

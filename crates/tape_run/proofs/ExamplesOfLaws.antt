@@ -1,4 +1,4 @@
--- The cases of the laws.
+-- The test cases for the laws.
 use Rattle.std.proofs.Common.{◌≡◌, ◌≢◌, ℕ, List, [], ◌∷◌, Some, None, refl, ap, sym, ◌∙◌}
 use Rattle.std.proofs.Common.{subst, arith, true, false, inr}
 use Rattle.std.specs.Prelude.{MatchOption, Option}

@@ -1,4 +1,4 @@
--- The examples of a reel's answer, and of where the table leads over any tapes.
+-- The examples for a reel's answer, and for where the table leads for any tapes.
 use Rattle.std.proofs.Common.{◌≡◌, ◌+◌, [], ◌∷◌, Some, refl, ap, ◌∙◌, inl, inr, arith}
 use Rattle.tape_image.specs.declared.item.Ending.TheVariants.{Physical}
 use Rattle.tape_image.specs.Begins.{ends}
@@ -16,7 +16,7 @@ use Rattle.tape_run.specs.declared.script.Step.TheVariants.{Save, Restart}
 use Rattle.tape_run.specs.Lead.{Lead, lead}
 use Rattle.tape_run.specs.Reels.{GoesOn}
 use Rattle.tape_run.proofs.Examples.{empty_begins}
-use Rattle.tape_run.proofs.Places.{stands_first, stands_behind}
+use Rattle.tape_run.proofs.Places.{refused_position, stands_first, stands_behind}
 use Rattle.tape_run.specs.CasesOfReels.{CasesOfAnswers, CasesOfTable, CasesOfLeads}
 
 ended : GoesOn Complete → ⊥
@@ -25,17 +25,22 @@ ended (inr e) = absurd (cc e)
 
 pub cases_of_answers : CasesOfAnswers
 cases_of_answers = record {
-  complete_reads_nothing = λ core bytes left answer r. r;
-  else_a_reel = λ core bytes left answer r. r;
+  complete_reads_nothing = λ core new bytes left answer r. r;
+  else_a_reel = λ core new bytes left answer r. r;
   goes_on = (inl refl, inr refl, ended);
   blocks = refl;
-  on = λ core bytes left answer r. (r.on, r.blocks);
-  by_item = λ core items bytes left answer e. (e.last, e.final, e.no_fault, e.taken);
-  by_medium = λ core items bytes left answer e. (e.last, e.no_fault, e.taken);
-  by_fault = λ core items bytes left answer e. (e.last, e.told, e.taken);
-  memory_left_all = λ core old new l. l;
-  sink_left = λ core cause old new l. l;
-  to_block = λ core bytes left r. (r.on, r.delivers, r.taken);
+  on = λ core new bytes left answer r. (r.on, r.blocks);
+  by_item = λ core new items bytes left answer e. (e.last, e.final, e.no_fault, e.taken);
+  by_medium = λ core new items bytes left answer e. (e.last, e.no_fault, e.taken);
+  by_fault = λ core new items bytes left answer e. (e.last, e.told, e.taken);
+  memory_left_all = λ core new old left l. l;
+  sink_left = λ core new cause old left l. l;
+  stops_at_part = λ core after new (part, begun, from, place). (
+    part,
+    from,
+    ap (λ (z : State). z.position) place ∙ refused_position core after part begun,
+  );
+  to_block = λ core new bytes left r. (r.on, r.delivers, r.stops, r.taken);
 }
 
 pub cases_of_table : CasesOfTable

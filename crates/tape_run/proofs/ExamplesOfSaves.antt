@@ -1,4 +1,4 @@
--- The examples of saves, and of what a crash leaves of a session.
+-- The examples for saves, and for the states that a crash leaves of a session.
 use Rattle.std.proofs.Common.{◌≡◌, ◌⊎◌, inl, inr, ℕ, ◌≤◌, List, [], ◌∷◌, Some}
 use Rattle.std.proofs.Common.{refl, sym, ap, subst, ◌∙◌, length, arith}
 use Rattle.std.specs.Prelude.{slice_get}
@@ -34,7 +34,7 @@ none_is_brought : (s : Seen) (p : Point) (ps : List Portion) → s.notes ≡ []
 none_is_brought s p ps none last =
     let (n, count, i) = last p ps (refl, refl) in absurd (omega (arith, count, ap length none))
 
--- of one note it is the last
+-- the last of one checkpoint is that one
 pub of_one_note : (s : Seen) (c p : Point) (ps : List Portion) → s.notes ≡ c ∷ [] → IsLast s p ps
     → (p ≡ c) × IsFront ps s.parts
 of_one_note s c p ps one (n, count, (is, front, weighs)) =
@@ -46,7 +46,7 @@ pub one_note : (s : Seen) (c p : Point) (ps : List Portion) → s.notes ≡ c �
     → BringsLast (brings ps p) s → (p ≡ c) × IsFront ps s.parts
 one_note s c p ps one last = of_one_note s c p ps one (last p ps (refl, refl))
 
--- the one note came back alone before
+-- before, a crash could leave only the one checkpoint
 alone_before : (old : SessionState Point) (held ps : List Portion) (c : Point)
     → old.notes ≡ c ∷ [] → old.sink ≡ c → IsFront ps held → weight_of ps ≡ c.staged
     → BringsLast (brings ps old.sink) (seen (weighing (comes_now ps)) old held)

@@ -1,4 +1,4 @@
--- The cases of sections, and of lines about them.
+-- The test cases for sections, and for lines about them.
 use Rattle.std.proofs.Common.{refl}
 use Rattle.tape_run.specs.Lacks.{lack_of}
 use Rattle.tape_run.specs.CasesOfSections.{CasesOfSections}

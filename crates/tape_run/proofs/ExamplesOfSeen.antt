@@ -1,4 +1,4 @@
--- The examples of what is seen of a session, and of readers that tell their bytes.
+-- The examples for sessions with known parts, and for readers that know their bytes.
 use Rattle.std.proofs.Common.{◌≡◌, ℕ, List, [], ◌∷◌, length, Some, None, refl, sym, ap, arith}
 use Rattle.std.proofs.Common.{◌∙◌}
 use Rattle.tape_blocks.specs.Block.{Portion}

@@ -1,5 +1,5 @@
 -- The cases of unpacking.
-use Rattle.std.proofs.Common.{refl, ap, map, true, false}
+use Rattle.std.proofs.Common.{[], ◌∷◌, refl, ap, map, true, false}
 use Rattle.std.specs.Prelude.{if◌then◌else◌, option_map, ◌||◌}
 use Rattle.std.specs.Fmt.{digits}
 use Rattle.tape_run.specs.declared.unpack.Heading.TheVariants.{Differs, Named}
@@ -18,6 +18,14 @@ cases_of_unpacking = record {
   own_labels = λ d set_id file n e.
       ap (λ o. map (λ (f : SetFile). f.heading) (file_by d set_id file o)) e;
   no_files = refl;
+  each_once = refl;
+  up_to_a_gap = refl;
+  of_this_file = refl;
+  of_this_set = refl;
+  all_images = refl;
+  images_of_set = refl;
+  set_alone = (refl, refl);
+  of_its_set = λ image is. ap (λ b. if b then 6 ∷ [] else []) is;
   name = refl;
   escaped = refl;
   control = refl;

@@ -1,4 +1,4 @@
--- The result if all images were read, or a fault ended that.
+-- The result if all images were read, or if a fault ended the run.
 use Rattle.std.proofs.Common.{◌≡◌, Bool, ℕ, ◌⊎◌, List, [], map, Option, arith, append-nil}
 use Rattle.std.proofs.Common.{None, refl, sym, ap, subst, ◌∙◌, inl, inr, false}
 use Rattle.std.specs.Io.KnownBytes.{Appends}
@@ -26,7 +26,7 @@ use Rattle.tape_run.proofs.Lasting.{stood_walked}
 use Rattle.tape_run.proofs.Left.{left_walked}
 use Rattle.tape_run.proofs.TurnSteps.{are_steps}
 
--- A session that ended its file came to what its images lead to.
+-- A session that ended its file is where its images lead.
 abbrev pub ended : {S : Type 0} (spares : Bool) (g : Ghosts S) (mid : SessionState S) (core : State)
     (old : Seen) (turns : List Turn) (form : Form) (out written said says : Option (List ℕ))
     (want : Option Want) (now : List Portion)
@@ -149,7 +149,7 @@ stops_at_end {S} {L} {R} {W} gs size gives remaining old mid new
           );
     }
 
--- the last line, or the output, was written in part
+-- the last line, or the output, was only partly written
 pub ends_in_part : {S W : Type 0} (g : Ghosts S) (session : SessionState S)
     (form : Form) (contents : W → Option (List ℕ)) (out written : W)
     (said says : Option (List ℕ)) (want : Option Want) (records : ℕ)

@@ -1,4 +1,4 @@
--- Behind a final answer of a core nothing is delivered, and nothing that it keeps changes.
+-- After a final answer of a core nothing is delivered, and nothing that the core stores changes.
 use Rattle.std.proofs.Common.{◌≡◌, ℕ, Bool, true, false, List, [], ◌∷◌, ◌++◌, Option, Some}
 use Rattle.std.proofs.Common.{Result, Ok, Err, refl, sym, ap, ◌∙◌, subst}
 use Rattle.std.specs.Prelude.{if◌then◌else◌, not, nat_lt, ◌==◌, ⊤}
@@ -207,7 +207,7 @@ idle_step : (core : State) (x : TapeItem) → IsIdle core.position core.phase �
 idle_step core x h = idle_at core.set_id core.file core.position core.begun core.known core.phase x
     h
 
--- no items change what is preserved, and none delivers
+-- no items change the preserved state, and none delivers parts
 pub idle_items : (xs : List TapeItem) (core : State) → IsIdle core.position core.phase
     → (rest_of (behind_items core xs) ≡ rest_of core) × (delivered_parts core xs ≡ [])
 idle_items [] core h = (refl, refl)

@@ -1,4 +1,4 @@
--- Faults, and prefixes of texts, in the forms in which answers have them.
+-- Faults, and prefixes of texts, in the forms that occur in answers.
 use Rattle.std.proofs.Common.{◌≡◌, ℕ, Bool, true, false, List, [], Option, Result, Ok, Err}
 use Rattle.std.proofs.Common.{OnErr, Some, None, refl, sym, ◌∙◌, append-nil}
 use Rattle.std.specs.Prelude.{if◌then◌else◌}
@@ -10,12 +10,12 @@ pub on_err_map : {T E : Type 0} (r : Result T E) (P Q : Type 0) → (P → Q) �
 on_err_map (Ok x) P Q f h = tt
 on_err_map (Err e) P Q f h = f h
 
--- what follows a part that ends its record
+-- the text after a part that ends its record
 pub end_behind : (b : Bool) (end : List ℕ) → b ≡ false → (if b then [] else end) ≡ end
 end_behind true end e = absurd (cc)
 end_behind false end e = refl
 
--- the writer holds the same bytes
+-- the writer contains the same bytes
 pub kept : (old mid new : Option (List ℕ)) (bytes : List ℕ) → Appends old mid bytes → Keeps mid new
     → Appends old new bytes
 kept None mid new bytes a b = tt
@@ -23,7 +23,7 @@ kept (Some xs) None new bytes a b = absurd a
 kept (Some xs) (Some ys) None bytes a b = absurd b
 kept (Some xs) (Some ys) (Some zs) bytes a b = b ∙ a
 
--- all of the text was written, and no more
+-- the whole text was written, and nothing else
 pub whole_front : (old mid new : Option (List ℕ)) (text : List ℕ) → Appends old mid text
     → Keeps mid new → AppendsFront old new text
 whole_front old mid new text wrote keeps =

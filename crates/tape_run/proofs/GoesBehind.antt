@@ -1,4 +1,4 @@
--- A reading of a later file goes on behind that of an earlier one.
+-- A reading of a later file continues after that of an earlier one.
 use Rattle.std.proofs.Common.{◌≡◌, ◌≢◌, ℕ, ◌<◌, inl, inr, List, [], ◌∷◌, ◌++◌, Bool, false}
 use Rattle.std.proofs.Common.{Option, Some, refl, sym, ap, subst, ◌∙◌}
 use Rattle.std.specs.List.{AllByRecursion}
@@ -32,7 +32,7 @@ use Rattle.tape_run.proofs.ByTable.{behind_app, delivered_app, led_nowhere}
 use Rattle.tape_run.proofs.Notes.{front_self}
 use Rattle.tape_run.proofs.Completes.{step_tells}
 
--- what a reader of a later file does with an item behind which the other goes on
+-- an item after which the other reader continues: its effect on a reader of a later file
 pub record PassedOne (first later : State) (x : TapeItem) : Type 0 where
   pub answer : (step_of later (Some x)).0 ≡ Passed
   pub next : (step_of later (Some x)).1
@@ -58,7 +58,7 @@ on_one first later x (Complete, s) is p (inr on) = absurd (cc)
 on_one first later x (Useless why, s) is p (inl on) = absurd (cc)
 on_one first later x (Useless why, s) is p (inr on) = absurd (cc)
 
--- and with the one that ends a section well
+-- and with the item that completes a section
 end_one : (first later : State) (x : TapeItem) (out : Outcome)
     → PassesTo (expected_over out) later (step_of later (Some x)) → EndsSection out.0
     → step_of later (Some x) ≡ passed later Trailers
@@ -71,7 +71,7 @@ end_one first later x (Complete, s) p on = p
 end_one first later x (Useless why, s) p (inl on) = absurd (cc)
 end_one first later x (Useless why, s) p (inr on) = absurd (cc)
 
--- a reader that goes on still wants something
+-- the file of a reader that continues is incomplete
 pub still_waits : (core : State) (x : TapeItem) (q : Position) → q ≡ (step_of core (Some x)).1.position
     → GoesOn (step_of core (Some x)).0 → is_finished q ≡ false
 still_waits core x (Awaits sect b part) is on = refl
@@ -93,7 +93,7 @@ in_order_on first later x o on one = record {
   later_waits = ap (λ (z : State). is_finished z.position) one.next ∙ o.later_waits;
 }
 
--- the answers and the state behind all items, from any phase on
+-- the answers and the state after all items, beginning in any phase
 pub record PassedFrom (core : State) (items : List TapeItem) : Type 0 where
   pub answers : AllByRecursion (λ a. a ≡ Passed) (answers_to core items)
   pub behind : behind_items core items ≡ in_phase core Trailers
@@ -222,12 +222,12 @@ resting_behind Broken q = refl
 resting_behind _ Finished = refl
 resting_behind _ (Awaits sect b part) = refl
 
--- a reading goes on alike, whatever reading was under way
+-- a reading continues in the same way, whatever reading was under way
 pub behind_rest : (core : State) → behind_of core ≡ behind_of (rest_of core)
 behind_rest core = ap (λ p. record core { phase = p })
     (sym (resting_behind core.phase core.position))
 
--- of a file that is complete nothing is read
+-- if a file is complete, nothing is read
 pub led_nowhere_behind : (core : State) (held : List Portion) (xs : List TapeItem)
     → core.position ≡ Finished
     → IsLed xs (behind_of (rest_of core)) (rest_of core) held held

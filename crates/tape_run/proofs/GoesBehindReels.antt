@@ -1,4 +1,4 @@
--- A reading of a later file goes on from reel to reel.
+-- A reading of a later file continues from reel to reel.
 use Rattle.std.proofs.Common.{◌≡◌, ℕ, inl, inr, List, [], ◌∷◌, ◌++◌, false, Some, refl, sym, ap}
 use Rattle.std.proofs.Common.{subst, ◌∙◌}
 use Rattle.std.specs.List.{AllByRecursion}
@@ -11,7 +11,7 @@ use Rattle.tape_core.specs.declared.event.Phase.TheVariants.{Broken}
 use Rattle.tape_core.specs.Behind.{behind_of}
 use Rattle.tape_core.specs.Known.{is_finished}
 use Rattle.tape_core.specs.State.{State}
-use Rattle.tape_core.specs.Table.{passed, step_of, mount_of, unless_complete, at_reel_end}
+use Rattle.tape_core.specs.Table.{Outcome, passed, step_of, mount_of, unless_complete, at_reel_end}
 use Rattle.tape_run.specs.Reels.{behind_items, answers_to, GoesOn, ReadsReel}
 use Rattle.tape_run.specs.GoesBehind.{EndsSection, LeavesBehind, LeavesBehindAgain}
 use Rattle.tape_image.specs.Begins.{Walks}
@@ -21,7 +21,7 @@ use Rattle.tape_run.proofs.GoesBehind.{still_waits}
 
 -- ---- from reel to reel
 
--- at the end of a reel no section ends well
+-- the end of a reel completes no section
 no_end : (core : State) (q : Position) (p : Phase) → is_finished q ≡ false
     → EndsSection (unless_complete core q (at_reel_end core p)).0 → ⊥
 no_end core Finished p waits ends = absurd (cc)
@@ -37,7 +37,7 @@ waits_on core [] waits on = waits
 waits_on core (x ∷ xs) waits (on, rest) = waits_on (step_of core (Some x)).1 xs
     (still_waits core x (step_of core (Some x)).1.position refl on) rest
 
--- the items of a reel that ended a section well, and the one that did
+-- the items of a reel up to one that completed a section, and that item
 pub record EndedWell (core : State) (bytes left : List ℕ) : Type 0 where
   pub items : List TapeItem
   pub item : TapeItem
@@ -46,29 +46,29 @@ pub record EndedWell (core : State) (bytes left : List ℕ) : Type 0 where
   pub ended : EndsSection (step_of (behind_items core items) (Some item)).0
   pub taken : Walks 0 bytes (items ++ item ∷ []) at left
 
-pub ended_well : (core : State) (bytes left : List ℕ) (answer : ReelAnswer)
-    → is_finished core.position ≡ false → ReadsReel core bytes left answer
+pub ended_well : (core new : State) (bytes left : List ℕ) (answer : ReelAnswer)
+    → is_finished core.position ≡ false → ReadsReel core bytes left answer new
     → EndsSection answer.answer → EndedWell core bytes left
-ended_well core bytes left answer waits r ends = elim r.ended [
+ended_well core new bytes left answer waits r ends = elim r.ended [
   | inl e ↦ record {
     items = r.items;
     item = e.item;
     at = e.at;
     on = r.on;
-    ended = subst EndsSection e.last ends;
+    ended = subst EndsSection (ap (λ (z : Outcome). z.0) e.last) ends;
     taken = e.taken;
   }
   | inr (inl e) ↦ absurd (no_end (behind_items core r.items) (behind_items core r.items).position
       (behind_items core r.items).phase (waits_on core r.items waits r.on)
-      (subst EndsSection e.last ends))
+      (subst EndsSection (ap (λ (z : Outcome). z.0) e.last) ends))
   | inr (inr e) ↦ absurd (no_end (behind_items core r.items) (behind_items core r.items).position
       (behind_items core r.items).phase (waits_on core r.items waits r.on)
-      (subst EndsSection e.last ends))
+      (subst EndsSection (ap (λ (z : Outcome). z.0) e.last) ends))
 ]
 
 pub leaves_behind : LeavesBehind
-leaves_behind core bytes left answer waits sound r ends =
-    let e = ended_well (mount_of core) bytes left answer waits r ends in
+leaves_behind core new bytes left answer waits sound r ends =
+    let e = ended_well (mount_of core) new bytes left answer waits r ends in
     (e.items, e.item, e.at, record { sound = sound; on = e.on; ended = e.ended }, e.taken)
 
 passed_goes_on : (core : State) (xs ys : List TapeItem)
@@ -80,8 +80,8 @@ passed_goes_on core (x ∷ xs) ys (one, rest) on =
     (inl one, passed_goes_on (step_of core (Some x)).1 xs ys rest on)
 
 pub leaves_behind_again : LeavesBehindAgain
-leaves_behind_again core front bytes left answer waits sound over r ends =
-    let e = ended_well (behind_of core) bytes left answer waits r ends in (
+leaves_behind_again core new front bytes left answer waits sound over r ends =
+    let e = ended_well (behind_of core) new bytes left answer waits r ends in (
       e.items,
       e.item,
       e.at,

@@ -1,4 +1,4 @@
--- What a sink holds grows, from call to call.
+-- The contents of a sink grow from call to call.
 use Rattle.std.proofs.Common.{List}
 use Rattle.tape_blocks.specs.Block.{Portion}
 use Rattle.tape_core.specs.Crash.{AddsNothing, Crashes}
@@ -6,14 +6,14 @@ use Rattle.tape_core.specs.Weight.{IsFront}
 use Rattle.tape_run.proofs.Crashes.{adds_then}
 use Rattle.tape_run.proofs.Notes.{front_trans}
 
--- Whatever list of parts the one contains, the other contains one that begins with it and satisfies
--- this.
+-- Whatever list of parts one of the sinks contains, the other contains a list that begins with it
+-- and satisfies the relation.
 abbrev pub Grows : (List Portion → Type 0) → (List Portion → Type 0)
     → (List Portion → List Portion → Type 0) → Type 0
 Grows old new P = (held : List Portion) → old held
     → (now : List Portion) × new now × IsFront held now × P held now
 
--- What two calls did, one after the other.
+-- The effect of two calls, one after the other.
 pub grows_then : {old mid new : List Portion → Type 0}
     {P Q R : List Portion → List Portion → Type 0}
     → Grows old mid P → Grows mid new Q
@@ -24,7 +24,7 @@ grows_then first second f = λ held was.
     let (then, has_then, more, q) = second now has in
     (then, has_then, front_trans held now then front more, f held now then p q)
 
--- If a crash leaves no more after either, it leaves no more after both.
+-- If neither call adds to what a crash leaves, both together do not.
 pub adds_on : {old mid : List Portion → Type 0} {P : List Portion → List Portion → Type 0}
     {a b c : Crashes} → Grows old mid P → ((held : List Portion) → old held → AddsNothing a b)
     → ((held : List Portion) → mid held → AddsNothing b c)

@@ -127,7 +127,7 @@ reel_then old mid new steps b bs failed r given rest set (x ∷ hs) l (m, h) s =
     let left : IsHistory set (length mid.notes) steps given hs = rw r.notes h in
     step_then_run set old mid new x hs step (rest set hs l left step.session)
 
--- All steps were made, and these readers failed.
+-- All steps succeeded, and these readers failed.
 abbrev pub RanSo : List Bool → Seen → List Step → List (List ℕ) → List (Option (List ℕ)) → Seen
     → Type 0
 RanSo which old steps bytes left new = (run : HasRun old steps bytes left new)
@@ -192,7 +192,7 @@ restart_then old mid new n steps given w rest set (x ∷ hs) l (e, less, h) s =
     let left : IsHistory set (length mid.notes) steps given hs = rw count h in
     rw e (step_then_run set old mid new (restarts n) hs step (rest set hs l left step.session))
 
--- All steps of a run that answered Ok were made.
+-- All steps of a run that answered Ok succeeded.
 pub headline : (which : List Bool) (old new : Seen) (steps : List Step) (bytes : List (List ℕ))
     (left : List (Option (List ℕ)))
     → Runs which old steps (map Some bytes) left new → RanSo which old steps bytes left new
@@ -238,7 +238,7 @@ headline which old new (Restart n ∷ steps) bytes left (mid, w, runs) =
       same,
     )
 
--- over readers that tell their bytes
+-- if all readers know their bytes
 pub ran_so : (which : List Bool) (old new : Seen) (steps : List Step)
     (reels left : List (Option (List ℕ))) → Runs which old steps reels left new
     → (bytes : List (List ℕ)) → reels ≡ map Some bytes → RanSo which old steps bytes left new

@@ -1,4 +1,4 @@
--- The items of an image, taken one after another.
+-- The items of an image, processed one after another.
 use Rattle.std.proofs.Common.{◌≡◌, ◌≢◌, ◌⊎◌, ℕ, ◌<◌, ◌≤◌, false, List, [], ◌∷◌, length-append}
 use Rattle.std.proofs.Common.{◌++◌, length, Option, Some, None, IfSome, Result, Ok, Err, refl}
 use Rattle.std.proofs.Common.{sym, ap, subst, ◌∙◌, inl, inr, arith, append_assoc, append-nil}
@@ -38,7 +38,7 @@ use Rattle.tape_run.proofs.Mounts.{reached, cut_whole}
 use Rattle.tape_run.specs.Reels.{behind_items}
 use Rattle.tape_run.proofs.Reels.{walks_on}
 
--- So far: these items were taken, up to a place, of all that the reader has.
+-- So far these items were processed, up to an offset of all the bytes that the reader has.
 pub record SoFar (old new : State) (held now : List Portion) (at : ℕ) (bytes left : List ℕ)
     : Type 0 where
   pub items : List TapeItem
@@ -50,7 +50,7 @@ pub record SoFar (old new : State) (held now : List Portion) (at : ℕ) (bytes l
       → is_under old set p xs 0 h
       → IsPlaced set (rest_of new) now × is_under new set p xs (length items) h
 
--- ---- what an image begins with
+-- ---- the items that an image begins with
 
 whole_image : (bytes : List ℕ) (taken xs : List TapeItem) (end far : ℕ) (stop other : Stop)
     → Begins 0 bytes taken far other → Begins 0 bytes xs end stop → xs ≡ taken
@@ -64,7 +64,7 @@ item_here [] rest item = (omega arith, refl)
 item_here (x ∷ taken) rest item =
     let (lt, is) = item_here taken rest item in (omega (arith, lt), is)
 
--- where the item follows those taken
+-- the item after those processed, among all items
 item_at : (xs taken rest : List TapeItem) (item : TapeItem) → xs ≡ taken ++ item ∷ rest
     → (length taken < length xs) × (Some item ≡ slice_get xs (length taken))
 item_at xs taken rest item e =
@@ -73,7 +73,7 @@ item_at xs taken rest item e =
 
 -- ---- a core over the items so far
 
--- For an image of which nothing was read.
+-- The start, with no item of the image read.
 pub none_taken : (core : State) (held : List Portion) (left : Option (List ℕ)) (place : ℕ)
     → place ≡ 0 → IfKnown left left (SoFar core core held held place)
 none_taken core held left place first =
@@ -85,7 +85,7 @@ none_taken core held left place first =
       so_far = λ set p xs rest h l m e at u. (at, u);
     }))
 
--- The core processed the event, and the sink what that delivers.
+-- The core processed the event, and the sink received the parts that it delivers.
 pub record IsTaken (came : Option TapeItem) (answer : Answer) (old new : State)
     (held now : List Portion) : Type 0 where
   pub step : (answer, new) ≡ step_of old came
@@ -143,7 +143,7 @@ taken_on core held all {mid} {new} {now} {then} {old} {next} {came} {item} {answ
     (λ xs ys zs s k. one_more core mid new held now then old.place next.place xs ys zs item answer
     (subst (λ z. IsTaken z answer mid new now then) is t) s k) known gives.takes
 
--- the end of medium, or a fault, delivers nothing
+-- the end of the medium, or a fault, delivers nothing
 nothing_more : (old mid new : State) (held now then : List Portion) (p : ℕ) (bytes ys : List ℕ)
     (answer : Answer) → IsTaken None answer mid new now then
     → SoFar old mid held now p bytes ys → SoFar old mid held then p bytes ys
@@ -176,7 +176,7 @@ ends_early old mid new held now then p q bytes ys zs item answer final le t s k 
           final up.core up.parts e;
     }
 
--- all items that the bytes given begin with were taken
+-- all items that the returned bytes begin with were processed
 all_taken : (old mid new : State) (held now : List Portion) (p : ℕ) (bytes ys given : List ℕ)
     (s : SoFar old mid held now p bytes ys) (far : ℕ) (other : Stop)
     → Begins 0 given s.items far other → rest_of new ≡ rest_of mid
@@ -255,7 +255,7 @@ faults_there old mid new held now p bytes ys zs fault same s t =
               (TakesFault-begins 0 s.items fault bytes zs all e) b);
         })
 
--- What is known of the bytes, without those that are left.
+-- The facts about the known bytes, without the bytes that are left.
 known_so : (all left next : Option (List ℕ)) (P Q : List ℕ → List ℕ → Type 0)
     (R : List ℕ → Type 0) → ((xs ys zs : List ℕ) → P xs ys → Q ys zs → R xs)
     → IfKnown all left P → IfKnown left next Q → IfSome all R
@@ -263,7 +263,7 @@ known_so all left next P Q R f a b =
     known_all all next (λ xs zs. R xs) R (λ xs zs r. r)
     (known_then all left next P Q (λ xs zs. R xs) f a b)
 
--- The same for what is known of the bytes by those that are left.
+-- The same facts, expressed by the bytes that are left.
 known_by : (all left next : Option (List ℕ)) (P Q : List ℕ → List ℕ → Type 0)
     (R : Option (List ℕ) → List ℕ → Type 0)
     → ((xs ys zs : List ℕ) → P xs ys → Q ys zs → R (Some zs) xs)
@@ -273,7 +273,7 @@ known_by (Some xs) None next P Q R f a b = absurd a
 known_by (Some xs) (Some ys) None P Q R f a b = absurd b
 known_by (Some xs) (Some ys) (Some zs) P Q R f a b = f xs ys zs a b
 
--- The reading ended after what the reader returned.
+-- The reading ended with the reader's result.
 pub reads_image : (core : State) (held : List Portion) (all : Option (List ℕ))
     (old next : Reader) (told : Result (Option TapeItem) ImageFault) {mid new : State}
     {now then : List Portion} {answer : Answer} {fault : Option ImageFault}
@@ -304,7 +304,7 @@ pub record Refuses (came : Option TapeItem) (old new : State) (held now : List P
   pub stops : (item : TapeItem) → came ≡ Some item → StopsInside old (rest_of new) item held now
   pub refuses : RefusesItem came old new held now
 
--- A part of an item that came was refused: no mount was read to its end, and the table is cut.
+-- A part of an item's block was refused: no mount was read to its end, and the table stops there.
 pub refuses_image : (core new : State) (held : List Portion) (all : Option (List ℕ))
     {mid : State} {now then : List Portion} {old next : Reader} {came : Option TapeItem}
     {item : TapeItem}

@@ -15,7 +15,7 @@ inserted_here : (x : Told) (es : List Told) (key : SectionKey) (entry : Entry) (
 inserted_here x es key entry true e rest = simp e
 inserted_here x es key entry false e rest = simp (e, rest)
 
--- inserting what is kept is adding
+-- inserting the better entry is the same as adding the section
 pub inserted : (es : List Told) (key : SectionKey) (entry : Entry)
     → insert_entry same_key es key (kept (lookup (same_key key) es) entry) ≡ noted es (key, entry)
 inserted [] key entry = refl

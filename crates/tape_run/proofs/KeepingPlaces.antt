@@ -1,4 +1,4 @@
--- What stays in a catalogue when sections are noted.
+-- The parts of a catalogue that adding sections does not change.
 use Rattle.std.proofs.Common.{◌≡◌, ◌⊎◌, inl, inr, ℕ, Bool, true, false, List, [], ◌∷◌, ◌++◌, refl}
 use Rattle.std.proofs.Common.{sym, ap, subst, ◌∙◌, append_assoc, append-nil, arith, ⊎_elim}
 use Rattle.std.specs.Prelude.{map, if◌then◌else◌, ◌==◌, ◌&&◌, not}
@@ -50,7 +50,7 @@ keeps_places old (t ∷ ts) =
 same_nat : (m n : ℕ) → (m == n) ≡ true → m ≡ n
 same_nat m n e = grind (arith, nat_tests, e)
 
--- keys that are found the same are one
+-- keys that compare as equal are equal
 pub one_key : (a b : SectionKey) → same_key a b ≡ true → a ≡ b
 one_key a b e =
     let (ids, numbers) =
@@ -64,7 +64,7 @@ one_key a b e =
 stands_behind : (x : Told) (xs : List Told) (t : Told) → StandsIn xs t → StandsIn (x ∷ xs) t
 stands_behind x xs t (front, rest, e) = (x ∷ front, rest, ap (λ (r : List Told). x ∷ r) e)
 
--- the head, or after it
+-- the first entry, or a later one
 split : (x : Told) (xs : List Told) (t : Told) → StandsIn (x ∷ xs) t → (x ≡ t) ⊎ StandsIn xs t
 split x xs t ([], rest, e) = inl cc
 split x xs t (y ∷ front, rest, e) = inr (front, rest, cc)

@@ -1,4 +1,4 @@
--- Looking for a missing section.
+-- The search for a missing section.
 use Rattle.std.proofs.Common.{◌≡◌, ⊎_elim, ℕ, zero, suc, ◌+◌, ◌-◌, ◌<◌, ◌≤◌, Bool, true, false}
 use Rattle.std.proofs.Common.{List, Option, Some, None, refl, sym, ap, subst, ◌∙◌, arith}
 use Rattle.tape_run.specs.Passing.{Told}

@@ -1,4 +1,4 @@
--- A crash leaves the last checkpoint of a session.
+-- After a crash the last checkpoint of a session is left.
 use Rattle.std.proofs.Common.{◌≡◌, ◌⊎◌, ℕ, ◌+◌, List, [], ◌∷◌, ◌++◌, length, Some}
 use Rattle.std.proofs.Common.{refl, sym, ap, subst, ◌∙◌, arith, inl, inr, append-nil, length-append}
 use Rattle.std.proofs.lemmas.List.{take_all}
@@ -42,7 +42,7 @@ last_then g a b c held mid now one two = record {
   survived = λ t le h. two.survived t (omega (arith, le, one.later)) (one.survived t le h);
 }
 
--- a reel was read: the notes are as they were, and no part went
+-- a reel was read: the checkpoints are unchanged, and no part was removed
 pub brings_still : (r t : Returns) (old new : Seen) → new.notes ≡ old.notes
     → IsFront old.parts new.parts
     → ((back : Point) (there : List Portion) → t back there → r back there)
@@ -54,7 +54,7 @@ brings_still r t old new notes front none last = λ back there x.
       (ap (λ z. slice_get z n) notes ∙ is, front_trans there old.parts new.parts f front, w),
     )
 
--- the same from a past moment on
+-- the same since a past moment
 pub alone_still : (was now : Crashes) (old new : Seen) → new.notes ≡ old.notes
     → IsFront old.parts new.parts → AddsNothing was now → LastAlone was old → LastAlone now new
 alone_still was now old new notes front adds (last, (t, le, since)) = (
@@ -108,7 +108,7 @@ last_saved old new point t here only s = λ back there x.
       ),
     )
 
--- the same from that moment on
+-- the same since that moment
 pub alone_saved : (old new : Seen) (point : Point) (now : Crashes)
     → point ≡ saved old.place (weight_of old.parts) → ThisAlone point old.parts now → Saved old new
     → LastAlone now new
@@ -130,7 +130,7 @@ among_last s n r back there count last (inl x) =
     let same : m ≡ n = omega (arith, count, counts) in
     subst (λ z. IsNoteOf z s back there) same i
 
--- the session went back to the note made last
+-- the session rolled back to its last checkpoint
 pub last_back : (old new : Seen) (n : ℕ) (r t : Returns)
     → length old.notes ≡ n + 1 → WentBack n old new
     → ((back : Point) (there : List Portion) → t back there
@@ -148,7 +148,7 @@ last_back old new n r t count went only last = λ back there x.
       (ap (λ z. slice_get z n) same ∙ is, subst (IsFront there) all (front_self there), w),
     )
 
--- a checkpoint of the session's position was made, and that was saved
+-- a checkpoint of the session's position was made, and was saved
 pub last_kept : {S : Type 0} (g : Ghosts S) (a b : SessionState S)
     (held now : List Portion) (point : Point) (these : Returns)
     → point ≡ saved (seen g a held).place (weight_of held)
@@ -167,7 +167,7 @@ last_kept g a b held now point these here alone s adds =
       survived = adds.survived;
     }
 
--- the session went back to the note made last
+-- the session rolled back to its last checkpoint
 pub last_went : {S : Type 0} (g : Ghosts S) (a b : SessionState S)
     (held now : List Portion) (n : ℕ) → length a.notes ≡ n + 1
     → WentBack n (seen g a held) (seen g b now)
@@ -189,14 +189,14 @@ last_went g a b held now n count went adds =
       survived = adds.survived;
     }
 
--- if only the sink was walked, the session is seen as it was
+-- if only a walk over the sink was made, the state of the session is unchanged
 walked_seen : {S : Type 0} (g : Ghosts S) (a b : SessionState S) (parts : List Portion)
     → IsWalked g a b → g.refusals b.sink ≡ g.refusals a.sink
     → seen g a parts ≡ seen g b parts
 walked_seen g a b parts w calm =
     rw (w.core, w.notes, w.failures, calm) refl
 
--- the result of the images, after the walk that writes the file
+-- the result for the images, after the walk that writes the file
 pub stood_walked : {S : Type 0} (g : Ghosts S) (a b c : SessionState S) (held parts : List Portion)
     → g.holds b.sink parts → KeepsLast g a held b parts
     → IsWalked g b c → g.refusals c.sink ≡ g.refusals b.sink

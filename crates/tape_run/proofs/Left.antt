@@ -1,4 +1,4 @@
--- What a crash leaves of a session in which a step failed.
+-- The states that a crash leaves of a session in which a step failed.
 use Rattle.std.proofs.Common.{◌≡◌, ◌⊎◌, ℕ, ◌+◌, Bool, true, List, [], length, Some, slice_get}
 use Rattle.std.proofs.Common.{refl, sym, ap, subst, ◌∙◌, inl, inr, arith}
 use Rattle.tape_blocks.specs.Block.{Portion}
@@ -32,7 +32,7 @@ pub nothing_left : {S : Type 0} (g : Ghosts S) (goes : Bool) (a b : SessionState
 nothing_left g goes a b held adds =
     only_nothing _ (g.crashes a.sink) (g.crashes b.sink) adds
 
--- the session is as it was
+-- the session is unchanged
 pub same_left : {S : Type 0} (g : Ghosts S) (goes : Bool) (a : SessionState S) (held : List Portion)
     → LeavesStep g goes a held a
 same_left g goes a held = only_same _ (g.crashes a.sink)
@@ -46,20 +46,19 @@ save_stays OutOfMemory old new h =
     (ap (λ (s : Seen). s.place) h, ap (λ (s : Seen). s.parts) h)
 save_stays OtherFile old new h = absurd h
 
--- no checkpoint was made of the session's position
-pub save_left : {S : Type 0} (g : Ghosts S) (goes : Bool) (a b : SessionState S)
-    (held now : List Portion) (fault : RunFault) → g.holds b.sink now
-    → SaveFails fault (seen g a held) (seen g b now)
+-- a checkpoint of the session's position was made, or was to be made
+pub stays_left : {S : Type 0} (g : Ghosts S) (goes : Bool) (a b : SessionState S)
+    (held now : List Portion) → g.holds b.sink now
+    → ((seen g b now).place ≡ (seen g a held).place) × (now ≡ held)
     → AddsOnly (IsHere (seen g a held)) (g.crashes a.sink) (g.crashes b.sink)
     → LeavesStep g goes a held b
-save_left {S} g goes a b held now fault has fails =
+stays_left {S} g goes a b held now has (place, parts) =
     only_among (IsHere (seen g a held)) _ (g.crashes a.sink) (g.crashes b.sink) here
   where
     here : (back : Point) (there : List Portion) → IsHere (seen g a held) back there
         → ((goes ≡ true) × IsLast (seen g a held) back there)
         ⊎ IsHeld g held b back there
     here back there (is, all) =
-        let (place, parts) = save_stays fault (seen g a held) (seen g b now) fails in
         inr (
           subst (g.holds b.sink) (parts ∙ sym all) has,
           subst (IsFront held) (sym all) (front_self held),
@@ -67,7 +66,16 @@ save_left {S} g goes a b held now fault has fails =
               ∙ ap (λ l. saved (rest_of b.core) (weight_of l)) (sym all),
         )
 
--- the session did not go back
+-- no checkpoint was made of the session's position
+pub save_left : {S : Type 0} (g : Ghosts S) (goes : Bool) (a b : SessionState S)
+    (held now : List Portion) (fault : RunFault) → g.holds b.sink now
+    → SaveFails fault (seen g a held) (seen g b now)
+    → AddsOnly (IsHere (seen g a held)) (g.crashes a.sink) (g.crashes b.sink)
+    → LeavesStep g goes a held b
+save_left g goes a b held now fault has fails =
+    stays_left g goes a b held now has (save_stays fault (seen g a held) (seen g b now) fails)
+
+-- the session rolled back, or did not
 pub restart_left : {S : Type 0} (g : Ghosts S) (a b : SessionState S) (held : List Portion) (n : ℕ)
     → length a.notes ≡ n + 1
     → AddsOnly (IsNoteOf n (seen g a held)) (g.crashes a.sink) (g.crashes b.sink)
@@ -78,7 +86,7 @@ restart_left {S} g a b held n count =
 
 -- ---- after a reel
 
--- the last checkpoint was made before the reel, with parts that were there
+-- the last checkpoint was made before the reel, with parts that existed then
 last_before : (old mid : Seen) → mid.notes ≡ old.notes → IsFront old.parts mid.parts → IsKept old
     → (back : Point) (there : List Portion) → IsLast mid back there → IsLast old back there
 last_before old mid notes front kept back there (n, count, (is, f, w)) =
@@ -116,7 +124,7 @@ left_then {S} g goes a b c held now notes front kept adds =
 
 -- ---- over images
 
--- The images before were taken, and then a step was not made.
+-- The images before it were processed, and then a step failed.
 pub left_saved : {S : Type 0} (g : Ghosts S) (goes : Bool) (a b c : SessionState S)
     (held now : List Portion) → KeepsLast g a held b now
     → LeavesStep g goes b now c → LeavesSaved g a held (seen g b now) c
@@ -140,7 +148,7 @@ left_saved {S} g goes a b c held now keeps step = record {
     either r brings back there (inr (inl (is, is_last))) = inl is_last
     either r brings back there (inr (inr here)) = inr here
 
--- The images were taken, and then the sink was walked.
+-- The images were processed, and then a walk over the sink was made.
 pub left_walked : {S : Type 0} (g : Ghosts S) (goes : Bool) (a b c : SessionState S)
     (held now : List Portion) → KeepsLast g a held b now
     → IsWalked g b c → g.holds b.sink now → LeavesSaved g a held (seen g b now) c

@@ -78,6 +78,7 @@ mod ExamplesOfSurveys
 mod ExamplesOfCompared
 mod ExamplesOfUnpacking
 mod UnpackedFiles
+mod ReadingOrder
 mod UnpackedFits
 mod UnpackedNames
 mod WholeReports
@@ -124,6 +125,7 @@ mod Mistakes
 mod MistakesOfCatalogues
 mod MistakesOfEngines
 mod MistakesOfListing
+mod MistakesOfMerging
 mod MistakesOfPlaces
 mod MistakesOfReels
 mod MistakesOfReports
@@ -149,6 +151,7 @@ mod MergeGiven
 mod MergeBytes
 mod MergeOpening
 mod MergeNow
+mod MergeRows
 mod MergeReports
 mod MergedBetter
 mod MergedCopies

@@ -16,7 +16,7 @@ use Rattle.tape_image.specs.Written.{AppendsFront}
 use Rattle.tape_run.proofs.ListLines.{lines_from-append}
 use Rattle.tape_run.proofs.ListedSoFar.{SoFar}
 
--- the bytes ys at an offset begin like this, and their listing, numbered from count on, begins with
+-- the bytes ys at an offset begin like this, and their listing, numbered from count, begins with
 -- the text
 pub record ListsNext (place count : ℕ) (ys text : List ℕ) : Type 0 where
   pub more : List TapeItem
@@ -73,7 +73,7 @@ after_none left place count within ys is =
       listed = refl;
     }
 
--- the line of an item comes next
+-- the line about an item comes next
 pub after_item : (left next : Option (List ℕ)) (place q count : ℕ) (item : TapeItem)
     → q ≤ image_limit → IfKnown left next (TakesItem place item q) → (ys : List ℕ) → left ≡ Some ys
     → ListsNext place count ys (line_of (count + 1) item)

@@ -1,4 +1,4 @@
--- Lines of items one after another.
+-- The lines of items, one after another.
 use Rattle.std.proofs.Common.{◌≡◌, ℕ, ◌+◌, List, [], ◌∷◌, ◌++◌, length, sym, ap, ◌∙◌, arith}
 use Rattle.std.proofs.Common.{append_assoc}
 use Rattle.tape_image.specs.Tape.{TapeItem}

@@ -1,4 +1,4 @@
--- What `list` has done after some items, and what it leaves from there.
+-- What `list` has done after some items, and its result from there.
 use Rattle.std.proofs.Common.{◌≡◌, ◌≢◌, ℕ, ◌+◌, List, [], ◌∷◌, ◌++◌, length, Option}
 use Rattle.std.proofs.Common.{Result, Err, IfErr, refl, sym, ap, subst, ◌∙◌, arith}
 use Rattle.std.proofs.Common.{append-nil, length-append}
@@ -46,7 +46,7 @@ starts all left w place first same =
       wrote = Appends-nil w;
     }
 
--- the lines of items and of one more
+-- the lines of some items and of one more
 one_line : (items : List TapeItem) (item : TapeItem) (count : ℕ) → length items ≡ count
     → lines_from 1 (items ++ item ∷ []) ≡ lines_from 1 items ++ line_of (count + 1) item
 one_line items item count counted =
@@ -114,7 +114,7 @@ fails_at all left next p count fault old mid new s takes keeps =
     })
     (known_fault all left next 0 p s.items fault s.known takes)
 
--- any cause but that of memory
+-- any cause except lack of memory
 pub fits_cause : (cause : ImageCause) (fault : ImageFault) (before after old new : Option (List ℕ))
     → cause ≢ OutOfMemory → IfKnown before after (ListsToFault fault old new)
     → FitsCause cause fault before after old new
@@ -125,13 +125,13 @@ fits_cause (Reserved w) fault before after old new other h = h
 fits_cause TooLong fault before after old new other h = h
 fits_cause Device fault before after old new other h = h
 
--- more was written after what was written
+-- further text was written after the earlier text
 pub into : (old mid new : Option (List ℕ)) (all part : List ℕ) → Appends old mid all
     → AppendsFront mid new part → AppendsInto old new all part
 into old mid new all part wrote front =
     (front.0, front.1, Appends-trans old mid new all front.0 wrote front.2, front.3)
 
--- the line of an item was not written whole
+-- the line of an item was not written completely
 pub stops_at_item : (all left next : Option (List ℕ))
     (p q count : ℕ) (item : TapeItem) (old mid new : Option (List ℕ))
     → SoFar all left p count old mid → IfKnown left next (TakesItem p item q)
@@ -143,7 +143,7 @@ stops_at_item all left next p q count item old mid new s takes front =
     (into old mid new (lines_from 1 s.items) (line_of (length s.items + 1) item) s.wrote line))
     (known_item all left next 0 p q s.items item s.known takes)
 
--- the last line was not
+-- the last line was not written completely
 pub stops_at_end : (all left next : Option (List ℕ))
     (p q count : ℕ) (ending : Ending) (old mid new : Option (List ℕ))
     → SoFar all left p count old mid → IfKnown left next (TakesEnd p [] ending q)
@@ -154,7 +154,7 @@ stops_at_end all left next p q count ending old mid new s takes front =
     (into old mid new (lines_from 1 s.items) (end_line ending) s.wrote front))
     (known_end all left next 0 p q s.items ending s.known takes)
 
--- the lines before a fault were written, and not passed on
+-- the lines before a fault were written, but not flushed
 pub stops_at_fault : (all left next : Option (List ℕ))
     (p count : ℕ) (fault : ImageFault) (old mid new : Option (List ℕ))
     → SoFar all left p count old mid → IfKnown left next (TakesFault p [] fault) → Keeps mid new
@@ -164,7 +164,7 @@ stops_at_fault all left next p count fault old mid new s takes keeps =
     (λ xs ys t. at_fault s.items fault t (kept old mid new (lines_from 1 s.items) s.wrote keeps))
     (known_fault all left next 0 p s.items fault s.known takes)
 
--- a write failed, and this was read
+-- a write failed after this was read
 pub write_failed : {T : Type 0} (result : Result T ListFault)
     (before after old new : Option (List ℕ)) → result ≡ Err WriteFailed
     → IfKnown before after (StopsWriting old new)

@@ -1,4 +1,4 @@
--- A catalogue's lines, sets and missing sections, index by index.
+-- The lines, sets and missing sections of a catalogue, index by index.
 use Rattle.std.proofs.Common.{◌≡◌, ℕ, zero, suc, ◌+◌, ◌-◌, ◌<◌, Bool, true, false, List, [], ◌∷◌}
 use Rattle.std.proofs.Common.{◌++◌, map, take, slice_get, Some, refl, sym, ap, ◌∙◌, arith}
 use Rattle.std.proofs.Common.{append-nil, append_assoc}
@@ -25,7 +25,7 @@ take_get xs i x at =
     ap (λ n. take n xs) (sym more) ∙ take-suc xs i x (slice_get_within xs i x here)
     ∙ ap (λ y. take i xs ++ y ∷ []) (get_or_from_slice_get xs i x x here)
 
--- the line of the section at a place
+-- the line of the section at an index
 pub line_added : (sections : List Told) (old new : List SectionLine) (i : ℕ) (t : Told)
     → Some t ≡ slice_get sections i → new ≡ old ++ line_of t ∷ []
     → old ≡ map line_of (take i sections) → new ≡ map line_of (take (i + 1) sections)
@@ -39,7 +39,7 @@ sets_from-append : (sets : List SetFiles) (ts : List Told) (t : Told)
 sets_from-append sets [] t = refl
 sets_from-append sets (u ∷ us) t = sets_from-append (with_file sets u.0.set_id u.0.file) us t
 
--- the file of the section at a place
+-- the file of the section at an index
 pub file_noted : (sections : List Told) (old new : List SetFiles) (i : ℕ) (t : Told)
     → Some t ≡ slice_get sections i → new ≡ with_file old t.0.set_id t.0.file
     → old ≡ sets_from [] (take i sections) → new ≡ sets_from [] (take (i + 1) sections)
@@ -48,7 +48,7 @@ file_noted sections old new i t at put was =
     ∙ sym (sets_from-append [] (take i sections) t)
     ∙ ap (sets_from []) (sym (take_get sections i t at))
 
--- inserting the greater number is noting the file
+-- inserting the greater number records the file
 put_here : (x : SetFiles) (xs : List SetFiles) (set_id : List ℕ) (file : ℕ) (b : Bool)
     → bytes_eq set_id x.0 ≡ b
     → insert_entry bytes_eq xs set_id (greatest (lookup (bytes_eq set_id) xs) file)
@@ -65,7 +65,7 @@ put_file [] set_id file = refl
 put_file (x ∷ xs) set_id file =
     put_here x xs set_id file (bytes_eq set_id x.0) refl (put_file xs set_id file)
 
--- what is missing of one more file
+-- the missing sections of one more file
 pub lack_behind : (c : List Told) (set_id : List ℕ) (file left : ℕ) → 0 < left
     → file_lacks c set_id file left
     ≡ one_lack set_id file (lack_of c set_id file) ++ file_lacks c set_id (file + 1) (left - 1)
@@ -74,7 +74,7 @@ lack_behind c set_id file (suc n) some =
     let one : n ≡ suc n - 1 = omega arith in
     ap (λ m. one_lack set_id file (lack_of c set_id file) ++ file_lacks c set_id (file + 1) m) one
 
--- what is missing of the files from one on, after what is missing of that was added
+-- the missing sections of the files from this one on, after those of this file were added
 pub lack_added : (c : List Told) (set_id : List ℕ) (old new goal : List Lack) (before greatest : ℕ)
     → before < greatest
     → new ≡ old ++ one_lack set_id (before + 1) (lack_of c set_id (before + 1))
@@ -96,7 +96,7 @@ pub lacks_all : (c : List Told) (set_id : List ℕ) (new goal : List Lack) (file
 lacks_all c set_id new goal file left none was =
     sym (append-nil new) ∙ ap (λ n. new ++ file_lacks c set_id file n) (sym none) ∙ was
 
--- what is missing of the files of the set at an index
+-- the missing sections of the files of the set at an index
 pub set_added : (c : List Told) (sets : List SetFiles) (old new : List Lack) (i : ℕ) (x : SetFiles)
     → Some x ≡ slice_get sets i → new ≡ old ++ file_lacks c x.0 1 x.1
     → old ≡ set_lacks c (take i sets) → new ≡ set_lacks c (take (i + 1) sets)

@@ -1,4 +1,4 @@
--- What was read of the parts of images, stretch after stretch.
+-- The parts of images that were read, stretch after stretch.
 use Rattle.std.proofs.Common.{◌≡◌, ℕ, ◌<◌, Bool, false, List, [], ◌∷◌, ◌++◌, Option, Some, None}
 use Rattle.std.proofs.Common.{IfSome, refl, sym, ap, subst, ◌∙◌}
 use Rattle.tape_blocks.specs.Block.{Portion}

@@ -1,4 +1,4 @@
--- Readers that stay mounted, and go on with the next file.
+-- Readers that stay open, and continue with the next file.
 use Rattle.std.proofs.Common.{◌≡◌, ◌≢◌, ◌⊎◌, inl, inr, ℕ, ◌+◌, ◌<◌, false, List, [], ◌∷◌, ◌++◌}
 use Rattle.std.proofs.Common.{Option, Some, None, refl, sym, ap, subst, ◌∙◌, arith, append_assoc}
 use Rattle.tape_blocks.specs.Block.{Portion}
@@ -59,7 +59,7 @@ broken_step core x (Awaits sect b part) is waits e =
     ap (λ q. unless_complete core q (at_item core core.phase x)) (sym is)
     ∙ ap (λ p. at_item core p x) e ∙ broken_item core x e
 
--- no item changes it, and none delivers anything
+-- no item changes a broken reader, and none delivers a part
 broken_items : (core : State) (xs : List TapeItem) → is_finished core.position ≡ false
     → core.phase ≡ Broken
     → (behind_items core xs ≡ core) × (delivered_parts core xs ≡ [])
@@ -93,8 +93,8 @@ mounted_broken : (p : Phase) (q : Position) → p ≡ Broken
 mounted_broken p q e =
     (ap (λ r. mounted r q) e ∙ refl, ap (λ r. mounted_behind r q) e ∙ refl)
 
--- The whole image leads where the reading on leads: its front is passed over, or the reader is
--- broken.
+-- The whole image leads where the continued reading leads: its first items are skipped, or the
+-- reader is broken.
 pub leads_on : (core new : State) (front more : List TapeItem) (held now : List Portion)
     → is_finished core.position ≡ false → (core.phase ≢ Broken → PassedOver core front)
     → IsLed more (behind_of core) new held now → IsLed (front ++ more) (mount_of core) new held now
@@ -124,17 +124,17 @@ in_order core later key waits set file same less later_waits = record {
   later_waits = later_waits;
 }
 
-pub passes_front : (core : State) (bytes left : List ℕ) (answer : ReelAnswer) (key : FileKey)
+pub passes_front : (core new : State) (bytes left : List ℕ) (answer : ReelAnswer) (key : FileKey)
     → is_finished core.position ≡ false → key.set_id ≡ core.set_id → key.file ≡ core.file
-    → EndsSection answer.answer → ReadsReel (mount_of core) bytes left answer
+    → EndsSection answer.answer → ReadsReel (mount_of core) bytes left answer new
     → PassesTo key bytes left
-passes_front core bytes left answer key waits set file ends r = elim (broken_or core.phase) [
+passes_front core new bytes left answer key waits set file ends r = elim (broken_or core.phase) [
   | inl broken ↦
-      let e = ended_well (mount_of core) bytes left answer waits r ends in
+      let e = ended_well (mount_of core) new bytes left answer waits r ends in
       absurd (never_ends (mount_of core) e.items e.item waits
       (mounted_broken core.phase core.position broken).0 e.ended)
   | inr sound ↦
-      let (items, item, at, s, walks) = leaves_behind core bytes left answer waits sound r ends in
+      let (items, item, at, s, walks) = leaves_behind core new bytes left answer waits sound r ends in
       record {
         front = items ++ item ∷ [];
         at = at;
@@ -144,19 +144,19 @@ passes_front core bytes left answer key waits set file ends r = elim (broken_or 
       }
 ]
 
-pub passes_on : (core : State) (front : List TapeItem) (place : ℕ) (whole bytes left : List ℕ)
+pub passes_on : (core new : State) (front : List TapeItem) (place : ℕ) (whole bytes left : List ℕ)
     (answer : ReelAnswer) (key : FileKey) → is_finished core.position ≡ false
     → key.set_id ≡ core.set_id → key.file ≡ core.file → EndsSection answer.answer
     → (core.phase ≢ Broken → PassedOver core front) → Walks 0 whole front place bytes
-    → ReadsReel (behind_of core) bytes left answer → PassesTo key whole left
-passes_on core front place whole bytes left answer key waits set file ends over before r =
+    → ReadsReel (behind_of core) bytes left answer new → PassesTo key whole left
+passes_on core new front place whole bytes left answer key waits set file ends over before r =
     elim (broken_or core.phase) [
       | inl broken ↦
-          let e = ended_well (behind_of core) bytes left answer waits r ends in
+          let e = ended_well (behind_of core) new bytes left answer waits r ends in
           absurd (never_ends (behind_of core) e.items e.item waits
           (mounted_broken core.phase core.position broken).1 e.ended)
       | inr sound ↦
-          let (items, item, at, s, walks) = leaves_behind_again core front bytes left answer waits
+          let (items, item, at, s, walks) = leaves_behind_again core new front bytes left answer waits
           sound (over sound) r ends in
           let moved : Walks place bytes (items ++ item ∷ []) (place + at) left =
           record { leads = walks.leads; moves = omega (arith, walks.moves) } in
@@ -177,28 +177,28 @@ pub not_finished : (p : Position) → p ≢ Finished → is_finished p ≡ false
 not_finished (Awaits sect b part) waits = refl
 not_finished Finished waits = absurd (waits refl)
 
-pub reads_waits : (p : Position) (core : State) (bytes left : List ℕ) (answer : ReelAnswer)
-    → is_finished p ≡ false → Reads p core bytes left answer
-    → ReadsReel (mount_of core) bytes left answer
-reads_waits (Awaits sect b part) core bytes left answer waits r = r
-reads_waits Finished core bytes left answer waits r = absurd (cc)
+pub reads_waits : (p : Position) (core new : State) (bytes left : List ℕ) (answer : ReelAnswer)
+    → is_finished p ≡ false → Reads p core bytes left answer new
+    → ReadsReel (mount_of core) bytes left answer new
+reads_waits (Awaits sect b part) core new bytes left answer waits r = r
+reads_waits Finished core new bytes left answer waits r = absurd (cc)
 
-pub behind_waits : (p : Position) (core : State) (bytes left : List ℕ) (answer : ReelAnswer)
-    → is_finished p ≡ false → ReadsBehind p core bytes left answer
-    → ReadsReel (behind_of core) bytes left answer
-behind_waits (Awaits sect b part) core bytes left answer waits r = r
-behind_waits Finished core bytes left answer waits r = absurd (cc)
+pub behind_waits : (p : Position) (core new : State) (bytes left : List ℕ) (answer : ReelAnswer)
+    → is_finished p ≡ false → ReadsBehind p core bytes left answer new
+    → ReadsReel (behind_of core) bytes left answer new
+behind_waits (Awaits sect b part) core new bytes left answer waits r = r
+behind_waits Finished core new bytes left answer waits r = absurd (cc)
 
-pub held_front : (had left : Option (List ℕ)) (core : State) (answer : ReelAnswer) (key : FileKey)
+pub held_front : (had left : Option (List ℕ)) (core new : State) (answer : ReelAnswer) (key : FileKey)
     → is_finished core.position ≡ false → key.set_id ≡ core.set_id → key.file ≡ core.file
     → EndsSection answer.answer
-    → IfKnown had left (λ bytes rest. Reads core.position core bytes rest answer)
+    → IfKnown had left (λ bytes rest. Reads core.position core bytes rest answer new)
     → IfKnown had left (PassesTo key)
-held_front None left core answer key waits set file ends r = tt
-held_front (Some bytes) None core answer key waits set file ends r = r
-held_front (Some bytes) (Some left) core answer key waits set file ends r =
-    passes_front core bytes left answer key waits set file ends
-    (reads_waits core.position core bytes left answer waits r)
+held_front None left core new answer key waits set file ends r = tt
+held_front (Some bytes) None core new answer key waits set file ends r = r
+held_front (Some bytes) (Some left) core new answer key waits set file ends r =
+    passes_front core new bytes left answer key waits set file ends
+    (reads_waits core.position core new bytes left answer waits r)
 
 -- what the image that was mounted left: its front, where its bytes are known
 abbrev pub front_of : (whole had : Option (List ℕ)) (key : FileKey)
@@ -207,16 +207,16 @@ front_of None had key p = []
 front_of (Some bytes) None key p = absurd p
 front_of (Some bytes) (Some left) key p = p.front
 
-pub held_on : (whole had left : Option (List ℕ)) (core : State) (answer : ReelAnswer)
+pub held_on : (whole had left : Option (List ℕ)) (core new : State) (answer : ReelAnswer)
     (before key : FileKey) → is_finished core.position ≡ false → before.set_id ≡ core.set_id
     → before.file < core.file → key.set_id ≡ core.set_id → key.file ≡ core.file
     → EndsSection answer.answer → IfKnown whole had (PassesTo before)
-    → IfKnown had left (λ bytes rest. ReadsBehind core.position core bytes rest answer)
+    → IfKnown had left (λ bytes rest. ReadsBehind core.position core bytes rest answer new)
     → IfKnown whole left (PassesTo key)
-held_on None had left core answer before key waits same less set file ends p r = tt
-held_on (Some whole) None left core answer before key waits same less set file ends p r = absurd p
-held_on (Some whole) (Some had) None core answer before key waits same less set file ends p r = r
-held_on (Some whole) (Some had) (Some left) core answer before key waits same less set file ends p r
-    = passes_on core p.front p.at whole had left answer key waits set file ends
+held_on None had left core new answer before key waits same less set file ends p r = tt
+held_on (Some whole) None left core new answer before key waits same less set file ends p r = absurd p
+held_on (Some whole) (Some had) None core new answer before key waits same less set file ends p r = r
+held_on (Some whole) (Some had) (Some left) core new answer before key waits same less set file ends p r
+    = passes_on core new p.front p.at whole had left answer key waits set file ends
     (λ sound. p.passed core (sym same) less waits sound) p.walks
-    (behind_waits core.position core had left answer waits r)
+    (behind_waits core.position core new had left answer waits r)

@@ -1,4 +1,4 @@
--- Steps of a run that were made, one after another.
+-- Steps of a run that succeeded, one after another.
 use Rattle.std.proofs.Common.{◌≡◌, ℕ, zero, suc, ◌+◌, Bool, true, false, List, [], ◌∷◌, drop}
 use Rattle.std.proofs.Common.{Option, Some, None, ◌≤◌, length, take, IfSome, refl, sym, ap, ◌∙◌}
 use Rattle.std.proofs.Common.{subst, inr, ◌<◌, arith, append-nil, ◌++◌, slice_set}
@@ -86,7 +86,7 @@ restart_makes old mid k w readers steps = record {
   stood = λ behind back there h. inr ((mid, w, h));
 }
 
--- a reel was read: the notes are as they were, and no part went
+-- a reel was read: the checkpoints are unchanged, and no part was removed
 pub reel_made : (old mid : Seen) (o l : Option (List ℕ)) (failed : Bool)
     → IfSome o (λ bytes. Reeled bytes l failed old mid) → (readers : List (Option (List ℕ)))
     (was now : Crashes) → mid.notes ≡ old.notes → IsFront old.parts mid.parts
@@ -101,7 +101,7 @@ reel_made old mid o l failed r readers was now notes front none = record {
   );
 }
 
--- a checkpoint was made of the session's position, and only that is left
+-- a checkpoint was made of the session's position, and a crash leaves only that
 pub save_made : (old mid : Seen) → Saved old mid → (readers : List (Option (List ℕ)))
     (was now : Crashes) → LastAlone now mid → IsMade [] Save readers [] readers was now old mid
 save_made old mid v readers was now last = record {
@@ -109,7 +109,7 @@ save_made old mid v readers was now last = record {
   stays = λ saved before. (true, λ rest. refl, λ is. last);
 }
 
--- the session went back to a note
+-- the session rolled back to a checkpoint
 pub restart_made : (old mid : Seen) (k : ℕ) → WentBack k old mid
     → (readers : List (Option (List ℕ))) (was now : Crashes)
     → IsMade [] (Restart k) readers [] readers was now old mid
@@ -175,7 +175,7 @@ all_made made which old end steps i readers unread others behind past h =
     subst (λ w. Runs w old steps readers (unread ++ behind) end) (append-nil which)
     (h.runs [] behind end (rw (drop_all i steps past) ((refl, refl))))
 
--- the next step was not made
+-- the next step failed
 pub stops_here : (made : ℕ) (which : List Bool) (old mid new : Seen)
     (steps left rest : List Step) (step : Step)
     (readers unread others behind all : List (Option (List ℕ))) (fault : RunFault)
@@ -192,13 +192,13 @@ stops_here made which old mid new steps left rest step readers unread others beh
     (h.stops [] behind 0 fault new
     (rw e (record { step = step; at = refl; mid = mid; runs = (refl, refl); fails = f })))))
 
--- ---- what is written of the readers
+-- ---- the results recorded for the readers
 
 -- if nothing is written
 pub writes_none : (used : ℕ) (row : List Bool) → WritesFrom used [] row row used
 writes_none used row = (sym (take-append-drop used row), omega arith)
 
--- one is set if the list reaches that far
+-- an entry is set if the list reaches that far
 pub set_writes : (row : List Bool) (i : ℕ) (flag : Bool) → i < length row
     → slice_set row i flag ≡ take i row ++ written (flag ∷ []) (drop i row)
 set_writes [] i flag less = absurd (omega (arith, less))
@@ -206,7 +206,7 @@ set_writes (x ∷ row) zero flag less = refl
 set_writes (x ∷ row) (suc i) flag less =
     ap (λ r. x ∷ r) (set_writes row i flag (omega (arith, less)))
 
--- these after those that were written
+-- these values after those that were written before
 written_more : (which more row : List Bool) → take (length which) (written which row)
     ++ written more (drop (length which) (written which row)) ≡ written (which ++ more) row
 written_more [] more row = refl
@@ -214,7 +214,7 @@ written_more (v ∷ which) [] [] = refl
 written_more (v ∷ which) (m ∷ more) [] = refl
 written_more (v ∷ which) more (x ∷ row) = ap (λ r. v ∷ r) (written_more which more row)
 
--- what a step writes after what the steps before it wrote
+-- a step writes its values after those of the steps before it
 pub wrote : (which more start row new : List Bool) (used now_used : ℕ) → length which ≡ used
     → row ≡ written which start → WritesFrom used more row new now_used
     → new ≡ written (which ++ more) start
@@ -223,7 +223,7 @@ wrote which more start row new used now_used count e (is, n) =
     ∙ ap (λ r. take (length which) r ++ written more (drop (length which) r)) e
     ∙ written_more which more start
 
--- the step that is next
+-- the next step
 pub next_is : (steps : List Step) (i : ℕ) (step : Step) (rest : List Step)
     → drop i steps ≡ step ∷ rest → slice_get steps i ≡ Some step
 next_is [] zero step rest e = absurd (cc)
@@ -231,7 +231,7 @@ next_is [] (suc i) step rest e = absurd (cc)
 next_is (s ∷ steps) zero step rest e = cc
 next_is (s ∷ steps) (suc i) step rest e = next_is steps i step rest e
 
--- a step that loses what the sink holds is one of the steps
+-- a step that loses the contents of the sink is one of the steps
 pub lost_here : (steps : List Step) (i : ℕ) (step : Step) (rest : List Step) (fault : RunFault)
     → drop i steps ≡ step ∷ rest → LosesParts (step ∷ []) 0 fault → LosesParts steps i fault
 lost_here steps i step rest fault e ((note, is), device) =

@@ -1,4 +1,5 @@
--- The merged tape is as long as the longest reading, and bad only where all are.
+-- The merged tape is as long as the longest reading, and an item of it is bad only if it is bad in
+-- all readings.
 use Rattle.std.proofs.Common.{◌≡◌, ◌⊎◌, inl, inr, ℕ, zero, suc, ◌<◌, ◌≤◌, List, [], ◌∷◌, length}
 use Rattle.std.proofs.Common.{take}
 use Rattle.std.proofs.Common.{Some, None, refl, ap, ◌∙◌, arith, length-take}

@@ -62,7 +62,7 @@ alone_kept (suc n) rs ss same =
     ap (λ k. one_if (k == 1)) here in
     omega (arith, ih, one)
 
--- one more item, which so many readings have
+-- one more item, which `count` readings have
 alone_more : (n k have : ℕ) (rs ss : List (List TapeItem))
     → ((j : ℕ) → j < n → witnesses_at j ss ≡ witnesses_at j rs) → witnesses_at n ss ≡ have
     → k ≡ n + 1 → alone_in k ss ≡ alone_in n rs + one_if (have == 1)
@@ -98,7 +98,7 @@ miscounted_one : (t : Option Told) → miscounted_in (in_list t ++ []) ≡ misco
 miscounted_one None = refl
 miscounted_one (Some t) = omega arith
 
--- what counting one more item changes, which so many readings have
+-- how the counts change with one more item, which `count` readings have
 pub record CountsOne (a b : Merged) (p q : Phase) (have : ℕ) (x : TapeItem) : Type 0 where
   pub items : b.items ≡ a.items + 1
   pub alone : b.alone ≡ a.alone + one_if (have == 1)

@@ -1,4 +1,4 @@
--- What readers gave of an image.
+-- The bytes of an image that readers returned.
 use Rattle.std.proofs.Common.{◌≡◌, ◌⊎◌, inl, inr, ℕ, List, [], ◌∷◌, Some, sym, ap, subst, ◌∙◌}
 use Rattle.tape_image.specs.declared.item.ImageFault.{ImageFault}
 use Rattle.tape_image.specs.Tape.{TapeItem}
@@ -14,7 +14,7 @@ goes_on : (items : List TapeItem) (a b : Reader) → a.status ≡ going → Gave
 goes_on [] a b on same = ap (λ (r : Reader). r.status) same ∙ on
 goes_on (x ∷ items) a b on (mid, given, then) = goes_on items mid b given.goes_on then
 
--- what a reader has given, and what it has left
+-- the items that a reader has returned, and the bytes that it has left
 abbrev Gives : Reader → Reader → List TapeItem → List ℕ → Type 0
 Gives first now items bytes = (left : List ℕ) × (now.left ≡ Some left)
     × TakesAs first.place now.status items now.place bytes left

@@ -1,4 +1,4 @@
--- The merged tape of several readings, made from that of two.
+-- The merged tape of several readings, from the merged tape of two of them.
 use Rattle.std.proofs.Common.{◌≡◌, ◌⊎◌, inl, inr, ℕ, List, [], ◌∷◌, refl, sym, ap}
 use Rattle.std.proofs.Common.{subst, ◌∙◌}
 use Rattle.std.proofs.lemmas.Bool.{cases_eq}
@@ -98,7 +98,7 @@ tell_item (block a) mark =
 tell_item mark (block b) =
     inr (λ t h k. no_item mark (block b) t (λ e. cc e) (λ e. cc e) (λ e. cc e) h k)
 
--- the tape that two readings make
+-- the merged tape of two readings
 record Join (a b : List TapeItem) : Type 0 where
   pub items : List TapeItem
   pub first : IsReadFrom a items

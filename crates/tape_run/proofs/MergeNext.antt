@@ -1,4 +1,4 @@
--- What a call of `ImageReader::next` says of a reading that is asked for an item.
+-- The meaning of a call of `ImageReader::next` for a reading that is asked for an item.
 use Rattle.std.proofs.Common.{◌≡◌, ◌≢◌, inl, inr, ℕ, ◌+◌, ◌≤◌, Option, Some, None, Result, Ok, Err}
 use Rattle.std.proofs.Common.{Bool, true, false, refl, ap, subst, sym, ◌∙◌}
 use Rattle.tape_image.specs.declared.item.Item.{Item}
@@ -127,7 +127,7 @@ stop_never verdicts.Third x best now other beside is h = absurd (cc is)
 stop_never verdicts.Ended x best now other beside is h = h
 stop_never (verdicts.Failed fault) x best now other beside is h = h
 
--- the reading gave an item, with this verdict
+-- the reading returned an item, with this verdict
 pub asked_item : {R : Type 0} (old new : Reading R) (verdict : Verdict) (len badly : ℕ)
     (best now other beside : Option TapeItem)
     → Answered old.image new.image verdict len best now other beside → new.verdict ≡ verdict

@@ -1,4 +1,4 @@
--- One more item of a place.
+-- One more item at a place.
 use Rattle.std.proofs.Common.{◌≡◌, inl, inr, List, [], ◌∷◌, ◌++◌, length, Option, Some, None}
 use Rattle.std.proofs.Common.{refl, sym, ap, subst, append-nil}
 use Rattle.tape_image.specs.Tape.{TapeItem, block, bad, mark}
@@ -7,7 +7,7 @@ use Rattle.tape_run.specs.MergeSteps.{agrees, joined, best_items}
 use Rattle.tape_run.proofs.MergeReadings.{reads_self, reads_more, reads_front, reads_short}
 use Rattle.tape_run.proofs.MergeReadings.{reads_one_more, reads_behind, meets_both}
 
--- two readings of one item of a tape agree
+-- two readings of the same item of a tape agree
 both_agree : (y x z : TapeItem) → IsReadAs y z → IsReadAs x z → agrees (Some y) x
 both_agree bad x z h k = tt
 both_agree (block b) bad z h k = tt
@@ -23,7 +23,7 @@ both_agree mark (block c) z (inl e) k = absurd (cc e)
 both_agree mark (block c) z (inr e) (inl f) = absurd (cc f)
 both_agree mark (block c) z (inr e) (inr f) = absurd (cc (e, f))
 
--- the item is read from the better of the two
+-- an item that agrees with the best one is a reading of the better of the two
 item_met : (best : Option TapeItem) (x : TapeItem) → agrees best x → IsReadAs x (joined best x)
 item_met None x a = inr refl
 item_met (Some bad) x a = inr refl
@@ -34,13 +34,13 @@ item_met (Some mark) (block c) a = absurd a
 item_met (Some mark) bad a = inl refl
 item_met (Some mark) mark a = inr refl
 
--- so is the best one before
+-- so is the earlier best one
 best_met : (y x : TapeItem) → IsReadAs y (joined (Some y) x)
 best_met bad x = inl refl
 best_met (block b) x = inr refl
 best_met mark x = inr refl
 
--- with the item the tape is a better one
+-- the tape with the best item so far is a reading of the tape with the better of that and the item
 pub best_better : (m : List TapeItem) (best : Option TapeItem) (x : TapeItem)
     → IsReadFrom (m ++ best_items best) (m ++ joined best x ∷ [])
 best_better m None x =
@@ -49,7 +49,8 @@ best_better m None x =
 best_better m (Some y) x =
     reads_one_more m m y (joined (Some y) x) refl (reads_self m) (best_met y x)
 
--- a reading with the item is one of the tape with the better of the two
+-- a reading that continues with the item is a reading of the tape that continues with the better
+-- item
 pub reads_best : (m r : List TapeItem) (best : Option TapeItem) (x : TapeItem) → agrees best x
     → length r ≡ length m → IsReadFrom r (m ++ best_items best)
     → IsReadFrom (r ++ x ∷ []) (m ++ joined best x ∷ [])
@@ -57,8 +58,8 @@ reads_best m r best x a e h =
     reads_one_more r m x (joined best x) e (reads_short r m (best_items best) e h)
     (item_met best x a)
 
--- the better of the two is a reading of each tape of which the best item before is one, and the
--- reading with the item
+-- a reading with the better of the two items is a reading of each tape of which both the earlier
+-- best item and the reading with the item are readings
 pub best_least : (m r t : List TapeItem) (best : Option TapeItem) (x : TapeItem)
     → length r ≡ length m → IsReadFrom (m ++ best_items best) t → IsReadFrom (r ++ x ∷ []) t
     → IsReadFrom (m ++ joined best x ∷ []) t
@@ -67,7 +68,7 @@ best_least m r t (Some bad) x e h k = reads_behind m r t x e (reads_front m (bad
 best_least m r t (Some (block b)) x e h k = h
 best_least m r t (Some mark) x e h k = h
 
--- where the item does not agree there is no such tape
+-- if the item does not agree, there is no such tape
 pub best_differs : (m r t : List TapeItem) (best : Option TapeItem) (x : TapeItem)
     → (agrees best x → ⊥) → length r ≡ length m → IsReadFrom (m ++ best_items best) t
     → IsReadFrom (r ++ x ∷ []) t → ⊥

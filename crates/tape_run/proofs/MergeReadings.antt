@@ -1,4 +1,4 @@
--- Readings of a longer or a better tape, and readings with one item more.
+-- Readings of a longer or a better tape, and readings with one more item.
 use Rattle.std.proofs.Common.{◌≡◌, inl, inr, List, [], ◌∷◌, ◌++◌, length, refl, ◌∙◌}
 use Rattle.std.proofs.Common.{arith}
 use Rattle.tape_image.specs.Tape.{TapeItem}
@@ -13,7 +13,7 @@ pub reads_self : (r : List TapeItem) → IsReadFrom r r
 reads_self [] = tt
 reads_self (x ∷ r) = (inr refl, reads_self r)
 
--- a reading of a reading is one of the tape
+-- a reading of a reading of a tape is a reading of the tape
 pub reads_trans : (r s t : List TapeItem) → IsReadFrom r s → IsReadFrom s t → IsReadFrom r t
 reads_trans [] s t h k = tt
 reads_trans (x ∷ r) [] t h k = absurd h
@@ -30,7 +30,7 @@ reads_front [] more t h = tt
 reads_front (x ∷ r) more [] h = absurd h
 reads_front (x ∷ r) more (y ∷ t) h = (h.0, reads_front r more t h.1)
 
--- a reading no longer than a prefix of the tape is a reading of the prefix
+-- a reading that is not longer than a prefix of the tape is a reading of the prefix
 pub reads_short : (r t more : List TapeItem) → length r ≡ length t → IsReadFrom r (t ++ more)
     → IsReadFrom r t
 reads_short [] t more e h = tt
@@ -45,7 +45,7 @@ reads_one_more (a ∷ r) [] x y e h m = absurd h
 reads_one_more (a ∷ r) (b ∷ t) x y e h m =
     (h.0, reads_one_more r t x y (omega arith) h.1 m)
 
--- an item that one reading has after a prefix another reading of the same tape may have there
+-- an item of one reading after a prefix is possible there in another reading of the same tape
 pub reads_behind : (s r t : List TapeItem) (x : TapeItem) → length r ≡ length s
     → IsReadFrom s t → IsReadFrom (r ++ x ∷ []) t → IsReadFrom (s ++ x ∷ []) t
 reads_behind [] [] t x e h k = k
@@ -55,7 +55,7 @@ reads_behind (b ∷ s) (a ∷ r) [] x e h k = absurd h
 reads_behind (b ∷ s) (a ∷ r) (c ∷ t) x e h k =
     (h.0, reads_behind s r t x (omega arith) h.1 k.1)
 
--- two readings of one tape have the same item of it after prefixes of equal length
+-- two readings of one tape have readings of the same item after prefixes of equal length
 pub meets_both : (r s t : List TapeItem) (x y : TapeItem) → length r ≡ length s
     → IsReadFrom (r ++ x ∷ []) t → IsReadFrom (s ++ y ∷ []) t
     → (z : TapeItem) × (IsReadAs x z × IsReadAs y z)

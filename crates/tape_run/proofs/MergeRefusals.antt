@@ -57,7 +57,7 @@ best_fits (o ∷ olds) [] best now other beside h asked = absurd asked
 best_fits (o ∷ olds) (n ∷ nows) best now other beside h (mid, between, one, rest) =
     best_fits olds nows mid now between beside (asked_fits o n best mid other between h one) rest
 
--- an open writer refuses it since the device fails, or since there is no room
+-- an open writer refuses it because the device fails, or because there is no room
 puts_fault : (bytes : List ℕ) (after : Standing) (old new : Writer) (fault : ImageWriteFault)
     → Puts bytes after old (Err fault) new → (fault ≢ BlockLength) × (fault ≢ Finished)
 puts_fault bytes after old new TooLong h = (λ e. cc e, λ e. cc e)

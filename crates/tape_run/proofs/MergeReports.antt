@@ -16,13 +16,13 @@ use Rattle.tape_run.specs.MergeNow.{SomeEnds, EndsAs}
 
 -- ---- lines
 
-drop_none : {A : Type 0} (xs : List A) (n : ℕ) → length xs ≤ n → drop n xs ≡ []
+pub drop_none : {A : Type 0} (xs : List A) (n : ℕ) → length xs ≤ n → drop n xs ≡ []
 drop_none [] zero le = refl
 drop_none [] (suc n) le = refl
 drop_none (x ∷ xs) zero le = absurd (omega arith)
 drop_none (x ∷ xs) (suc n) le = drop_none xs n (omega arith)
 
-drop_one : {A : Type 0} (xs : List A) (n : ℕ) (x : A) → n < length xs → x ≡ get_or xs n x
+pub drop_one : {A : Type 0} (xs : List A) (n : ℕ) (x : A) → n < length xs → x ≡ get_or xs n x
     → drop n xs ≡ x ∷ drop (n + 1) xs
 drop_one {A} [] n x lt is = absurd (omega arith)
 drop_one {A} (y ∷ xs) zero x lt is = ap (λ (z : A). z ∷ xs) (sym is)
@@ -31,7 +31,7 @@ drop_one {A} (y ∷ xs) (suc n) x lt is =
     drop_one xs n x (omega arith) is
     ∙ ap (λ (l : List A). x ∷ l) (ap (λ k. drop k (y ∷ xs)) (sym next))
 
--- The lines of these were reported, and with those of the others that will be all.
+-- The lines of these readings were reported; the lines of the others will complete the report.
 abbrev pub ReportsFirst : {A : Type 0} → (ℕ → A → List ℕ) → ℕ → List A → Option (List ℕ)
     → Option (List ℕ) → Type 0
 ReportsFirst line number xs old mid = (new : Option (List ℕ))
@@ -55,7 +55,7 @@ reports_all {A} line number xs old new le h =
     h new (subst (λ (l : List A). Appends new new (lines_from line number l))
     (sym (drop_none xs number le)) (Appends-nil new))
 
--- the line of an item that is there
+-- the line of an item that exists
 pub item_some : (o : Option HasLine) (has : HasLine) (number : ℕ) (name : List ℕ) → o ≡ Some has
     → item_line o number name ≡ with_name (has_text (number + 1) has) name
 item_some o has number name is = ap (λ (o : Option HasLine). item_line o number name) is
@@ -66,7 +66,7 @@ item_none o number name is = ap (λ (o : Option HasLine). item_line o number nam
 
 -- ---- how the merged image ends
 
--- After some readings: none of them ended so that the answer would be another.
+-- After some readings, none of which ended in a way that would change the answer.
 pub record EndsSoFar {R : Type 0} (items : ℕ) (number : ℕ) (all : List (Reading R))
     (end : MergedEnd) : Type 0 where
   pub no_marked : SomeEnds items endings.Marked all
@@ -76,7 +76,7 @@ pub record EndsSoFar {R : Type 0} (items : ℕ) (number : ℕ) (all : List (Read
   pub cut : end ≡ Cut → SomeEnds items endings.Physical all
       → SomeEnds items endings.Physical (drop number all)
 
--- the reading with this number ended so
+-- the reading with this number ended like this
 pub ends_here : {R : Type 0} (items number : ℕ) (all : List (Reading R)) (r : Reading R)
     (ending : Ending) → number < length all → r ≡ get_or all number r → r.items ≡ items
     → r.image.status ≡ ended ending → SomeEnds items ending all
@@ -113,7 +113,7 @@ ending_is (failed fault) ending is = absurd (cc is)
 pub ending_none : (s : Status) (ending : Ending) → ending_of s ≡ None → s ≡ ended ending → ⊥
 ending_none s ending none is = cc (none, ap ending_of is)
 
--- it ended by the end of the bytes
+-- it ended with the end of its bytes
 pub ends_physical : {R : Type 0} (items number : ℕ) (all : List (Reading R)) (end : MergedEnd)
     (r : Reading R) → number < length all → r ≡ get_or all number r → r.items ≡ items
     → ending_of r.image.status ≡ Some endings.Physical → EndsSoFar items number all end

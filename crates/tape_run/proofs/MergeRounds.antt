@@ -1,4 +1,4 @@
--- A round of asking, as a loop makes it.
+-- A round in which all readings are asked, in the form of a loop.
 use Rattle.std.proofs.Common.{◌≡◌, ℕ, zero, suc, ◌+◌, ◌<◌, ◌≤◌, List, [], ◌∷◌, length, get_or}
 use Rattle.std.proofs.Common.{Option, None, refl, sym, ap, subst, ◌∙◌, arith}
 use Rattle.std.proofs.Math.ListN.{set}
@@ -9,7 +9,8 @@ use Rattle.tape_run.specs.declared.merge.reading.Verdict.TheVariants as verdicts
 use Rattle.tape_run.specs.MergeSteps.{Asked, AskedAll}
 use Rattle.tape_run.specs.MergeCalls.{has_first, firsts_in}
 
--- so many of them were asked, and of these so many have the best item; the others were not asked
+-- the number of readings asked so far, and how many of them have the best item; the others were not
+-- asked
 abbrev pub AskedFirst : {R : Type 0} → ℕ → List (Reading R) → List (Reading R) → Option TapeItem
     → Option TapeItem → Option TapeItem → Option TapeItem → ℕ → Type 0
 AskedFirst zero olds nows best now other beside have =
@@ -20,7 +21,7 @@ AskedFirst (suc k) (o ∷ olds) (n ∷ nows) best now other beside have =
     × (have ≡ has_first n.verdict + rest)
 AskedFirst (suc k) _ _ best now other beside have = ⊥
 
--- the same of equal readings and equal items
+-- the same for equal readings and equal items
 moved : {R : Type 0} (o p n : Reading R) (best mid now other between beside : Option TapeItem)
     → o ≡ p → mid ≡ best → between ≡ other → Asked o n mid now between beside
     → Asked p n best now other beside
@@ -100,14 +101,14 @@ loop_ends olds nows i best now other beside have h all =
     first_all olds nows best now other beside have
     (subst (λ (k : ℕ). AskedFirst k olds nows best now other beside have) all h)
 
--- what an element of a list was asked
+-- the verdict of an element of a list
 pub asked_at : {R : Type 0} (nows : List (Reading R)) (i : ℕ) (o n : Reading R)
     (best now other beside : Option TapeItem) → o ≡ get_or nows i o
     → Asked (get_or nows i o) n best now other beside → Asked o n best now other beside
 asked_at {R} nows i o n best now other beside is asked =
     subst (λ (x : Reading R). Asked x n best now other beside) (sym is) asked
 
--- the element that was set is there
+-- the element that was set is in the list
 pub set_here : {A : Type 0} (xs : List A) (i : ℕ) (n r : A) → i < length xs
     → r ≡ get_or (set xs i n) i r → r ≡ n
 set_here [] i n r lt is = absurd (omega arith)

@@ -1,5 +1,5 @@
--- A better reading of a volume takes a position at least as far: as `Reaching` of tape_set, with
--- any better reading in place of a longer one.
+-- A better reading of a volume moves a position at least as far: like `Reaching` of tape_set, with
+-- any better reading instead of a longer one.
 use Rattle.std.proofs.Common.{◌≡◌, ◌<◌, ◌≤◌, ℕ, zero, suc, ◌+◌, ◌-◌, List, [], ◌∷◌}
 use Rattle.std.proofs.Common.{length, take, drop, Bool, true, false, cond, ltb, Option, Some, None}
 use Rattle.std.proofs.Common.{refl, sym, ap, subst, ◌∙◌, arith}
@@ -71,7 +71,7 @@ passes_better (g ∷ gs) (k ∷ hs) (e ∷ es) w h =
     (or_better g k (is_data e) w.0 (and_left (g || is_data e) (passes gs es) h))
     (passes_better gs hs es w.1 (and_right (g || is_data e) (passes gs es) h))
 
--- ---- where it stops in a section
+-- ---- the position reached in a section
 
 up_to_choice : (p q r : Position) (t : Bool) → IsUpTo p q → IsUpTo p r → IsUpTo p (cond t q r)
 up_to_choice p q r true a b = a
@@ -81,18 +81,18 @@ choice_up_to : (p q r : Position) (t : Bool) → IsUpTo p r → IsUpTo q r → I
 choice_up_to p q r true a b = a
 choice_up_to p q r false a b = b
 
--- a position in a section is not behind any place behind the section
+-- a position in a section is not after the place where the section ends
 pub up_to_behind : (sect b k : ℕ) (s : Section) → IsUpTo (Awaits sect b k) (behind sect s)
 up_to_behind sect b k s =
     up_to_choice (Awaits sect b k) Finished (next_section (awaiting sect 0)) (ends_file s)
     (up_to_end (Awaits sect b k)) (up_to_section sect (sect + 1) b 0 k 0 (omega arith))
 
--- the position, which awaits a part of block b of section sect
+-- the position that expects a part of block b of section sect
 module _ (sect b k : ℕ) where
   abbrev here : Position
   here = Awaits sect b k
 
-  -- where the reading stops at block r
+  -- the position if the reading stops at block r
   abbrev stop : ℕ → Position
   stop r = stopped here sect b r
 
@@ -116,17 +116,17 @@ module _ (sect b k : ℕ) where
   stop_up_to_behind r s = choice_up_to here (awaiting sect r) (behind sect s)
       (r == b) (up_to_behind sect b k s) (up_to_behind sect r 0 s)
 
-  -- the choice between the block that was reached and the place q behind the section
+  -- the choice between the reached block and the place q after the section
   abbrev chosen : ℕ → ℕ → Position → Bool → Position
   chosen n r q u = cond (ltb r n) (stop r) (cond u q (stop n))
 
-  -- what is not behind the blocks from r on and not behind q, is not behind what is chosen
+  -- a position not after the blocks from r on, and not after q, is not after the chosen one
   up_to_chosen : (p : Position) (n r : ℕ) (q : Position) (u : Bool) → IsUpTo p (stop r) → IsUpTo p q
       → IsUpTo p (stop n) → IsUpTo p (chosen n r q u)
   up_to_chosen p n r q u at there end = up_to_choice p (stop r) (cond u q (stop n)) (ltb r n) at
       (up_to_choice p q (stop n) u there end)
 
-  -- ---- no reading takes a position back
+  -- ---- no reading moves a position back
 
   up_to_moved : (s : Section) (good : List Bool) → IsUpTo here (moved here sect b s good)
   up_to_moved s good = go (ltb (length s.blocks) b) refl
@@ -150,7 +150,7 @@ module _ (sect b k : ℕ) where
       ((s.volume == r.volume) && passes r.good (before_data set file sect s)) (up_to_moved s _)
       (up_to_same here)
 
-  -- ---- a longer reading never gives less
+  -- ---- a longer reading never moves a position less far
 
   chosen_longer : (n r r' : ℕ) (q : Position) (u u' : Bool) → b ≤ r → r ≤ n → r ≤ r'
       → ((c : ℕ) → IsUpTo (stop c) q) → (u ≡ true → u' ≡ true)
@@ -192,7 +192,7 @@ module _ (sect b k : ℕ) where
           (omega arith) (first_unread_most gs b (length s.blocks) (grind (arith, nat_tests)))
           (omega arith) (λ c. stop_up_to_behind c s) (both_better (length s.blocks) gs hs w)
 
-  -- the same of a section with this before its data
+  -- the same for a section, given the items before its data
   section_longer : (s : Section) (there : Bool) (es : List Entry) (gs hs : List Bool)
       → IsWithin gs hs
       → IsUpTo (cond (there && passes gs es) (moved here sect b s (drop (length es) gs)) here) (cond

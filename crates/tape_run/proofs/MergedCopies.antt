@@ -105,10 +105,10 @@ copies_read set k (xs ∷ images) [] m c h = absurd c
 copies_read set k (xs ∷ images) (r ∷ rs) m c h =
     (copy_reads set k xs m r c.0 c.1 h.0, copies_read set k images rs m c.2 h.1)
 
--- ---- which items were read well
+-- ---- the items that could be read
 
--- which items of a volume were read well among the merged ones, up to the end of the shorter, and
--- the merged items after the volume
+-- for each item of a volume, whether the merged item in its place could be read, up to the end of
+-- the shorter list; and the merged items after the volume
 abbrev Marks : List TapeItem → List TapeItem → List Bool → List TapeItem → Type 0
 Marks [] m good more = (good ≡ []) × (more ≡ m)
 Marks (x ∷ xs) [] good more = (good ≡ []) × (more ≡ [])
@@ -152,7 +152,7 @@ marks_length (x ∷ xs) (y ∷ m) (g ∷ good) more h =
     let ih : length good ≤ length xs = marks_length xs m good more h.2 in
     omega arith
 
--- there are items after the volume only after all of it
+-- there are items after the volume only if all of it was read
 marks_full : (xs m : List TapeItem) (good : List Bool) (more : List TapeItem)
     → Marks xs m good more → more ≢ [] → length good ≡ length xs
 marks_full [] m good more h some = ap length h.0
@@ -175,7 +175,7 @@ no_bad (a_label bytes ∷ es) = (λ e. cc e, no_bad es)
 no_bad (a_data_block bytes ∷ es) = (λ e. cc e, no_bad es)
 no_bad (a_mark ∷ es) = (λ e. cc e, no_bad es)
 
--- an item that was read well is merged as it is
+-- an item that was read well is merged unchanged
 told_well : (x y : TapeItem) (g h : Bool) → x ≢ bad → IsReadAs (cond g x bad) y
     → (h ≡ false → y ≡ bad) → g ≡ true → h ≡ true
 told_well x y g true some met off on = refl
@@ -226,7 +226,7 @@ copies_within set k (xs ∷ images) (r ∷ rs) m s more none c h marked = (
 
 -- ---- after the volume
 
--- a copy with items after the volume has passed it
+-- a copy with items after the volume contains the whole volume
 copy_passes : (set : FileSet) (k : ℕ) (xs : List TapeItem) (r : Reading) → IsCopy set xs r
     → r.volume ≡ k → length (items set k) < length xs → passes r.good (entries set k) ≡ true
 copy_passes set k xs r c same longer = go c.more c.whole c.behind

@@ -1,4 +1,4 @@
--- Reading the merged image once takes a position at least as far as its copies, read again and
+-- Reading the merged image once moves a position at least as far as reading its copies again and
 -- again.
 use Rattle.std.proofs.Common.{◌≡◌, ◌≢◌, ◌<◌, ◌≤◌, ◌⊎◌, inl, inr, ℕ, zero, suc, ◌+◌, ◌-◌, List, []}
 use Rattle.std.proofs.Common.{◌∷◌, length, take, drop, Bool, true, false, cond, ltb, Option, Some}
@@ -63,7 +63,7 @@ first_same good b c n le low high =
     ∙ ap (λ (l : List Bool). good_run (take ((n - b) - (c - b)) l)) there in
     omega (arith, run, same, e)
 
--- ---- where a reading takes a position in a section
+-- ---- where a reading moves a position in a section
 
 data Goes (t b j : ℕ) (w : Section) (good : List Bool) (there : Position) : Type 0 where
   stays : there ≡ Awaits t b j → Goes t b j w good there
@@ -124,7 +124,7 @@ goes t b j w good = one (ltb (length w.blocks) b) refl
 
 -- ---- from a position on the way the same reading goes no further
 
--- where a reading takes any position
+-- where a reading moves any position
 abbrev moves : Section → List Bool → Position → Position
 moves w good (Awaits t b j) = moved (Awaits t b j) t b w good
 moves w good Finished = Finished
@@ -190,7 +190,7 @@ later_or_same s t le = go (ltb s t) refl
     go true e = inr (grind (arith, nat_tests))
     go false e = inl (grind (arith, nat_tests))
 
--- no further than the front of a section, but in a later one
+-- no further than the start of a section, except in a later section
 at_front : (t x c i : ℕ) → t < x → IsUpTo (Awaits x c i) (awaiting (t + 1) 0)
     → Awaits x c i ≡ awaiting (t + 1) 0
 at_front t x c i lt (inr e) = e
@@ -229,7 +229,7 @@ module _ (set : FileSet) (file : ℕ) (s : Reading) (lawful : GoesOnOnNext set) 
       far_passed (t + 1) 0 0 v false g
       (ap (λ (y : Bool). y && passes s.good (before_data set file (t + 1) v)) off)
 
-  -- what comes no further than where it began, and not less far
+  -- a position that is not further than its start, and not less far, is equal to it
   stayed : (p q : Position) → far set file p s ≡ p → IsUpTo p q → IsUpTo q (far set file p s)
       → IsUpTo (far set file q s) (far set file p s)
   stayed p q e below on =

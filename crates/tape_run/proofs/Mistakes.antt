@@ -1,4 +1,4 @@
--- Answers that the contracts of a session exclude: each is what a wrong body would give.
+-- Wrong answers that the contracts of a session exclude.
 use Rattle.std.proofs.Common.{◌≡◌, ℕ, ◌+◌, ◌≤◌, List, [], ◌∷◌, length, true, false, refl, sym, ap}
 use Rattle.std.proofs.Common.{◌∙◌, subst, arith, inl, inr}
 use Rattle.std.specs.Prelude.{Option, Some, None, Ok, Err, slice_get, IfSome}
@@ -27,7 +27,7 @@ use Rattle.tape_run.proofs.session.Session.restart.Reads as restart
 use Rattle.tape_run.proofs.session.Session.save.Reads as save
 use Rattle.tape_run.proofs.session.Session.want.Reads as want
 
--- ---- where a session begins, and what it needs
+-- ---- the start of a session, and the part that it needs
 
 -- first_file_always: a session of file 2 begins file 1.
 first_file_always : (S : _) (LS : _) (g : _) (d : _) (w : _) (κs : _) (a : _) (session : _) (s : _)
@@ -36,7 +36,7 @@ first_file_always : (S : _) (LS : _) (g : _) (d : _) (w : _) (κs : _) (a : _) (
 first_file_always S LS g d w κs a session s l two one =
     absurd (let e : 1 ≡ 2 = sym one ∙ ap (λ c. c.file) l.core ∙ two in omega arith)
 
--- no_file_begun: file 1 is refused, as if this were not the number of a file.
+-- no_file_begun: file 1 is refused, as if this were not a valid number.
 no_file_begun : (S : _) (LS : _) (g : _) (d : _) (w : _) (κs : _) (a : _) (s : _)
     → new.Learnt-named S LS g d w κs a (Err FileNumber) s → a.1.1.0 ≡ 1 → ⊥
 no_file_begun S LS g d w κs a s l one =
@@ -44,7 +44,7 @@ no_file_begun S LS g d w κs a s l one =
     let most : 1 ≤ 9999 = omega arith in
     absurd (cc (l.number (subst IsFileNumber (sym one) (least, most))))
 
--- failures_from_1: a session that was resumed counts a reader that failed before any was read.
+-- failures_from_1: a session that was resumed counts a failed reader before any was read.
 failures_from_1 : (S : _) (LS : _) (g : _) (d : _) (κs : _) (a : _) (z : _) (s : _)
     → resume.Learnt-named S LS g d κs a z s → z.failures ≡ 1 → ⊥
 failures_from_1 S LS g d κs a z s l one =
@@ -59,7 +59,7 @@ resumed_at_start S LS g d κs a z s l five start =
     = ap (λ p. p.position) (l.resumed []).place in
     absurd (let n : 0 ≡ 5 = ap block_of (sym start ∙ e ∙ five) in omega arith)
 
--- nothing_wanted: a file of which nothing was read is reported as complete.
+-- nothing_wanted: a file is reported as complete before anything of it was read.
 nothing_wanted : (S : _) (LS : _) (g : _) (d : _) (κs : _) (a : _) (s : _)
     → want.Learnt S LS g d κs a None s → a.0.now.core.position ≡ Awaits 1 0 0 → ⊥
 nothing_wanted S LS g d κs a s h start =
@@ -74,12 +74,12 @@ faults_numbered_anew κs a s h w = absurd (let e : 5 ≡ 4 = h ∙ ap number_of 
 
 -- ---- the count of readers that failed
 
--- the effect on a session of a reel whose reader told its bytes
+-- the effect on a session of a reel whose reader knew its bytes
 count_of : (bytes : List ℕ) (left : Option (List ℕ)) (P : List ℕ → Type 0) → IfSome left P
     → left ≡ Some bytes → P bytes
 count_of bytes left P k b = subst (λ v. IfSome v P) b k
 
--- failure_not_counted: a reader failed, and no failure is counted.
+-- failure_not_counted: a reader failed, but no failure is counted.
 failure_not_counted : (S : _) (R : _) (LS : _) (LR : _) (g : _) (d : _) (h : _) (e : _) (κs : _)
     (a : _) (answer : _) (s : _) (held : List Portion) (bytes : List ℕ) (place : ℕ)
     → reel.Learnt-named S R LS LR g d h e κs a (Ok answer) s
@@ -93,7 +93,7 @@ failure_not_counted S R LS LR g d h e κs a answer s held bytes place l was b de
     ∙ ap (counted true) zero in
     absurd (omega (arith, n))
 
--- failure_counted_that_was_none: an image that is cut off counts as a reader that failed.
+-- failure_counted_that_was_none: an image that is truncated counts as a reader that failed.
 failure_counted_that_was_none : (κs : _) (a : _) (s : _) (place : ℕ) → is_device.Learnt κs a true s
     → a.0.now.fault ≡ Some (record { place = place; cause = causes.Truncated }) → ⊥
 failure_counted_that_was_none κs a s place h w =
@@ -108,7 +108,7 @@ weight_not_noted : (S : _) (LS : _) (g : _) (d : _) (κs : _) (a : _) (point : _
 weight_not_noted S LS g d κs a point s held l w five none =
     absurd (let e : 0 ≡ 5 = sym none ∙ ap (λ c. c.staged) (l.point held w) ∙ five in omega arith)
 
--- refused_note_kept: the sink refused, and the session has a note more.
+-- refused_note_kept: the sink refused a save, but the session has one more checkpoint.
 refused_note_kept : (S : _) (LS : _) (g : _) (d : _) (κs : _) (a : _) (cause : _) (s : _)
     (held : _) → save.Learnt-named S LS g d κs a (Err (run.Sink cause)) s
     → g.holds a.0.now.sink held
@@ -117,7 +117,8 @@ refused_note_kept S LS g d κs a cause s held l w n =
     let e : length s.0.now.notes ≡ length a.0.now.notes = ap length (l.err held w).2.notes in
     absurd (omega (arith, e, n))
 
--- a session with two notes of its start, and no parts, is as `restart` asks of its notes
+-- a session with two checkpoints at its start, and without parts, satisfies what `restart` requires
+-- of checkpoints
 two_notes : (place : State) (note : Point) → note.set_id ≡ place.set_id → note.file ≡ place.file
     → note.staged ≡ 0 → KeepsNotes place [] (note ∷ note ∷ []) []
 two_notes place note set file light =
@@ -142,8 +143,7 @@ restart_keeps_later_notes S LS g d κs a s note l was both set file light first 
     absurd (omega (arith, n, first, all))
 
 -- restart_keeps_later_parts: at a checkpoint with weight 10 the sink still contains parts with
--- weight 20, as before. Each session satisfies what is assumed of its checkpoints (`kept` of
--- `Session::new`).
+-- weight 20. The assumption about checkpoints is true of every session (`kept` of `Session::new`).
 restart_keeps_later_parts : (S : _) (LS : _) (g : _) (d : _) (κs : _) (a : _) (s : _)
     (held : List Portion) (point : Point) → restart.Learnt-named S LS g d κs a (Ok tt) s
     → g.holds a.0.now.sink held → IsKept (seen g a.0.now held)
@@ -157,7 +157,8 @@ restart_keeps_later_parts S LS g d κs a s held point l was kept noted ten twent
     ∙ ap (λ c. c.staged) p ∙ ten in
     absurd (omega (arith, n))
 
--- no_such_point_cuts: a session without notes is asked to go back, and its sink is cut to nothing.
+-- no_such_point_cuts: a session without checkpoints is asked to roll back, and its sink is cut to
+-- nothing.
 no_such_point_cuts : (S : _) (LS : _) (g : _) (d : _) (κs : _) (a : _) (s : _)
     (part : Portion) → restart.Learnt-named S LS g d κs a (Err run.NoSuchPoint) s
     → g.holds a.0.now.sink (part ∷ []) → a.0.now.notes ≡ []
@@ -171,7 +172,7 @@ no_such_point_cuts S LS g d κs a s part l was none one gone =
     let n : 1 ≡ 0 = ap length (one held [] same gone) in
     absurd (omega (arith, n))
 
--- restart_keeps_complete: a complete session that goes back to a note stays complete.
+-- restart_keeps_complete: a complete session that rolls back to a checkpoint remains complete.
 restart_keeps_complete : (S : _) (LS : _) (g : _) (d : _) (κs : _) (a : _) (s : _)
     (held : List Portion) (point : Point) → restart.Learnt-named S LS g d κs a (Ok tt) s
     → g.holds a.0.now.sink held → IsKept (seen g a.0.now held)
@@ -186,7 +187,7 @@ restart_keeps_complete S LS g d κs a s held point l was kept noted start end =
     absurd (cc f)
 
 -- saves_before_going_back: a session at block 5 rolls back to a checkpoint at the start of the
--- file, the only one that a crash could leave, and what a crash leaves is at block 5.
+-- file, the only state that a crash could leave, but now a crash leaves block 5.
 saves_before_going_back : (S : _) (LS : _) (g : _) (d : _) (κs : _) (a : _) (s : _)
     (held there : List Portion) (note back : Point)
     → restart.Learnt-named S LS g d κs a (Ok tt) s

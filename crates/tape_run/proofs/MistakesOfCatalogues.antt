@@ -1,4 +1,4 @@
--- Answers that the contracts of a catalogue exclude: each is what a wrong body would give.
+-- Wrong answers that the contracts of a catalogue exclude.
 use Rattle.std.proofs.Common.{◌≡◌, ℕ, List, [], ◌∷◌, ◌++◌, length, map, true, false, sym, ap}
 use Rattle.std.proofs.Common.{◌∙◌, subst, arith, codes}
 use Rattle.std.specs.Prelude.{Option, Some, None, Ok, MatchOption}
@@ -36,7 +36,7 @@ use Rattle.tape_run.proofs.report.check_set.Reads as check_set
 
 -- ---- what an image adds
 
--- what a reader that tells its bytes stopped after
+-- the items after which a reader that knows its bytes stopped
 stops_there : (before after : Option (List ℕ)) (items : List TapeItem) (stop want : ImageStop)
     (bytes left : List ℕ) → IfKnown before after (StopsBehind items stop)
     → before ≡ Some bytes → after ≡ Some left → stop ≡ want → StopsBehind items want bytes left
@@ -60,8 +60,8 @@ fault_told_as_an_end R LR h d κs a line s l bytes left items place cause b q be
     begins t.1.begins).2 in
     absurd (cc)
 
--- items_behind_the_second_mark_not_counted: an image has nine items up to its end word, and eight
--- are counted.
+-- items_behind_the_second_mark_not_counted: an image has nine items up to its end-of-medium marker,
+-- but eight are counted.
 items_behind_the_second_mark_not_counted : (R : _) (LR : _) (h : _) (d : _) (κs : _) (a : _)
     (line : _) (s : _) → add.Learnt-named R LR h d κs a (Ok line) s
     → (bytes left : List ℕ) (items : List TapeItem) (end : ℕ)
@@ -82,7 +82,7 @@ abbrev first_file : List SectionKey → ℕ
 first_file [] = 0
 first_file (key ∷ keys) = key.file
 
--- replaced_entry_put_last: of two sections the first is found again, and is put last.
+-- replaced_entry_put_last: the first of two sections is found again, and becomes the last.
 replaced_entry_put_last : (R : _) (LR : _) (h : _) (d : _) (κs : _) (a : _) (line : _) (s : _)
     (x y : Told) (again : Entry) → add.Learnt-named R LR h d κs a (Ok line) s
     → a.0.now ≡ x ∷ y ∷ [] → x.0.file ≡ 1 → y.0.file ≡ 2
@@ -97,7 +97,7 @@ replaced_entry_put_last R LR h d κs a line s x y again l old one two new =
 
 -- ---- which sections items contain
 
--- a section of file 1 of which this many blocks were found
+-- a section of file 1, with the number of blocks found
 abbrev met : List ℕ → List ℕ → ℕ → Met
 met set_id volume blocks =
     let key : SectionKey = record { set_id = set_id; file = 1; sect = 1 } in
@@ -111,7 +111,7 @@ trailer head file count = record {
   blocks = count;
 }
 
--- closing_numbers_not_compared: a trailer label of file 2 is taken for that of a section of file 1.
+-- closing_numbers_not_compared: a trailer label of file 2 ends a section of file 1.
 closing_numbers_not_compared : (κs : _) (a : _) (s : _) (id volume : List ℕ) (head : Head1)
     → closes.Learnt κs a true s
     → a.0.now ≡ met id volume 5 → a.1.0.now ≡ trailer head 2 5 → ⊥
@@ -126,8 +126,8 @@ told_so : (κs : _) (a : _) (z : _) (s : _) (m : Met) (t : Trail1) → told.Lear
 told_so κs a z s m t h of by =
     h ∙ ap (λ v. passing.told v a.1.0.now) of ∙ ap (passing.told m) by
 
--- whole_count_compared: the trailer label of 1,000,003 blocks counts 3, as it has six digits, and
--- this is reported as another count.
+-- whole_count_compared: the trailer label of a section of 1,000,003 blocks counts 3, in six digits,
+-- and this is reported as a wrong count.
 whole_count_compared : (κs : _) (a : _) (z : _) (s : _) (id volume : List ℕ) (head : Head1)
     → told.Learnt κs a z s → a.0.now ≡ met id volume 1000003
     → a.1.0.now ≡ trailer head 1 3 → z.1.state ≡ Count → ⊥
@@ -136,8 +136,8 @@ whole_count_compared κs a z s id volume head h of by w =
     ∙ ap (λ t. t.1.state) (told_so κs a z s (met id volume 1000003) (trailer head 1 3) h of by) in
     absurd (cc e)
 
--- wrong_count_called_good: the trailer label of five blocks counts four, and the section is
--- reported as good.
+-- wrong_count_called_good: the trailer label of a section of five blocks counts four, but the
+-- section is reported as good.
 wrong_count_called_good : (κs : _) (a : _) (z : _) (s : _) (id volume : List ℕ) (head : Head1)
     → told.Learnt κs a z s → a.0.now ≡ met id volume 5
     → a.1.0.now ≡ trailer head 1 4 → z.1.state ≡ Good → ⊥
@@ -146,7 +146,7 @@ wrong_count_called_good κs a z s id volume head h of by w =
     ∙ ap (λ t. t.1.state) (told_so κs a z s (met id volume 5) (trailer head 1 4) h of by) in
     absurd (cc e)
 
--- bad_section_called_good: one of five blocks is unreadable, and the section is reported as good.
+-- bad_section_called_good: one of five blocks is unreadable, but the section is reported as good.
 bad_section_called_good : (κs : _) (a : _) (z : _) (s : _) (id volume : List ℕ) (head : Head1)
     → told.Learnt κs a z s → a.0.now ≡ record (met id volume 5) { bad = true }
     → a.1.0.now ≡ trailer head 1 5 → z.1.state ≡ Good → ⊥
@@ -155,7 +155,7 @@ bad_section_called_good κs a z s id volume head h of by w =
     (told_so κs a z s (record (met id volume 5) { bad = true }) (trailer head 1 5) h of by) in
     absurd (cc e)
 
--- what is expected after a block
+-- the phase expected after a block
 behind_block : (κs : _) (a : _) (z : _) (s : _) (phase : Phase) (bytes : List ℕ)
     → step.Learnt κs a z s → a.0 ≡ phase → tape_item a.1.0 ≡ block bytes
     → z ≡ passing.step phase (block bytes)
@@ -181,7 +181,7 @@ abbrev first_of : List ℕ → ℕ
 first_of [] = 0
 first_of (c ∷ cs) = c
 
--- volume_left_blank: a section begins on volume ABC001, and spaces are reported as its volume.
+-- volume_left_blank: a section begins on volume ABC001, but spaces are reported as its volume.
 volume_left_blank : (κs : _) (a : _) (z : _) (s : _) (m : Met) (head : Head1) (bytes : List ℕ)
     → step.Learnt κs a z s → a.0 ≡ phases.Next (codes "ABC001")
     → tape_item a.1.0 ≡ block bytes → head1_at bytes ≡ Ok head
@@ -194,15 +194,15 @@ volume_left_blank κs a z s m head bytes h at came read w blank =
     let n : 32 ≡ 65 = ap first_of (sym blank ∙ ap volume_in f) in
     absurd (omega (arith, n))
 
--- section_under_way_forgotten: the items end before a section's trailer label, and it is not
--- reported.
+-- section_under_way_forgotten: the items end before a section's trailer label, and the section is
+-- not reported.
 section_under_way_forgotten : (κs : _) (a : _) (s : _) (m : Met) → under_way.Learnt κs a None s
     → a.0.now ≡ phases.Trailer m → ⊥
 section_under_way_forgotten κs a s m h at =
     let e : None ≡ Some (cut m) = h ∙ ap passing.under_way at in
     absurd (cc e)
 
--- ---- what is there and what is missing
+-- ---- found and missing sections
 
 -- the section that is returned as missing is the first one
 is_first : (κs : _) (a : _) (s : _) (sect : ℕ) → lacking.Learnt κs a (Some sect) s
@@ -212,7 +212,7 @@ is_first κs a s sect h =
     subst (λ v. MatchOption v (IsFoundWhole c a.1.0 a.1.1.0) (IsFirstLack c a.1.0 a.1.1.0)) (sym h)
     (first_one c a.1.0 a.1.1.0)
 
--- first_lacking_section_skipped: section 1 is not good, and section 2 is reported as the first
+-- first_lacking_section_skipped: section 1 is not good, but section 2 is reported as the first
 -- missing one.
 first_lacking_section_skipped : (κs : _) (a : _) (s : _) → lacking.Learnt κs a (Some 2) s
     → good_end (entry_at a.0.now.entries (key_at a.1.0 a.1.1.0 1)) ≡ None → ⊥
@@ -221,7 +221,7 @@ first_lacking_section_skipped κs a s h none =
     let f : Some false ≡ None = sym e ∙ none in
     absurd (cc f)
 
--- lack_at_the_first_eov: section 1 is good and ends its file, and is reported as missing.
+-- lack_at_the_first_eov: section 1 is good and ends its file, but is reported as missing.
 lack_at_the_first_eov : (κs : _) (a : _) (s : _) → lacking.Learnt κs a (Some 1) s
     → good_end (entry_at a.0.now.entries (key_at a.1.0 a.1.1.0 1)) ≡ Some true → ⊥
 lack_at_the_first_eov κs a s h whole =
@@ -237,7 +237,7 @@ sections_listed_but_the_last κs a report s t l one none =
     let n : 0 ≡ 1 = ap length e in
     absurd (omega (arith, n))
 
--- last_file_not_judged: for a catalogue of one section, of file 1 with section 1 missing, nothing
+-- last_file_not_judged: in a catalogue of one section of file 1, section 1 is missing, but nothing
 -- is reported as missing.
 last_file_not_judged : (κs : _) (a : _) (report : _) (s : _) (t : Told)
     → check_set.Learnt-named κs a (Ok report) s → a.1.0.now ≡ t ∷ [] → t.0.file ≡ 1

@@ -1,4 +1,4 @@
--- Answers that the contracts of the engines exclude: each is what a wrong body would give.
+-- Wrong answers that the contracts of the engines exclude.
 use Rattle.std.proofs.Common.{◌≡◌, ℕ, List, [], ◌∷◌, ◌++◌, length, true, false, refl}
 use Rattle.std.proofs.Common.{ap, ◌∙◌, sym, subst, arith, codes}
 use Rattle.std.specs.Prelude.{Bool, Option, Some, None, Ok, slice_index, map, option_map}
@@ -29,7 +29,7 @@ use Rattle.tape_run.proofs.extract.extract_to.Reads as extract_to
 
 -- ---- getting a file back
 
--- partial_output_written: something is wanted still, and the output is another than before
+-- partial_output_written: something is still missing, but the output has changed
 partial_output_written : (S : _) (R : _) (L : _) (W : _) (P : _) (LS : _) (LR : _)
     (LL : _) (LW : _) (LP : _) (g : _) (d : _)
     (g' : _) (d' : _) (h : _) (e : _) (m : _) (n : _) (w : _) (f : _) (p : _) (i : _) (j : _)
@@ -40,8 +40,8 @@ partial_output_written : (S : _) (R : _) (L : _) (W : _) (P : _) (LS : _) (LR : 
 partial_output_written S R L W P LS LR LL LW LP g d g' d' h e m n w f p i j κs a want s l other =
     other (l.untouched (λ n. absurd (cc)))
 
--- output_flushed_while_something_is_wanted: the same of an output that is flushed, which makes
--- another writer of it
+-- output_flushed_while_something_is_wanted: the same for an output that is flushed, which changes
+-- the writer
 output_flushed_while_something_is_wanted : (S : _) (R : _) (L : _) (W : _) (P : _)
     (LS : _) (LR : _) (LL : _) (LW : _)
     (LP : _) (g : _) (d : _) (g' : _) (d' : _) (h : _) (e : _) (m : _) (n : _) (w : _) (f : _) (p :
@@ -52,7 +52,7 @@ output_flushed_while_something_is_wanted : (S : _) (R : _) (L : _) (W : _) (P : 
     → (s.1.1.1.0.now ≡ a.1.1.1.0.now → ⊥) → ⊥
 output_flushed_while_something_is_wanted = partial_output_written
 
--- of one image some was read, unless nothing is wanted
+-- one image, of which something was read unless nothing is missing
 one_turn : {L R : Type 0} (gives : Mounting L R) (remaining : R → Option (List ℕ)) (shelf left : L)
     (turns : List Turn) (want : Want) → AreTurns gives remaining shelf 0 turns left
     → ((image : Option R) (next : L) → gives shelf 0 image next → image ≡ None)
@@ -64,7 +64,7 @@ one_turn gives remaining shelf left (None ∷ turns) want are none all = (turns,
 one_turn gives remaining shelf left (Some o ∷ turns) want (image, next, gave, turn, are) none all =
     absurd (subst (λ z. IsTurn remaining z (Some o)) (none image next gave) turn)
 
--- reels_counted_from_0: the first image, which is not there, is told as reel 0
+-- reels_counted_from_0: the first image, which does not exist, is reported as reel 0
 reels_counted_from_0 : (S : _) (R : _) (L : _) (W : _) (P : _) (LS : _) (LR : _) (LL : _) (LW : _)
     (LP : _) (g : _) (d : _) (g' : _) (d' : _) (h : _) (e : _) (m : _) (n : _) (w : _) (f : _)
     (p : _) (i : _) (j : _) (κs : _) (a : _) (want : _) (s : _) (text : List ℕ)
@@ -87,7 +87,7 @@ reels_counted_from_0 S R L W P LS LR LL LW LP g d g' d' h e m n w f p i j κs a 
     absurd (let n : 48 ≡ 49 = ap (λ v. slice_index v 5)
     (r ∙ ap (λ v. reel_lines 1 v ++ last_line (Some want) l.ok.records) answers) in omega arith)
 
--- what mounting the first image leaves as it is stays so where no more than one is mounted
+-- a property that opening the first image preserves is preserved if at most one image is opened
 stays : {L R : Type 0} (gives : Mounting L R) (remaining : R → Option (List ℕ)) (kept : L → Type 0)
     (shelf left : L) (turns : List Turn) → AreTurns gives remaining shelf 0 turns left
     → length turns ≤ 1
@@ -99,8 +99,8 @@ stays gives remaining kept shelf left (t ∷ []) (image, next, gave, turn, same)
 stays gives remaining kept shelf left (t ∷ u ∷ turns) are few mounts was =
     absurd (omega (arith, few))
 
--- images_mounted_from_1: there is one image, and another was mounted: something is not as it was
--- that mounting the first leaves
+-- images_mounted_from_1: there is one image, but another one was opened, so a property is lost that
+-- opening the first one preserves
 images_mounted_from_1 : (S : _) (R : _) (L : _) (W : _) (P : _) (LS : _) (LR : _) (LL : _) (LW : _)
     (LP : _) (g : _) (d : _) (g' : _) (d' : _) (h : _) (e : _) (m : _) (n : _) (w : _) (f : _)
     (p : _) (i : _) (j : _) (κs : _) (a : _) (want : _) (s : _) (kept : _ → Type 0)
@@ -122,7 +122,7 @@ no_turn back spares [] core old last now h over = refl
 no_turn back spares (None ∷ turns) core old last now h over = absurd (h.0 over)
 no_turn back spares (Some o ∷ turns) core old last now h over = absurd (h.2.waits over)
 
--- image_read_behind_the_completing_one: the file is complete, and a reel is read and told
+-- image_read_behind_the_completing_one: the file is complete, but a reel is read and reported
 image_read_behind_the_completing_one : (S : _) (R : _) (L : _) (W : _) (P : _) (LS : _) (LR : _)
     (LL : _) (LW : _) (LP : _) (g : _) (d : _) (g' : _) (d' : _) (h : _) (e : _) (m : _) (n : _)
     (w : _) (f : _) (p : _) (i : _)
@@ -148,7 +148,7 @@ image_read_behind_the_completing_one S R L W P LS LR LL LW LP g d g' d' h e m n 
     (r ∙ ap (λ v. reel_lines 1 (map answer_of v) ++ last_line None l.ok.records) none) in omega
     arith)
 
--- session_taken_back_at_the_end: nothing is wanted, and the session that is left waits for a block
+-- session_taken_back_at_the_end: nothing is missing, but the remaining session expects a block
 session_taken_back_at_the_end : (S : _) (R : _) (L : _) (W : _) (P : _) (LS : _) (LR : _) (LL : _)
     (LW : _) (LP : _) (g : _) (d : _) (g' : _) (d' : _) (h : _) (e : _) (m : _) (n : _) (w : _)
     (f : _) (p : _) (i : _) (j : _) (κs : _) (a : _) (s : _) (held : _) (sect block part : ℕ)
@@ -172,7 +172,7 @@ report_of_none (None ∷ []) sections h = (refl, h.2 ∙ h.1)
 report_of_none (None ∷ line ∷ lines) sections h = absurd h.2
 report_of_none (Some line ∷ lines) sections h = absurd h.1
 
--- of one image, which is not there
+-- the report of one image, which does not exist
 one_absent : {L R : Type 0} (gives : Mounting L R) (remaining : R → Option (List ℕ))
     (shelf left : L)
     (reels : List Reel) → AreMounted gives (IsReel remaining) shelf 0 reels left
@@ -183,7 +183,7 @@ one_absent gives remaining shelf left (r ∷ []) (image, next, gave, is, rest) o
     ap (λ x. x ∷ []) (is ∙ ap (option_map remaining) (absent image next gave))
 one_absent gives remaining shelf left (r ∷ s ∷ rest) are one absent = absurd (omega (arith, one))
 
--- the text of that report
+-- the text of this report
 text_of_none : {L R : Type 0} (size : L → ℕ) (gives : Mounting L R)
     (remaining : R → Option (List ℕ)) (shelf left : L) (old contents : Option (List ℕ))
     (text : List ℕ) (found : _) → Reports size gives remaining shelf left old contents found
@@ -203,7 +203,7 @@ text_of_none size gives remaining shelf left old contents text found h one absen
       rep.all ∙ ap found_all two.1,
     )
 
--- of one image, which is mounted
+-- the report of one image, which is opened
 first_stays : {L R : Type 0} (gives : Mounting L R) (remaining : R → Option (List ℕ))
     (shelf left : L) (reels : List Reel) → AreMounted gives (IsReel remaining) shelf 0 reels left
     → length reels ≡ 1
@@ -213,7 +213,7 @@ first_stays gives remaining shelf left (r ∷ []) (image, next, gave, is, rest) 
     other image next gave (sym rest)
 first_stays gives remaining shelf left (r ∷ s ∷ rest) are one other = absurd (omega (arith, one))
 
--- images_left_unread: an image is on the shelf, and the report has no line for it
+-- images_left_unread: there is an image, but the report has no line for it
 images_left_unread : (R : _) (L : _) (P : _) (LR : _) (LL : _) (LP : _) (g : _) (d : _) (h : _)
     (i : _) (m : _) (n : _) (j : _) (κs : _) (a : _) (found : _) (s : _)
     → check_to.Learnt-named R L P LR LL LP g d h i m n j κs a (Ok found) s
@@ -225,7 +225,7 @@ images_left_unread R L P LR LL LP g d h i m n j κs a found s l one absent old n
     (text_of_none h.size h.gives g.remaining a.1.0.now _ _ _ [] found l.ok one absent old new).0 in
     omega arith)
 
--- images_numbered_from_0: the first image is told as image 0
+-- images_numbered_from_0: the first image is reported as image 0
 images_numbered_from_0 : (R : _) (L : _) (P : _) (LR : _) (LL : _) (LP : _) (g : _) (d : _) (h : _)
     (i : _) (m : _) (n : _) (j : _) (κs : _) (a : _) (found : _) (s : _)
     → check_to.Learnt-named R L P LR LL LP g d h i m n j κs a (Ok found) s
@@ -239,7 +239,7 @@ images_numbered_from_0 R L P LR LL LP g d h i m n j κs a found s l one absent o
     l.ok one absent old new).0 in
     omega arith)
 
--- nothing_met_is_all_found: no image was opened, and it is answered that nothing lacks
+-- nothing_met_is_all_found: no image was opened, but the answer is that nothing is missing
 nothing_met_is_all_found : (R : _) (L : _) (P : _) (LR : _) (LL : _) (LP : _) (g : _) (d : _)
     (h : _) (i : _) (m : _) (n : _) (j : _) (κs : _) (a : _) (s : _) (text : List ℕ)
     → check_to.Learnt-named R L P LR LL LP g d h i m n j κs a (Ok true) s
@@ -251,7 +251,7 @@ nothing_met_is_all_found R L P LR LL LP g d h i m n j κs a s text l one absent 
     one absent old new).1 in
     absurd (cc)
 
--- images_checked_from_1: there is one image, and another was mounted: something is not as it was
+-- images_checked_from_1: there is one image, but another one was opened, so a property is lost
 images_checked_from_1 : (R : _) (L : _) (P : _) (LR : _) (LL : _) (LP : _) (g : _) (d : _) (h : _)
     (i : _) (m : _) (n : _) (j : _) (κs : _) (a : _) (found : _) (s : _)
     → check_to.Learnt-named R L P LR LL LP g d h i m n j κs a (Ok found) s
@@ -261,15 +261,15 @@ images_checked_from_1 R L P LR LL LP g d h i m n j κs a found s l one other =
     first_stays h.gives g.remaining a.1.0.now s.1.0.now l.ok.reels l.ok.mounted (l.ok.all ∙ one)
     other
 
--- ---- what is readable of a file
+-- ---- the readable parts of a file
 
 either_missing : (b : Bool) (x y : Salvaged) → b ≡ true → x.missing ≡ true
     → (if b then x else y).missing ≡ false → ⊥
 either_missing true x y is one off = absurd (cc)
 either_missing false x y is one off = absurd (cc)
 
--- stopped_reading_told_as_complete: of a section fewer blocks were read again than it certainly
--- has, and nothing is missing
+-- stopped_reading_told_as_complete: fewer blocks of a section were read again than it certainly
+-- has, but nothing is reported as missing
 stopped_reading_told_as_complete : (n : ℕ) (c : SectionCopy) (g : Salvaged) → n < believed c
     → (read_again n c g).missing ≡ false → ⊥
 stopped_reading_told_as_complete n c g fewer off =

@@ -1,4 +1,4 @@
--- Answers that the contract of listing excludes: each is what a wrong body gives.
+-- Wrong answers that the contract of listing excludes.
 use Rattle.std.proofs.Common.{◌≡◌, ℕ, List, [], ◌∷◌, length, sym}
 use Rattle.std.proofs.Common.{ap, ◌∙◌, subst, arith, codes}
 use Rattle.std.specs.Prelude.{Some, Ok, Err, slice_index}
@@ -14,7 +14,7 @@ use Rattle.tape_run.specs.Listing.{lines_from, listing_of}
 use Rattle.tape_run.specs.Listed.{ListsToEnd, ListsToFault}
 use Rattle.tape_run.proofs.list.list_to.Reads as list_to
 
--- what `list` wrote of bytes that begin with these items and end so
+-- what `list` wrote for bytes that begin with these items and end like this
 listed : (R : _) (W : _) (LR : _) (LW : _) (g : _) (d : _) (h : _) (e : _) (κs : _) (a : _) (s : _)
     (bytes left text : List ℕ) (items : List TapeItem) (place : ℕ) (ending : _)
     → list_to.Learnt-named R W LR LW g d h e κs a (Ok tt) s
@@ -34,7 +34,7 @@ listed R W LR LW g d h e κs a s bytes left text items place ending l b q old ne
     r.wrote) in
     w ∙ ap (λ is. listing_of is (ends r.ending)) one.0 ∙ ap (listing_of items) one.2
 
--- first_item_is_zero: the one item of an image, a tape mark, has the number 0
+-- first_item_is_zero: the only item of an image, a tape mark, has the number 0
 first_item_is_zero : (R : _) (W : _) (LR : _) (LW : _) (g : _) (d : _) (h : _) (e : _) (κs : _)
     (a : _) (s : _) (bytes left : List ℕ) (place : ℕ)
     → list_to.Learnt-named R W LR LW g d h e κs a (Ok tt) s
@@ -47,7 +47,7 @@ first_item_is_zero R W LR LW g d h e κs a s bytes left place l b q old new begi
     (codes "000000 MARK\nEND PHYSICAL\n") (mark ∷ []) place Physical l b q old new begins) in
     omega arith)
 
--- item_listed_twice: the one item of an image has two lines
+-- item_listed_twice: the only item of an image has two lines
 item_listed_twice : (R : _) (W : _) (LR : _) (LW : _) (g : _) (d : _) (h : _) (e : _) (κs : _)
     (a : _) (s : _) (bytes left : List ℕ) (place : ℕ)
     → list_to.Learnt-named R W LR LW g d h e κs a (Ok tt) s
@@ -61,7 +61,7 @@ item_listed_twice R W LR LW g d h e κs a s bytes left place l b q old new begin
     begins) in
     omega arith)
 
--- stops_after_one_item: of two tape marks the first is listed, and the call is done
+-- stops_after_one_item: only the first of two tape marks is listed
 stops_after_one_item : (R : _) (W : _) (LR : _) (LW : _) (g : _) (d : _) (h : _) (e : _) (κs : _)
     (a : _) (s : _) (bytes left : List ℕ) (place : ℕ)
     → list_to.Learnt-named R W LR LW g d h e κs a (Ok tt) s
@@ -85,7 +85,7 @@ no_last_line_at_physical_end R W LR LW g d h e κs a s bytes left place l b q ol
     (codes "000001 MARK\n") (mark ∷ []) place Physical l b q old new begins) in
     omega arith)
 
--- fault_swallowed: an image that ends by a fault is listed with success
+-- fault_swallowed: an image that stops at a fault is listed with success
 fault_swallowed : (R : _) (W : _) (LR : _) (LW : _) (g : _) (d : _) (h : _) (e : _) (κs : _) (a : _)
     (s : _) (bytes left : List ℕ) (items : List TapeItem) (place : ℕ) (cause : _)
     → list_to.Learnt-named R W LR LW g d h e κs a (Ok tt) s
@@ -101,7 +101,7 @@ fault_swallowed R W LR LW g d h e κs a s bytes left items place cause l b q beg
     begins r.takes.begins).2 in
     absurd (cc)
 
--- what `list` left of bytes that are cut off after these items
+-- what `list` left of bytes that are truncated after these items
 cut_off : (R : _) (W : _) (LR : _) (LW : _) (g : _) (d : _) (h : _) (e : _) (κs : _) (a : _) (s : _)
     (bytes left : List ℕ) (place : ℕ)
     → list_to.Learnt-named R W LR LW g d h e κs a
@@ -116,8 +116,8 @@ cut_off R W LR LW g d h e κs a s bytes left place l b q =
     subst (λ v. IfKnown (Some bytes) v k) q (subst (λ v. IfKnown v (g.remaining s.1.0.now) k) b
     l.fault)
 
--- flush_failure_told_as_reading: an image that was read to its end is reported as cut off, because
--- its listing could not be flushed
+-- flush_failure_told_as_reading: an image that was read to its end is reported as truncated,
+-- because its listing could not be flushed
 flush_failure_told_as_reading : (R : _) (W : _) (LR : _) (LW : _) (g : _) (d : _) (h : _) (e : _)
     (κs : _) (a : _) (s : _) (bytes left : List ℕ) (items : List TapeItem) (place end : ℕ)
     (ending : _)
@@ -133,7 +133,7 @@ flush_failure_told_as_reading R W LR LW g d h e κs a s bytes left items place e
     r.takes.cause.0).2 in
     absurd (cc)
 
--- fault_at_place_zero: an image is cut off at byte 1,884, and byte 0 is reported
+-- fault_at_place_zero: an image is truncated at byte 1,884, but byte 0 is reported
 fault_at_place_zero : (R : _) (W : _) (LR : _) (LW : _) (g : _) (d : _) (h : _) (e : _) (κs : _)
     (a : _) (s : _) (bytes left : List ℕ) (items : List TapeItem)
     → list_to.Learnt-named R W LR LW g d h e κs a
@@ -145,7 +145,7 @@ fault_at_place_zero R W LR LW g d h e κs a s bytes left items l b q begins =
     absurd (let w : 1884 ≡ 0 = (Begins-one 0 bytes items r.items 1884 0 (faults causes.Truncated)
     (faults causes.Truncated) begins r.takes.cause.0).1 in omega arith)
 
--- last_line_after_fault: the end of the medium is reported for an image that is cut off after a
+-- last_line_after_fault: the end of the medium is reported for an image that is truncated after a
 -- tape mark
 last_line_after_fault : (R : _) (W : _) (LR : _) (LW : _) (g : _) (d : _) (h : _) (e : _) (κs : _)
     (a : _) (s : _) (bytes left : List ℕ)

@@ -1,4 +1,4 @@
--- Answers that the contract of a listing with places excludes: each is what a wrong body gives.
+-- Wrong answers that the contract of a listing with offsets excludes.
 use Rattle.std.proofs.Common.{◌≡◌, ℕ, List, [], ◌∷◌, ◌++◌, length, map, sym, refl}
 use Rattle.std.proofs.Common.{ap, ◌∙◌, subst, arith, codes}
 use Rattle.std.proofs.lemmas.List.{length-map}
@@ -20,7 +20,7 @@ use Rattle.tape_run.proofs.list_places.list_places_to.Reads as list_places_to
 abbrev behind_gap : PlacedItem
 behind_gap = record { item = mark; from = 0; behind = 8 }
 
--- so many items are read of bytes that are this one and then end
+-- the number of items read from bytes that encode this item and then end
 same_items : (items : List PlacedItem) (x : PlacedItem) (bytes rest ys left : List ℕ)
     (at q place end : ℕ) (ending : _) → Places 0 items at bytes rest
     → TakesEnd at [] ending place rest left → Places 0 (x ∷ []) q bytes ys
@@ -63,7 +63,7 @@ first_is_four R W LR LW g d h e κs a s bytes left text ys end l b q old new sta
     ∙ ap (λ is. slice_index (placed_lines 1 is ++ placed_end r.ending r.place) 0) same
     ∙ its_first (placed_end r.ending r.place)
 
--- place_behind_the_item: the offset where the item ends is reported
+-- place_behind_the_item: the offset of the item's end is reported
 place_behind_the_item : (R : _) (W : _) (LR : _) (LW : _) (g : _) (d : _) (h : _) (e : _) (κs : _)
     (a : _) (s : _) (bytes left ys : List ℕ) (end : ℕ)
     → list_places_to.Learnt-named R W LR LW g d h e κs a (Ok tt) s
@@ -75,7 +75,7 @@ place_behind_the_item R W LR LW g d h e κs a s bytes left ys end l b q old new 
     absurd (let w : 56 ≡ 52 = first_is_four R W LR LW g d h e κs a s bytes left
     (codes "8 4 000001 MARK\n8 0 END PHYSICAL\n") ys end l b q old new stand begins in omega arith)
 
--- gaps_counted_to_the_item: a tape mark begins where the gap before it does
+-- gaps_counted_to_the_item: a tape mark is listed with the offset of the gap before it
 gaps_counted_to_the_item : (R : _) (W : _) (LR : _) (LW : _) (g : _) (d : _) (h : _) (e : _)
     (κs : _) (a : _) (s : _) (bytes left ys : List ℕ) (end : ℕ)
     → list_places_to.Learnt-named R W LR LW g d h e κs a (Ok tt) s

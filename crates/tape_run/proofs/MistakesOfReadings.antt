@@ -1,4 +1,4 @@
--- Answers that the contracts of whole readings exclude: each is what a wrong body would give.
+-- Wrong answers that the contracts of complete readings exclude.
 use Rattle.std.proofs.Common.{◌≡◌, ◌⊎◌, inl, inr, ℕ, List, [], ◌∷◌, ◌++◌, map, Bool, true, false}
 use Rattle.std.proofs.Common.{refl, sym, ap, ◌∙◌, subst, arith, codes, length, append-nil}
 use Rattle.std.specs.Prelude.{Option, Some, None, Ok, IsSome, replicate}
@@ -30,7 +30,7 @@ use Rattle.tape_run.proofs.MistakesOfRuns.{HoldsOne}
 
 -- ---- whole readings
 
--- a mount takes the start of a file to the front of a block
+-- a mount moves the start of a file to the start of a block
 to_a_front : (set : FileSet) (file : ℕ) (bytes : List ℕ) (m : MountEvent) → IsMountOf set bytes m
     → part_of (after set file begins m).at ≡ 0
 to_a_front set file bytes (reads r) m = at_front (far_keeps_part set file start r)
@@ -43,14 +43,14 @@ to_a_front set file bytes foreign_reel m = refl
 to_a_front set file bytes saves (xs, end, stop, b, m) = absurd m
 to_a_front set file bytes (restarts n) (xs, end, stop, b, m) = absurd m
 
--- whatever a reader gives of its bytes is a copy of a volume of the set, or none of the set: so it
--- is with the image of a volume, any front of which is a reading that was cut there
+-- the bytes that a reader returns are a copy of a volume of the set or a foreign reel: this is true
+-- of the image of a volume, since each prefix of it is a truncated reading
 abbrev GivesMounts : FileSet → List ℕ → Type 0
 GivesMounts set bytes =
     (failed : Bool) (left : Option (List ℕ)) (given : List ℕ) → IsGiven failed bytes left given
     → (m : MountEvent) × IsMountOf set given m
 
--- what was given of one reader
+-- the bytes that one reader returned
 one_given : (set : FileSet) (bytes : List ℕ) (failed : List Bool)
     (left : List (Option (List ℕ))) (given : List (List ℕ))
     → GivesMounts set bytes → AreGivenBy failed (bytes ∷ []) left given
@@ -67,7 +67,7 @@ one_given set bytes (f ∷ failed) (l ∷ left) [] all a = absurd a
 one_given set bytes (f ∷ failed) (l ∷ left) (x ∷ xs) all (is, rest) =
     let (m, of) = all f l x is in (m, (of, tt), λ file. to_a_front set file x m of)
 
--- partial_file_given: the sink refused part 3 of a block, and the file is given as one that was
+-- partial_file_given: the sink refused part 3 of a block, but the file is returned as one that was
 -- read.
 partial_file_given : (R : _) (LR : _) (h : _) (d : _) (κs : _) (a : _) (session : _) (s : _)
     (set : FileSet) (bytes : List ℕ) → read_file.Learnt-named R LR h d κs a (Ok (session, Ok tt)) s
@@ -85,7 +85,7 @@ partial_file_given R LR h d κs a session s set bytes k lawful id file all one k
     ∙ ap (λ v. part_of v.at) c ∙ front a.1.1.0 in
     absurd (omega (arith, n))
 
--- of one reader that has nothing left all was given, whether it failed or not
+-- if one reader has nothing left, it returned everything, whether or not it failed
 nothing_left : (which : List Bool) (bytes : List ℕ) (given : List (List ℕ))
     → AreGivenBy which (bytes ∷ []) (Some [] ∷ []) given → given ≡ bytes ∷ []
 nothing_left [] bytes given e = e
@@ -102,8 +102,8 @@ nothing_left (true ∷ []) bytes (g ∷ given) ((rest, told, whole), none) =
 abbrev all_of_1 : MountEvent
 all_of_1 = reads (reading 1 (replicate 11 true))
 
--- failing_reader_gives_nothing: the reader of volume 1 came to the end of its bytes, and failed
--- there or did not, and nothing of them is in memory.
+-- failing_reader_gives_nothing: the reader of volume 1 reached the end of its bytes, and failed
+-- there or not, but none of its parts is in memory.
 failing_reader_gives_nothing : (R : _) (LR : _) (h : _) (d : _) (κs : _) (a : _) (session : _)
     (s : _) → read_file.Learnt-named R LR h d κs a (Ok (session, Ok tt)) s
     → a.1.0 ≡ codes "ABC001" → a.1.1.0 ≡ 1 → a.1.1.1.0.now ≡ Reel ∷ []
@@ -123,9 +123,9 @@ failing_reader_gives_nothing R LR h d κs a session s k id file one known over n
     = sym (is.reads worked_set (all_of_1 ∷ []) is_lawful refl refl history).1 ∙ r.1 ∙ none in
     let n : 2 ≡ 0 = ap length two in absurd (omega (arith, n))
 
--- stopped_run_told_as_done: the sink refused a part, and the run is told as done. What it holds
--- lies before no position that the readers' histories lead to: all of these are at the front of a
--- block, and it has some parts of one.
+-- stopped_run_told_as_done: the sink refused a part, but the run is reported as successful. The
+-- sink's parts precede none of the positions that the readers' histories lead to: all of these are
+-- at the start of a block, and the sink has some parts of one.
 stopped_run_told_as_done : (S : _) (R : _) (LS : _) (LR : _) (g : _) (d : _) (h : _) (e : _)
     (κs : _) (a : _) (session : _) (s : _) (set : FileSet) (held now : List Portion)
     (bytes : List (List ℕ))
@@ -150,8 +150,8 @@ stopped_run_told_as_done S R LS LR g d h e κs a session s set held now bytes l 
     other (one now new there has ∙ parts
     ∙ ap (λ (c : Course). before set a.1.0.now.file c.at) (sym at))
 
--- gone_on_without_reading: no reader failed, and the session is given back as it was resumed. What
--- it held lies before no position that the reels lead to.
+-- gone_on_without_reading: no reader failed, but the session is returned as it was resumed. Its
+-- parts precede none of the positions that the reels lead to.
 gone_on_without_reading : (S : _) (R : _) (LS : _) (LR : _) (g : _) (d : _) (h : _) (e : _)
     (κs : _) (a : _) (session : _) (s : _) (set : FileSet) (held : List Portion)
     (bytes : List (List ℕ)) (hs : List MountEvent)

@@ -1,5 +1,4 @@
--- Answers that the contracts of writers and of the lines of reports exclude: each is what a wrong
--- body would give.
+-- Wrong answers that the contracts of writers and of the lines of reports exclude.
 use Rattle.std.proofs.Common.{◌≡◌, [], length, sym, ap, ◌∙◌, subst, arith, codes}
 use Rattle.std.specs.Prelude.{Some, None, Ok, slice_index}
 use Rattle.std.specs.Fmt.{digits}
@@ -17,7 +16,7 @@ use Rattle.tape_run.specs.ReelLine.{reel_line}
 
 -- ---- writing
 
--- taking_nothing_is_success: a device that accepted nothing of a text is reported to contain all of
+-- taking_nothing_is_success: a device that accepted no byte of a text is reported to contain all of
 -- it
 taking_nothing_is_success : (W : _) (L : _) (h : _) (e : _) (κs : _) (a : _) (s : _)
     → write_text.Learnt-named W L h e κs a (Ok tt) s → a.1.0.now ≡ codes "MARK"
@@ -28,7 +27,7 @@ taking_nothing_is_success W L h e κs a s l text old new =
     (subst (λ v. Appends v (h.contents s.0.now) a.1.0.now) old l.ok) in
     absurd (let d : 0 ≡ 4 = ap length r ∙ ap length text in omega arith)
 
--- rest_written_again: the device took one byte of `AB`, and this byte is written again
+-- rest_written_again: the device accepted one byte of `AB`, and this byte is written again
 rest_written_again : (W : _) (L : _) (h : _) (e : _) (κs : _) (a : _) (s : _)
     → write_text.Learnt-named W L h e κs a (Ok tt) s → a.1.0.now ≡ codes "AB"
     → h.contents a.0.now ≡ Some [] → h.contents s.0.now ≡ Some (codes "AAB") → ⊥
@@ -40,7 +39,7 @@ rest_written_again W L h e κs a s l text old new =
 
 -- ---- lines
 
--- unprintable_bytes_printed: a byte above 126 is printed as it is
+-- unprintable_bytes_printed: a byte above 126 is printed unchanged
 unprintable_bytes_printed : (κs : _) (s : _) → printed.Learnt κs (200, tt) 200 s → ⊥
 unprintable_bytes_printed κs s h = absurd (let e : 200 ≡ 63 = h in omega arith)
 
@@ -63,14 +62,14 @@ met = record {
   state = states.Good;
 }
 
--- volume_in_place_of_the_set: the line of a section names the volume twice
+-- volume_in_place_of_the_set: the line of a section contains the volume twice
 volume_in_place_of_the_set : (κs : _) (a : _) (z : _) (s : _) → section_line.Learnt κs a z s
     → a.0.now ≡ met → z.items ≡ codes "SECTION DEF002 1 2 DEF002 3 GOOD\n" → ⊥
 volume_in_place_of_the_set κs a z s h e w =
     absurd (let d : 68 ≡ 65 = ap (λ v. slice_index v 8)
     (sym w ∙ h ∙ ap check_lines.section_line e) in omega arith)
 
--- lack_told_by_its_file: section 2 of file 1 is missing, and section 1 is reported
+-- lack_told_by_its_file: section 2 of file 1 is missing, but section 1 is reported
 lack_told_by_its_file : (κs : _) (a : _) (z : _) (s : _) → lack_line.Learnt κs a z s
     → a.0.now ≡ record { set_id = codes "ABC001"; file = 1; sect = 2 }
     → z.items ≡ codes "LACKS ABC001 1 1\n" → ⊥
@@ -86,7 +85,7 @@ unfolding digits
 not_opened_told_as_not_labelled w =
     absurd (let d : 76 ≡ 79 = ap (λ v. slice_index v 11) (sym w) in omega arith)
 
--- awaits_without_the_part: three parts of block 2 are there, and the last line does not say so
+-- awaits_without_the_part: three parts of block 2 were delivered, but the last line does not say so
 awaits_without_the_part : (κs : _) (z : _) (s : _)
     → last_line.Learnt κs (Some (record { file = 1; sect = 1; block = 2; part = 3 }), (0, tt)) z s
     → z.bytes ≡ codes "AWAITS 1 1 2\n" → ⊥

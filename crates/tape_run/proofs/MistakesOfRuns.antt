@@ -1,4 +1,4 @@
--- Answers that the contract of a run excludes: each is what a wrong body would give.
+-- Wrong answers that the contract of a run excludes.
 use Rattle.std.proofs.Common.{◌≡◌, ℕ, List, [], ◌∷◌, ◌++◌, map, Bool, true, false, sym, ap, ◌∙◌}
 use Rattle.std.proofs.Common.{subst, arith, codes, length}
 use Rattle.std.specs.Prelude.{Option, Some, Ok, slice_get, option_map}
@@ -21,13 +21,13 @@ use Rattle.tape_run.proofs.MistakesOfStops.{kept_without}
 use Rattle.tape_run.proofs.WorkedHistory.{is_worked}
 use Rattle.tape_run.proofs.script.run.Reads as run
 
--- a sink of which this is said holds one list of parts, as a sink in memory does
+-- a sink that satisfies this contains only one list of parts, as a sink in memory does
 abbrev pub HoldsOne : (List Portion → Type 0) → Type 0
 HoldsOne holds = (xs ys : List Portion) → holds xs → holds ys → xs ≡ ys
 
 -- ---- scripts
 
--- of two reels that a script asks for the second is not made where there is one reader
+-- if a script asks for two reels and there is only one reader, the second step fails
 second_reel : (which : List Bool) (old new : Seen) (bytes : List ℕ)
     (left : List (Option (List ℕ)))
     → Runs which old (Reel ∷ Reel ∷ []) (Some bytes ∷ []) left new → ⊥
@@ -36,7 +36,7 @@ second_reel (failed ∷ which) old new bytes [] none = none
 second_reel (failed ∷ []) old new bytes (l ∷ left) (mid, r, none) = none
 second_reel (failed ∷ other ∷ which) old new bytes (l ∷ left) (mid, r, none) = none
 
--- same_reel_read_again: there is one reader, and both reels of a script are told as read.
+-- same_reel_read_again: there is one reader, but both reels of a script are reported as read.
 same_reel_read_again : (S : _) (R : _) (LS : _) (LR : _) (g : _) (d : _) (h : _) (e : _)
     (κs : _) (a : _) (s : _) (held : List Portion) (bytes : List ℕ)
     → run.Learnt-named S R LS LR g d h e κs a (Ok tt) s
@@ -53,7 +53,7 @@ same_reel_read_again S R LS LR g d h e κs a s held bytes l was fresh two one =
     (subst (λ v. Runs which old v (Some bytes ∷ []) left new) two
     (subst (λ v. Runs which old a.1.0.now v left new) one runs))
 
--- of the one reader of a script it is told whether it failed, and so it is counted
+-- whether the only reader of a script failed is recorded, and so it is counted
 one_told : (which : List Bool) (old new : Seen) (bytes : List ℕ) (left : List (Option (List ℕ)))
     → Runs which old (Reel ∷ []) (Some bytes ∷ []) left new
     → (failed : Bool) × (which ≡ failed ∷ []) × (new.failures ≡ counted failed old.failures)
@@ -62,7 +62,7 @@ one_told (failed ∷ which) old new bytes [] r = absurd r
 one_told (failed ∷ which) old new bytes (l ∷ left) (mid, r, (none, same)) =
     (failed, ap (λ w. failed ∷ w) none, ap (λ (z : Seen). z.failures) same ∙ r.count)
 
--- the same of a session
+-- the same for a session
 told_of_one : (S : _) (R : _) (LS : _) (LR : _) (g : _) (d : _) (h : _) (e : _) (κs : _) (a : _)
     (s : _) (held : List Portion) (bytes : List ℕ)
     → run.Learnt-named S R LS LR g d h e κs a (Ok tt) s
@@ -82,7 +82,7 @@ told_of_one S R LS LR g d h e κs a s held bytes l was fresh one known =
     (subst (λ v. Runs which old a.1.0.now v left new) known runs)) in
     (failed, row ∙ ap (λ w. written w a.1.1.1.0.now) is, count)
 
--- next_reader_told_as_failed: there is one reader, and the place of a second one is written
+-- next_reader_told_as_failed: there is one reader, but the entry of a second one is written
 next_reader_told_as_failed : (S : _) (R : _) (LS : _) (LR : _) (g : _) (d : _) (h : _) (e : _)
     (κs : _) (a : _) (s : _) (held : List Portion) (bytes : List ℕ)
     → run.Learnt-named S R LS LR g d h e κs a (Ok tt) s
@@ -96,7 +96,8 @@ next_reader_told_as_failed S R LS LR g d h e κs a s held bytes l was fresh one 
     sym told ∙ is ∙ ap (written (failed ∷ [])) row in
     absurd (cc wrong)
 
--- failed_reader_not_told: a failure is counted, and the one reader is told as one that did not fail
+-- failed_reader_not_told: a failure is counted, but the only reader is recorded as one that did not
+-- fail
 failed_reader_not_told : (S : _) (R : _) (LS : _) (LR : _) (g : _) (d : _) (h : _) (e : _)
     (κs : _) (a : _) (s : _) (held : List Portion) (bytes : List ℕ)
     → run.Learnt-named S R LS LR g d h e κs a (Ok tt) s
@@ -113,15 +114,15 @@ failed_reader_not_told S R LS LR g d h e κs a s held bytes l was fresh one know
     let n : 1 ≡ 0 = sym some ∙ count ∙ ap (λ f. counted f a.0.now.failures) which ∙ none in
     absurd (omega (arith, n))
 
--- a save that was made is noted
+-- a save that succeeded has made a checkpoint
 saved_alone : (which : List Bool) (old new : Seen) (reels left : List (Option (List ℕ)))
     → Runs which old (Save ∷ []) reels left new
     → new.notes ≡ old.notes ++ saved old.place (weight_of old.parts) ∷ []
 saved_alone which old new reels left (mid, v, (none, same)) =
     ap (λ (z : Seen). z.notes) same ∙ v.notes
 
--- script_notes_in_the_list_alone: at block 5 a script saves, and the sink comes back with the start
--- of the file.
+-- script_notes_in_the_list_alone: at block 5 a script saves, but a crash leaves the start of the
+-- file.
 script_notes_in_the_list_alone : (S : _) (R : _) (LS : _) (LR : _) (g : _) (d : _) (h : _) (e : _)
     (κs : _) (a : _) (s : _) (held there : List Portion) (older : Point)
     → run.Learnt-named S R LS LR g d h e κs a (Ok tt) s
@@ -150,8 +151,8 @@ script_notes_in_the_list_alone S R LS LR g d h e κs a s held there older l was 
 
 -- ---- what is delivered
 
--- the parts that a sink holds to which the worked reels were read, from the start of file 1 (as a
--- new session stands), and of which none failed
+-- the parts of a sink after the worked reels were read from the start of file 1, as in a new
+-- session, and no reader failed
 worked_parts : (S : _) (R : _) (LS : _) (LR : _) (g : _) (d : _) (h : _) (e : _) (κs : _) (a : _)
     (s : _) (held : List Portion)
     → run.Learnt-named S R LS LR g d h e κs a (Ok tt) s
@@ -168,8 +169,8 @@ worked_parts S R LS LR g d h e κs a s held l empty fresh steps known none one t
     (r.2 worked_reels known).0 in
     one held r.0 there r.1 ∙ (is_worked.read now left read none).0
 
--- delivers_nothing: the worked reels, which hold the whole file, were read, and the sink holds no
--- part.
+-- delivers_nothing: the worked reels, which contain the whole file, were read, but the sink
+-- contains no part.
 delivers_nothing : (S : _) (R : _) (LS : _) (LR : _) (g : _) (d : _) (h : _) (e : _) (κs : _)
     (a : _) (s : _) → run.Learnt-named S R LS LR g d h e κs a (Ok tt) s
     → g.holds a.0.now.sink [] → IsStart (codes "ABC001") 1 (seen g a.0.now [])
@@ -181,7 +182,7 @@ delivers_nothing S R LS LR g d h e κs a s l empty fresh steps known none one th
     absurd (omega (arith, n))
 
 -- section_delivered_twice: volume 1 was mounted four times, and the first part of its section was
--- delivered once more at its second mount.
+-- delivered again at its second mount.
 section_delivered_twice : (S : _) (R : _) (LS : _) (LR : _) (g : _) (d : _) (h : _) (e : _) (κs : _)
     (a : _) (s : _) (more : List Portion) → run.Learnt-named S R LS LR g d h e κs a (Ok tt) s
     → g.holds a.0.now.sink [] → IsStart (codes "ABC001") 1 (seen g a.0.now [])

@@ -19,8 +19,8 @@ gap_not_reported : (sect first next records : ℕ) → gap_text sect (Some first
     → ⊥
 gap_not_reported sect first next records e = absurd (cc e)
 
--- trailer_taken_as_record: of a section that does not close, all items are taken, although one of
--- them could not be read
+-- trailer_taken_as_record: all items of a section that does not close are recovered, although one
+-- of them was unreadable
 trailer_taken_as_record : (image n b : ℕ) (u : OpenSection) → n < b
     → believed (record {
       image = image;
@@ -31,8 +31,8 @@ trailer_taken_as_record : (image n b : ℕ) (u : OpenSection) → n < b
 trailer_taken_as_record image n b u less e =
     let same : n ≡ b = e in absurd (omega (arith, less, same))
 
--- labels_taken_as_data: items are taken for the data of a section whose HDR1 was not read, although
--- its trailer label does not count them
+-- labels_taken_as_data: items count as the data of a section whose HDR1 was not read, although its
+-- trailer label does not count them
 not_trailers : (h : Result Head1 LabelFault) (u : OpenSection) (k : Closing)
     → begun_by h (Unnamed one_read) ≡ Trailers u k → ⊥
 not_trailers (Ok g) u k e = absurd (cc e)

@@ -1,5 +1,5 @@
--- Answers that the contract of a run excludes if a step failed: each is what a wrong body would
--- return.
+-- Answers that the contract of a run excludes if a step failed: each would be returned by a wrong
+-- body.
 use Rattle.std.proofs.Common.{◌≡◌, ℕ, zero, suc, List, [], ◌∷◌, map}
 use Rattle.std.proofs.Common.{take, drop, Bool, refl}
 use Rattle.std.proofs.Common.{sym, subst, arith}
@@ -19,7 +19,7 @@ use Rattle.tape_run.specs.Runs.{RunsUpTo, Fails}
 use Rattle.tape_run.specs.Seen.{Seen, KeepsNotes}
 use Rattle.tape_run.proofs.script.run.Reads as run
 
--- what `run` requires of checkpoints is true if there are none
+-- the requirement of `run` on checkpoints is satisfied if there are none
 pub kept_without : (place : State) (held : List Portion) (notes : List Point) → notes ≡ []
     → KeepsNotes place [] notes held
 kept_without place held notes none =
@@ -29,7 +29,7 @@ kept_without place held notes none =
 abbrev stopped : ℕ → RunFault → Stopped
 stopped n fault = record { step = n; fault = fault }
 
--- the step of this number was not made, of these steps and with these readers
+-- the step with this number failed, given the steps and the readers
 abbrev StopsAt : List Step → List (Option (List ℕ)) → Step → ℕ → RunFault → Type 0
 StopsAt steps left step n fault = (mid : Seen) × (new : Seen)
     × (slice_get steps n ≡ Some step)
@@ -44,7 +44,7 @@ stops_at which old new is steps are left over n fault same these r =
     (subst (λ v. RunsUpTo which old is v over n fault new) these r) in
     (h.step, (h.mid, new, h.at, h.fails))
 
--- a run that needs a reel when no reader is left is not ended by another fault
+-- a run that needs a reel when no reader is left does not end with another fault
 other_fault : (step : Step) (n : ℕ) (fault : RunFault) → StopsAt (Reel ∷ []) [] step n fault
     → fault ≡ TooFewReels
 other_fault Reel zero fault (mid, new, is, (e, same)) = e
@@ -53,7 +53,7 @@ other_fault (Restart k) zero fault (mid, new, is, h) = absurd (cc is)
 other_fault step (suc n) fault (mid, new, is, h) =
     absurd (omega (arith, slice_get_within (Reel ∷ []) (suc n) step is))
 
--- no_reel_told_as_no_point: a reel is requested and there is no reader, and a missing checkpoint is
+-- no_reel_told_as_no_point: a reel is requested and there is no reader, but a missing checkpoint is
 -- reported.
 no_reel_told_as_no_point : (S : _) (R : _) (LS : _) (LR : _) (g : _) (d : _) (h : _) (e : _)
     (κs : _) (a : _) (s : _) (held : List Portion) (n : ℕ)
@@ -66,14 +66,14 @@ no_reel_told_as_no_point S R LS LR g d h e κs a s held n l was fresh one none =
     _ n NoSuchPoint one none (l.faults held was kept).2.3 in
     absurd (cc (other_fault step n NoSuchPoint stops))
 
--- a save is not stopped for want of a reel
+-- a save does not fail for lack of a reel
 saves_need_none : (step : Step) (mid new : Seen) → Some Save ≡ Some step
     → Fails step [] TooFewReels mid new → ⊥
 saves_need_none Save mid new is h = h
 saves_need_none Reel mid new is h = absurd (cc is)
 saves_need_none (Restart k) mid new is h = absurd (cc is)
 
--- step_told_one_too_low: after a save a reel is requested and there is no reader, and the save is
+-- step_told_one_too_low: after a save a reel is requested and there is no reader, but the save is
 -- reported as failed.
 step_told_one_too_low : (S : _) (R : _) (LS : _) (LR : _) (g : _) (d : _) (h : _) (e : _)
     (κs : _) (a : _) (s : _) (held : List Portion)
@@ -86,7 +86,7 @@ step_told_one_too_low S R LS LR g d h e κs a s held l was fresh two none =
     (map h.remaining a.1.1.0.now) [] _ 0 TooFewReels two none (l.faults held was kept).2.3 in
     saves_need_none step mid new is fails
 
--- steps_counted_from_1: the only step failed, and step 1 is reported
+-- steps_counted_from_1: the only step failed, but step 1 is reported, as if counted from 1
 steps_counted_from_1 : (S : _) (R : _) (LS : _) (LR : _) (g : _) (d : _) (h : _) (e : _)
     (κs : _) (a : _) (s : _) (held : List Portion) (fault : RunFault)
     → run.Learnt-named S R LS LR g d h e κs a (Err (stopped 1 fault)) s

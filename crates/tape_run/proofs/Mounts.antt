@@ -1,4 +1,4 @@
--- The reader under a mount: a copy with its tail, or a foreign reel.
+-- The reader during a mount: of a copy and the items after it, or of a foreign reel.
 use Rattle.std.proofs.Common.{◌≡◌, ◌≢◌, ◌⊎◌, inl, inr, ℕ, zero, suc, ◌+◌, ◌<◌, ◌≤◌, Bool, cond}
 use Rattle.std.proofs.Common.{List, [], ◌∷◌, ◌++◌, length, take, drop, Option, Some, refl, sym, ap}
 use Rattle.std.proofs.Common.{subst, ◌∙◌, arith, length-append}
@@ -29,8 +29,8 @@ use Rattle.tape_run.specs.Mount.{cut, after_mount}
 use Rattle.tape_run.specs.Puts.{IsChecked}
 use Rattle.tape_run.specs.Under.{is_under}
 
--- One item of a mount that began at p: the state is right again after what the step delivered, and
--- after a final answer no further item of the mount moves it.
+-- One item of a mount that began at p: the state agrees with the parts that the step delivered, and
+-- after a final answer no further item of the mount changes the position.
 pub record Took (set : FileSet) (p : Position) (h : MountEvent) (item : Option TapeItem)
     (answer : Answer) (old new : State) : Type 0 where
   pub at : IsAt set new
@@ -39,7 +39,7 @@ pub record Took (set : FileSet) (p : Position) (h : MountEvent) (item : Option T
 
 -- ---- items
 
--- The item at an index of what was read.
+-- The item at an index of the items read.
 record ReadAt (its : List TapeItem) (good : List Bool) (more : List TapeItem) (i : ℕ) : Type 0 where
   pub g : Bool
   pub item : TapeItem
@@ -72,7 +72,7 @@ take_whole zero (g ∷ gs) h = absurd (omega (arith, h))
 take_whole (suc n) [] h = refl
 take_whole (suc n) (g ∷ gs) h = ap (λ (l : List Bool). g ∷ l) (take_whole n gs (omega (arith, h)))
 
--- The item at an index, and what follows it.
+-- The item at an index, and the items after it.
 record ItemAt (xs : List TapeItem) (i : ℕ) : Type 0 where
   pub item : TapeItem
   pub there : slice_get xs i ≡ Some item
@@ -91,7 +91,7 @@ as_read_short [] good = omega arith
 as_read_short (x ∷ xs) [] = omega arith
 as_read_short (x ∷ xs) (g ∷ gs) = omega (arith, as_read_short xs gs)
 
--- after what was read something is left
+-- some items are left after those that were read
 some_more : (its : List TapeItem) (good : List Bool) (more xs : List TapeItem) (i : ℕ)
     → xs ≡ as_read its good ++ more → length good ≤ i → i < length xs → more ≢ []
 some_more its good more xs i e le lt = λ none.
@@ -282,7 +282,7 @@ both core out arrived is set parts p xs i foreign_reel l m a u lt e =
 both core out arrived is set parts p xs i saves l m a u lt e = absurd m
 both core out arrived is set parts p xs i (restarts n) l m a u lt e = absurd m
 
--- the position is the one that the mount so far makes
+-- the position is the one that the mount reaches so far
 pub reached : (core : State) (set : FileSet) (p : Position) (xs : List TapeItem)
     (i : ℕ) (h : MountEvent)
     → IsLawful set → IsMount set xs h → is_under core set p xs i h

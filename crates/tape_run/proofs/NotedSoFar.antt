@@ -36,8 +36,8 @@ use Rattle.tape_run.specs.Added.{Adds, AddsInPart, StopsBehind, stop_at}
 use Rattle.tape_run.proofs.ShownSections.{told_if}
 use Rattle.tape_run.proofs.KeepingPlaces.{noted_all-append, keeps_places, good_is_shown}
 
--- Of the bytes `all` the items up to an offset were read, and `left` is left; the sections in them
--- were added.
+-- Of the bytes `all` the items up to an offset were read, and `left` is left; the sections in these
+-- items were added.
 pub record SoFar (all left : Option (List ℕ)) (place count : ℕ) (old : List Told)
     (phase : Phase) (new : List Told) : Type 0 where
   pub items : List TapeItem

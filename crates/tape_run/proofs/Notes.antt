@@ -1,4 +1,5 @@
--- The checkpoints of a session are valid for ever longer prefixes of its parts.
+-- The checkpoints of a session are valid for prefixes of its parts, each at least as long as the
+-- one before.
 use Rattle.std.proofs.Common.{◌≡◌, ℕ, zero, suc, ◌+◌, ◌≤◌, List, [], ◌∷◌, ◌++◌, length, take, Some}
 use Rattle.std.proofs.Common.{refl, sym, ap, subst, ◌∙◌, arith, append_assoc, append-nil}
 use Rattle.std.specs.List.{slice_get}
@@ -72,7 +73,8 @@ notes_push set file front [] c parts s h = (parts, h, s, front_self parts)
 notes_push set file front (d ∷ ds) c parts s (ps, a, t, rest) =
     (ps, a, t, notes_push set file ps ds c parts s rest)
 
--- The n-th checkpoint is valid for a prefix, and the checkpoints up to it are those of this prefix.
+-- The n-th checkpoint is valid for a prefix of the parts, and the checkpoints up to it are the
+-- checkpoints of this prefix.
 pub record NoteAt (set : FileSet) (file : ℕ) (front : List Portion) (notes : List Point)
     (n : ℕ) (c : Point) (parts : List Portion) : Type 0 where
   pub ps : List Portion
@@ -103,7 +105,7 @@ note_at set file front (d ∷ ds) (suc n) c parts e (ps, a, s, rest) =
       notes_left = rw more ((ps, a, s, next.notes_left));
     }
 
--- a prefix weighs no more
+-- a prefix has at most the weight of the whole
 pub light_front : (xs r : List Portion) → weight_of xs ≤ weight_of (xs ++ r)
 light_front [] r = omega arith
 light_front (x ∷ xs) r = omega (arith, light_front xs r, weight_more x xs, weight_more x (xs ++ r))

@@ -47,7 +47,7 @@ noted_all_kind c [] key eof h g = h
 noted_all_kind c (t ∷ ts) key eof h (g, gs) =
     noted_all_kind (noted c t) ts key eof (noted_kind c t key eof h g) gs
 
--- and so the entry of the key has it
+-- and so has the entry of the key
 found_here : (x : Told) (xs : List Told) (key : SectionKey) (eof b : Bool) (e : Entry)
     → same_key key x.0 ≡ b → KindIs key eof (x ∷ xs)
     → (if b then Some x.1 else entry_at xs key) ≡ Some e
@@ -78,13 +78,13 @@ end_is c key eof g =
     ∙ ap (λ (s : SectionState). if is_good s then Some e.eof else None) g.good.good
     ∙ ap (λ (b : Bool). Some b) (found_kind c key eof e g.kind g.good.there)
 
--- the sections of a file, numbered from sect on, are good, each with its own trailer's kind
+-- the sections of a file, numbered from sect, are good, each with the kind of its own trailer
 abbrev pub FileGood : List Told → List ℕ → ℕ → ℕ → List Section → Type 0
 FileGood c set_id file sect [] = ⊤
 FileGood c set_id file sect (s ∷ ss) = GoodAs c (key_at set_id file sect) (ends_file s)
     × FileGood c set_id file (sect + 1) ss
 
--- nothing is missing of a file that ends with its last section, if its sections are good
+-- if the sections of a file are good, and it ends with the last of them, nothing of it is missing
 pub whole_file : (c : List Told) (set_id : List ℕ) (file sect most : ℕ) (ss : List Section)
     → Ends ss → length ss ≤ most → FileGood c set_id file sect ss
     → first_lack c set_id file sect most ≡ None

@@ -10,7 +10,7 @@ use Rattle.tape_run.specs.Reeling.{HasNotedHere}
 use Rattle.tape_run.specs.Seen.{Seen}
 use Rattle.tape_run.proofs.Notes.{front_self}
 
--- the last checkpoint is the one of the session's position
+-- the last checkpoint has the session's position
 pub noted_here : (s : Seen) (c : Point) → 0 < length s.notes
     → slice_get s.notes (length s.notes - 1) ≡ Some c → c ≡ saved s.place (weight_of s.parts)
     → HasNotedHere s
@@ -20,7 +20,7 @@ noted_here s c some last is = (
   (last ∙ ap Some is, front_self s.parts, refl),
 )
 
--- and if it has another position, it is not
+-- and if its position is different, it does not
 pub noted_elsewhere : (s : Seen) (c : Point)
     → slice_get s.notes (length s.notes - 1) ≡ Some c → (c ≡ saved s.place (weight_of s.parts) → ⊥)
     → HasNotedHere s → ⊥
@@ -34,7 +34,7 @@ noted_elsewhere s c last other (n, count, (is, front, weighs)) =
 pub none_noted : (s : Seen) → s.notes ≡ [] → HasNotedHere s → ⊥
 none_noted s none (n, count, is) = absurd (omega (arith, count, ap length none))
 
--- what follows from an answer follows from it where it is returned
+-- a consequence of an answer is true where the answer is returned
 pub true_map : (t : Bool) (A B : Type 0) → (A → B) → OnTrue t A → OnTrue t B
 true_map true A B f a = f a
 true_map false A B f a = a

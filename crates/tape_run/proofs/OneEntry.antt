@@ -1,4 +1,4 @@
--- A catalogue has one entry a section, by what noting keeps.
+-- A catalogue has one entry for each section, from what adding a section preserves.
 use Rattle.std.proofs.Common.{◌≡◌, ◌≢◌, Bool, true, false, ℕ, List, [], ◌∷◌, refl, sym, subst}
 use Rattle.std.specs.Prelude.{if◌then◌else◌, Option, Some, None}
 use Rattle.tape_run.specs.declared.section.ImageLine.{ImageLine}
@@ -23,7 +23,7 @@ others_stay [] t key are other = (other, tt)
 others_stay (x ∷ xs) t key (first, are) other =
     others_here x xs t key (same_key t.0 x.0) (first, are) (others_stay xs t key are other)
 
--- keys that are found to differ do
+-- keys that are found to be different are different
 apart : (a b : SectionKey) → same_key a b ≡ false → a ≢ b
 apart a b e same =
     let again : same_key a b ≡ true = subst (λ key. same_key a key ≡ true) same (key_again a) in

@@ -1,4 +1,5 @@
--- A sink that writes as its parts come: one part more, a part that was not written, a cut to all.
+-- A sink that writes parts as they come: one more part, a part that could not be written, a cut to
+-- all parts.
 use Rattle.std.proofs.Common.{◌≡◌, ℕ, ◌+◌, Bool, true, false, List, [], ◌∷◌, ◌++◌, length}
 use Rattle.std.proofs.Common.{Option, Some, None, refl, sym, ap, subst, ◌∙◌, arith, append_assoc}
 use Rattle.std.proofs.Common.{append-nil, length-append}
@@ -35,7 +36,7 @@ regroup : (t b bytes end : List ℕ) → t ++ ((b ++ bytes) ++ end) ≡ (t ++ b)
 regroup t b bytes end = ap (λ x. t ++ x) (append_assoc b bytes end)
     ∙ sym (append_assoc t b (bytes ++ end))
 
--- One more part: what was joined, how many records ended, and whether one is unfinished.
+-- One more part: the joined records, how many of them ended, and whether one is unfinished.
 pub record Grows (form : Form) (old new : Joined) (p : Portion) : Type 0 where
   pub text : text_of form new ≡ text_of form old ++ part_text form p
   pub count : length new.records ≡ with_end (leaves p.span) (length old.records)
@@ -89,7 +90,7 @@ grows_by form ps p false ends =
       begins = ap (λ (j : Joined). is_some j.rest) is ∙ sym ends;
     }
 
--- Behind one part more the text has grown by what that part adds.
+-- One more part extends the text by the bytes of that part, and a terminator if it ends its record.
 pub grows : (form : Form) (ps : List Portion) (p : Portion)
     → Grows form (join ps) (join (ps ++ p ∷ [])) p
 grows form ps p = grows_by form ps p (leaves p.span) refl
@@ -129,7 +130,7 @@ put_done contents form out new weight heavier records more begun begins failed p
       );
     }
 
--- parts a prefix of which weighs as much as all are that prefix
+-- a prefix of the parts that weighs as much as all of them is the whole list
 pub all_kept : {W : Type 0} (contents : W → Option (List ℕ)) (form : Form) (out : W)
     (weight records : ℕ) (begun failed : Bool) (front rest : List Portion)
     → weight_of front ≡ weight

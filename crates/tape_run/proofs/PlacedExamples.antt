@@ -1,4 +1,4 @@
--- Each number of a listing with places is the one that the image's bytes have.
+-- Each number of a listing with offsets is the one in the image's bytes.
 use Rattle.std.proofs.Common.{◌≡◌, ℕ, ◌+◌, List, [], ◌∷◌, ◌++◌, length, map, Option, length-append}
 use Rattle.std.proofs.Common.{refl, sym, ap, subst, ◌∙◌, arith, append-nil, append_assoc}
 use Rattle.std.specs.Prelude.{Bool, true, false, if◌then◌else◌, nat_le}
@@ -26,7 +26,7 @@ pub placed_worked : PlacesAreWorked
 unfolding digits
 placed_worked = refl
 
--- placed items were walked over
+-- items with their offsets were read
 pub placed_first : PlacedAreFirst
 placed_first [] p q xs ys (at, same) =
     let P : ℕ → Type 0 = λ n. Walks p xs [] n ys in
@@ -137,7 +137,7 @@ one_places (x ∷ items) (y ∷ others) p q r xs ys zs (f, mid, t, rest) (g, oth
     let behind = one_places items others x.behind q r mid ys zs rest there less in
     ap (λ l. x ∷ l) behind ∙ ap (λ w. w ∷ others) same
 
--- how long the spelling of a block is, and of a mark
+-- the length of the encoding of a block, and of a mark
 framed_long : (s : List ℕ) (w : ℕ) (content : List ℕ) → IsFramed s w content
     → length s ≡ block_extent (length content)
 framed_long s w content f =
@@ -185,7 +185,7 @@ block_word bytes p q xs ys t =
 pub mark_word : PlaceIsOfWord mark
 mark_word p q xs ys t = omega (arith, t.place, mark_long t.spelling (mark ∷ []) t.spelled refl)
 
--- what the outcomes of a listing with places say
+-- the meaning of the outcomes of a listing with offsets
 pub ended : (old new : Option (List ℕ)) (bytes left : List ℕ) → PlacesEndSays old new bytes left
 ended old new bytes left l = (
   TakesEnd-behind 0 l.at l.place bytes l.rest left (items_of l.items) l.ending

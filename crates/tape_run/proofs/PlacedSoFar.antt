@@ -1,4 +1,4 @@
--- What `list --offsets` has done after some items, and what it leaves from there.
+-- What `list --offsets` has done after some items, and its result from there.
 use Rattle.std.proofs.Common.{◌≡◌, ◌≢◌, ℕ, ◌+◌, ◌-◌, List, [], ◌∷◌, ◌++◌, length, Option}
 use Rattle.std.proofs.Common.{Result, Err, IfErr, refl, sym, ap, subst, ◌∙◌, arith}
 use Rattle.std.proofs.Common.{append-nil, append_assoc, length-append}
@@ -57,11 +57,11 @@ pub record PlacedSoFar (all left : Option (List ℕ))
   pub counted : length items ≡ count
   pub wrote : Appends old new (placed_lines 1 items)
 
--- the item that a call gave, with its places
+-- the item that a call returned, with its offsets
 abbrev pub met : TapeItem → ℕ → ℕ → PlacedItem
 met item p q = record { item = item; from = p; behind = q }
 
--- the lines of items and of one more
+-- the lines of some items and of one more
 one_line : (items : List PlacedItem) (x : PlacedItem) (count : ℕ) → length items ≡ count
     → placed_lines 1 (items ++ x ∷ []) ≡ placed_lines 1 items ++ placed_line (count + 1) x
 one_line items x count counted =
@@ -130,7 +130,7 @@ placed_to_fault all left next p count fault old mid new s takes keeps =
     })
     s.known takes
 
--- any cause but that of memory
+-- any cause except lack of memory
 pub places_cause : (cause : ImageCause) (fault : ImageFault)
     (before after old new : Option (List ℕ))
     → cause ≢ OutOfMemory → IfKnown before after (PlacesToFault fault old new)
@@ -142,7 +142,7 @@ places_cause (Reserved w) fault before after old new other h = h
 places_cause TooLong fault before after old new other h = h
 places_cause Device fault before after old new other h = h
 
--- the line of an item was not written whole
+-- the line of an item was not written completely
 pub placed_stop_item : (all left next : Option (List ℕ))
     (p q count : ℕ) (item : TapeItem) (old mid new : Option (List ℕ))
     → PlacedSoFar all left p count old mid → IfKnown left next (TakesItem p item q)
@@ -156,7 +156,7 @@ placed_stop_item all left next p q count item old mid new s takes front =
     (into old mid new (placed_lines 1 s.items) (placed_line (length s.items + 1) x) s.wrote line))
     s.known takes
 
--- the last line was not
+-- the last line was not written completely
 pub placed_stop_end : (all left next : Option (List ℕ))
     (p q count : ℕ) (ending : Ending) (old mid new : Option (List ℕ))
     → PlacedSoFar all left p count old mid → IfKnown left next (TakesEnd p [] ending q)
@@ -167,7 +167,7 @@ placed_stop_end all left next p q count ending old mid new s takes front =
     (into old mid new (placed_lines 1 s.items) (placed_end ending q) s.wrote front))
     s.known takes
 
--- the lines before a fault were written, and not passed on
+-- the lines before a fault were written, but not flushed
 pub placed_stop_fault : (all left next : Option (List ℕ))
     (p count : ℕ) (fault : ImageFault) (old mid new : Option (List ℕ))
     → PlacedSoFar all left p count old mid → IfKnown left next (TakesFault p [] fault)
@@ -177,7 +177,7 @@ placed_stop_fault all left next p count fault old mid new s takes keeps =
     (λ xs ys f. at_fault fault f)
     (placed_to_fault all left next p count fault old mid new s takes keeps)
 
--- a write failed, and this was read
+-- a write failed after this was read
 pub places_not_written : {T : Type 0} (result : Result T ListFault)
     (before after old new : Option (List ℕ)) → result ≡ Err WriteFailed
     → IfKnown before after (StopsPlacing old new)
@@ -186,7 +186,7 @@ places_not_written {T} result before after old new is stops =
     let P : Result T ListFault → Type 0 = λ r. IfErr r (FitsPlaces before after old new) in
     subst P (sym is) stops
 
--- the line that is put together of what the calls gave
+-- the line that is built from the results of the calls
 pub line_is : (size behind from p q n : ℕ) (extent : Option ℕ) (item : TapeItem)
     (line text : List ℕ) → size ≡ unwrap_or extent (behind - from) → extent ≡ item_extent item
     → behind ≡ q → from ≡ p → line ≡ line_of n item

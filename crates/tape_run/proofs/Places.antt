@@ -1,4 +1,4 @@
--- Places in the midst of a block.
+-- Positions inside a block.
 use Rattle.std.proofs.Common.{◌≡◌, ◌≢◌, ℕ, zero, suc, ◌-◌, ◌<◌, ◌≤◌, ◌==◌, Bool, true, false}
 use Rattle.std.proofs.Common.{if◌then◌else◌, List, [], ◌∷◌, ◌++◌, length, take, drop, Option, Some}
 use Rattle.std.proofs.Common.{None, refl, sym, ap, subst, ◌∙◌, arith, append-nil}
@@ -33,7 +33,7 @@ use Rattle.tape_core.proofs.Standing.{stood}
 use Rattle.tape_core.proofs.PartPoints.{part_stands}
 use Rattle.tape_run.specs.Puts.{refused_point}
 
--- ---- the place of a refused part
+-- ---- the position of a refused part
 
 none_between : (k : ℕ) (ps : List Portion) → drop k (take k ps) ≡ []
 none_between zero ps = refl
@@ -84,7 +84,7 @@ at_later set x old new held n begun d a b same lt within is =
     subst (IsPlaced set (place_of (inside_block (saved new 0) old.position n begun 0))) parts
     (record { at = there.at; all = there.all })
 
--- At a refused part of the block delivered the core is right again with what was put.
+-- At a refused part of the delivered block the core matches the parts that were put.
 refused_place : (set : FileSet) (x : TapeItem) (old new : State) (held : List Portion) (n : ℕ)
     → (d : Delivers set x old new) → IsPlaced set old held → IsAt set new → new.file ≡ old.file
     → d.part ≤ n → n < length d.filled.parts
@@ -116,7 +116,7 @@ refused_position old new n begun =
     kept (Awaits sect b part) n e = rw e refl
     kept Finished n e = refl
 
--- at the expected part it is unchanged
+-- at the expected part the core is unchanged
 pub stands_first : (old new : State) (n : ℕ) (begun : Bool) → n ≡ part_of old.position
     → place_of (refused_point (saved old 0) (saved new 0) n begun) ≡ record old { phase = Over }
 stands_first old new n begun first =
@@ -175,7 +175,7 @@ delivered_at set x old new held parts first bytes k d a b is known holds from =
     ∙ ap (λ (l : List Portion). held ++ drop first l) all)) in
     record { at = b; all = sym next }
 
--- A part of it was refused.
+-- A part of the block was refused.
 pub refused_at : (set : FileSet) (x : TapeItem) (old new : State) (held parts : List Portion)
     (first n : ℕ) (bytes : List ℕ) (k : FileForm)
     → Delivers set x old new → IsPlaced set old held → IsAt set new
@@ -195,7 +195,7 @@ refused_at set x old new held parts first n bytes k d a b same is known holds fr
     (begun_behind old.begun (drop f (take n d.filled.parts))))) (held
     ++ drop f (take n d.filled.parts))) part there)
 
--- a step that delivers, and one that does not
+-- a step that delivers a block, and one that does not
 pub gives_block : (set : FileSet) (x : TapeItem) (answer : Answer) (old new : State)
     → answer ≡ Deliver → Gives set x answer old new → Delivers set x old new
 gives_block set x answer old new e g = subst (λ (a : Answer). Gives set x a old new) e g
@@ -214,7 +214,7 @@ pub came_block : (arrived : Option TapeItem) (x : TapeItem) (bytes : List ℕ) �
     → arrived ≡ Some (block bytes) → x ≡ block bytes
 came_block arrived x bytes e f = cc
 
--- an event that is not a block delivers none
+-- an event that is not a block delivers nothing
 pub no_block : (e : Event) (bytes : List ℕ) → ((b : _) → e ≡ Block b → ⊥)
     → arrival e ≡ Some (block bytes) → ⊥
 no_block (Block b) bytes not is = not b refl
@@ -243,7 +243,7 @@ shape_fits (Some l) (Some t) k s h e f =
     subst (λ (z : Shape). (z.format ≡ k.format) × (z.rec_len ≡ k.rec_len) × (z.offset ≡ k.offset)) b
     two
 
--- both checkpoints being of a file, the one at the refused part is
+-- if both checkpoints belong to a file, so does the one at the refused part
 pub refused_set : (c d : Point) (n : ℕ) (begun : Bool) (id : List ℕ) → c.set_id ≡ id → d.set_id ≡ id
     → (refused_point c d n begun).set_id ≡ id
 refused_set c d n begun id e f = pick (n == part_of c.position)

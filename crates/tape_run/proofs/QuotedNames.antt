@@ -1,4 +1,4 @@
--- Names as they are printed: nothing of them is hidden, and no two are printed as one.
+-- Names as they are printed: no character is hidden, and different names are printed differently.
 use Rattle.std.proofs.Common.{◌≡◌, ◌≢◌, ℕ, ◌+◌, ◌*◌, ◌/◌, ◌%◌, ◌<◌, Bool, true, false}
 use Rattle.std.proofs.Common.{List, [], ◌∷◌, ◌++◌, refl, sym, ap, subst, ◌∙◌, arith}
 use Rattle.std.proofs.Common.{chars, encode_utf8_all, length}
@@ -89,7 +89,7 @@ names_show name is =
     (sym (chars-encodes (flat_map quoted (chars name)) (are_scalars _ all)))
     (none_hidden (flat_map quoted (chars name)) all)
 
--- ---- names are told apart
+-- ---- different names have different texts
 
 by_digit : (a b : ℕ) → a / 16 ≡ b / 16 → hex (a % 16) ≡ hex (b % 16) → a ≡ b
 by_digit a b front digit =

@@ -1,4 +1,4 @@
--- The parts before the first one that leaves its record unfinished, found in a walk.
+-- The parts before the first one that leaves its record unfinished, found during a walk.
 use Rattle.std.proofs.Common.{Ok, ◌≡◌, ℕ, ◌+◌, ◌-◌, ◌<◌, ◌≤◌, Bool, true, false}
 use Rattle.std.proofs.Common.{List, [], ◌∷◌, ◌++◌, length, Option, Some, None, refl}
 use Rattle.std.proofs.Common.{sym, ap, subst, ◌∙◌, arith, append_assoc, append-nil}
@@ -19,7 +19,7 @@ use Rattle.tape_run.specs.RecordFront.{EachEnds, WritesFront}
 use Rattle.tape_image.proofs.Pieces.{front_more, front_behind}
 use Rattle.tape_run.proofs.Streams.{with_end, ends, count_ends, ends_few}
 
--- ---- what is written of such parts
+-- ---- the text written for such parts
 
 one_text : (form : Form) (p : Portion) (ps : List Portion) → leaves p.span ≡ false
     → output_of form (p ∷ ps) ≡ part_text form p ++ output_of form ps
@@ -58,7 +58,7 @@ each_with : (first : List Portion) (p : Portion) → EachEnds first → leaves p
 each_with [] p each e = (e, tt)
 each_with (q ∷ ps) p (was, each) e = (was, each_with ps p each e)
 
--- ---- a walk that writes them
+-- ---- a walk that writes the parts
 
 -- The first parts, each of which ends a record, were written, and the others are still to come.
 pub record Fronts (form : Form) (ahead : List Portion → Type 0) (count : ℕ)
@@ -162,7 +162,7 @@ front_all form count old new parts f =
           ∙ sym (front_text form f.first f.rest f.each) ∙ ap (output_of form) (sym f.are)) f.wrote,
     )
 
--- and then the rest was written, or a prefix of it
+-- and then the rest of the text was written, or a prefix of it
 pub rest_written : (form : Form) (count records : ℕ) (all : Bool) (old mid new : Option (List ℕ))
     (parts : List Portion) (f : WritesFront form count all old mid parts)
     → (records ≡ length (join (f.first ++ f.rest)).records)
@@ -183,9 +183,9 @@ rest_failed form count all old mid new parts f wrote =
     ∙ ap (output_of form) (sym f.are))
     (front_behind old mid new (output_of form f.first) (output_of form f.rest) f.wrote wrote)
 
--- ---- a walk that passes them
+-- ---- a walk that skips the parts
 
--- This many of these parts are still to be skipped, and then the others come.
+-- Some of the parts are still to be skipped, followed by the others.
 pub record Passes (ahead : List Portion → Type 0) (left : ℕ) (rest : List Portion) : Type 0 where
   pub before : List Portion
   pub is_ahead : ahead (before ++ rest)

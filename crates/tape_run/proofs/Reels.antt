@@ -1,4 +1,4 @@
--- A core's answers to the items of a reel, and to what ends it.
+-- A core's answers to the items of a reel, and to the end of the reel.
 use Rattle.std.proofs.Common.{◌≡◌, ℕ, ◌+◌, List, [], ◌∷◌, ◌++◌, Option, Some, None, refl, sym, ap}
 use Rattle.std.proofs.Common.{Result, Ok, Err, subst, ◌∙◌, inl, inr, arith}
 use Rattle.std.specs.List.{AllByRecursion}
@@ -16,15 +16,15 @@ use Rattle.tape_core.specs.declared.event.Answer.TheVariants.{Passed, Deliver, S
 use Rattle.tape_core.specs.declared.event.Answer.TheVariants.{Complete, Useless}
 use Rattle.tape_core.specs.State.{State}
 use Rattle.tape_core.specs.Place.{rest_of}
-use Rattle.tape_core.specs.Table.{step_of}
+use Rattle.tape_core.specs.Table.{Outcome, step_of, saved}
 use Rattle.tape_core.specs.Follows.{IsFinal}
 use Rattle.tape_run.specs.declared.reel_reader.ReelAnswer.{ReelAnswer}
 use Rattle.tape_run.specs.Reels.{behind_items, answers_to, GoesOn, delivered_by, ReadsReel}
-use Rattle.tape_run.specs.Reels.{ReadsToBlock, IsDelivery}
+use Rattle.tape_run.specs.Reels.{ReadsToBlock, IsDelivery, StopsAt}
 use Rattle.tape_run.specs.Taking.{came_of, fault_of}
 use Rattle.tape_run.proofs.ByTable.{core_more}
 
--- So far: the bytes up to an offset are these items, after each of which the reading continued.
+-- So far the bytes up to an offset encode these items, and the reading continued after each.
 pub record ReadsSoFar (old new : State) (blocks at : ℕ) (bytes left : List ℕ) : Type 0 where
   pub items : List TapeItem
   pub taken : Walks 0 bytes items at left
@@ -45,7 +45,7 @@ pub item_came : (old new : State) (came : Option TapeItem) (answer : Answer)
 item_came old new None answer left on = absurd (final_ends answer on (left refl).1)
 item_came old new (Some item) answer left on = (item, refl)
 
--- An item that came is the one that the reader gave.
+-- The item of an event is the one that the reader returned.
 pub item_given : (told : Result (Option TapeItem) ImageFault) (old new : Reader) (item : TapeItem)
     → came_of told ≡ Some item → Meets old told new → GivesItem old item new
 item_given (Ok (Some x)) old new item e m =
@@ -53,17 +53,20 @@ item_given (Ok (Some x)) old new item e m =
 item_given (Ok None) old new item e m = absurd (cc e)
 item_given (Err fault) old new item e m = absurd (cc e)
 
--- A block that was delivered is the one that the reader gave.
+-- The delivered block is the one that the reader returned.
 pub block_given : (core : State) (came : Option TapeItem)
     (told : Result (Option TapeItem) ImageFault) (old new : Reader)
-    → came ≡ came_of told → IsDelivery core came → Meets old told new
+    → (after : State) → came ≡ came_of told → IsDelivery core came after → Meets old told new
     → (content : List ℕ) × (came ≡ Some (block content)) × GivesItem old (block content) new
     × ((step_of core (Some (block content))).0 ≡ Deliver)
-block_given core came told old new same (content, is, delivers) m = (
+    × StopsAt (saved core 0) (saved (step_of core (Some (block content))).1 0) after
+block_given core came told old new after same (content, is, delivers, stops) m = (
   content,
   is,
   item_given told old new (block content) (sym same ∙ is) m,
   ap (λ (z : Option TapeItem). (step_of core z).0) (sym is) ∙ delivers,
+  subst (λ (z : Option TapeItem). StopsAt (saved core 0) (saved (step_of core z).1 0) after) is
+      stops,
 )
 
 -- ---- items one after another
@@ -89,7 +92,7 @@ delivered_more (SectionDone ∷ xs) x = delivered_more xs x
 delivered_more (Complete ∷ xs) x = delivered_more xs x
 delivered_more (Useless why ∷ xs) x = delivered_more xs x
 
--- For an image of which nothing was read.
+-- The start, with no item of the image read.
 pub none_read : (core : State) (left : Option (List ℕ)) (place : ℕ) → place ≡ 0
     → IfKnown left left (ReadsSoFar core core 0 place)
 none_read core left place first = known_same left left (ReadsSoFar core core 0 place) refl
@@ -110,9 +113,8 @@ walks_on p q bytes ys zs items item w k =
 answer_is : (core mid new : State) (items : List TapeItem) (item : Option TapeItem)
     (answer : Answer)
     → mid ≡ behind_items core items → (answer, new) ≡ step_of mid item
-    → answer ≡ (step_of (behind_items core items) item).0
-answer_is core mid new items item answer e f =
-    ap (λ (z : Answer × State). z.0) f ∙ ap (λ (c : State). (step_of c item).0) e
+    → (answer, new) ≡ step_of (behind_items core items) item
+answer_is core mid new items item answer e f = f ∙ ap (λ (c : State). step_of c item) e
 
 one_read : (old mid new : State) (blocks more p q : ℕ) (bytes ys zs : List ℕ)
     (item : TapeItem) (answer : Answer)
@@ -121,7 +123,8 @@ one_read : (old mid new : State) (blocks more p q : ℕ) (bytes ys zs : List ℕ
     → ReadsSoFar old mid blocks p bytes ys → image.TakesItem p item q ys zs
     → ReadsSoFar old new more q bytes zs
 one_read old mid new blocks more p q bytes ys zs item answer step on count s k =
-    let is = answer_is old mid new s.items (Some item) answer s.core step in
+    let is = ap (λ (z : Outcome). z.0)
+    (answer_is old mid new s.items (Some item) answer s.core step) in
     let all = answers_more old s.items item
     ∙ ap (λ (a : Answer). answers_to old s.items ++ a ∷ []) (sym is) in
     record {
@@ -134,7 +137,7 @@ one_read old mid new blocks more p q bytes ys zs item answer step on count s k =
       core = core_more old mid new answer s.items item step s.core;
     }
 
--- An item was taken after which the reading continues.
+-- An item was processed, and the reading continues.
 pub read_on : (core mid : State) (blocks : ℕ) (all : Option (List ℕ)) {new : State} {more : ℕ}
     {old next : Reader} {item : TapeItem} {answer : Answer}
     → IfKnown all old.left (ReadsSoFar core mid blocks old.place) → GivesItem old item next
@@ -152,14 +155,15 @@ by_item : (old mid new : State) (blocks p q : ℕ) (bytes ys zs : List ℕ)
     → (answer, new) ≡ step_of mid (Some item) → IsFinal answer
     → reel.answer ≡ answer → reel.fault ≡ None → reel.blocks ≡ blocks
     → ReadsSoFar old mid blocks p bytes ys → image.TakesItem p item q ys zs
-    → ReadsReel old bytes zs reel
+    → ReadsReel old bytes zs reel new
 by_item old mid new blocks p q bytes ys zs item answer reel step final is none count s k = record {
   items = s.items;
   on = s.on;
   blocks = count ∙ s.counted;
   ended = inl (record {
     item = item;
-    last = is ∙ answer_is old mid new s.items (Some item) answer s.core step;
+    last = ap (λ (a : Answer). (a, new)) is
+        ∙ answer_is old mid new s.items (Some item) answer s.core step;
     final = subst IsFinal (sym is) final;
     no_fault = none;
     at = q;
@@ -172,13 +176,14 @@ by_medium : (old mid new : State) (blocks p q : ℕ) (bytes ys zs : List ℕ)
     → (answer, new) ≡ step_of mid None
     → reel.answer ≡ answer → reel.fault ≡ None → reel.blocks ≡ blocks
     → ReadsSoFar old mid blocks p bytes ys → TakesEnd p [] ending q ys zs
-    → ReadsReel old bytes zs reel
+    → ReadsReel old bytes zs reel new
 by_medium old mid new blocks p q bytes ys zs ending answer reel step is none count s t = record {
   items = s.items;
   on = s.on;
   blocks = count ∙ s.counted;
   ended = inr (inl (record {
-    last = is ∙ answer_is old mid new s.items None answer s.core step;
+    last = ap (λ (a : Answer). (a, new)) is
+        ∙ answer_is old mid new s.items None answer s.core step;
     no_fault = none;
     ending = ending;
     at = q;
@@ -191,55 +196,59 @@ by_fault : (old mid new : State) (blocks p : ℕ) (bytes ys zs : List ℕ)
     → (answer, new) ≡ step_of mid None
     → reel.answer ≡ answer → reel.fault ≡ Some fault → reel.blocks ≡ blocks
     → ReadsSoFar old mid blocks p bytes ys → TakesFault p [] fault ys zs
-    → ReadsReel old bytes zs reel
+    → ReadsReel old bytes zs reel new
 by_fault old mid new blocks p bytes ys zs fault answer reel step is told count s t = record {
   items = s.items;
   on = s.on;
   blocks = count ∙ s.counted;
   ended = inr (inr
       (record {
-        last = is ∙ answer_is old mid new s.items None answer s.core step;
+        last = ap (λ (a : Answer). (a, new)) is
+            ∙ answer_is old mid new s.items None answer s.core step;
         fault = fault;
         told = told;
         taken = TakesFault-behind 0 p bytes ys zs s.items fault s.taken t;
       }));
 }
 
--- The reading ended after what the reader returned.
+-- The reading ended with the reader's result.
 pub reads_reel : (core mid : State) (blocks : ℕ) (all : Option (List ℕ)) (old next : Reader)
     (told : Result (Option TapeItem) ImageFault) {new : State} {answer : Answer} {reel : ReelAnswer}
     → IfKnown all old.left (ReadsSoFar core mid blocks old.place) → Meets old told next
     → (answer, new) ≡ step_of mid (came_of told) → IsFinal answer
     → reel.answer ≡ answer → reel.fault ≡ fault_of told → reel.blocks ≡ blocks
-    → IfKnown all next.left (λ bytes left. ReadsReel core bytes left reel)
+    → IfKnown all next.left (λ bytes left. ReadsReel core bytes left reel new)
 reads_reel core mid blocks all old next (Ok (Some item)) {new} {answer} {reel} known m
     step final is fault count =
-    known_then all old.left next.left _ _ (λ bytes left. ReadsReel core bytes left reel)
+    known_then all old.left next.left _ _ (λ bytes left. ReadsReel core bytes left reel new)
     (λ xs ys zs s t. by_item core mid new blocks old.place next.place xs ys zs item answer reel step
     final is fault count s t) known m.takes
 reads_reel core mid blocks all old next (Ok None) {new} {answer} {reel} known m
     step final is fault count =
-    known_then all old.left next.left _ _ (λ bytes left. ReadsReel core bytes left reel)
+    known_then all old.left next.left _ _ (λ bytes left. ReadsReel core bytes left reel new)
     (λ xs ys zs s t. by_medium core mid new blocks old.place next.place xs ys zs m.ending answer
     reel step is fault count s t) known m.takes
 reads_reel core mid blocks all old next (Err met) {new} {answer} {reel} known m
     step final is fault count =
-    known_then all old.left next.left _ _ (λ bytes left. ReadsReel core bytes left reel)
+    known_then all old.left next.left _ _ (λ bytes left. ReadsReel core bytes left reel new)
     (λ xs ys zs s t. by_fault core mid new blocks old.place xs ys zs met answer reel step is fault
     count s t) known m.takes
 
 -- A part of a delivered block was refused.
 pub reads_to_block : (core mid : State) (blocks : ℕ) (all : Option (List ℕ)) {old next : Reader}
-    {content : List ℕ}
+    {content : List ℕ} (new : State)
     → IfKnown all old.left (ReadsSoFar core mid blocks old.place)
     → GivesItem old (block content) next → (step_of mid (Some (block content))).0 ≡ Deliver
-    → IfKnown all next.left (ReadsToBlock core)
-reads_to_block core mid blocks all {old} {next} {content} known gives delivers =
-    known_then all old.left next.left _ _ (ReadsToBlock core) (λ xs ys zs s k. record {
+    → StopsAt (saved mid 0) (saved (step_of mid (Some (block content))).1 0) new
+    → IfKnown all next.left (ReadsToBlock new core)
+reads_to_block core mid blocks all {old} {next} {content} new known gives delivers stops =
+    known_then all old.left next.left _ _ (ReadsToBlock new core) (λ xs ys zs s k. record {
       items = s.items;
       on = s.on;
       content = content;
       delivers = ap (λ (c : State). (step_of c (Some (block content))).0) (sym s.core) ∙ delivers;
+      stops = subst (λ (c : State). StopsAt (saved c 0)
+          (saved (step_of c (Some (block content))).1 0) new) s.core stops;
       at = next.place;
       taken = walks_on old.place next.place xs ys zs s.items (block content) s.taken k;
     }) known gives.takes

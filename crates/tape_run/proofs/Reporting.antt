@@ -1,4 +1,4 @@
--- What of a report was written, and what comes next.
+-- The part of a report that has been written, and the text that comes next.
 use Rattle.std.proofs.Common.{◌≡◌, inl, inr, ℕ, ◌+◌, ◌-◌, ◌<◌, suc, Bool, List}
 use Rattle.std.proofs.Common.{[], ◌∷◌, ◌++◌, length, map, take, drop, get_or, Option, option_map}
 use Rattle.std.proofs.Common.{Result, Ok, Err, IfOk, OnOk, OnErr, refl, sym, ap, subst, ◌∙◌}
@@ -63,7 +63,7 @@ as_many [] (l ∷ lines) c d read = absurd read
 as_many (r ∷ reels) [] c d read = absurd read
 as_many (r ∷ reels) (l ∷ lines) c d read = ap suc (as_many reels lines read.0 d read.2)
 
--- the first images of a shelf, up to this number, were mounted and read, and their lines written
+-- the first images of a source, up to this number, were opened and read, and their lines written
 pub record ReadSoFar {L R : Type 0} (gives : Mounting L R) (remaining : R → Option (List ℕ))
     (shelf now : L) (number : ℕ) (d : List Told) (old new : Option (List ℕ)) : Type 0 where
   pub reels : List Reel
@@ -84,7 +84,7 @@ starts gives remaining shelf d w none = record {
   wrote = Appends-nil w;
 }
 
--- the lines of the images up to a place and of the next
+-- the lines of the images up to an index, and of the next one
 one_line : (reels : List Reel) (lines : List (Option ImageLine)) (line : Option ImageLine)
     (place : ℕ) (d : List Told) → AddsImages reels lines [] d → length reels ≡ place
     → image_lines 1 (lines ++ line ∷ []) ≡ image_lines 1 lines ++ image_line (place + 1) line
@@ -93,7 +93,7 @@ one_line reels lines line place d read counted =
     omega (arith, as_many reels lines [] d read, counted) in
     image_lines-more 1 lines line ∙ ap (λ n. image_lines 1 lines ++ image_line n line) number
 
--- the image with this number was mounted
+-- the image with this number was opened
 mounted_next : {L R : Type 0} (gives : Mounting L R) (remaining : R → Option (List ℕ))
     (shelf now next : L) (number : ℕ) (reels : List Reel) (image : Option R)
     → AreMounted gives (IsReel remaining) shelf 0 reels now → length reels ≡ number
@@ -124,7 +124,7 @@ one_more gives remaining shelf now next number mid d old w new image s gave told
           (image_line (number + 1) line) s.wrote told.2);
     }
 
--- a fault came when an image was opened: nothing more was written
+-- a fault occurred when an image was opened: nothing more was written
 pub not_mounted : {L R : Type 0} (size : L → ℕ) (gives : Mounting L R)
     (remaining : R → Option (List ℕ)) (shelf now left : L) (number : ℕ) (mid : List Told)
     (old w : Option (List ℕ)) → number < size shelf → left ≡ now
@@ -147,7 +147,7 @@ not_mounted size gives remaining shelf now left number mid old w within same s =
       wrote = (image_lines 1 s.lines, summary_behind unread mid, s.wrote, refl);
     }
 
--- a fault came at the image with this number
+-- a fault occurred at the image with this number
 pub stops_at : {L R : Type 0} (size : L → ℕ) (gives : Mounting L R)
     (remaining : R → Option (List ℕ)) (shelf now next : L) (number : ℕ) (mid : List Told)
     (old w new : Option (List ℕ)) (image : Option R) → number < size shelf
@@ -219,7 +219,7 @@ reported size gives remaining shelf left d old mid new found told is wrote = rec
   wrote = Appends-trans old mid new (image_lines 1 told.lines) (summary d) told.wrote wrote;
 }
 
--- a prefix of the summary was
+-- a prefix of the summary was written
 pub reported_in_part : {L R : Type 0} (size : L → ℕ) (gives : Mounting L R)
     (remaining : R → Option (List ℕ)) (shelf left : L) (d : List Told)
     (old mid new : Option (List ℕ)) → TellsImages size gives remaining shelf left d old mid
@@ -241,7 +241,7 @@ reported_in_part size gives remaining shelf left d old mid new told part =
           (sym (append-nil (lines ++ summary d)));
     }
 
--- the texts of the elements up to a place and of the next
+-- the texts of the elements up to an index, and of the next one
 one_text : (X : Type 0) (f : X → List ℕ) (xs : List X) (place : ℕ) (x z : X) → place < length xs
     → x ≡ get_or xs place z → flat_map f (take (place + 1) xs) ≡ flat_map f (take place xs) ++ f x
 one_text X f xs place x z within is =
@@ -249,7 +249,7 @@ one_text X f xs place x z within is =
     ∙ flat_map-append f (take place xs) (x ∷ [])
     ∙ ap (λ l. flat_map f (take place xs) ++ l) (append-nil (f x))
 
--- all texts are those up to a place, the next, and more
+-- all texts are those up to an index, the next one, and the others
 all_texts : (X : Type 0) (f : X → List ℕ) (xs : List X) (place : ℕ) (x z : X)
     → place < length xs → x ≡ get_or xs place z
     → flat_map f xs ≡ (flat_map f (take place xs) ++ f x) ++ flat_map f (drop (place + 1) xs)
@@ -258,7 +258,7 @@ all_texts X f xs place x z within is =
     ∙ flat_map-append f (take (place + 1) xs) (drop (place + 1) xs)
     ∙ ap (λ l. l ++ flat_map f (drop (place + 1) xs)) (one_text X f xs place x z within is)
 
--- after them the text of the element at the index was written
+-- after these the text of the element at the index was written
 pub text_more : {X : Type 0} (f : X → List ℕ) (xs : List X) (place : ℕ) (x : X) (text : List ℕ)
     (old mid new : Option (List ℕ)) → place < length xs → x ≡ get_or xs place x → text ≡ f x
     → Appends old mid (flat_map f (take place xs)) → Appends mid new text
@@ -268,7 +268,7 @@ text_more {X} f xs place x text old mid new within is same before wrote =
     (Appends-trans old mid new (flat_map f (take place xs)) (f x) before
     (subst (Appends mid new) same wrote))
 
--- a prefix of it was
+-- a prefix of that text was written
 pub text_front : {X : Type 0} (f : X → List ℕ) (xs : List X) (place : ℕ) (x : X) (text : List ℕ)
     (old mid new : Option (List ℕ)) → place < length xs → x ≡ get_or xs place x → text ≡ f x
     → Appends old mid (flat_map f (take place xs)) → AppendsFront mid new text
@@ -293,7 +293,7 @@ pub in_third : (old first second new : Option (List ℕ)) (a b c : List ℕ) →
 in_third old first second new a b c one two part = front_then old second new (a ++ b) c [] (a ++ b
     ++ c) (Appends-trans old first second a b one two) part (sym (append-nil (a ++ b ++ c)))
 
--- the summary is that of what was found
+-- the summary describes what was found
 pub summed_up : (old new : Option (List ℕ)) (d : List Told) (listed : List SectionLine)
     (lacking : List Lack) (found : Bool) → listed ≡ map line_of d → lacking ≡ lacks d
     → found ≡ found_all d

@@ -1,4 +1,4 @@
--- Images that were read round by round.
+-- Images that were read in passes.
 use Rattle.std.proofs.Common.{◌≡◌, ◌⊎◌, inl, inr, Bool, ℕ, ◌+◌, ◌<◌, ◌≤◌, List, [], ◌∷◌, ◌++◌}
 use Rattle.std.proofs.Common.{length, map, Option, None, refl, sym, ap, subst, ◌∙◌, arith, true}
 use Rattle.std.proofs.Common.{append_assoc, append-nil, length-append}
@@ -76,7 +76,7 @@ all_turns back core old (r ∷ rounds) mid (z, first, rest) =
     follows_then back true core old r.turns r.behind z (turns_of rounds)
     (core_behind r.behind rounds) mid first (all_turns back r.behind z rounds mid rest)
 
--- the lines of passes, and of what follows them
+-- the lines of passes, followed by these
 pub lines_then : (turns : List Turn) (others : List Turn) (more : List (Option ReelAnswer))
     → reel_lines 1 (map answer_of (turns ++ others) ++ more)
     ≡ reel_lines 1 (map answer_of turns)
@@ -112,7 +112,7 @@ front_of_all old mid new turns others more first then =
 
 -- ---- calls
 
--- a pass after which something is missing had all images
+-- a pass after which something is missing read all images
 whole_round : (turns : List Turn) (size : ℕ) (core : State) → length turns ≤ size
     → (length turns < size → core.position ≡ Finished) → wanted core ≢ None → length turns ≡ size
 whole_round turns size core most all some = elim (cases_lt (length turns) size) [
@@ -139,7 +139,7 @@ none_gone {S} {L} {R} gs size gives remaining back old shelf said =
       );
     }
 
--- one more round was made, and it was not enough
+-- one more pass was made, and something is still missing
 pub gone_on : {S L R : Type 0} (gs : Ghosts S)
     (size before : ℕ) (gives : Mounting L R) (remaining : R → Option (List ℕ)) (back : Bool)
     (old mid new : SessionState S) (shelf between left : L) (said told says : Option (List ℕ))
@@ -195,7 +195,7 @@ gone_on {S} {L} {R} gs size before gives remaining back old mid new
       },
     )
 
--- if a pass recovered something there are images
+-- if a pass recovered something, there are images
 pub some_images : {S L R : Type 0} (gs : Ghosts S)
     (size before : ℕ) (gives : Mounting L R) (remaining : R → Option (List ℕ)) (back : Bool)
     (mid new : SessionState S) (between left : L) (told says : Option (List ℕ))
@@ -212,7 +212,7 @@ some_images {S} {L} {R} gs size before gives remaining back mid new
       )))))
     ]
 
--- one more round was made, and it was enough
+-- one more pass was made, and it was the last
 pub takes_rounds : {S L R : Type 0} (gs : Ghosts S)
     (size count before : ℕ) (gives : Mounting L R) (remaining : R → Option (List ℕ)) (back : Bool)
     (old mid new : SessionState S) (shelf between left : L) (said told says : Option (List ℕ))
@@ -241,7 +241,7 @@ takes_rounds {S} {L} {R} gs size count before gives remaining back
       enough = subst (λ n. IsEnough count n (wanted mid.core) (wanted new.core)) lines enough;
     })
 
--- a fault ended one more round
+-- a fault ended one more pass
 pub stops_round : {S L R : Type 0} (gs : Ghosts S)
     (size count before : ℕ) (gives : Mounting L R) (remaining : R → Option (List ℕ)) (back : Bool)
     (old mid new : SessionState S) (shelf between left : L) (said told says : Option (List ℕ))
@@ -268,7 +268,7 @@ stops_round {S} {L} {R} gs size count before gives remaining back
           told says) lines stopped;
     })
 
--- whether it was the last pass, by what is missing
+-- whether this was the last pass, from the part that is missing
 pub enough_by : (size lines : ℕ) (before want b w : Option Want) → b ≡ before → w ≡ want
     → (w ≡ None) ⊎ (w ≡ b) → IsEnough size lines before want
 enough_by size lines before want b w is_b is_w (inl none) = inl (sym is_w ∙ none)

@@ -1,4 +1,4 @@
--- A run, as far as it has come.
+-- A run, up to a step.
 use Rattle.std.proofs.Common.{◌≡◌, ℕ, ◌+◌, ◌≤◌, Bool, true, false, List, [], ◌∷◌, ◌++◌, length}
 use Rattle.std.proofs.Common.{map, take, drop, Option, refl, sym, ap, subst, ◌∙◌, arith}
 use Rattle.std.proofs.lemmas.List.{drop_all, drop-drop, map-append, take-append-drop}
@@ -19,9 +19,9 @@ use Rattle.tape_run.specs.SessionState.{SessionState}
 use Rattle.tape_run.proofs.Crashes.{stood_here}
 use Rattle.tape_run.proofs.Made.{made_none, made_more, all_made}
 
--- The first n steps succeeded, in a session whose sink contained these parts before: what its sink
--- contains now, what the steps did, what a crash leaves, and whether that is only the last
--- checkpoint.
+-- The first n steps succeeded, in a session whose sink contained these parts before: the current
+-- contents of its sink, the effects of the steps, the states that a crash leaves, and whether these
+-- are only the last checkpoint.
 pub record HasCome {S : Type 0} (g : Ghosts S) (which : List Bool) (old : SessionState S)
     (held : List Portion) (steps : List Step) (readers : List (Option (List ℕ))) (n : ℕ)
     (new : SessionState S) (unread others : List (Option (List ℕ))) : Type 0 where
@@ -52,7 +52,7 @@ none_made {held = held} was kept = record {
   brings = λ is. absurd (cc);
 }
 
--- what the next step adds to what a crash leaves
+-- the states that a crash may leave after the next step, in addition to the earlier ones
 pub adds_more : {S : Type 0} {g : Ghosts S} {which : List Bool} {old mid : SessionState S}
     {held : List Portion} {steps : List Step} {readers unread others : List (Option (List ℕ))}
     {n : ℕ} {new : Crashes}
@@ -66,7 +66,7 @@ adds_more {g = g} {old = old} {held = held} {steps = steps} {readers = readers} 
     (only_then _ _ _ _ _ (λ back there h. come.made.stood behind back there
     (stood_here _ _ _ behind back there h)) (come.adds behind) adds)
 
--- the next step was made
+-- the next step succeeded
 pub one_more : {S : Type 0} {g : Ghosts S} {which one : List Bool} {old mid new : SessionState S}
     {held : List Portion} {readers unread others then last : List (Option (List ℕ))} {step : Step}
     (steps : List Step) (n : ℕ)
@@ -92,7 +92,7 @@ one_more {unread = unread} {then = then} steps n come here now has kept step add
       brings = brings;
     }
 
--- what is unread of all readers, by the first of them and the others
+-- the unread bytes of all readers, from those of the first one and the others
 pub all_unread : {R : Type 0} (remaining : R → Option (List ℕ)) (used : ℕ) (reels : List R)
     → map remaining (take used reels) ++ map remaining (drop used reels) ≡ map remaining reels
 all_unread remaining used reels = sym (map-append remaining (take used reels) (drop used reels))
@@ -108,7 +108,7 @@ now_unread {g = g} {which = which} {old = old} {new = new} {held = held} {steps 
     {readers = readers} {others = others} {n = n} is e come =
     subst (λ u. HasCome g which old held steps readers n new u others) (sym e) come
 
--- what a crash leaves so far, for readers that have this unread
+-- the states that a crash leaves so far, for readers with these unread bytes
 pub adds_so_far : {S : Type 0} {g : Ghosts S} {which : List Bool} {old new : SessionState S}
     {held : List Portion} {steps : List Step} {readers others : List (Option (List ℕ))} {n : ℕ}
     {R : Type 0} (remaining : R → Option (List ℕ)) (used : ℕ) (reels : List R)
@@ -137,7 +137,7 @@ came_to_end {g = g} {which = which} {old = old} {new = new} {held = held} {reade
       λ is. come.brings (sym (come.same ∙ ap (is_saved come.saved) (drop_all n steps past)) ∙ is),
     )
 
--- ---- readers that were not taken
+-- ---- readers that were not used
 
 reels_then : (steps more : List Step) → reels_in (steps ++ more) ≡ reels_in steps + reels_in more
 reels_then [] more = omega arith
@@ -145,7 +145,7 @@ reels_then (Reel ∷ steps) more = omega (arith, reels_then steps more)
 reels_then (Save ∷ steps) more = reels_then steps more
 reels_then (Restart n ∷ steps) more = reels_then steps more
 
--- how many readers are taken with one more step
+-- how many readers are used after one more step
 pub taken_then : (steps : List Step) (n : ℕ) (step : Step)
     → drop n steps ≡ step ∷ drop (n + 1) steps → (used : ℕ) → used ≡ reels_in (take n steps)
     → used + reels_in (step ∷ []) ≡ reels_in (take (n + 1) steps)
@@ -153,7 +153,7 @@ taken_then steps n step here used is =
     ap (λ m. m + reels_in (step ∷ [])) is ∙ sym (reels_then (take n steps) (step ∷ []))
     ∙ ap reels_in (sym (take-add n 1 steps ∙ ap (λ rest. take n steps ++ take 1 rest) here))
 
--- what is after the readers taken before, and after the next
+-- the readers after those used before and the next one
 pub stays_behind : {R : Type 0} (used more : ℕ) (old mid new : List R)
     → drop used mid ≡ drop used old → drop (used + more) new ≡ drop (used + more) mid
     → drop (used + more) new ≡ drop (used + more) old

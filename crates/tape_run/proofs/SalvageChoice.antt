@@ -1,4 +1,4 @@
--- The best copy of a section, and what the copies say of the file.
+-- The best copy of a section, and what the copies say about the file.
 use Rattle.std.proofs.Common.{◌≡◌, ℕ, ◌+◌, ◌<◌, ◌≤◌, Bool, true, false, max, take, get_or, List}
 use Rattle.std.proofs.Common.{[], ◌∷◌, ◌++◌, length, Option, Some, None, refl, sym, ap, subst}
 use Rattle.std.proofs.Common.{◌∙◌, arith, append_assoc, append-nil}
@@ -58,7 +58,7 @@ more sect last (x ∷ cs) c b e =
     (λ l f. more sect l cs c b f) e in
     record { first = h.0; image = h.1 }
 
--- it is the first, or is after one that is no worse, or is better
+-- the copy is the first one, or comes after one that is no worse, or is better
 pub first_best : (cs : List SectionCopy) (c : SectionCopy) → IsBest cs None
     → IsBest (cs ++ c ∷ []) (Some c)
 first_best cs c none = ([], [], ap (λ (l : List SectionCopy). l ++ c ∷ []) none, tt, tt)
@@ -90,7 +90,7 @@ new_best cs b c more_rank (front, rest, is, less, most) = (
   tt,
 )
 
--- one more copy, which is considered or not
+-- one more copy, which may be considered or not
 pub passes_copy : (sect : ℕ) (cs : List SectionCopy) (c : SectionCopy) (best : Option SectionCopy)
     (last : Option ℕ) → is_considered sect last c ≡ false → IsChoice sect cs best last
     → IsChoice sect (cs ++ c ∷ []) best last
@@ -114,14 +114,14 @@ takes_copy sect cs c best new last on h better =
       at = sym m.image;
     }
 
--- ---- what is found among the copies
+-- ---- the sections found among the copies
 
 pub last_more : (cs : List SectionCopy) (c : SectionCopy)
     → last_section (cs ++ c ∷ []) ≡ max (last_section cs) c.section.key.sect
 last_more [] c = omega arith
 last_more (d ∷ cs) c = let r = last_more cs c in omega (arith, r)
 
--- one more of these copies
+-- one more copy of the section
 taken_more : {X : Type 0} (xs : List X) (place : ℕ) (x z : X) → place < length xs
     → x ≡ get_or xs place z → take (place + 1) xs ≡ take place xs ++ x ∷ []
 taken_more xs place x z within is =

@@ -1,4 +1,4 @@
--- On a volume of a lawful set the data of a section end once.
+-- On a volume of a valid set the data of a section end once.
 use Rattle.std.proofs.Common.{◌≡◌, inl, inr, ℕ, ◌+◌, ◌==◌, ◌&&◌, Bool, true, false, List, [], ◌∷◌}
 use Rattle.std.proofs.Common.{◌++◌, length, Some, refl, sym, ap, ◌∙◌, arith}
 use Rattle.std.specs.Prelude.{if◌then◌else◌}
@@ -28,7 +28,7 @@ use Rattle.tape_run.proofs.SalvageSteps.{section_walked}
 use Rattle.tape_run.proofs.SalvageVolumes.{volume_walked, volume_salvaged, recovers_from_volume}
 
 module _ (key : SectionKey) where
-  -- how often the data of the section end, with those before
+  -- how often the data of the section end, including earlier ones
   abbrev count : Expected → ℕ → TapeItem → ℕ
   count s n x = n + (if is_in key s && is_mark x then 1 else 0)
 
@@ -67,7 +67,7 @@ module _ (key : SectionKey) where
     trailers = λ u k n b. none_more n false refl;
   }
 
-  -- a section whose data end the count so
+  -- a section whose data end changes the count like this
   walked : (set_id : List ℕ) (volumes : ℕ) (r : SectionRead) (s : Expected) (n m : ℕ) (b : Bool)
       → IsRead set_id volumes r → MayBegin s → same_key (key_of set_id r) key ≡ b
       → n + (if b && true then 1 else 0) ≡ m
@@ -128,7 +128,7 @@ module _ (key : SectionKey) where
 
   -- ---- how many data items there are
 
-  -- how many data items were read where the data of the section end, if they do
+  -- how many data items were read when the data of the section end, if they end
   abbrev length_at : Expected → ℕ → TapeItem → ℕ
   length_at s n x = if is_in key s && is_mark x then read_in key s else n
 
@@ -176,7 +176,7 @@ module _ (key : SectionKey) where
       (not_one b c none)
       ∙ none_gathered (step s x).0 n xs (rest_none key b c none)
 
-  -- so many data items were read if the reading ends at the mark after them
+  -- the number of data items read, if the reading ends at the mark after them
   items_counted : (items more all : List TapeItem) (n : ℕ) → all ≡ items ++ more
       → EndsData (Outside 0) key items → closings key (Outside 0) all ≡ 1
       → gathered length_at (Outside 0) 0 all ≡ n
@@ -197,7 +197,7 @@ module _ (key : SectionKey) where
       ∙ none_gathered (expected_after o items) (gathered length_at o 0 items) more none in
       there ∙ sym here ∙ sym rest ∙ ap (gathered length_at o 0) (sym splits) ∙ gives
 
-  -- the same of a volume
+  -- the same for a volume
   pub volume_counted : (set_id : List ℕ) (volumes : ℕ) (v : Volume) (ls : Labels)
       (before : List SectionRead) (r : SectionRead) (rest : List SectionRead)
       (items more : List TapeItem) → IsVolume v → AreLabels v ls
@@ -219,7 +219,7 @@ module _ (key : SectionKey) where
       items_counted items more (read_volume ls (before ++ r ∷ rest)) n splits ends z.once
       w.walk.gives
 
--- what is recovered from such a reading
+-- the records recovered from such a reading
 pub reading_salvaged : (key : SectionKey) (form : FileForm) (set_id : List ℕ) (volumes : ℕ)
     (v : Volume) (ls : Labels) (before : List SectionRead) (r : SectionRead)
     (rest : List SectionRead) (g : Salvaged) (items more : List TapeItem) → IsVolume v

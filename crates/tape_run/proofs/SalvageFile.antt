@@ -1,4 +1,4 @@
--- A file recovered from readings of volumes of a lawful set.
+-- A file recovered from readings of volumes of a valid set.
 use Rattle.std.proofs.Common.{◌≡◌, ℕ, ◌&&◌, nat_lt, Bool, true, false, List, [], ◌∷◌, ◌++◌, length}
 use Rattle.std.proofs.Common.{Option, Some, refl, sym, ap, subst, ◌∙◌, arith, append-nil}
 use Rattle.std.proofs.Common.{append_assoc, ◌+◌}
@@ -28,7 +28,7 @@ use Rattle.tape_run.proofs.SalvageWhole.{gives_whole, all_whole}
 use Rattle.tape_run.proofs.SalvageGrows.{after_append, never_less}
 use Rattle.tape_run.proofs.SalvageClosings.{volume_counted, reading_salvaged}
 
--- ---- what is missing is noted
+-- ---- missing data are recorded
 
 -- all of these blocks were read
 abbrev AreRead : Blocks → Type 0

@@ -1,4 +1,4 @@
--- A section of a lawful set is found to close.
+-- A section of a valid set is found to close.
 use Rattle.std.proofs.Common.{◌≡◌, ℕ, Bool, true, false, List, [], ◌∷◌, ◌++◌, Option, Some, None}
 use Rattle.std.proofs.Common.{map, refl, sym, ap, ◌∙◌, append_assoc, append-nil}
 use Rattle.std.specs.Prelude.{if◌then◌else◌}
@@ -35,7 +35,7 @@ abbrev ending : Option FoundSection → List FoundSection
 ending None = []
 ending (Some t) = t ∷ []
 
--- the sections that are found, with those before
+-- the sections that are found, with earlier ones
 abbrev added : Expected → List FoundSection → TapeItem → List FoundSection
 added s ts x = ts ++ ending (step s x).1
 
@@ -53,7 +53,7 @@ same_gathered s n ts (x ∷ xs) =
     ∙ append_assoc ts (ending (step s x).1) (map (λ (t : FoundAt). t.1) rest)
     ∙ ap (λ (l : List FoundSection). ts ++ l) (sym (one_found n (step s x).1 rest))
 
--- one section was found, somewhere
+-- one section was found somewhere
 at_place : (l : List FoundAt) (t : FoundSection) → map (λ (t : FoundAt). t.1) l ≡ t ∷ []
     → (place : ℕ) × (l ≡ (place, t) ∷ [])
 at_place [] t e = absurd (cc e)

@@ -1,4 +1,4 @@
--- What is recovered grows, and up to the first missing block nothing is left out.
+-- The recovered records grow, and up to the first missing block none is left out.
 use Rattle.std.proofs.Common.{◌≡◌, Bool, true, false, List, [], ◌∷◌, ◌++◌, Result, Ok, Err, Some}
 use Rattle.std.proofs.Common.{◌&&◌, refl, sym, ap, subst, ◌∙◌, append-nil, append_assoc}
 use Rattle.std.specs.Prelude.{if◌then◌else◌}

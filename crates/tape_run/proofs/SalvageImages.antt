@@ -1,4 +1,4 @@
--- Copies found on the images of a shelf, one image after another.
+-- Copies found on the images of a source, one image after another.
 use Rattle.std.proofs.Common.{◌≡◌, ℕ, ◌+◌, List, [], ◌∷◌, ◌++◌, length, Option, option_map, refl}
 use Rattle.std.proofs.Common.{sym, ap, subst, ◌∙◌, arith, append_assoc, append-nil, length-append}
 use Rattle.std.specs.Io.KnownBytes.{Appends}
@@ -9,7 +9,7 @@ use Rattle.tape_run.specs.Checked.{Reel, IsReel}
 use Rattle.tape_run.specs.Salvaging.{FindsOn, FindsOnAll}
 use Rattle.tape_run.proofs.Turns.{one_mounted}
 
--- the images up to a number were read, and the copies on them found
+-- the images up to a number were read, and the copies on them were found
 pub record FoundSoFar {L R : Type 0} (gives : Mounting L R) (remaining : R → Option (List ℕ))
     (set_id : List ℕ) (file : ℕ) (shelf now : L) (number : ℕ) (copies : List SectionCopy)
     (said says : Option (List ℕ)) : Type 0 where

@@ -1,4 +1,4 @@
--- One section recovered from its best copy.
+-- One section, recovered from its best copy.
 use Rattle.std.proofs.Common.{◌≡◌, ℕ, Bool, true, false, Result, Ok, Err, IfOk, OnOk, List, ◌++◌}
 use Rattle.std.proofs.Common.{Option, Some, None, refl, sym, ap, subst, ◌∙◌}
 use Rattle.std.specs.Prelude.{if◌then◌else◌}
@@ -37,7 +37,7 @@ pub three_texts : (a b c d : Option (List ℕ)) (t u v : List ℕ) → Appends a
     → Appends c d v → Appends a d (t ++ (u ++ v))
 three_texts a b c d t u v h i j = Appends-trans a b d t (u ++ v) h (Appends-trans b c d u v i j)
 
--- what follows from an answer
+-- a consequence of an answer
 pub if_ok : {A E : Type 0} (r : Result A E) (P Q : A → Type 0) → ((x : A) → P x → Q x) → IfOk r P
     → IfOk r Q
 if_ok (Ok x) P Q f h = f x h
@@ -93,7 +93,7 @@ module _ {W L R : Type 0} (contents : W → Option (List ℕ)) (gives : Mounting
   abbrev can_read : SectionCopy → Bool
   can_read c = has_form content (form_of c)
 
-  -- what is recovered of a section without items, if its blocks can be read or not
+  -- the result for a section without items, whether or not its blocks can be read
   abbrev WithoutItems : ℕ → SectionCopy → Bool → Recovery W → Recovery W → Option (List ℕ)
       → Option (List ℕ) → Type 0
   WithoutItems sect c b old new said says = Recovers contents old new said says

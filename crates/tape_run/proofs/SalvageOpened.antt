@@ -1,4 +1,4 @@
--- A section of a lawful set on the walk over its items: what its labels and blocks make of it.
+-- A section of a valid set during the walk over its items: the effect of its labels and blocks.
 use Rattle.std.proofs.Common.{◌≡◌, ◌<◌, ◌≤◌, ℕ, ◌+◌, Bool, true, false, List, [], ◌∷◌, suc}
 use Rattle.std.proofs.Common.{length, Option, Some, None, Ok, Result, refl, ap, ◌∙◌, arith}
 use Rattle.std.specs.Prelude.{if◌then◌else◌, ◌==◌, min}
@@ -92,9 +92,9 @@ may_after [] = tt
 may_after ((true, b) ∷ ls) = may_after ls
 may_after ((false, b) ∷ ls) = refl
 
--- ---- the section on the way
+-- ---- the section during the walk
 
--- after these labels before its data, of which the first is its second label or follows it
+-- after labels before the data, the first of which is the second label or follows it
 unfoldable pub headed : OpenSection → Labels → OpenSection
 headed u [] = u
 headed u ((true, b) ∷ ls) = headed u ls
@@ -144,7 +144,7 @@ pub long : (bs : Blocks) → length (filled_of bs) ≡ length bs
 long [] = refl
 long (b ∷ bs) = ap suc (long bs)
 
--- after these labels behind its trailer label, up to the first that could not be read
+-- after these labels following its trailer label, up to the first unreadable one
 unfoldable pub trailed : OpenSection → Labels → OpenSection
 trailed u [] = u
 trailed u ((true, b) ∷ ls) = trailed (with_trailer u (head2_at b)) ls

@@ -1,4 +1,4 @@
--- The parts of a block taken one after another.
+-- The parts of a block, processed one after another.
 use Rattle.std.proofs.Common.{◌≡◌, List, [], ◌∷◌, ◌++◌, refl}
 use Rattle.tape_blocks.specs.Block.{Portion}
 use Rattle.tape_run.specs.SalvageRecords.{Piece, with_part, with_parts}

@@ -18,7 +18,7 @@ use Rattle.tape_run.proofs.SalvagedSoFar.{expected_after-append, salvaged_from-a
 use Rattle.tape_run.proofs.SalvagedSoFar.{text_from-append, closings-append}
 
 module _ (key : SectionKey) where
-  -- an item that is not a mark leaves the data open
+  -- after an item that is not a mark the data are still being read
   stays_in : (s : Expected) (x : TapeItem) → is_in key s ≡ true → is_mark x ≡ false
       → is_in key (step s x).0 ≡ true
   stays_in (Data u) (block b) h m = h
@@ -43,7 +43,7 @@ module _ (key : SectionKey) where
   rest_none true n e = omega (arith, e)
   rest_none false n e = omega (arith, e)
 
-  -- data that are open and never end are open at the end
+  -- data that never end are still being read at the end
   open_to_end : (s : Expected) (xs : List TapeItem) → is_in key s ≡ true → closings key s xs ≡ 0
       → is_in key (expected_after s xs) ≡ true
   open_to_end s [] h none = h

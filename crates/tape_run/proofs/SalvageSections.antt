@@ -1,4 +1,4 @@
--- What is recovered of a section of a lawful set.
+-- The records recovered from a section of a valid set.
 use Rattle.std.proofs.Common.{◌≡◌, ◌<◌, ◌≤◌, ℕ, ◌+◌, Bool, true, false, List, [], ◌∷◌, length}
 use Rattle.std.proofs.Common.{Option, Some, None, refl, sym, ap, subst, ◌∙◌, arith}
 use Rattle.std.specs.Prelude.{if◌then◌else◌, nat_lt}
@@ -23,7 +23,7 @@ use Rattle.tape_run.specs.SalvageSections.{RecoversSectionOf, PassesSection}
 use Rattle.tape_run.proofs.SalvageOpened.{section_after, one_more, long}
 use Rattle.tape_run.proofs.SalvageSteps.{gathered, Walk, Quiet, first, quiet_data, section_walked}
 
--- what is recovered of an item, where this is expected
+-- the records recovered from an item, if this phase is expected
 abbrev pub taken : SectionKey → ℕ → Option FileForm → Expected → Salvaged → TapeItem → Salvaged
 taken key most form s g x = salvaged_at form g (number_in key most s) x
 
@@ -57,14 +57,14 @@ quiet key most form = record {
   trailers = λ u k g b. refl;
 }
 
--- a mark is never recovered
+-- nothing is recovered from a mark
 no_mark : (form : Option FileForm) (g : Salvaged) (n : Option ℕ) → salvaged_at form g n mark ≡ g
 no_mark form g None = refl
 no_mark form g (Some n) = refl
 
 -- ---- data
 
--- what is recovered of these data items
+-- the records recovered from these data items
 unfoldable pub salvaged_blocks : Option FileForm → ℕ → Salvaged → Blocks → Salvaged
 salvaged_blocks form n g [] = g
 salvaged_blocks form n g ((true, f) ∷ bs) =

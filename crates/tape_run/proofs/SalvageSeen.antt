@@ -38,7 +38,7 @@ module _ (set_id : List ℕ) (file image : ℕ) where
       (its-append xs ys)
       ∙ its_by (is_of set_id file t.1) t (its xs) (its ys)
 
-  -- the items up to a place were read, and these copies found
+  -- the items up to an index were read, and these copies were found
   pub record SoFar (all left : Option (List ℕ)) (place : ℕ) (expected : Expected) (read : ℕ)
       (old new : List SectionCopy) : Type 0 where
     pub items : List TapeItem

@@ -1,4 +1,4 @@
--- The walk over a section of a lawful set, with whatever is gathered on the way.
+-- The walk over a section of a valid set, with a list of results that is extended on the way.
 use Rattle.std.proofs.Common.{◌≡◌, ℕ, true, false, List, [], ◌∷◌, ◌++◌, length, Ok, refl, sym, ap}
 use Rattle.std.proofs.Common.{◌∙◌, arith}
 use Rattle.tape_image.specs.Tape.{TapeItem, block, bad, mark}
@@ -28,7 +28,7 @@ use Rattle.tape_run.proofs.SalvageOpened.{trailed, same_trailed, counted_trailed
 
 -- ---- the walk
 
--- what is gathered from these items
+-- the results from these items
 abbrev pub gathered : {A : Type 0} → (Expected → A → TapeItem → A) → Expected → A
     → List TapeItem → A
 gathered act s a [] = a
@@ -40,13 +40,13 @@ pub gathered-append : {A : Type 0} (act : Expected → A → TapeItem → A) (s 
 gathered-append act s a [] ys = refl
 gathered-append act s a (x ∷ xs) ys = gathered-append act (step s x).0 (act s a x) xs ys
 
--- these items lead from here to there, and gather this
+-- these items lead from one state to another, with these results
 pub record Walk {A : Type 0} (act : Expected → A → TapeItem → A) (s : Expected) (a : A)
     (xs : List TapeItem) (t : Expected) (b : A) : Type 0 where
   pub after : expected_after s xs ≡ t
   pub gives : gathered act s a xs ≡ b
 
--- nothing is gathered from labels, and from marks between sections
+-- labels, and marks between sections, have no results
 pub record Quiet {A : Type 0} (act : Expected → A → TapeItem → A) : Type 0 where
   pub begin : (s : Expected) (a : A) (x : TapeItem) → MayBegin s → act s a x ≡ a
   pub second : (u : OpenSection) (a : A) (x : TapeItem) → act (Second u) a x ≡ a
@@ -74,7 +74,7 @@ module _ {A : Type 0} (act : Expected → A → TapeItem → A) where
       → (step s x).0 ≡ t → act s a x ≡ b → Walk act t b xs u c → Walk act s a (x ∷ xs) u c
   first s t u a b c x xs e f rest = follow s t u a b c (x ∷ []) xs (one s t a b x e f) rest
 
-  -- data of a section of which nothing is gathered
+  -- data of a section that has no results
   pub quiet_data : (key : SectionKey) (u : OpenSection) (a : A) (bs : Blocks) → u.key ≡ key
       → ((v : OpenSection) (b : List ℕ) → v.key ≡ key → act (Data v) a (block b) ≡ a)
       → ((v : OpenSection) → v.key ≡ key → act (Data v) a bad ≡ a)
@@ -114,7 +114,7 @@ module _ {A : Type 0} (act : Expected → A → TapeItem → A) where
       first (Headers u) (Headers v) (Headers (headed v ls)) a a a bad (read_labels ls) refl
       (q.headers u a bad) (headers q v a ls)
 
-  -- the labels after HDR1, of which there is one at least
+  -- the labels after HDR1, of which there is at least one
   record AfterHead (u : OpenSection) (a : A) (ls : Labels) : Type 0 where
     section : OpenSection
     walk : Walk act (Second u) a (read_labels ls) (Headers section) a
@@ -162,7 +162,7 @@ module _ {A : Type 0} (act : Expected → A → TapeItem → A) where
 
   -- ---- a section
 
-  -- The walk over a section that closes. `ends` is what is gathered where its trailer labels end.
+  -- The walk over a section that closes. `ends` is the result at the end of its trailer labels.
   pub record Walked (set_id : List ℕ) (r : SectionRead) (s : Expected) (a : A)
       (ends : OpenSection → Closing → A) : Type 0 where
     pub section : OpenSection

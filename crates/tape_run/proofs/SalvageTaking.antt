@@ -1,4 +1,4 @@
--- The sections of a file recovered one after another.
+-- The sections of a file, recovered one after another.
 use Rattle.std.proofs.Common.{◌≡◌, ◌≢◌, inl, inr, ℕ, ◌+◌, ◌<◌, List, [], ◌∷◌, ◌++◌, length}
 use Rattle.std.proofs.Common.{Option, None, refl, sym, ap, subst, ◌∙◌, arith, append_assoc}
 use Rattle.std.proofs.Common.{append-nil, length-append}
@@ -131,7 +131,7 @@ module _ {W L R : Type 0} (contents : W → Option (List ℕ)) (gives : Mounting
             );
       }
 
-  -- one more, which does not end the file
+  -- one more section, which does not end the file
   pub more_taken : (n : ℕ) (end next_end : SectionEnd) (shelf now next : L)
       (old mid new : Recovery W) (said w says : Option (List ℕ))
       → TakenSoFar n end shelf now old mid said w
@@ -191,7 +191,7 @@ module _ {W L R : Type 0} (contents : W → Option (List ℕ)) (gives : Mounting
             ));
       }
 
-  -- all sections that were found, of which the last says that the file continues
+  -- all sections that were found; the last one says that the file continues
   pub continues_file : (n : ℕ) (end : SectionEnd) (shelf now : L) (old mid new : Recovery W)
       (said w says : Option (List ℕ)) → n ≡ last_section copies
       → TakenSoFar n end shelf now old mid said w → end ≡ Continues → known ≡ form_of_file copies

@@ -1,4 +1,4 @@
--- The text of parts in order is that of the records they join to.
+-- The text of parts in order is that of the records that they join to.
 use Rattle.std.proofs.Common.{◌≡◌, ℕ, Bool, true, false, List, [], ◌∷◌, ◌++◌, Option, Some, None}
 use Rattle.std.proofs.Common.{refl, sym, ap, ◌∙◌, append-nil, append_assoc}
 use Rattle.std.specs.Prelude.{if◌then◌else◌, is_some}
@@ -11,7 +11,7 @@ use Rattle.tape_run.specs.OutSinks.{begun_text}
 use Rattle.tape_run.specs.SalvageRecords.{parts_text}
 use Rattle.tape_run.specs.SalvageWhole.{WritesOutput}
 
--- what a joined list of parts is, and how it is written
+-- the result of joining a list of parts, and how it is written
 abbrev text_of : Form → Joined → List ℕ
 text_of form j = records_text form j.records ++ begun_text j.rest
 

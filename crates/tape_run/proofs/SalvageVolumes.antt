@@ -1,4 +1,4 @@
--- The walk over a volume of a lawful set, and what is recovered of it.
+-- The walk over a volume of a valid set, and the records recovered from it.
 use Rattle.std.proofs.Common.{◌≡◌, ℕ, Bool, true, false, List, [], ◌∷◌, ◌++◌, length, Some, Ok}
 use Rattle.std.proofs.Common.{Result, Err, refl, sym, ap, subst, ◌∙◌, append_assoc}
 use Rattle.std.specs.List.{AllByRecursion}
@@ -77,7 +77,7 @@ sections_append (r ∷ rs) qs =
 
 module _ {A : Type 0} (act : Expected → A → TapeItem → A) (q : Quiet act) (set_id : List ℕ)
     (volumes : ℕ) (key : SectionKey) where
-  -- nothing is gathered from other sections
+  -- nothing is recovered from other sections
   abbrev pub PassesOthers : Type 0
   PassesOthers = (r : SectionRead) (s : Expected) (a : A) → IsRead set_id volumes r → MayBegin s
       → IsOther set_id key r → Walk act s a (read_section r) (after_trailers r.trailers) a

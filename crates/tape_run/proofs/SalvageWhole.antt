@@ -16,18 +16,17 @@ use Rattle.tape_run.specs.SalvageRecords.{mended_by, begun_at, judged_at}
 use Rattle.tape_run.specs.SalvageWhole.{Blocks, parts_of_block, parts_with, all_parts, whole_from}
 use Rattle.tape_run.specs.SalvageWhole.{piece_after, IsBlock, RecoversWhole, AllWhole}
 
--- What a piece says of the unfinished record with these parts so far, all of which were read or
--- not.
+-- The meaning of a part for the unfinished record, whose parts so far were all read or not.
 pub data Follows (p : Piece) (begun : Bool) (front : List Portion) (all : Bool) : Type 0 where
-  -- nothing is missing of it
+  -- no part of the unfinished record is missing
   on : p.torn ≡ false → p.begun ≡ begun → p.front ≡ front → all ≡ true → Follows p begun front all
-  -- something is missing of it
+  -- a part of the unfinished record is missing
   within : p.torn ≡ true → p.front ≡ [] → begun ≡ true → all ≡ false → Follows p begun front all
-  -- none is begun behind what is missing
+  -- no record is unfinished after something that is missing
   behind : p.torn ≡ true → p.front ≡ [] → begun ≡ false → front ≡ [] → all ≡ true
       → Follows p begun front all
 
--- what is recovered after further parts, and what is to come
+-- the records recovered after further parts, and those still to come
 record Gives (p q : Piece) (front : List Portion) (all end : Bool)
     (xs rest : List (Bool × Portion)) : Type 0 where
   later : List Portion
@@ -44,7 +43,7 @@ moved (y ∷ d) o x w = ap (λ (l : List Portion). y ∷ l) (moved d o x w)
 
 -- ---- one part of a block that was read
 
--- what becomes of a part if nothing is missing
+-- the effect of a part if nothing is missing
 on_open : (p : Piece) (x : Portion) → p.torn ≡ false → leaves x.span ≡ true
     → with_part p x ≡ record {
       done = p.done;
@@ -246,7 +245,7 @@ split_order begun end (x ∷ xs) ys (c, o) =
     let more = split_order (leaves x.span) end xs ys o in
     (more.0, (c, more.1), more.2)
 
--- what is recovered of blocks, after what was recovered before
+-- the records recovered from further blocks follow those recovered earlier
 pub given_of : (form : FileForm) (p : Piece) (begun all end : Bool) (front : List Portion)
     (bs : Blocks)
     → AllByRecursion (IsBlock form) bs → InOrder begun (all_parts bs) end

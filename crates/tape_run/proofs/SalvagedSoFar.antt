@@ -1,4 +1,4 @@
--- What was recovered after some items of an image.
+-- The records recovered after some items of an image.
 use Rattle.std.proofs.Common.{◌≡◌, ℕ, List, [], ◌∷◌, ◌++◌, Option, Some, None}
 use Rattle.std.proofs.Common.{true, false, refl, sym, ap, subst, ◌∙◌, append-nil}
 use Rattle.std.proofs.Common.{append_assoc, arith, ◌+◌, ◌&&◌, Bool}
@@ -25,8 +25,8 @@ use Rattle.tape_run.specs.SalvageBlocks.{Salvaged, HasSalvaged, Recovers, salvag
 use Rattle.tape_run.specs.SalvageImage.{is_in, read_in, number_in, salvaged_from, text_from}
 use Rattle.tape_run.specs.SalvageImage.{RecoversSection, is_mark, closings}
 
--- Of the bytes `all` the items up to a place were read, and `left` is left; the blocks of the
--- section among them were taken.
+-- Of the bytes `all` the items up to an offset were read, and `left` is left; the blocks of the
+-- section among these items were processed.
 pub record SoFar {W : Type 0} (contents : W → Option (List ℕ)) (all left : Option (List ℕ))
     (place : ℕ) (origin : Expected) (key : SectionKey) (most : ℕ) (form : Option FileForm)
     (expected : Expected) (old new : Recovery W) (said says : Option (List ℕ)) : Type 0 where
@@ -79,7 +79,7 @@ text_from-append key most form s g (x ∷ xs) ys =
     (text_from key most form (expected_after (step s x).0 xs)
     (salvaged_from key most form (step s x).0 (salvaged_at form g n x) xs) ys))
 
--- one more item was taken
+-- one more item was processed
 pub salvaged_more : {W : Type 0} (contents : W → Option (List ℕ)) (origin : Expected)
     (key : SectionKey) (most : ℕ) (form : Option FileForm) (expected : Expected)
     (items : List TapeItem) (item : TapeItem)
@@ -182,7 +182,7 @@ placed None left q items h = tt
 placed (Some xs) None q items h = absurd h
 placed (Some xs) (Some ys) q items h = (q, ys, h)
 
--- the mark that ends the section's data is none of them
+-- the mark that ends the section's data is not a data item
 pub read_at_mark : (key : SectionKey) (s : Expected) → is_in key s ≡ true
     → read_in key s ≡ read_in key (step s mark).0
 read_at_mark key (Data u) is = refl
@@ -272,7 +272,7 @@ at_fault contents all left next p fault origin key most form expected old new sa
       recovers = s.recovers;
     }
 
--- an item was taken by its number
+-- an item was processed under its number
 pub numbered : {W : Type 0} (contents : W → Option (List ℕ)) (key : SectionKey) (most : ℕ)
     (form : Option FileForm) (expected : Expected) (n : Option ℕ) (item : TapeItem)
     (mid new : Recovery W) (says now : Option (List ℕ)) → n ≡ number_in key most expected

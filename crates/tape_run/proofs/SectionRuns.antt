@@ -1,4 +1,4 @@
--- The reading over items in their proper order.
+-- Reading items that are in their proper order.
 use Rattle.std.proofs.Common.{◌≡◌, ℕ, ◌+◌, Bool, true, false, List, [], ◌∷◌, ◌++◌, length, Option}
 use Rattle.std.proofs.Common.{Some, None, Ok, refl, ap, subst, ◌∙◌, arith, append-nil}
 use Rattle.std.specs.Prelude.{map, ◌==◌, not, if◌then◌else◌}
@@ -21,7 +21,7 @@ use Rattle.tape_run.specs.Passing.{phase_after, told_from}
 use Rattle.tape_set.specs.Lawful.{label_count}
 use Rattle.tape_run.proofs.NotedSoFar.{phase_after-append, told_from-append}
 
--- these items take one phase to another, and contain this
+-- these items lead from one phase to another, and contain these sections
 pub record Runs (p : Phase) (items : List TapeItem) (q : Phase) (ts : List Told) : Type 0 where
   pub after : phase_after p items ≡ q
   pub tells : told_from p items ≡ ts
@@ -57,7 +57,7 @@ pub runs_trailers : (v : List ℕ) (hs : List (List ℕ))
 runs_trailers v [] = runs_nil (Trailers v)
 runs_trailers v (h ∷ hs) = let r = runs_trailers v hs in record { after = r.after; tells = r.tells }
 
--- a section of which this many blocks were found, none of them bad
+-- a section with the number of its blocks found so far, none of them bad
 abbrev pub whole_met : List ℕ → SectionKey → ℕ → Met
 whole_met v key n = record { volume = v; key = key; blocks = n; bad = false }
 
@@ -125,7 +125,7 @@ section_items hdr1 hdr2 headers content trailer trailers =
     (block hdr1 ∷ []) ++ ((block hdr2 ∷ []) ++ (map block headers ++ ((mark ∷ []) ++ (map block
     content ++ ((mark ∷ []) ++ ((block trailer ∷ []) ++ (map block trailers ++ (mark ∷ []))))))))
 
--- its labels are as they should be
+-- the labels of a section, which agree with each other and with its blocks
 pub record IsWhole (hdr1 hdr2 : List ℕ) (content : List (List ℕ)) (trailer : List ℕ)
     (head : Head1) (trail : Trail1) : Type 0 where
   pub hdr1_is : head1_at hdr1 ≡ Ok head

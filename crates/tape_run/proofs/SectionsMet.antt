@@ -1,4 +1,5 @@
--- What the items end with by what is expected next: the labels of a section, its data, or its end.
+-- The last items read, according to what is expected next: the labels of a section, its data, or
+-- its end.
 use Rattle.std.proofs.Common.{◌≡◌, ℕ, suc, Bool, true, false, List, [], ◌∷◌, ◌++◌, length, Option}
 use Rattle.std.proofs.Common.{Some, None, Result, Ok, Err, refl, ap, ◌∙◌, arith, append_assoc}
 use Rattle.std.proofs.Common.{append-nil, length-append}
@@ -27,7 +28,7 @@ use Rattle.tape_run.specs.Passing.{header_with, second_with}
 use Rattle.tape_set.specs.Lawful.{label_count}
 use Rattle.tape_run.specs.Shown.{BeginsVolume, HeadsSection, Shown}
 
--- the items end with a section's first label
+-- the last item is a section's first label
 pub record Headed (items : List TapeItem) (met : Met) : Type 0 where
   pub volume : BeginsVolume items met.volume
   pub before : List TapeItem
@@ -37,7 +38,7 @@ pub record Headed (items : List TapeItem) (met : Met) : Type 0 where
   pub none : met.blocks ≡ 0
   pub good : met.bad ≡ false
 
--- the items end with a section's labels
+-- the last items are a section's labels
 pub record Labelled (items : List TapeItem) (met : Met) : Type 0 where
   pub volume : BeginsVolume items met.volume
   pub before : List TapeItem
@@ -50,8 +51,8 @@ pub record Labelled (items : List TapeItem) (met : Met) : Type 0 where
   pub none : met.blocks ≡ 0
   pub good : met.bad ≡ false
 
--- the items end with a section's labels, a mark and its data, none of which is bad unless this says
--- so, and what follows
+-- the last items are a section's labels, a mark and its data, none of which is bad if `good` is
+-- true, and the items after them
 pub record Filled (items : List TapeItem) (met : Met) (behind : List TapeItem) : Type 0 where
   pub volume : BeginsVolume items met.volume
   pub before : List TapeItem
@@ -93,7 +94,7 @@ begins_more items v more b = record {
   named = b.named;
 }
 
--- what is shown stays shown when items follow
+-- a section that is shown is still shown if more items follow
 unfoldable pub shown_more : (items : List TapeItem) (key : SectionKey) (entry : Entry) (more : List TapeItem)
     → Shown items key entry → Shown (items ++ more) key entry
 shown_more items key entry more s = record {
@@ -275,7 +276,7 @@ filled_closed items met h = record {
   whole = h.whole;
 }
 
--- a section that is reported as good has the right count, and no block of it is bad
+-- a section that is reported as good has the right count, and none of its blocks is bad
 pub state_good : (met : Met) (trail : Trail1) (same is_bad : Bool)
     → (trail.blocks == label_count met.blocks) ≡ same → met.bad ≡ is_bad
     → (if not same then Count else if is_bad then Bad else Good) ≡ Good

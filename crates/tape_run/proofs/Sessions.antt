@@ -213,7 +213,7 @@ pub some_all : (o : Option (List ℕ)) (Q : List ℕ → Type 0) → ((xs : List
 some_all None Q f = tt
 some_all (Some xs) Q f = f xs
 
--- nothing is missing of a complete file
+-- of a complete file nothing is missing
 pub want_none : (file : ℕ) (p : Position) (b : Bool) → is_some (want_at file p) ≡ not b → b ≡ true
     → p ≡ Finished
 want_none file Finished b e f = refl
@@ -228,7 +228,7 @@ kept_restart old new n w k =
     ∙ at.note.of_set) (ap (λ (p : State). p.file) w.place ∙ at.note.of_file)
     (rw (w.notes, same) at.left)
 
--- a session of these, with so many readers that failed and so many refusals
+-- a session in this state, with its numbers of failed readers and of refusals
 abbrev pub session_of : State → List Portion → List Point → ℕ → ℕ → Seen
 session_of place parts notes failures refusals = record {
   place = place;
@@ -246,7 +246,7 @@ pub record GoesBack (n : ℕ) (point : Point) (old : Seen) (new : List Portion �
   pub went : WentBack n old (new parts)
   pub kept : IsKept (new parts)
 
--- a core went there, and the later notes were forgotten
+-- a core moved there, and the later checkpoints were dropped
 pub goes_back : (n : ℕ) (point : Point) (from place : State) (held : List Portion)
     (notes left : List Point) (failures before refusals : ℕ)
     → slice_get notes n ≡ Some point → KeepsNotes from [] notes held

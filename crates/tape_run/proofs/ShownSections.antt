@@ -1,4 +1,4 @@
--- What the items found so far show, by what is expected next.
+-- The meaning of the items so far, according to what is expected next.
 use Rattle.std.proofs.Common.{◌≡◌, ℕ, Bool, true, false, List, [], ◌∷◌, ◌++◌, Option, Some, None}
 use Rattle.std.proofs.Common.{Result, Ok, Err, refl, sym, subst, append_assoc}
 use Rattle.std.specs.Prelude.{◌||◌, if◌then◌else◌}
@@ -96,7 +96,7 @@ both_shown : (items : List TapeItem) (ts us : List Told) → AllShown items ts �
 both_shown items [] us a b = b
 both_shown items (t ∷ ts) us (a, as_) b = (a, both_shown items ts us as_ b)
 
--- what items after others report as good, all of them show
+-- the sections that later items report as good are shown by all the items
 told_shown : (p : Phase) (past items : List TapeItem) → Stood p past
     → AllShown (past ++ items) (told_from p items)
 told_shown p past [] h = tt

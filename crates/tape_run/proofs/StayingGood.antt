@@ -1,4 +1,4 @@
--- What is good in a catalogue stays so, and what is reported as good becomes so.
+-- Sections that are good in a catalogue remain good, and sections reported as good become good.
 use Rattle.std.proofs.Common.{◌≡◌, ℕ, Bool, true, false, List, [], ◌∷◌, Option, Some, None, refl}
 use Rattle.std.proofs.Common.{ap, ◌∙◌, arith}
 use Rattle.std.specs.Prelude.{if◌then◌else◌, ◌==◌, ◌&&◌, not}
@@ -52,7 +52,7 @@ at_if b e rest = if b then Some e else rest
 abbrev note_if : Bool → Told → List Told → Told → List Told
 note_if b x xs t = if b then (x.0, better x.1 t.1) ∷ xs else x ∷ noted xs t
 
--- what is good stays so
+-- an entry that is good remains so
 stays_here : (x : Told) (xs : List Told) (t : Told) (key : SectionKey) (a b : Bool) (e : Entry)
     → same_key key x.0 ≡ a → e.state ≡ Good → at_if a x.1 (entry_at xs key) ≡ Some e
     → (entry_at xs key ≡ Some e → IsGoodAt (noted xs t) key) → IsGoodAt (note_if b x xs t) key
@@ -90,7 +90,7 @@ stays_one [] t key e good at = absurd (cc at)
 stays_one (x ∷ xs) t key e good at = stays_here x xs t key (same_key key x.0)
     (same_key t.0 x.0) e refl good at (stays_one xs t key e good)
 
--- what is reported as good becomes so
+-- a section that is reported as good becomes good
 becomes_here : (x : Told) (xs : List Told) (t : Told) (b : Bool) → same_key t.0 x.0 ≡ b
     → t.1.state ≡ Good → IsGoodAt (noted xs t) t.0 → IsGoodAt (note_if b x xs t) t.0
 becomes_here x xs t true is good rest =

@@ -16,7 +16,7 @@ use Rattle.tape_blocks.specs.Parts.{view}
 use Rattle.tape_blocks.specs.declared.parts.Form.{Form}
 use Rattle.tape_run.specs.RecordText.{record_end, records_text, output_of, part_text}
 
--- one more, if a part ends its record
+-- one more record, if a part ends it
 abbrev pub with_end : Bool → ℕ → ℕ
 with_end true n = n
 with_end false n = n + 1
@@ -39,8 +39,7 @@ count_ends begun [] = refl
 count_ends begun (p ∷ ps) =
     count_by (leaves p.span) (content_after begun p.bytes) ps (λ b. count_ends b ps)
 
--- the text of these parts that is still to be written: nothing after the last part that ends a
--- record
+-- the text of the parts that is still to be written: none after the last part that ends a record
 abbrev pub still : Bool → List ℕ → List ℕ
 still true text = text
 still false text = []
@@ -79,7 +78,7 @@ content_is : (begun : Option (List ℕ)) (bytes : List ℕ)
 content_is None bytes = refl
 content_is (Some front) bytes = refl
 
--- what holds of any number of ends that is not 0
+-- a property of any number of ended records except 0
 abbrev pub IsStreamed : Form → List Portion → Type 0
 IsStreamed form ps = (begun : Option (List ℕ)) → 0 < ends ps
     → behind begun ++ stream form ps ≡ records_text form (join_after begun ps).records
@@ -122,7 +121,7 @@ ends_by : (b : Bool) (n m : ℕ) → n ≤ m → with_end b n ≤ m + 1
 ends_by true n m h = omega (arith, h)
 ends_by false n m h = omega (arith, h)
 
--- Parts weigh more than the records that they end.
+-- Parts weigh more than the number of records that they end.
 pub ends_few : (ps : List Portion) → ends ps ≤ weight_of ps
 ends_few [] = omega arith
 ends_few (p ∷ ps) =
@@ -131,7 +130,7 @@ ends_few (p ∷ ps) =
 
 -- ---- counting
 
--- So many records end before the parts that are still to come.
+-- This many records end before the parts that are still to come.
 pub record Counted (ahead : List Portion → Type 0) (count : ℕ) (parts : List Portion) : Type 0 where
   pub rest : List Portion
   pub is_ahead : ahead rest
@@ -161,8 +160,8 @@ count_ended ahead after count parts c gives =
 
 -- ---- writing
 
--- The records that end before the parts still to come have been written, with what there is of the
--- next one, and so many are left.
+-- The records that end before the parts still to come have been written, with the bytes of the next
+-- record so far; the last value counts the records that are left.
 pub record Streams (form : Form) (ahead : List Portion → Type 0)
     (left : ℕ) (old new : Option (List ℕ)) (parts : List Portion) : Type 0 where
   pub rest : List Portion

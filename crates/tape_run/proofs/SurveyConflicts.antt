@@ -1,4 +1,4 @@
--- Copies that are reported to differ do.
+-- Copies that are reported to differ do differ.
 use Rattle.std.proofs.Common.{◌≡◌, ℕ, ◌+◌, Bool, true, false, List, [], ◌∷◌, ◌++◌, length}
 use Rattle.std.proofs.Common.{Option, Some, None, refl, sym, ap, subst, ◌∙◌, arith, append_assoc}
 use Rattle.std.proofs.Common.{append-nil, map}
@@ -24,7 +24,7 @@ use Rattle.tape_run.specs.SurveyRead.{Found, nothing_found, IsViewed, AreViewed}
 use Rattle.tape_run.proofs.KeepingPlaces.{one_key}
 use Rattle.tape_run.proofs.SurveyShown.{AllShownAs, copies_are_shown}
 
--- ---- what is in a list
+-- ---- elements of a list
 
 in_more : {X : Type 0} (xs more : List X) (x : X) → IsIn xs x → IsIn (xs ++ more) x
 in_more xs more x i = record {
@@ -44,7 +44,7 @@ all_at P (y ∷ front) rest x (h, hs) = all_at P front rest x hs
 pub of_all : {X : Type 0} (P : X → Type 0) (xs : List X) (x : X) → AllByRecursion P xs → IsIn xs x → P x
 of_all P xs x h i = all_at P i.front i.rest x (subst (AllByRecursion P) i.stands h)
 
--- ---- a note is of copies that were found
+-- ---- a record about copies describes copies that were found
 
 -- the number of blocks that a copy has
 abbrev count : Placed → ℕ
@@ -54,7 +54,7 @@ count x = x.1.0.1.blocks
 abbrev agrees : ℕ → ℕ → Placed → Bool
 agrees blocks digest x = (blocks == count x) && (digest == digest_of x.1.1)
 
--- a copy of this section on this image does not agree
+-- a copy of this section on this image that does not agree
 record Other (xs : List Placed) (key : SectionKey) (blocks digest image : ℕ) : Type 0 where
   pub copy : Placed
   pub there : IsIn xs copy
@@ -106,7 +106,7 @@ note_first xs x = record {
   other = λ j e. absurd (cc e);
 }
 
--- which copy is the other
+-- which of the copies is the other one
 which : (xs : List Placed) (x : Placed) (key : SectionKey) (blocks digest : ℕ) (o : Option ℕ) (j : ℕ)
     → x.1.0.0 ≡ key → agrees blocks digest x ≡ false
     → ((i : ℕ) → o ≡ Some i → Other xs key blocks digest i) → or_else o (Some x.0) ≡ Some j
@@ -151,7 +151,7 @@ all_more : (xs more : List Placed) (es : List Noted) → AllNoted xs es → AllN
 all_more xs more [] h = tt
 all_more xs more (e ∷ es) (h, hs) = (note_more xs more e.0 e.1 h, all_more xs more es hs)
 
--- the notes after one more copy
+-- the records after one more copy
 abbrev noted : List Noted → Placed → List Noted
 noted es x = insert_entry same_key es x.1.0.0
     (copy_note (noted_at es x.1.0.0) x.0 (count x) (digest_of x.1.1))
@@ -247,7 +247,7 @@ all_counted gives remaining shelf number (sight ∷ sights) c last d
     (counted_in (option_map remaining image) sight c mid is)
     (all_counted gives remaining next (number + 1) sights mid last d are)
 
--- ---- copies that do not agree differ
+-- ---- copies that do not agree are different
 
 same_test : (a b m n : ℕ) → a ≡ b → m ≡ n → ((a == b) && (m == n)) ≡ true
 same_test a b m n e f = grind (arith, nat_tests, e, f)

@@ -43,7 +43,7 @@ with_copies-append image c [] ys = refl
 with_copies-append image c (x ∷ xs) ys =
     with_copies-append image (with_good c image x.0.0 x.0.1.blocks (digest_of x.1)) xs ys
 
--- what is kept of a section that was completed
+-- the record of a section that was completed
 told_if : (image : ℕ) (c : Copied) (t : Told) (blocks : List (List ℕ)) (b : Bool)
     → (if b then with_good c image t.0 t.1.blocks (digest_of blocks) else c)
     ≡ with_copies image c (if b then (t, blocks) ∷ [] else [])
@@ -94,7 +94,8 @@ digest_is blocks Over bad = refl
 
 -- ---- so far
 
--- Of these items the good copies were added, and the digest is that of the blocks since.
+-- The good copies among the items were added, and the digest is that of the blocks of the current
+-- section.
 pub record CopiedSoFar (items : List TapeItem) (image : ℕ) (old : Copied) (digest : ℕ) (new : Copied)
     : Type 0 where
   pub digested : digest ≡ digest_of (blocks_after [] Volume items)

@@ -22,13 +22,13 @@ factor = 11400714819323198485
 abbrev inverse : ℕ
 inverse = 17428512612931826493
 
--- ---- what is added or multiplied can be told from the result
+-- ---- a sum or product determines the value that was added or multiplied
 
 spread : (a q n : ℕ) → a * (1 + q * n) ≡ a + a * q * n
 spread a q n = mul-add a 1 (q * n) ∙ ap (λ x. x + a * (q * n)) (mul-one a)
     ∙ ap (λ x. a + x) (sym (mul_assoc a q n))
 
--- multiplied by the inverse of a factor, a product is what was multiplied
+-- a product with a factor, multiplied by the inverse of the factor, is the original value
 taken_back : (a m k q n : ℕ) → a < n → m * k ≡ 1 + q * n → ((a * m) % n * k) % n ≡ a
 taken_back a m k q n below inv =
     mul-mod_first (a * m) k n
@@ -46,7 +46,7 @@ rest_left r u n s p e below = omega arith
 one_more : (p q n : ℕ) → p ≡ q * n → p + n ≡ (q + 1) * n
 one_more p q n e = omega arith
 
--- less the number that was added, a sum is the other
+-- a sum, less the number that was added, is the original value
 taken_off : (r u n : ℕ) → 0 < n → u < n → ((r + u) % n + (n - r % n)) % n ≡ u
 taken_off r u n some below =
     mod-add-mod (r + u) n (n - r % n)
@@ -160,7 +160,7 @@ one_word d [] back u v dn un vn other same =
 one_word d (w ∷ front) back u v dn un vn other same =
     one_word (digest_by d w) front back u v (digest_below d w) un vn other same
 
--- ---- digests side by side, one of which differs
+-- ---- chains of which one differs
 
 after_words : (d : ℕ) (front back ws last : List ℕ) (u v : ℕ) → d < 2 ^ 64 → u < 2 ^ 64 → v < 2 ^ 64
     → u ≢ v → digest_over d (side_over (front ++ u ∷ back) ws ++ last)
@@ -178,7 +178,7 @@ after_words d (x ∷ front) back (w ∷ ws) last u v dn un vn other same =
     (ap (λ q. digest_over d (side_over q ws ++ last)) (sym (append_assoc front (u ∷ back) more))
     ∙ same ∙ ap (λ q. digest_over d (side_over q ws ++ last)) (append_assoc front (v ∷ back) more))
 
--- one of the words that they take
+-- one of the words that the chains take
 taken_word : (d x : ℕ) (xs front back last : List ℕ) (u v : ℕ) → d < 2 ^ 64 → u < 2 ^ 64
     → v < 2 ^ 64 → u ≢ v → digest_over d (side_over (x ∷ xs) (front ++ u ∷ back) ++ last)
     ≢ digest_over d (side_over (x ∷ xs) (front ++ v ∷ back) ++ last)

@@ -1,11 +1,11 @@
--- Numbers of files of which no label was found.
+-- Numbers of files for which no label was found.
 use Rattle.std.proofs.Common.{◌≡◌, ℕ, zero, suc, ◌+◌, ◌-◌, ◌<◌, true, false, List}
 use Rattle.std.proofs.Common.{ap, ◌∙◌, arith}
 use Rattle.std.specs.Prelude.{if◌then◌else◌}
 use Rattle.tape_run.specs.SurveyGaps.{is_found, gap_first}
 use Rattle.tape_run.specs.SurveyRead.{Found}
 
--- a number that was not found is passed
+-- a number that was not found is skipped
 pub gap_on : (d : Found) (set_id : List ℕ) (n : ℕ) → 0 < n → is_found d set_id n ≡ false
     → gap_first d set_id n ≡ gap_first d set_id (n - 1)
 gap_on d set_id zero some e = absurd (omega arith)
@@ -14,7 +14,7 @@ gap_on d set_id (suc n) some e =
     ap (λ b. if b then suc (suc n) else gap_first d set_id n) e
     ∙ ap (gap_first d set_id) one
 
--- and one that was found is the last of those before
+-- and a number that was found is the last one before
 pub gap_here : (d : Found) (set_id : List ℕ) (n : ℕ) → 0 < n → is_found d set_id n ≡ true
     → gap_first d set_id n ≡ n + 1
 gap_here d set_id zero some e = absurd (omega arith)

@@ -1,4 +1,4 @@
--- What of an image was looked at so far.
+-- The items of an image that have been examined so far.
 use Rattle.std.proofs.Common.{◌≡◌, ℕ, ◌+◌, List, [], ◌∷◌, ◌++◌, Option, refl, sym, ap, subst, ◌∙◌}
 use Rattle.tape_image.specs.declared.item.Ending.{Ending}
 use Rattle.tape_image.specs.declared.item.ImageFault.{ImageFault}
@@ -24,14 +24,14 @@ use Rattle.tape_run.proofs.KeepingPlaces.{noted_all-append}
 use Rattle.tape_run.proofs.SurveyCopies.{CopiedSoFar, copied_none, copied_more}
 use Rattle.tape_run.proofs.NotedSoFar.{SoFar, starts, one_more, by_ending, all_noted}
 
--- one more item was looked at
+-- one more item was examined
 pub look_all-append : (g : ImageSummary) (p : Phase) (xs : List TapeItem) (x : TapeItem)
     → look_all g p (xs ++ x ∷ [])
     ≡ look_to (look_all g p xs) (phase_after p xs) x (step (phase_after p xs) x).0
 look_all-append g p [] x = refl
 look_all-append g p (y ∷ ys) x = look_all-append (look_to g p y (step p y).0) (step p y).0 ys x
 
--- and its header label noted
+-- and its header label was recorded
 pub with_all-append : (files : List Filed) (p : Phase) (xs : List TapeItem) (x : TapeItem)
     → with_all files p (xs ++ x ∷ [])
     ≡ with_met (with_all files p xs) (head_in (phase_after p xs) x)
@@ -39,7 +39,7 @@ with_all-append files p [] x = refl
 with_all-append files p (y ∷ ys) x =
     with_all-append (with_met files (head_in p y)) (step p y).0 ys x
 
--- and where its section is
+-- and the image of its section was recorded
 pub locate_all-append : (image : ℕ) (sections : List Told) (located : List Located) (p : Phase)
     (xs : List TapeItem) (x : TapeItem)
     → locate_all image sections located p (xs ++ x ∷ [])
@@ -55,7 +55,7 @@ locate_all-append image sections located p (y ∷ ys) x =
     (locate_all image (noted_all sections first) here (step p y).0 ys) image
     (head_in (phase_after (step p y).0 ys) x)) (sym (noted_all-append sections first then))
 
--- Of the bytes `all` the items up to a place were looked at, and what they tell was noted.
+-- Of the bytes `all` the items up to an offset were examined, and the results were recorded.
 pub record LookedSoFar (all left : Option (List ℕ)) (place image : ℕ) (sections : List Told)
     (files : List Filed) (located : List Located) (known : Copied) (phase : Phase) (g : ImageSummary)
     (digest : ℕ) (told : List Told) (filed : List Filed) (locations : List Located) (copies : Copied)

@@ -1,4 +1,4 @@
--- Where the items of an image leave the order of a volume.
+-- The item at which an image leaves the order of a volume.
 use Rattle.std.proofs.Common.{◌≡◌, ℕ, ◌+◌, Bool, true, false, List, [], ◌∷◌, ◌++◌, length}
 use Rattle.std.proofs.Common.{refl, sym, ap, subst, ◌∙◌, arith, append_assoc}
 use Rattle.tape_image.specs.Tape.{TapeItem, block, bad, mark}
@@ -16,7 +16,7 @@ use Rattle.tape_run.specs.SurveyLaws.{course_of, has_left, IsFirstAstray, Leaves
 use Rattle.tape_run.proofs.NotedSoFar.{phase_after-append}
 use Rattle.tape_run.proofs.SurveyLooks.{look_all-append}
 
--- the glance counts the items
+-- the summary counts the items
 counts : (g : ImageSummary) (p : Phase) (xs : List TapeItem)
     → (look_all g p xs).items ≡ g.items + length xs
 counts g p [] = omega arith
@@ -25,7 +25,7 @@ counts g p (x ∷ xs) =
     let rest = counts (look_to g p x next) next xs in
     omega (arith, rest)
 
--- once they have left the order that stays so
+-- once items have left the order, that is final
 stays : (g : ImageSummary) (p : Phase) (xs : List TapeItem) (n : ℕ) (w : ExpectedItem) → g.course ≡ Leaves n w
     → (look_all g p xs).course ≡ Leaves n w
 stays g p [] n w e = e
@@ -34,7 +34,7 @@ stays g p (x ∷ xs) n w e =
     stays (look_to g p x next) next xs n w
     (ap (λ (c : LabelOrder). course_with c (g.items + 1) p x next) e)
 
--- the number of an item that leaves the order is its own
+-- the number reported for an item that leaves the order is its own
 number_left : (number : ℕ) (p next : Phase) (n : ℕ) (w : ExpectedItem)
     → left_by number p next ≡ Leaves n w → n ≡ number
 number_left number p Over n w e = cc e
@@ -74,7 +74,7 @@ its_number Blank number p (block b) next n w still e = cc e
 its_number Ended number p x next n w still e = cc e
 its_number (Leaves m v) number p x next n w still e = absurd (cc still)
 
--- what has left says where
+-- the summary of items that left the order says where
 where_left : (c : LabelOrder) → has_left c ≡ true → (n : ℕ) × (w : ExpectedItem) × (c ≡ Leaves n w)
 where_left Follows e = absurd (cc e)
 where_left Blank e = absurd (cc e)
@@ -85,7 +85,7 @@ abbrev number_of : LabelOrder → ℕ → ℕ
 number_of (Leaves n w) other = n
 number_of _ other = other
 
--- the items behind `before` were looked at from where these lead
+-- the items after `before` were examined from the state that these lead to
 from_there : (before xs : List TapeItem) (x : TapeItem)
     → look_all (glance_of before) (phase_after Volume before) (x ∷ xs)
     ≡ look_all (glance_of (before ++ x ∷ [])) (phase_after Volume (before ++ x ∷ [])) xs

@@ -42,7 +42,7 @@ section_added y c set_id file old new goal first next before most within is put 
     (sym (sections_behind y c set_id file first (before + 1) (most - before) some))
     ∙ was
 
--- and the one after the last
+-- and those of the section after the last
 pub sections_ended : (y : Wording) (c : List Told) (set_id : List ℕ) (file : ℕ) (old new goal : List ℕ)
     (first sect left : ℕ) → left ≡ 0
     → new ≡ old ++ next_text y first (entry_at c (key_at set_id file (first - 1)))

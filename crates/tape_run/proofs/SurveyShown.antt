@@ -28,7 +28,7 @@ use Rattle.tape_run.proofs.SectionsMet.{Stood, begins_more, shown_more, filled_f
 use Rattle.tape_run.proofs.SectionsMet.{filled_more, filled_closed, state_good, shown_as, map_push}
 use Rattle.tape_run.proofs.ShownSections.{stands_on, told_if}
 
--- the data found so far are these blocks, unless one is bad
+-- the data found so far are these blocks, unless one of them is bad
 abbrev Same : (p : Phase) (items : List TapeItem) (blocks : List (List ℕ)) → Stood p items → Type 0
 Same (Data met) items blocks h = met.bad ≡ false → h.content ≡ map block blocks
 Same (Trailer met) items blocks h = met.bad ≡ false → h.content ≡ map block blocks
@@ -42,7 +42,7 @@ abbrev ShownIf : List TapeItem → Option Told → List (List ℕ) → Type 0
 ShownIf items None blocks = ⊤
 ShownIf items (Some t) blocks = t.1.state ≡ Good → ShownAs items t blocks
 
--- ---- where no data are read
+-- ---- while no data are read
 
 volume_as : (items : List TapeItem) (blocks : List (List ℕ)) (r : Result Vol1 LabelFault)
     → Stood (volume_with r) items → StoodAs (volume_with r) items blocks

@@ -1,4 +1,4 @@
--- If a survey reports that all is there, it is.
+-- If a survey reports that everything exists, it does.
 use Rattle.std.proofs.Common.{◌≡◌, ◌≢◌, ℕ, ◌+◌, Bool, true, false, List, [], ◌∷◌, ◌++◌, Option}
 use Rattle.std.proofs.Common.{Some, None, refl, sym, ap, subst, ◌∙◌, arith, append_assoc, append-nil}
 use Rattle.std.proofs.Common.{map}
@@ -106,7 +106,7 @@ one_label (f ∷ fs) e = (
   one_label fs (or_second f.1.differs (any_differs fs) e),
 )
 
--- ---- what a map has after an insertion
+-- ---- the contents of a map after an insertion
 
 here_by : (e : Noted) (es : List Noted) (k : SectionKey) (n : CopyNote) (b : Bool)
     → same_key k e.0 ≡ b → lookup (same_key k) (insert_entry same_key es k n) ≡ Some n
@@ -139,7 +139,7 @@ inserted_there (e ∷ es) q k n other =
 
 -- ---- copies that agree
 
--- the note of its section has the number of blocks and the digest of a copy
+-- the record of its section has the number of blocks and the digest of a copy
 record IsNoted (es : List Noted) (x : Placed) : Type 0 where
   pub note : CopyNote
   pub there : noted_at es x.1.0.0 ≡ Some note
@@ -171,7 +171,7 @@ some_other : (o : Option ℕ) (i : ℕ) → is_some (or_else o (Some i)) ≡ tru
 some_other None i = refl
 some_other (Some j) i = refl
 
--- the note of a section after a copy of it that agrees
+-- the record of a section after a copy that agrees
 record Kept (old : Option CopyNote) (new : CopyNote) (blocks digest : ℕ) : Type 0 where
   pub counted : new.blocks ≡ blocks
   pub digested : new.digest ≡ digest
@@ -206,7 +206,7 @@ kept None image blocks digest none =
 kept (Some n) image blocks digest none =
     kept_if n image blocks digest ((n.blocks == blocks) && (n.digest == digest)) refl none
 
--- a copy that was found before is still noted
+-- a copy that was found before is still recorded
 noted_by : (es : List Noted) (k : SectionKey) (new : CopyNote) (blocks digest : ℕ) (x : Placed)
     (b : Bool) → same_key x.1.0.0 k ≡ b → Kept (noted_at es k) new blocks digest → IsNoted es x
     → IsNoted (insert_entry same_key es k new) x
@@ -240,7 +240,7 @@ one_more : (P : Placed → Type 0) (xs : List Placed) (x : Placed) → AllByRecu
 one_more P [] x all one = (one, tt)
 one_more P (y ∷ xs) x (here, all) one = (here, one_more P xs x all one)
 
--- the copies found so far are all noted, unless a file is in conflict
+-- the copies found so far are all recorded, unless a file is in conflict
 abbrev NotedSoFar : List Placed → Copied → Type 0
 NotedSoFar xs c = is_agreed c.conflicts ≡ true → AllByRecursion (IsNoted c.notes) xs
 

@@ -1,4 +1,4 @@
--- What the items of an image are, by how far they follow the order of a volume.
+-- The structure of the items of an image, by how far they follow the order of a volume.
 use Rattle.std.proofs.Common.{◌≡◌, ℕ, Bool, true, false, List, [], ◌∷◌, ◌++◌, Option, Some}
 use Rattle.std.proofs.Common.{None, Result, Ok, Err, refl, sym, ap, ◌∙◌, append_assoc, append-nil}
 use Rattle.std.specs.Prelude.{⊤, ◌≢◌, map, if◌then◌else◌}
@@ -27,9 +27,9 @@ use Rattle.tape_run.specs.SurveyGlance.{left_by}
 use Rattle.tape_run.specs.SurveyLaws.{IsSectionInOrder, IsBegun, IsVolumeInOrder, end_marks}
 use Rattle.tape_run.proofs.SectionsMet.{map_push}
 
--- ---- what stands before each item
+-- ---- the state before each item
 
--- a section's first label behind what was begun
+-- a section's first label after the sections so far
 pub record Head (items : List TapeItem) (met : Met) (behind : List ℕ → List TapeItem) : Type 0 where
   pub before : List TapeItem
   pub sections : List (List TapeItem)
@@ -62,7 +62,7 @@ pub record Fills (items : List TapeItem) (met : Met) (behind : List TapeItem) : 
   pub no_mark : AllByRecursion (λ x. x ≢ mark) content
   pub heads : Heads items met (mark ∷ content ++ behind)
 
--- a section without its last mark behind what was begun
+-- a section without its last mark after the sections so far
 pub record Closes (items : List TapeItem) : Type 0 where
   pub before : List TapeItem
   pub sections : List (List TapeItem)
@@ -73,19 +73,19 @@ pub record Closes (items : List TapeItem) : Type 0 where
       → IsSectionInOrder (part ++ map block trailers ++ mark ∷ [])
   pub stands : items ≡ before ++ part ++ map block more
 
--- one section at least was begun
+-- at least one section has begun
 pub record Follow (items : List TapeItem) : Type 0 where
   pub sections : List (List TapeItem)
   pub last : List TapeItem
   pub begun : IsBegun items (sections ++ last ∷ [])
 
--- a mark behind volume labels alone
+-- a mark after volume labels only
 pub record Marked (items : List TapeItem) : Type 0 where
   pub before : List TapeItem
   pub begun : IsBegun before []
   pub stands : items ≡ before ++ mark ∷ []
 
--- what the items are in this phase, on this course
+-- the structure of the items in a phase, for a label order
 abbrev pub At : Phase → LabelOrder → List TapeItem → Type 0
 At p (Leaves n w) items = ⊤
 At Volume Follows items = items ≡ []

@@ -55,13 +55,13 @@ text_added y d set_id old new goal before greatest within put was =
     ∙ ap (λ ls. old ++ ls) (sym (texts_behind y d set_id (before + 1) (greatest - before) some))
     ∙ was
 
--- and where no file is left
+-- and if no file is left
 pub texts_all : (y : Wording) (d : Found) (set_id new goal : List ℕ) (file left : ℕ) → left ≡ 0
     → new ++ file_texts y d set_id file left ≡ goal → new ≡ goal
 texts_all y d set_id new goal file left none was =
     sym (append-nil new) ∙ ap (λ n. new ++ file_texts y d set_id file n) (sym none) ∙ was
 
--- the text of the one at a place was added
+-- the text of the file at an index was added
 pub flat_more : {X : Type 0} (f : X → List ℕ) (xs : List X) (old new : List ℕ) (i : ℕ) (x : X)
     → Some x ≡ slice_get xs i → new ≡ old ++ f x
     → old ≡ flat_map f (take i xs) → new ≡ flat_map f (take (i + 1) xs)
@@ -77,7 +77,7 @@ pub set_added : (y : Wording) (d : Found) (sets : List SetFiles) (old new : List
     → old ≡ set_texts y d (take i sets) → new ≡ set_texts y d (take (i + 1) sets)
 set_added y d sets old new i x at put was = flat_more (set_text y d) sets old new i x at put was
 
--- whether one of the files up to a place was met with labels of others
+-- whether labels of other files were found for one of the files up to an index
 or_false : (b : Bool) → (b || false) ≡ b
 or_false true = refl
 or_false false = refl
@@ -96,7 +96,7 @@ pub any_more : (fs : List Filed) (i : ℕ) (f : Filed) → Some f ≡ slice_get 
     → any_differs (take (i + 1) fs) ≡ (any_differs (take i fs) || f.1.differs)
 any_more fs i f at = ap any_differs (take_get fs i f at) ∙ any_push (take i fs) f
 
--- whether each section up to a place is good
+-- whether each section up to an index is good
 and_true : (b : Bool) → (b && true) ≡ b
 and_true true = refl
 and_true false = refl
@@ -118,7 +118,7 @@ all_more ts i t good at is = ap all_good (take_get ts i t at) ∙ all_push (take
 
 -- ---- images
 
--- the name at a place, of names that are seen through something
+-- the name at an index, in a list of names seen through a view
 pub name_at : {X : Type 0} (f : X → List ℕ) (xs : List X) (i : ℕ) (d : X) → i < length xs
     → f (get_or xs i d) ≡ get_or (map f xs) i []
 name_at f xs i d within = sym (get_or-map f xs i d [] within)
@@ -142,7 +142,7 @@ line_more y (n ∷ names) (s ∷ sights) sight name within is =
     (line_more y names sights sight name (omega (arith, within)) is)
     ∙ sym (append_assoc (image_text y n s) (image_texts y names sights) (image_text y name sight))
 
--- one more image was mounted and read
+-- one more image was opened and read
 pub viewed_more : {L R : Type 0} (gives : Mounting L R) (remaining : R → Option (List ℕ))
     (shelf : L) (number : ℕ) (sights : List (Option ImageSurvey)) (c : Found) (left : L) (mid : Found)
     (sight : Option ImageSurvey) (image : Option R) (last : L) (d : Found)
@@ -222,7 +222,7 @@ tells_more y gives remaining names shelf left next number mid d old w new image 
           (image_texts y names s.sights) (image_text y name sight) s.wrote wrote);
     }
 
--- a front of a survey, where a front of its next text was written
+-- a prefix of a survey, if a prefix of its next text was written
 in_part : {L R : Type 0} (y : Wording) (gives : Mounting L R)
     (remaining : R → Option (List ℕ))
     (names : List (List ℕ)) (shelf left : L) (sights : List (Option ImageSurvey)) (d : Found)
@@ -242,11 +242,11 @@ in_part y gives remaining names shelf left sights d old w new a b few viewed wro
           (ap (λ l. l ++ more) is);
     }
 
--- nothing is a front of nothing
+-- an empty list is a prefix of an empty list
 front_of_none : (old new : Option (List ℕ)) → Appends old new [] → AppendsFront old new []
 front_of_none old new wrote = ([], [], wrote, refl)
 
--- a fault came before an image was mounted
+-- a fault occurred before an image was opened
 pub stops_before : {L R : Type 0} (y : Wording) (gives : Mounting L R)
     (remaining : R → Option (List ℕ))
     (names : List (List ℕ)) (shelf left : L) (number : ℕ) (mid : Found) (old w : Option (List ℕ))
@@ -258,7 +258,7 @@ stops_before y gives remaining names shelf left number mid old w within s =
     (omega (arith, within, s.counted)) s.viewed s.wrote (front_of_none w w (Appends-nil w))
     (sym (append-nil (image_texts y names s.sights)))
 
--- a fault came at an image that was mounted
+-- a fault occurred at an image that was opened
 pub stops_at : {L R : Type 0} (y : Wording) (gives : Mounting L R)
     (remaining : R → Option (List ℕ))
     (names : List (List ℕ)) (shelf left next : L) (number : ℕ) (mid : Found)
@@ -301,7 +301,7 @@ tells_all y gives remaining names shelf left number d old new all s = record {
   wrote = s.wrote;
 }
 
--- and what stands behind them was written
+-- and the text after these was written
 pub surveyed : {L R : Type 0} (y : Wording) (gives : Mounting L R)
     (remaining : R → Option (List ℕ))
     (names : List (List ℕ)) (shelf left : L) (d : Found) (old w new : Option (List ℕ)) (all : Bool)
@@ -318,7 +318,7 @@ surveyed y gives remaining names shelf left d old w new all s is wrote = record 
   conflicts = conflicts_are_real gives remaining shelf left s.sights d s.viewed;
 }
 
--- a front of that was written
+-- a prefix of that text was written
 pub surveyed_in_part : {L R : Type 0} (y : Wording) (gives : Mounting L R)
     (remaining : R → Option (List ℕ))
     (names : List (List ℕ)) (shelf left : L) (d : Found) (old w new : Option (List ℕ))

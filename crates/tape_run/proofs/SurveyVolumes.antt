@@ -1,4 +1,4 @@
--- The items behind which a volume ended are a volume.
+-- If a summary says that a volume ended, the items are a volume.
 use Rattle.std.proofs.Common.{◌≡◌, ℕ, ◌+◌, Bool, true, false, List, [], ◌∷◌, ◌++◌}
 use Rattle.std.proofs.Common.{Result, Ok, Err, refl, sym, ap, subst, ◌∙◌, append_assoc}
 use Rattle.std.proofs.Common.{append-nil, arith}
@@ -29,7 +29,7 @@ use Rattle.tape_run.proofs.SectionsMet.{map_push}
 use Rattle.tape_run.proofs.SurveyStands.{joined_push, one_mark, first_label}
 use Rattle.tape_run.proofs.SurveyStands.{head_read, label_read, second_read}
 
--- the same labels, and something else behind them
+-- the same labels, followed by other items
 heads_then : (items : List TapeItem) (met met2 : Met) (behind more : List TapeItem)
     → met2.key ≡ met.key → Heads items met behind → Heads (items ++ more) met2 (behind ++ more)
 heads_then items met met2 behind more same h = record {
@@ -174,7 +174,7 @@ closes_more items b h = record {
       ∙ ap (λ (r : List TapeItem). h.before ++ h.part ++ r) (map_push h.more b);
 }
 
--- the mark behind its trailer labels ends a section
+-- the mark after its trailer labels ends a section
 section_ends : (items : List TapeItem) → Closes items → Follow (items ++ mark ∷ [])
 section_ends items h =
     let section = h.part ++ map block h.more ++ mark ∷ [] in
@@ -201,7 +201,7 @@ section_ends items h =
       };
     }
 
--- the mark behind that ends the volume
+-- the mark after that one ends the volume
 volume_ends : (items : List TapeItem) → Follow items → IsVolumeInOrder (items ++ mark ∷ [])
 volume_ends items h = record {
   front = items;
@@ -231,7 +231,7 @@ no_mark_block b e = absurd (cc e)
 no_mark_bad : bad ≢ mark
 no_mark_bad e = absurd (cc e)
 
--- one item more, while the items follow the order
+-- one more item, while the items follow the order
 follows_on : (p : Phase) (items : List TapeItem) (x : TapeItem) (number : ℕ) → At p Follows items
     → At (step p x).0 (course_with Follows number p x (step p x).0) (items ++ x ∷ [])
 follows_on Volume items (block b) number e =
@@ -281,7 +281,7 @@ all_stand g p before (x ∷ xs) h =
           (append_assoc before (x ∷ []) xs) rest.1,
     )
 
--- where the course is Ended the items are a volume
+-- if the label order is Ended, the items are a volume
 ended_at : (p : Phase) (items : List TapeItem) → At p Ended items → IsVolumeInOrder items
 ended_at Over items h = h
 ended_at _ items h = absurd h

@@ -1,4 +1,4 @@
--- What a reel reader does with an item of a mount under way, by what its core answered.
+-- The effect on a reel reader of an item of a mount under way, by its core's answer.
 use Rattle.std.proofs.Common.{◌≡◌, ◌≢◌, ◌+◌, ◌<◌, ◌≤◌, ◌++◌, ℕ, List, length, take, drop, Option}
 use Rattle.std.proofs.Common.{Some, sym, ap, subst, ◌∙◌}
 use Rattle.tape_blocks.specs.Block.{Portion, Holds}
@@ -60,7 +60,7 @@ takes_block core new answer came step deliver bytes is k known parts holds first
       done = b.took.done;
     }
 
--- the parts before the n-th were put, and the core went back to that one
+-- the parts before the n-th were put, and the core moved back to that one
 pub refuses_block : (core new back : State) (answer : Answer) (came : Option TapeItem)
     → (answer, new) ≡ step_of core came → answer ≡ Deliver → (bytes : List ℕ)
     → came ≡ Some (block bytes) → (k : FileForm) → (rest_of new).known ≡ Some k

@@ -1,4 +1,4 @@
--- What was done with images is a run of steps.
+-- The calls of a session for images are the steps of a run.
 use Rattle.std.proofs.Common.{◌≡◌, Bool, ℕ, suc, ◌+◌, List, [], ◌∷◌, ◌++◌, length-append}
 use Rattle.std.proofs.Common.{length, map, Option, Some, None, IfSome, refl, sym}
 use Rattle.std.proofs.Common.{ap, subst, ◌∙◌, arith, true, false}
@@ -13,7 +13,7 @@ use Rattle.tape_run.specs.Steps.{Reeled}
 use Rattle.tape_run.specs.Reeling.{counts_differ, IsNoted, step_behind, notes_behind, Turn, Follows}
 use Rattle.tape_run.specs.Reeling.{steps_of, AreTold, AreSteps, failed_in, left_in}
 
--- one reel, and what was done after it
+-- one reel, and the calls after it
 pub step_made : (back spares doubtful noted failed : Bool) (which : List Bool)
     (old mid behind new : Seen)
     (b : List ℕ) (bs : List (List ℕ)) (l : Option (List ℕ)) (left : List (Option (List ℕ)))
@@ -64,7 +64,7 @@ made back spares core old (Some o ∷ turns) last new (b ∷ bs) (next, behind, 
     (λ count. subst (λ n. Runs (failed_in turns) behind (steps_of back n turns) (map Some bs)
     (left_in turns) new) count (made back spares next behind turns last new bs f told))
 
--- What was done is a run.
+-- These calls are a run.
 pub are_steps : (back spares : Bool) (core : State) (old : Seen) (turns : List Turn) (last : State)
     (new : Seen) → Follows back spares core old turns last new → AreSteps back turns old new
 are_steps back spares core old turns last new f = λ bytes told.

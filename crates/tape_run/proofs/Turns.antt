@@ -71,7 +71,7 @@ front_behind from old mid new turns more number e first (front, rest, wrote, all
 
 -- ---- images
 
--- one more image was opened, the first of those that were not
+-- one more image was opened, the first of those that had not been
 pub one_mounted : {L R T : Type 0} (gives : Mounting L R) (is : Option R → T → Type 0) (shelf : L)
     (number : ℕ) (ts : List T) (mid : L) (t : T) (image : Option R) (next : L)
     → AreMounted gives is shelf number ts mid → gives mid (number + length ts) image next
@@ -106,7 +106,7 @@ pub noted : (back spares : Bool) (bytes : Option (List ℕ)) (o : Opened) (old m
 noted back spares None o old mid new r s = tt
 noted back spares (Some b) o old mid new r s = (mid, r, s)
 
--- what is preserved of a session is preserved after a reel too
+-- a preserved property of a session is preserved by a reel too
 pub kept_behind : (back spares doubtful noted : Bool) (old new : Seen)
     → IsNoted back spares doubtful noted old new → IsKeptFor back old → IsKeptFor back new
 kept_behind false spares doubtful noted old new s k = tt
@@ -121,30 +121,26 @@ kept_for true old new f k = f k
 
 -- ---- calls
 
--- the lines of at most one image more
+-- the lines of at most one more image
 pub part_line : (number : ℕ) (outcome : Option ReelAnswer) (old new : Option (List ℕ))
     → AppendsFront old new (reel_line number outcome) → IsReported number old new
 part_line number outcome old new (front, rest, wrote, all) =
     (outcome ∷ [], omega arith, (front, rest, wrote, append-nil (reel_line number outcome) ∙ all))
-
-pub whole_line : (number : ℕ) (outcome : Option ReelAnswer) (old new : Option (List ℕ))
-    → Appends old new (reel_line number outcome) → IsReported number old new
-whole_line number outcome old new wrote =
-    (outcome ∷ [], omega arith, (reel_line number outcome, [], wrote, refl))
 
 -- ---- an image whose reading failed
 
 -- The bytes returned of an image whose reading failed begin with items that end at the offset in
 -- the line of the image: so, although nobody sees the rest of a closed image, the offset says which
 -- items count.
-pub given_to_place : (core : State) (bytes left given : List ℕ) (place : ℕ) (answer : ReelAnswer)
+pub given_to_place : (core new : State) (bytes left given : List ℕ) (place : ℕ) (answer : ReelAnswer)
     → answer.fault ≡ Some (record { place = place; cause = Device })
-    → ReadsReel core bytes left answer → IsGiven true bytes (Some left) given
+    → ReadsReel core bytes left answer new → IsGiven true bytes (Some left) given
     → (items : List TapeItem) × (stop : Stop) × Begins 0 given items place stop
-given_to_place core bytes left given place answer told r (rest, same, whole) = by r.ended
+given_to_place core new bytes left given place answer told r (rest, same, whole) = by r.ended
   where
-    by : EndedByItem core r.items bytes left answer ⊎ (EndedByMedium core r.items bytes left answer
-        ⊎ EndedByFault core r.items bytes left answer)
+    by : EndedByItem core r.items bytes left answer new
+        ⊎ (EndedByMedium core r.items bytes left answer new
+        ⊎ EndedByFault core r.items bytes left answer new)
         → (items : List TapeItem) × (stop : Stop) × Begins 0 given items place stop
     by (inl e) = absurd (let none = sym e.no_fault ∙ told in cc)
     by (inr (inl e)) = absurd (let none = sym e.no_fault ∙ told in cc)

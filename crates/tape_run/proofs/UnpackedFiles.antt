@@ -1,4 +1,4 @@
--- The files of a shelf, image by image and file by file.
+-- The files on the images of a source, image by image and file by file.
 use Rattle.std.proofs.Common.{◌≡◌, ℕ, zero, suc, ◌+◌, ◌-◌, ◌<◌, List, [], ◌∷◌, ◌++◌, length, take}
 use Rattle.std.proofs.Common.{slice_get, Option, Some, refl, sym, ap, subst, ◌∙◌, arith}
 use Rattle.std.proofs.Common.{append_assoc, append-nil, length-append}
@@ -72,7 +72,7 @@ pub files_all : (d : Found) (set_id : List ℕ) (new goal : List SetFile) (file 
 files_all d set_id new goal file left none was =
     sym (append-nil new) ∙ ap (λ n. new ++ files_from d set_id file n) (sym none) ∙ was
 
--- the files of the set at a place were added
+-- the files of the set at an index were added
 pub set_added : (d : Found) (sets : List SetFiles) (old new : List SetFile) (i : ℕ) (x : SetFiles)
     → Some x ≡ slice_get sets i → new ≡ old ++ files_from d x.0 1 x.1
     → old ≡ set_files d (take i sets) → new ≡ set_files d (take (i + 1) sets)

@@ -1,4 +1,4 @@
--- The names of unpacked files are kept by every file system.
+-- Every file system keeps the names of unpacked files.
 use Rattle.std.proofs.Common.{◌≡◌, ◌≢◌, ℕ, zero, suc, ◌+◌, ◌*◌, ◌-◌, ◌<◌, ◌≤◌, ◌/◌, ◌%◌, ◌^◌}
 use Rattle.std.proofs.Common.{Bool, true, false, List, [], ◌∷◌, ◌++◌, length, take, get_or}
 use Rattle.std.proofs.Common.{refl, sym, ap, subst, ◌∙◌, arith, append_assoc, length-append}
@@ -22,7 +22,7 @@ plain_stands b is = grind (arith, nat_tests)
 digit_stands : (b : ℕ) → IsDigit b → MayStand b
 digit_stands b (low, high) = grind (arith, nat_tests)
 
--- a byte at the end that is not dropped there
+-- a byte at the end that no file system drops
 record Ends (xs : List ℕ) : Type 0 where
   front : List ℕ
   byte : ℕ
@@ -176,7 +176,7 @@ names_stay s n a ss bs small =
 
 -- ---- devices and lengths
 
--- what precedes a full stop is at least as long as what has none
+-- the text before a full stop is at least as long as the text without one
 at_stop : (p d xs rest : List ℕ) → AllByRecursion (λ b. b ≢ 46) p → p ++ xs ≡ d ++ 46 ∷ rest
     → length p ≤ length d
 at_stop [] d xs rest all e = omega arith

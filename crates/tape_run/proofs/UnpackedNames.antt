@@ -1,4 +1,4 @@
--- Names of files that are unpacked: each is of one file.
+-- Names of files that are unpacked: each belongs to one file.
 use Rattle.std.proofs.Common.{◌≡◌, ℕ, ◌+◌, ◌*◌, ◌<◌, ◌≤◌, ◌/◌, ◌%◌, ◌^◌}
 use Rattle.std.proofs.Common.{Bool, true, false, List, [], ◌∷◌, ◌++◌, length, map}
 use Rattle.std.proofs.Common.{refl, sym, ap, ◌∙◌, arith, append_assoc, codes}
@@ -30,7 +30,7 @@ tails a b xs ys e = ap rest_of e
 
 -- ---- set identifiers
 
--- two bytes that are told by one text are one
+-- two bytes with the same text are equal
 pub hex_one : (a b : ℕ) → a < 16 → b < 16 → hex a ≡ hex b → a ≡ b
 hex_one a b p q e = grind (arith, nat_tests)
 
@@ -92,7 +92,7 @@ split_one : (a b : ℕ) (xs ys : List ℕ) → a < 256 → b < 256
 split_one a b xs ys la lb e =
     split_by a b xs ys la lb (is_plain a) (is_plain b) (a == 32) (b == 32) refl refl refl refl e
 
--- identifiers of one length whose texts begin one text are one
+-- two identifiers of equal length are equal if a text begins with both of their texts
 record SplitAll (s t xs ys : List ℕ) : Type 0 where
   same : s ≡ t
   rest : xs ≡ ys
@@ -128,7 +128,7 @@ digits_are = decimal_by_steps (λ n ds. AllByRecursion IsDigit ds)
     (λ n ds some all. let low : n % 10 < 10 = mod_below n 10 (omega arith) in
     digits_more ds (48 + n % 10) all (omega arith, omega (arith, low)))
 
--- what stands before the first full stop
+-- the text before the first full stop
 before_stop : (p q xs ys : List ℕ) → AllByRecursion IsDigit p → AllByRecursion IsDigit q
     → p ++ 46 ∷ xs ≡ q ++ 46 ∷ ys → p ≡ q
 before_stop [] [] xs ys ps qs e = refl
@@ -143,7 +143,7 @@ before_stop (a ∷ p) (b ∷ q) xs ys (pa, ps) (qb, qs) e =
 pub wide : (n : ℕ) → n < 2 ^ 16 → n < 2 ^ 64
 wide n p = omega (arith, p)
 
--- what stands behind the set identifier
+-- the text after the set identifier
 abbrev pub numbered : ℕ → List ℕ → List ℕ
 numbered n more = decimal n ++ 46 ∷ more
 
@@ -167,7 +167,7 @@ pub all_each : {P Q : ℕ → Type 0} → ((b : ℕ) → P b → Q b) → (xs : 
 all_each f [] all = tt
 all_each f (x ∷ xs) (one, all) = (f x one, all_each f xs all)
 
--- the bytes of the text of a set identifier
+-- the bytes in the text of a set identifier
 abbrev pub InSet : ℕ → Type 0
 InSet b = (is_plain b || (b == 95) || (b == 37)) ≡ true
 
@@ -188,7 +188,7 @@ set_bytes (b ∷ s) (small, ss) =
     all_more InSet (escaped b) (escaped_all s)
     (kind_in_set b small (is_plain b) (b == 32) refl) (set_bytes s ss)
 
--- ---- where capital and small letters are one
+-- ---- if case is ignored
 
 same_folded : (xs : List ℕ) → AllByRecursion (λ b. folded b ≡ b) xs → map folded xs ≡ xs
 same_folded [] all = refl
@@ -201,7 +201,7 @@ folded_in_set b is = grind (arith, nat_tests)
 folded_digit : (b : ℕ) → IsDigit b → folded b ≡ b
 folded_digit b (low, high) = grind (arith, nat_tests)
 
--- only what follows the number changes
+-- only the text after the number changes
 folded_name : (s a x : List ℕ) (n : ℕ) → AreBytes s → n < 2 ^ 16
     → map folded (file_name s n a ++ x)
     ≡ escaped_all s ++ 46 ∷ numbered n (map folded (fit_text a ++ x))

@@ -9,7 +9,7 @@ use Rattle.tape_core.specs.declared.sink.SinkFault.{SinkFault}
 use Rattle.tape_run.specs.Crash.{BringsNoMore}
 use Rattle.tape_run.proofs.Crashes.{adds_then}
 
--- The sink's contents are unchanged, a crash leaves no more of it, and it refused no call.
+-- The sink's contents are unchanged, a crash leaves nothing new, and no call was refused.
 pub record Walked {S : Type 0} (g : Ghosts S) (old new : S) : Type 0 where
   pub calm : g.refusals new ≡ g.refusals old
   pub kept : (parts : List Portion) → g.holds old parts → g.holds new parts
@@ -22,7 +22,7 @@ walked_same g s = record {
   crash = λ parts was. only_same _ _;
 }
 
--- whatever the next call returned, a crash leaves no more
+-- whatever the next call returned, a crash leaves nothing new
 pub walk_crash : {S : Type 0} {g : Ghosts S} {ahead : S → List Portion → Type 0}
     {left : S → ℕ} {refuses : S → SinkFault → S → Type 0} (old mid new : S)
     (result : Result (Option Part) SinkFault)

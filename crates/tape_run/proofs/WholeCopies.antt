@@ -1,4 +1,4 @@
--- What an image that is a whole copy adds.
+-- The sections that the image of a complete copy adds.
 use Rattle.std.proofs.Common.{◌≡◌, ℕ, List, Some, refl, ap, ◌∙◌}
 use Rattle.tape_image.specs.Tape.{TapeItem}
 use Rattle.tape_image.specs.Begins.{ends}

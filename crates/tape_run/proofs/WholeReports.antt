@@ -1,4 +1,4 @@
--- What `check` reports of complete copies, and where what it calls good was found.
+-- What `check` reports for complete copies, and where sections reported as good were found.
 use Rattle.std.proofs.Common.{◌≡◌, ◌⊎◌, inl, inr, ℕ, Bool, true, false, List, [], ◌∷◌, ◌++◌, Option}
 use Rattle.std.proofs.Common.{Some, None, refl, sym, ap, subst, ◌∙◌, append-nil}
 use Rattle.std.specs.Prelude.{map, if◌then◌else◌}
@@ -22,7 +22,7 @@ use Rattle.tape_run.specs.Checked.{Reel, AddsImages, summary_of}
 use Rattle.tape_run.specs.WholeReels.{AreWholeCopies, IsListedGood, WholeSetIsTold}
 use Rattle.tape_run.specs.WholeReels.{IsShownOn, GoodWasSeen}
 
--- after complete copies the catalogue is the one that they make
+-- after complete copies the catalogue contains the sections of these copies
 copies_read : (set : FileSet) (reels : List Reel) (lines : List (Option ImageLine)) (ks : List ℕ)
     (c d : List Told) → AddsImages reels lines c d → AreWholeCopies set reels lines ks
     → d ≡ behind_copies set c ks
@@ -78,7 +78,7 @@ listed_here x xs key true e same good is more =
     }
 listed_here x xs key false e same good is more = listed_behind x (map line_of xs) key (more is)
 
--- a good section has a line that says so
+-- a good section has a line GOOD
 listed_good : (c : List Told) (key : SectionKey) (e : Entry) → entry_at c key ≡ Some e
     → e.state ≡ Good → IsListedGood (map line_of c) key
 listed_good [] key e there good = absurd (cc there)
@@ -137,7 +137,7 @@ shown_behind reel reels told s = record {
   shown = s.shown;
 }
 
--- what is good after images was so before, or one of them shows it
+-- a section that is good after some images was good before, or one of these images shows it
 seen : (reels : List Reel) (lines : List (Option ImageLine)) (c d : List Told) (told : Told)
     → AddsImages reels lines c d → StandsIn d told → told.1.state ≡ Good
     → StandsIn c told ⊎ IsShownOn reels told

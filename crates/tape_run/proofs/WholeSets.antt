@@ -1,5 +1,5 @@
--- Complete copies of all volumes of a valid set make each of its sections good, and nothing is
--- missing of its files.
+-- Complete copies of all volumes of a valid set make each of its sections good, and nothing of its
+-- files is missing.
 use Rattle.std.proofs.Common.{max, ◌≡◌, ℕ, zero, suc, ◌+◌, ◌≤◌, Bool, true, false, List, [], ◌∷◌}
 use Rattle.std.proofs.Common.{◌++◌, length, Option, Some, None, refl, sym, ap, subst, ◌∙◌, arith}
 use Rattle.std.specs.Prelude.{map, if◌then◌else◌, IsSome, slice_get, option_and_then, ◌-◌}
@@ -67,7 +67,7 @@ whole_set set ks c lawful all =
 
 -- ---- nothing is missing
 
--- what is added for a section of the set has its own trailer's kind
+-- the entry that is added for a section of the set has the kind of its own trailer
 told_kinds : (set : FileSet) (k : ℕ) (x : Placed) (xs : List Placed) (ts : List Told)
     → section_of set x.file x.sect ≡ Some x.section → AllByRecursion (IsOn set k) xs
     → AreGood set xs ts
@@ -155,7 +155,7 @@ nothing_lacks set ks file lawful all there =
 
 -- ---- nothing of the set is missing, and nothing else was found
 
--- the sections are of the set, and their files exist
+-- the sections belong to the set, and their files exist
 abbrev OfSet : FileSet → List Told → Type 0
 OfSet set ts = AllByRecursion (λ t. (t.0.set_id ≡ set.set_id) × (t.0.file ≤ length set.files)) ts
 
@@ -217,7 +217,7 @@ copies_of set (k ∷ ks) c lawful h =
     (noted_all_of set c (met_in (items set k)) h
     (volume_of_set set k (nth set.volumes k) refl lawful))
 
--- no set but this one, and no file beyond its last
+-- no other set, and no file after its last
 abbrev FewSets : FileSet → List SetFiles → Type 0
 FewSets set sets = AllByRecursion (λ x. (x.0 ≡ set.set_id) × (x.1 ≤ length set.files)) sets
 
@@ -261,7 +261,7 @@ none_of_sets set c (x ∷ xs) (h, hs) none =
     (none_of_files c set.set_id 1 x.1 (length set.files) (omega (arith, h.1)) none) in
     ap (λ (ls : List Lack). ls ++ set_lacks c xs) own ∙ none_of_sets set c xs hs none
 
--- if something is there and nothing is missing, all was found
+-- if something was found and nothing is missing, everything was found
 found_by : (c : List Told) (key : SectionKey) → IsGoodAt c key → lacks c ≡ [] → found_all c ≡ true
 found_by [] key g none = absurd (cc g.there)
 found_by (x ∷ xs) key g none = ap is_none_lacking none

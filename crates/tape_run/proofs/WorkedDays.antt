@@ -37,7 +37,7 @@ use Rattle.tape_set.proofs.WorkedFile.{fit_of}
 use Rattle.tape_run.proofs.WorkedHistory.{is_lawful}
 use Rattle.tape_run.proofs.WorkedReels.{whole_1, whole_2}
 
--- ---- wherever volume 1, or volume 2, broke off
+-- ---- wherever volume 1, or volume 2, was cut
 
 abbrev vol_1 : MountEvent
 vol_1 = reads (reading 1 (replicate 11 true))
@@ -45,23 +45,23 @@ vol_1 = reads (reading 1 (replicate 11 true))
 abbrev vol_2 : MountEvent
 vol_2 = reads (reading 2 (replicate 10 true))
 
--- P holds of the numbers below k
+-- P is true of the numbers below k
 abbrev AllBelow : ℕ → (ℕ → Type 0) → Type 0
 AllBelow zero P = ⊤
 AllBelow (suc k) P = P 0 × AllBelow k (λ n. P (suc n))
 
--- what holds of the numbers below k, and of the others, holds of each
+-- a property of the numbers below k, and of the others, is one of every number
 each : (k : ℕ) (P : ℕ → Type 0) → AllBelow k P → ((n : ℕ) → k ≤ n → P n) → (n : ℕ) → P n
 each zero P all more n = more n (omega arith)
 each (suc k) P (now, later) more zero = now
 each (suc k) P (now, later) more (suc n) =
     each k (λ m. P (suc m)) later (λ m le. more (suc m) (omega (arith, le))) n
 
--- the position after volume 1, from the start, if it was read up to n items, in a block at a part
+-- the position after volume 1 was read up to n items, from the start, as a part of a block
 abbrev behind_1 : ℕ → ℕ → Position
 behind_1 n part = at_part part (far worked_set 1 start (reading 1 (take n (replicate 11 true))))
 
--- Behind it both volumes complete the file.
+-- After such a part both volumes complete the file.
 abbrev Completes : ℕ → Type 0
 Completes n = (part : ℕ)
     → far worked_set 1 (far worked_set 1 (behind_1 n part) (reading 1 (replicate 11 true)))
@@ -82,7 +82,7 @@ completes =
 
 -- ---- a reader that failed
 
--- the events, the k-th of them, from 0 on, cut after n items
+-- the events; event k, counted from 0, is cut after n items
 abbrev cut_one : ℕ → ℕ → List MountEvent → List MountEvent
 cut_one k n [] = []
 cut_one zero n (h ∷ hs) = cut n h ∷ hs
@@ -169,7 +169,7 @@ failed s left r one =
 step_is : (step : Step) → Some Reel ≡ Some step → Reel ≡ step
 step_is step e = cc
 
--- the one step was not made
+-- the only step failed
 at_first : (old mid : Seen) (n : ℕ) (cause : SinkFault) (left : List (Option (List ℕ)))
     → HasStopped old (Reel ∷ []) (reel_1 ∷ []) left n (Sink cause) mid → IsSession worked_set old
     → StopsStep worked_set old [] Reel (reel_1 ∷ []) (Sink cause) mid

@@ -1,4 +1,5 @@
--- The worked history, by computation: its set is valid, and it satisfies the headline's premises.
+-- The worked history, by computation: its set is valid, and it satisfies the premises of the
+-- headline.
 use Rattle.std.proofs.Common.{◌≡◌, ℕ, List, Option, [], ◌∷◌, true, false, refl, sym, ap}
 use Rattle.std.proofs.Common.{◌∙◌, subst, codes, lit≤, lit<, None, replicate}
 use Rattle.tape_set.proofs.Worked as w

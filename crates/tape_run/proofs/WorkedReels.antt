@@ -98,7 +98,7 @@ second_end = mark_of ∷ label_of eof1 refl ∷ label_of eof2 refl ∷ mark_of �
 abbrev items_of : List Spelling → List TapeItem
 items_of ss = flat_map (λ s. s.given) ss
 
--- spellings, and then an end word
+-- encodings, followed by an end-of-medium marker
 ended : (bytes : List ℕ) (ss : List Spelling) (n : ℕ)
     → bytes ≡ flat_map (λ s. s.bytes) ss ++ an_end → length bytes ≡ n + 4 → n + 4 ≤
     begin.image_limit
@@ -127,7 +127,7 @@ all_of bytes ss n e size within = record {
   stops = begin.nothing refl refl;
 }
 
--- encodings, and then a prefix of a block of 18 characters
+-- encodings, followed by a prefix of a block of 18 characters
 cut_off : (bytes : List ℕ) (ss : List Spelling) (n : ℕ)
     → bytes ≡ flat_map (λ s. s.bytes) ss ++ (18 ∷ 0 ∷ 0 ∷ 0 ∷ codes "20018AA")
     → length bytes ≡ n + 11 → n + 26 ≤ begin.image_limit

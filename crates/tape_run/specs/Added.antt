@@ -1,4 +1,4 @@
--- What an image adds to a catalogue.
+-- The sections that an image adds to a catalogue.
 use Rattle.std.specs.Prelude.{◌≡◌, ℕ, List, length, Option, IfSome}
 use Rattle.tape_image.specs.declared.item.Ending.{Ending}
 use Rattle.tape_image.specs.declared.item.Ending.TheVariants as endings

@@ -1,4 +1,4 @@
--- What the reader's table makes of any items, whether or not they are those of a valid set.
+-- Where the reader's table leads for any items, whether or not they are those of a valid set.
 use Rattle.std.specs.Prelude.{◌≡◌, ℕ, ◌<◌, ◌+◌, List, [], ◌∷◌, ◌++◌, length, take, drop, Option}
 use Rattle.std.specs.Prelude.{Some, None}
 use Rattle.tape_blocks.specs.Block.{Portion}
@@ -16,7 +16,7 @@ use Rattle.tape_core.specs.Table.{step_of, saved}
 use Rattle.tape_run.specs.Puts.{refused_point}
 use Rattle.tape_run.specs.Reels.{behind_items}
 
--- the parts of a block by what is known of its file, from the expected one on
+-- the parts of a block from the expected one on, in the form known of its file
 abbrev pub parts_from : Position → Option FileForm → List ℕ → List Portion
 parts_from p None content = []
 parts_from p (Some form) content = drop (part_of p) (parts_in form content)
@@ -42,13 +42,13 @@ delivered_parts core [] = []
 delivered_parts core (x ∷ xs) = parts_at core x ++ delivered_parts (step_of core (Some x)).1 xs
 
 -- The table leads the core over these items to its current state, and exactly the parts that they
--- deliver were added to held.
+-- deliver were added to `held`.
 pub record IsLed (xs : List TapeItem) (core new : State) (held now : List Portion) : Type 0 where
   pub place : new ≡ rest_of (behind_items core xs)
   pub parts : now ≡ held ++ delivered_parts core xs
 
--- A part of the block was refused: some of the parts before it, possibly none, were delivered, and
--- the core's position is the refused part; if it is the first of them, the core is unchanged.
+-- A part of the block was refused: the parts before it, if any, were delivered, and the core's
+-- position is the refused part; if this is the expected part, the core is unchanged.
 pub record StopsInside (core new : State) (item : TapeItem) (held now : List Portion)
     : Type 0 where
   pub delivers : (step_of core (Some item)).0 ≡ Deliver
@@ -59,7 +59,7 @@ pub record StopsInside (core new : State) (item : TapeItem) (held now : List Por
   pub place : new ≡ place_of (refused_point (saved core 0) (saved (step_of core (Some item)).1 0)
       (part_of core.position + more) (begun_behind core.begun (take more (parts_at core item))))
 
--- After some of these items a part of the next one was refused.
+-- After some of these items a part of the next item's block was refused.
 pub record IsCutAt (xs : List TapeItem) (core new : State) (held now : List Portion)
     : Type 0 where
   pub before : List TapeItem

@@ -1,5 +1,5 @@
--- Examples for the definitions of a session and of its history, so that none of them says less, or
--- requires more, than it should. They are the contract of the call `laws::cases`.
+-- Examples for the definitions of a session and of its history, which show that none of them is too
+-- weak or too strict. They are the contract of the call `laws::cases`.
 use Rattle.std.specs.Prelude.{◌≡◌, ◌≤◌, ℕ, ◌+◌, Bool, true, false, List, [], ◌∷◌, ◌++◌, Option}
 use Rattle.std.specs.Prelude.{length, take, slice_get, Some, None, IsSome}
 use Rattle.tape_image.specs.declared.item.ImageCause.TheVariants.{Truncated, Device}
@@ -44,19 +44,19 @@ use Rattle.tape_run.specs.WorkedHistory.{worked_set, vol1, hdr1, reading}
 
 -- ---- what may be mounted
 
--- of copies, foreign reels, and prefixes of both
+-- copies, foreign reels, and prefixes of both
 pub record CasesOfMounts : Type 0 where
   -- each reading of a volume, complete or cut, with any unreadable items, is a mount of it
   pub readings : (set : FileSet) (r : Reading) → IsReadingOf set r
       → IsMount set (as_read (items set r.volume) r.good) (reads r)
-  -- after a complete volume of which only data blocks are bad anything may follow
+  -- after a complete volume, of which only data blocks are bad, any items may follow
   pub more_behind : (set : FileSet) (r : Reading) (more : List TapeItem) → IsReadingOf set r
       → length r.good ≡ length (items set r.volume) → passes r.good (entries set r.volume) ≡ true
       → IsMount set (as_read (items set r.volume) r.good ++ more) (reads r)
   -- an image without a byte, and a reel that begins with a tape mark, are foreign
   pub empty_image : (set : FileSet) → IsMountOf set [] foreign_reel
   pub mark_first : (set : FileSet) (rest : List TapeItem) → IsMount set (mark ∷ rest) foreign_reel
-  -- a volume of the set is not foreign
+  -- a volume of the set is not a foreign reel
   pub own_volume : (rest : List TapeItem)
       → IsMount worked_set (block vol1 ∷ block hdr1 ∷ rest) foreign_reel → ⊥
   -- an image may stop in any way after the items of a mount
@@ -64,7 +64,7 @@ pub record CasesOfMounts : Type 0 where
       (h : MountEvent) → Begins 0 bytes xs end stop → IsMount set xs h → IsMountOf set bytes h
   pub no_save : (set : FileSet) (xs : List TapeItem) → IsMount set xs saves → ⊥
   pub no_restart : (set : FileSet) (xs : List TapeItem) → IsMount set xs (restarts 0) → ⊥
-  -- a prefix of a reading, and a reel that moves nothing
+  -- a prefix of a reading, and a reel that does not change the position
   pub cut_off : cut 2 (reads (reading 1 (true ∷ false ∷ true ∷ [])))
       ≡ reads (reading 1 (true ∷ false ∷ []))
   pub foreign_moves_nothing : (set : FileSet) (p : Position)
@@ -72,13 +72,13 @@ pub record CasesOfMounts : Type 0 where
 
 -- ---- histories
 
--- two positions and a course with checkpoints of both
+-- two positions, and a position history with checkpoints at both
 abbrev pub two_notes : Course
 two_notes = record { at = awaiting 2 0; notes = start ∷ awaiting 1 1 ∷ [] }
 
--- of scripts, what happens, and where that leads
+-- scripts, their events, and where these lead
 pub record CasesOfHistories : Type 0 where
-  -- checkpoints are saved and returned to, and readers that the script does not use may be left
+  -- checkpoints are saved and rolled back to, and readers that the script does not use remain
   pub saved_and_back : (set : FileSet) (bytes : List ℕ)
       → IsHistory set 0 (Save ∷ Save ∷ Restart 1 ∷ Restart 0 ∷ []) (bytes ∷ [])
       (saves ∷ saves ∷ restarts 1 ∷ restarts 0 ∷ [])
@@ -87,7 +87,7 @@ pub record CasesOfHistories : Type 0 where
   pub forgotten : (set : FileSet)
       → IsHistory set 2 (Restart 0 ∷ Restart 1 ∷ []) [] (restarts 0 ∷ restarts 1 ∷ []) → ⊥
   pub other_note : (set : FileSet) → IsHistory set 2 (Restart 0 ∷ []) [] (restarts 1 ∷ []) → ⊥
-  -- a reel is mounted if the script says so, and nothing happens that it does not say
+  -- a reel is mounted if the script says so, and no event occurs that the script does not contain
   pub reel_mounted : (set : FileSet) (bytes : List ℕ) (h : MountEvent) → IsMountOf set bytes h
       → IsHistory set 0 (Reel ∷ []) (bytes ∷ []) (h ∷ [])
   pub no_reel : (set : FileSet) (h : MountEvent) → IsHistory set 0 (Reel ∷ []) [] (h ∷ []) → ⊥
@@ -105,20 +105,20 @@ pub record CasesOfHistories : Type 0 where
 
 -- ---- what readers returned
 
--- of bytes, readers that failed, and their count
+-- bytes, readers that failed, and their count
 pub record CasesOfGiven : Type 0 where
-  -- a reader that failed returned exactly what it no longer has
+  -- a reader that failed returned exactly the bytes that it no longer has
   pub no_other : (left : Option (List ℕ)) → IsGiven true (1 ∷ 2 ∷ []) left (2 ∷ []) → ⊥
   pub front : IsGiven true (1 ∷ 2 ∷ []) (Some (2 ∷ [])) (1 ∷ [])
   pub no_less : (given : List ℕ) → IsGiven true (1 ∷ 2 ∷ []) (Some (2 ∷ [])) given
       → length given ≡ 1
   pub untold : (bytes given : List ℕ) → IsGiven true bytes None given → ⊥
-  -- they are counted up to the greatest number
+  -- readers that failed are counted up to the greatest number
   pub calm : counted false 3 ≡ 3
   pub one : counted true 3 ≡ 4
   pub greatest : counted true 18446744073709551615 ≡ 18446744073709551615
   pub two : counted_up 2 3 ≡ 5
-  -- of readers, with a list of those that failed
+  -- readers, with a list of those that failed
   pub second_failed : (b c d : List ℕ) → AreGivenBy (false ∷ true ∷ []) (b ∷ c ∷ d ∷ [])
       (None ∷ Some c ∷ None ∷ []) (b ∷ [] ∷ d ∷ [])
   pub just_the_second : (b c d e l : List ℕ) → AreGivenBy (false ∷ true ∷ []) (b ∷ c ∷ [])
@@ -143,7 +143,7 @@ pub record CasesOfGiven : Type 0 where
 abbrev pub on_one_volume : List ℕ → Volume → List (List Section) → FileSet
 on_one_volume id v files = record { set_id = id; volumes = v ∷ []; files = files }
 
--- of images of a whole set
+-- images of a complete set
 pub record CasesOfVolumes : Type 0 where
   pub one_image : (id : List ℕ) (v : Volume) (files : List (List Section)) (bytes : List ℕ)
       (end : ℕ) (stop : Stop) → Begins 0 bytes (items (on_one_volume id v files) 1) end stop
@@ -156,7 +156,7 @@ pub record CasesOfVolumes : Type 0 where
 
 -- ---- sessions
 
--- of sessions, and of what was read of a file
+-- sessions, and the items read of a file
 pub record CasesOfSessions : Type 0 where
   pub its_course : (s : Seen) (c : Point) → s.notes ≡ c ∷ []
       → course_of s ≡ record { at = s.place.position; notes = c.position ∷ [] }
@@ -195,9 +195,10 @@ pub record CasesOfSessions : Type 0 where
 
 -- ---- steps that succeeded, and runs that were stopped
 
--- of steps, one by one
+-- single steps
 pub record CasesOfMade : Type 0 where
-  -- if the reader failed, it returned what it no longer has; parts and checkpoints are unchanged
+  -- if the reader failed, it returned the bytes that it no longer has; parts and checkpoints are
+  -- unchanged
   pub was_reeled : (bytes : List ℕ) (left : Option (List ℕ)) (failed : Bool) (old new : Seen)
       (r : Reeled bytes left failed old new) → IsGiven failed bytes left r.given
       × (new.failures ≡ counted failed old.failures) × (new.notes ≡ old.notes)
@@ -219,7 +220,7 @@ pub record CasesOfMade : Type 0 where
       → Runs [] old (Reel ∷ []) (Some bytes ∷ []) (l ∷ []) new → ⊥
   pub none_is_left : (failed : Bool) (old new : Seen) (bytes : List ℕ)
       → Runs (failed ∷ []) old (Reel ∷ []) (Some bytes ∷ []) [] new → ⊥
-  -- a step follows the one before it, with the reader that this left
+  -- a step follows the one before it, with the reader that the one before left
   pub two_were_made : (old new : Seen) (bytes : List ℕ) (l : Option (List ℕ))
       → Runs (true ∷ []) old (Save ∷ Reel ∷ Restart 1 ∷ []) (Some bytes ∷ []) (l ∷ []) new
       → (first : Seen) × (second : Seen) × Saved old first
@@ -234,8 +235,8 @@ pub record CasesOfMade : Type 0 where
       × IsFront new.parts old.parts × (weight_of new.parts ≡ w.point.staged)
       × (new.notes ≡ take 2 old.notes) × (new.failures ≡ old.failures)
       × (new.refusals ≡ old.refusals)
-  -- The step with the reported number is the one that failed, and those before it succeeded, each
-  -- with its reader. There is no such step after the last one.
+  -- The step with the reported number failed, and those before it succeeded, each with its reader.
+  -- There is no such step after the last one.
   pub second_was_not : (old new : Seen) (fault : RunFault) (bytes : List ℕ) (l : Option (List ℕ))
       → RunsUpTo (true ∷ []) old (Reel ∷ Reel ∷ Save ∷ []) (Some bytes ∷ []) (l ∷ []) 1 fault new
       → (mid : Seen) × Reeled bytes l true old mid
@@ -250,7 +251,7 @@ pub record CasesOfMade : Type 0 where
   pub fails : (old new : Seen) (fault : RunFault) (reels : List (Option (List ℕ)))
       → (Fails Save reels fault old new → SaveFails fault old new)
       × (Fails (Restart 3) reels fault old new → RestartFails 3 fault old new)
-  -- why a step failed, and what it left
+  -- why a step failed, and the state that it left
   pub save_refused : (cause : SinkFault) (old new : Seen) → SaveFails (Sink cause) old new
       → (new.place ≡ old.place) × (new.parts ≡ old.parts) × (new.notes ≡ old.notes)
       × (new.failures ≡ old.failures)
@@ -282,8 +283,8 @@ pub record CasesOfMade : Type 0 where
 
 -- ---- crashes
 
--- of what a crash leaves, and of runs one after another: of a crash at moment 4, and since each
--- moment up to it, alone
+-- the states that a crash leaves, and consecutive runs: after a crash at moment 4, and after one at
+-- any moment up to 4
 abbrev pub came_by : List Portion → Point → Crashes
 came_by ps c = record {
   returns = λ back there. ⊥;
@@ -294,7 +295,7 @@ came_by ps c = record {
 }
 
 pub record CasesOfCrashes : Type 0 where
-  -- a place of a course is its position, or one of its checkpoints
+  -- a place of a position history is its position, or one of its checkpoints
   pub its_place : (p q : Position) → IsPlaceOf (record { at = p; notes = [] }) q → q ≡ p
   pub noted_place : IsPlaceOf two_notes (awaiting 1 1)
   -- a session without checkpoints leaves its position, with its parts
@@ -302,7 +303,7 @@ pub record CasesOfCrashes : Type 0 where
       → IsOf s back there → (back ≡ saved s.place (weight_of s.parts)) × (there ≡ s.parts)
   pub of_a_note : (s : Seen) (back : Point) (there : List Portion) → s.notes ≡ back ∷ []
       → IsFront there s.parts → weight_of there ≡ back.staged → IsOf s back there
-  -- of one checkpoint a crash leaves that alone, now and from a past moment on
+  -- with one checkpoint, a crash leaves only that, now and from a past moment on
   pub alone : (s : Seen) (c p : Point) (ps : List Portion) → s.notes ≡ c ∷ []
       → LastAlone (comes_now ps p) s → p ≡ c
   pub alone_since : (s : Seen) (c p : Point) (ps : List Portion) → s.notes ≡ c ∷ []
@@ -323,7 +324,7 @@ pub record CasesOfCrashes : Type 0 where
       × (steps ≡ done ++ c.rest) × AreGivenBy c.which bytes left given
   pub resumed : (c : Point) (ps : List Portion) (s : Seen) → IsResumed c ps s
       → (s.place ≡ place_of c) × (s.parts ≡ ps) × (s.notes ≡ []) × (s.failures ≡ 0)
-  -- a run that saved, and was interrupted in its next reel, has a history
+  -- a run that saved, and was interrupted during its next reel, has a history
   pub saved_life : (set : FileSet) (s : Seen) → AreHistories set (record {
     began = s;
     steps = Save ∷ Reel ∷ [];

@@ -1,5 +1,5 @@
--- Examples for the definitions of a catalogue, and of reports of what is on reels. They are the
--- contract of the call `laws::cases`.
+-- Examples for the definitions of a catalogue, and of reports on reels. They are the contract of
+-- the call `laws::cases`.
 use Rattle.std.specs.Prelude.{◌≡◌, ◌<◌, ◌≤◌, ◌+◌, ℕ, zero, suc, Bool, true, false, List, [], ◌∷◌}
 use Rattle.std.specs.Prelude.{◌++◌, length, map, Option, Some, None, codes}
 use Rattle.std.specs.List.{AllByRecursion, flat_map}
@@ -53,7 +53,7 @@ met file sect eof state = (
 abbrev pub lack : ℕ → ℕ → Lack
 lack file sect = record { set_id = codes "ABC001"; file = file; sect = sect }
 
--- of what is added, and what is missing
+-- sections that are added to a catalogue, and sections missing from it
 pub record CasesOfCatalogues : Type 0 where
   pub line : line_of (met 1 2 true Bad) ≡ record {
     set_id = codes "ABC001";
@@ -65,7 +65,7 @@ pub record CasesOfCatalogues : Type 0 where
   }
   pub key : (set : FileSet) (x : Placed) → ((key_in set x).set_id ≡ set.set_id)
       × ((key_in set x).file ≡ x.file) × ((key_in set x).sect ≡ x.sect)
-  -- a new section goes last, a good one replaces another, and nothing replaces it
+  -- a new section goes last, a good one replaces another, and nothing replaces a good one
   pub new_one : noted (met 1 1 false Good ∷ []) (met 1 2 true Cut)
       ≡ met 1 1 false Good ∷ met 1 2 true Cut ∷ []
   pub better : noted (met 1 1 false Cut ∷ met 1 2 true Cut ∷ []) (met 1 1 false Good)
@@ -74,17 +74,17 @@ pub record CasesOfCatalogues : Type 0 where
   pub other_file : noted (met 1 1 false Good ∷ []) (met 2 1 true Good)
       ≡ met 1 1 false Good ∷ met 2 1 true Good ∷ []
   pub all : noted_all [] (met 1 1 true Cut ∷ met 1 1 true Good ∷ []) ≡ met 1 1 true Good ∷ []
-  -- if nothing is known of a file, its first section is missing
+  -- if no section of a file is known, its first section is missing
   pub nothing_known : (id : List ℕ) (file sect : ℕ) → IsFirstLack [] id file sect → sect ≡ 1
   pub nothing_found : (id : List ℕ) (file : ℕ) → IsFoundWhole [] id file → ⊥
-  -- those before it are good and continue, and it is not good
+  -- the sections before the missing one are good and continue, and it is not good
   pub lacks_itself : (c : List Told) (id : List ℕ) (file : ℕ) → IsFirstLack c id file 1
       → good_end (entry_at c (key_at id file 1)) ≡ None
   pub first_goes_on : (c : List Told) (id : List ℕ) (file : ℕ) (f : IsFoundWhole c id file)
       → 1 < f.sect → good_end (entry_at c (key_at id file 1)) ≡ Some false
   pub no_good : (key : SectionKey) → IsGoodAt [] key → ⊥
-  -- what is missing: the section after one that continues, one that is not good, and each file
-  -- before the last one found
+  -- the missing sections: the one after a section that continues, one that is not good, and the
+  -- first of each file before the last file found
   pub next_lacks : lacks (met 1 1 false Good ∷ []) ≡ lack 1 2 ∷ []
   pub bad_lacks : lacks (met 1 1 true Bad ∷ []) ≡ lack 1 1 ∷ []
   pub count_lacks : lacks (met 1 1 true Count ∷ []) ≡ lack 1 1 ∷ []
@@ -100,7 +100,7 @@ pub record CasesOfCatalogues : Type 0 where
   pub first_good : (t : Told) → t.1.state ≡ Good → GoodIsShown [] [] (t ∷ [])
       → Shown [] t.0 t.1
 
--- of what an image adds, and what it shows
+-- the sections that an image adds, and those that its items show
 pub record CasesOfImages : Type 0 where
   pub ends_at : (place : ℕ) (xs ys : List ℕ) → TakesEnd 0 [] endings.Physical place xs ys
       → StopsBehind [] Physical xs ys
@@ -133,12 +133,12 @@ pub record CasesOfImages : Type 0 where
 
 -- of whole copies
 pub record CasesOfCopies : Type 0 where
-  -- each volume of a set of one volume is among these, also twice, and not among none
+  -- each volume of a set with one volume is among these, even twice, and is not in an empty list
   pub each_volume : (id : List ℕ) (v : Volume) (files : List (List Section))
       → HasEach (on_one_volume id v files) (1 ∷ 1 ∷ [])
   pub one_lacks : (id : List ℕ) (v : Volume) (files : List (List Section))
       → HasEach (on_one_volume id v files) (2 ∷ []) → ⊥
-  -- a complete copy may end in both ways, and a fault that is not the device's is no failure
+  -- a complete copy may end in both ways, and only a fault of the device is a failure
   pub whole_copy : (set : FileSet) (k end : ℕ) (ending : Ending) (xs : List ℕ)
       → Begins 0 xs (items set k) end (ends ending) → IsWholeCopy set k xs
   pub ends_are_none : IsNoDevice Physical × IsNoDevice Marked
@@ -149,12 +149,13 @@ pub record CasesOfCopies : Type 0 where
       (Some (record { items = n; stop = Marked }) ∷ []) (k ∷ [])
   pub unopened : (set : FileSet) (line : Option ImageLine) (k : ℕ)
       → AreWholeCopies set (None ∷ []) (line ∷ []) (k ∷ []) → ⊥
-  -- the report of a complete set: all found, nothing missing, and a line GOOD for each section
+  -- the report of a complete set: all was found, nothing is missing, and each section has a line
+  -- GOOD
   pub told_whole : (set : FileSet) (lines : List (Option ImageLine)) (text : List ℕ) (found : Bool)
       (w : IsToldWhole set lines text found) → (found ≡ true)
       × (text ≡ image_lines 1 lines ++ (flat_map section_line w.listed ++ found_line))
       × AllByRecursion (λ x. IsListedGood w.listed (key_in set x)) (sections set)
-  -- what is shown is on one of the images, in the items that its bytes begin with
+  -- a section that is shown is on one of the images, in the items that its bytes begin with
   pub shown_on : (reels : List Reel) (told : Told) (s : IsShownOn reels told)
       → (reels ≡ s.front ++ Some s.before ∷ s.rest) × Shown s.items told.0 told.1
       × IfKnown s.before s.after (StopsBehind s.items s.stop)
@@ -163,11 +164,11 @@ pub record CasesOfCopies : Type 0 where
 
 -- of reports of images
 pub record CasesOfReports : Type 0 where
-  -- what is reported is what was read, and found is what the sections say
+  -- the report lists the sections that were read, and its result follows from these
   pub report : (reels : List Reel) (text : List ℕ) (found : Bool) (r : IsReport reels text found)
       → AddsImages reels r.lines [] r.sections
       × (text ≡ image_lines 1 r.lines ++ summary r.sections) × (found ≡ found_all r.sections)
-  -- each image has a line, and one that was not opened has another than one that was
+  -- each image has a line, and one that was not opened has a different line from one that was
   pub a_line_each : (reel : Reel) (c d : List Told) → AddsImages (reel ∷ []) [] c d → ⊥
   pub no_more_lines : (line : Option ImageLine) (c d : List Told)
       → AddsImages [] (line ∷ []) c d → ⊥
@@ -177,7 +178,7 @@ pub record CasesOfReports : Type 0 where
   pub tells : (reel : Reel) (c d : List Told) (old new : Option (List ℕ))
       (t : TellsImage reel 2 c d old new)
       → AddsImage reel t.0 c d × Appends old new (image_line 2 t.0)
-  -- readers in a list are the images, each in its place
+  -- readers in a list are the images, in this order
   pub all_mounted : (a b : Option (Option (List ℕ))) (left : List (Option (Option (List ℕ))))
       (old new : Option (List ℕ)) (found : Bool)
       (r : Reports length Took (λ x. x) (a ∷ b ∷ []) left old new found)
@@ -185,7 +186,7 @@ pub record CasesOfReports : Type 0 where
   -- a prefix of a report ends with a summary only if no image is left
   pub no_summary_before : (left : ℕ) (d : List Told) → summary_behind (suc left) d ≡ []
   pub summary_last : (d : List Told) → summary_behind zero d ≡ summary d
-  -- and at most one image was opened that was not read
+  -- and at most one image was opened without being read
   pub in_part : (a b : Option (Option (List ℕ))) (left : List (Option (Option (List ℕ))))
       (old new : Option (List ℕ))
       (r : ReportsInPart length Took (λ x. x) (a ∷ b ∷ []) left old new)
@@ -193,6 +194,6 @@ pub record CasesOfReports : Type 0 where
       × AddsImages r.first r.lines [] r.sections
   pub first_mounted : (a b : Option (Option (List ℕ))) (left : List (Option (Option (List ℕ))))
       → AreMounted Took (IsReel (λ x. x)) (a ∷ b ∷ []) 0 (a ∷ []) left → left ≡ None ∷ b ∷ []
-  -- no other fault than a failed write, or out of memory
+  -- the only faults are a failed write and lack of memory
   pub other_fault : IsCheckFault (Run NoSuchPoint) → ⊥
   pub faults : IsCheckFault WriteFailed × IsCheckFault (Run OutOfMemory)

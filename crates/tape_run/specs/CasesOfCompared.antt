@@ -24,7 +24,7 @@ abbrev pub both : ℕ → Copied
 both digest = with_told (with_told no_copies 0 (Some (met 1 1 true Good)) 7) 1
     (Some (met 1 1 true Good)) digest
 
--- of copies of a section
+-- copies of a section
 pub record CasesOfCompared : Type 0 where
   -- digests that were calculated elsewhere: of nothing, of nine bytes in one block, and in two
   pub of_nothing : digest_of [] ≡ 0
@@ -35,7 +35,7 @@ pub record CasesOfCompared : Type 0 where
   pub one_more : (bs : List (List ℕ)) (m : Met)
       → blocks_with bs (phases.Data m) bad ≡ bs
   pub no_items : copies_on [] ≡ []
-  -- a copy agrees if both numbers are the same; the first that does not is kept
+  -- a copy agrees if both numbers are equal; the first one that does not is recorded
   pub agrees : copy_note (Some first) 1 3 7
       ≡ record { image = 0; blocks = 3; digest = 7; copies = 2; other = None }
   pub other_digest : copy_note (Some first) 1 3 8
@@ -50,7 +50,7 @@ pub record CasesOfCompared : Type 0 where
   pub agreed : is_agreed (both 7).conflicts ≡ true
   pub in_conflict : dispute_at (both 8) (file_key (codes "ABC001") 1) ≡ Some 1
   pub other_file : dispute_at (both 8) (file_key (codes "ABC001") 2) ≡ None
-  -- what is reported of them
+  -- the result of comparing these copies
   pub alone : copies_text Words [] ((key_at (codes "ABC001") 1 2, first) ∷ []) ≡ []
   pub line : copies_text Words [] ((key_at (codes "ABC001") 1 2, copy_note (Some first) 1 3 7) ∷ [])
       ≡ codes "ABC001 file 1 section 2: good, 2 copies agree\n"

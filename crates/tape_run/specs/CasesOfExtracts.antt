@@ -54,7 +54,7 @@ use Rattle.tape_core.specs.Table.{saved}
 
 -- ---- images one after another
 
--- of turns, mounts, and where they lead
+-- turns, mounts, and where these lead
 pub record CasesOfTurns : Type 0 where
   pub no_turn : (a : Option (List ℕ)) (o : Opened) → (IsTurn (λ r. r) (Some a) None → ⊥)
       × (IsTurn (λ (r : Option (List ℕ)). r) None (Some o) → ⊥)
@@ -62,7 +62,7 @@ pub record CasesOfTurns : Type 0 where
   pub left_known : (a b : List ℕ) (o : Opened) → o.had ≡ Some a → o.left ≡ Some b
       → IsTurn (λ r. r) (Some (Some a)) (Some o)
   pub not_there : IsTurn (λ (r : Option (List ℕ)). r) None None
-  -- readers in a list are taken from their places, each once, in their order
+  -- readers in a list are used in order, each once
   pub took : (a b c d : Option (Option (List ℕ))) → Took (a ∷ b ∷ []) 1 c (d ∷ None ∷ [])
       → (c ≡ b) × (d ≡ a)
   pub took_none : (a : Option (Option (List ℕ))) → Took [] 0 a [] → a ≡ None
@@ -72,7 +72,7 @@ pub record CasesOfTurns : Type 0 where
       (left : List (Option (Option (List ℕ))))
       → AreTurns Took (λ r. r) (a ∷ b ∷ []) 0 (s ∷ t ∷ []) left
       → IsTurn (λ r. r) a s × IsTurn (λ r. r) b t × (left ≡ None ∷ None ∷ [])
-  -- at a fault one more image may have been opened, and those after it were not
+  -- at a fault at most one more image has been opened
   pub one_more : (a b : Option (Option (List ℕ))) (left : List (Option (Option (List ℕ))))
       → AreFirstTurns Took (λ r. r) (a ∷ b ∷ []) [] left
       → (left ≡ a ∷ b ∷ []) ⊎ (left ≡ None ∷ b ∷ [])
@@ -80,7 +80,7 @@ pub record CasesOfTurns : Type 0 where
       (left : List (Option (Option (List ℕ))))
       → AreFirstTurns Took (λ r. r) (a ∷ b ∷ []) (t ∷ []) left → IsTurn (λ r. r) a t
       × ((left ≡ None ∷ b ∷ []) ⊎ (left ≡ None ∷ None ∷ []))
-  -- a wrong count, and a reader that it broke, are suspect, and then nothing is saved
+  -- a reel with a wrong count is suspect, also if an earlier one had it; then nothing is saved
   pub doubtful : counts_differ (Useless (BlockCount 3 4)) ≡ true
   pub broken : counts_differ (Useless Broken) ≡ true
   pub sure : (counts_differ SectionDone ≡ false) × (counts_differ (Useless BadItem) ≡ false)
@@ -89,7 +89,7 @@ pub record CasesOfTurns : Type 0 where
   pub is_noted : (back spares : Bool) (old new : Seen) → IsNoted back spares false true old new
       → Saved old new
   -- a session that does not spare checkpoints makes one each time, and one that does never makes
-  -- two at one position
+  -- two at the same position
   pub noted_each_time : (back : Bool) (old new : Seen) → IsNoted back false false false old new → ⊥
   pub noted_before : (back : Bool) (old new : Seen) (c : Point) → old.notes ≡ c ∷ []
       → IsNoted back true false false old new
@@ -101,8 +101,8 @@ pub record CasesOfTurns : Type 0 where
   pub went_to_last : (old new : Seen) (c d : Point) → old.notes ≡ c ∷ d ∷ []
       → IsNoted true false true false old new → WentBack 1 old new
   pub its_own_notes : (s : Seen) → IsKeptFor true s → IsKept s
-  -- by steps: after each reel a save if a checkpoint was made, none if the reel is suspect, or the
-  -- rollback
+  -- as steps: each reel is followed by a save if a checkpoint was made, by nothing if the reel is
+  -- suspect, or by the rollback
   pub steps_behind : (step_behind true false true 2 ≡ Save ∷ [])
       × (step_behind true false false 2 ≡ []) × (step_behind false true false 2 ≡ [])
       × (step_behind true true false 2 ≡ Restart 1 ∷ []) × (step_behind true true false 0 ≡ [])
@@ -121,20 +121,20 @@ pub record CasesOfTurns : Type 0 where
   pub none_told : (o : Opened) → AreTold (Some o ∷ []) [] → ⊥
   pub told_alone : (b : List ℕ) → AreTold (None ∷ []) (b ∷ []) → ⊥
   pub reel_read : (back spares : Bool) (core next : State) (old new : Seen) (o : Opened)
-      → ReadsAndNotes back spares core old o next new → (core.position ≢ Finished)
-      × IfKnown o.had o.left (λ bytes left. Reads core.position core bytes left o.answer)
+      (r : ReadsAndNotes back spares core old o next new) → (core.position ≢ Finished)
+      × IfKnown o.had o.left (λ bytes left. Reads core.position core bytes left o.answer r.behind)
       × (new.place ≡ rest_of next)
   pub waits : (back spares : Bool) (core last : State) (old new : Seen)
       → Follows back spares core old (None ∷ []) last new
       → (core.position ≢ Finished) × (last ≡ core) × (new ≡ old)
 
--- ---- what was written and reported
+-- ---- the records written and the lines reported
 
--- a session whose sink is the list of its parts, and images and writers that are their known bytes
+-- a session whose sink is the list of its parts, and images and writers that consist of known bytes
 abbrev pub Listed : Type 0
 Listed = SessionState (List Portion)
 
--- a list that takes the place of the sink's parts: it weighs nothing, and nothing survives a crash
+-- a list in place of a sink's parts: it has no weight, and nothing survives a crash
 abbrev pub as_sink : Ghosts (List Portion)
 as_sink = record {
   holds = λ s ps. s ≡ ps;
@@ -146,11 +146,11 @@ as_sink = record {
 abbrev pub Known : Type 0
 Known = Option (List ℕ)
 
--- images, each of which is taken once
+-- images, each of which is used once
 abbrev pub Readers : Type 0
 Readers = List (Option Known)
 
--- what `extract` says of such ones
+-- what `extract` promises for these
 abbrev pub ExtractsListed : Listed → Listed → Readers → Readers → Form → Known → Known → Known
     → Known → Option Want → Type 0
 ExtractsListed session behind shelf left form out written said says want =
@@ -180,7 +180,7 @@ pub record CasesOfOutputs : Type 0 where
   pub put : (records : ℕ) (form : Form) (stands : Known) (parts : List Portion)
       → IsPut None ⊤ records form stands parts
       → (records ≡ length (join parts).records) × (stands ≡ Some (output_of form parts))
-  -- what is missing is what the session needs at the position where its images led it
+  -- the missing part is the one that the session needs at the position where its images led it
   pub ends : (spares : Bool) (first : State) (old : Seen) (turns : List Turn) (want : Option Want)
       (records : ℕ) (form : Form) (out now : Known)
       (e : Ends spares first old turns want records form out now)
@@ -204,7 +204,7 @@ pub record CasesOfOutputs : Type 0 where
       (e : ExtractsListed session behind shelf left form out now said says want)
       → Appends said says (reel_lines 1 (map answer_of e.turns) ++ last_line want e.records)
       × AreTurns Took (λ r. r) shelf 0 e.turns left
-  -- the session that is left is where its images led it, with the parts that were written
+  -- the remaining session is where its images led it, with the parts that were written
   pub left_there : (session behind : Listed) (shelf left : Readers) (form : Form)
       (out now said says : Known) (want : Option Want) → session.notes ≡ []
       → ExtractsListed session behind shelf left form out now said says want
@@ -224,13 +224,13 @@ pub record CasesOfOutputs : Type 0 where
       (e : ExtractsListedNow session shelf left form stands said says want)
       → EndsNow session.core (seen as_sink session session.sink) e.turns want e.records form ⊤
       stands
-  -- a fault ends a report after the line of at most one more image than those that were read
+  -- at a fault the report ends after the line of at most one more image than were read
   pub one_line_more : (session behind : Listed) (shelf left : Readers) (form : Form)
       (out now said says : Known)
       (s : StopsListed session behind shelf left form out now said says) → (length s.more ≤ 1)
       × AppendsFront said says
       (reel_lines 1 (map answer_of s.turns ++ s.more) ++ last_line s.want s.records)
-  -- its last line is that of the session, if any of that line was reported
+  -- the last line, if any of it was reported, describes the session
   pub last_line_tells : (p : Seen) (want : Option Want) (records : ℕ)
       → p.place.position ≡ Finished → TellsEnd ⊥ want records p
       → (want ≡ None) × (records ≡ length (join p.parts).records)
@@ -261,7 +261,7 @@ pub record CasesOfOutputs : Type 0 where
       (out now said says : Known) (s : StopsListedNow session shelf left form out now said says)
       → (length s.turns + length s.more ≤ length shelf)
       × AreFirstTurns Took (λ r. r) shelf s.turns left
-  -- and the output was not touched, or the file is complete and a prefix of it was written
+  -- and the output was not touched, or the file is complete and a prefix of its records was written
   pub output_stopped : (session behind : Listed) (shelf left : Readers) (form : Form)
       (out now said says : Known)
       → session.notes ≡ [] → StopsListed session behind shelf left form out now said says
@@ -271,7 +271,7 @@ pub record CasesOfOutputs : Type 0 where
       (out now said says : Known)
       → StopsListedNow session shelf left form out now said says → (now ≡ out)
       ⊎ ((s : Seen) × (s.place.position ≡ Finished) × (now ≡ Some (output_of form s.parts)))
-  -- what a sink that writes has received
+  -- the parts that a sink that writes them has received
   pub taken : (form : Form) (out : Known) (weight records : ℕ) (begun failed : Bool)
       (parts : List Portion)
       → HasTaken (λ (w : Known). w) form out weight records begun failed parts
@@ -282,16 +282,15 @@ pub record CasesOfOutputs : Type 0 where
       → (begun ≡ is_some (join parts).rest)
       × (TellsAlways (λ (w : Known). w) → IsText failed (text_so_far form parts) out)
   pub text : (known : List ℕ) → IsText false (7 ∷ []) (Some known) → known ≡ 7 ∷ []
-  -- a writer that consists of its bytes always tells them, and one whose bytes are never known does
-  -- not
+  -- a writer that consists of its bytes always knows them, and one with unknown bytes does not
   pub tells : TellsAlways (λ (w : List ℕ). Some w)
   pub tells_nothing : TellsAlways {W = List ℕ} (λ w. None) → ⊥
   pub ended : (with_end true 3 ≡ 3) × (with_end false 3 ≡ 4)
 
 -- ---- why it was not
 
--- of a sink that consists of its count of refused calls, and contains no part, or about whose
--- contents nothing is known
+-- a sink that consists of its count of refused calls, and either contains no part or has unknown
+-- contents
 abbrev pub FailsEmpty : EngineFault → ℕ → ℕ → Type 0
 FailsEmpty fault old new = WritingFails (λ s ps. ps ≡ []) (λ s. s) old new fault
 
@@ -303,17 +302,16 @@ pub record CasesOfCauses : Type 0 where
   pub refused_writing : (cause : SinkFault) (old new : ℕ) → FailsEmpty (Run (Sink cause)) old new
       → Rose old new
   pub told_refusal : FailsEmpty (Run (Sink Device)) 3 4
-  -- only a sink about whose contents nothing is known may return Failed, and no other fault,
-  -- without a refused call
+  -- only a sink with unknown contents may return Failed, and no other fault, without a refused call
   pub only_failed : (cause : SinkFault) (old new : ℕ) → FailsUnknown (Run (Sink cause)) old new
       → Rose old new ⊎ (cause ≡ Failed)
   pub fewer_given : FailsUnknown (Run (Sink Failed)) 3 3
-  -- no other fault comes, and a failed write is not a refusal
+  -- no other fault occurs, and a failed write is not a refusal
   pub no_other_fault : (old new : ℕ) → (FailsUnknown (Run NoSuchPoint) old new → ⊥)
       × (FailsUnknown (Run TooFewReels) old new → ⊥) × (FailsUnknown (Run OutOfMemory) old new → ⊥)
       × (FailsUnknown (Run OtherFile) old new → ⊥)
   pub write_failed : (old new : ℕ) → FailsUnknown WriteFailed old new → new ≡ old
-  -- what a sink wrote is not ended for one of three reasons, each of which is one
+  -- the output of a sink is not finished for one of three reasons, and each of them is one
   pub not_ended : (failed begun : Bool) (form asked : Form) (fault : RunFault)
       → EndingFails failed begun form asked (Run fault)
       → (fault ≡ Sink Failed) × ((failed ≡ true) ⊎ (begun ≡ true) ⊎ (form ≢ asked))
@@ -321,7 +319,7 @@ pub record CasesOfCauses : Type 0 where
       → (EndingFails true begun form asked (Run (Sink Failed)))
       × (EndingFails failed true form asked (Run (Sink Failed)))
       × (form ≢ asked → EndingFails failed begun form asked (Run (Sink Failed)))
-  -- or the writer failed, and there is no such reason
+  -- or the writer failed, and none of these reasons applies
   pub writer_failed : (failed begun : Bool) (form asked : Form)
       → EndingFails failed begun form asked WriteFailed → (failed ≡ true → ⊥) × (begun ≡ true → ⊥)
       × (form ≢ asked → ⊥)

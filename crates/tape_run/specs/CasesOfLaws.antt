@@ -1,5 +1,5 @@
--- What a caller can conclude from each law, so that no law has a premise that is never true. They
--- are the contract of the call `laws::cases`.
+-- What a caller can conclude from each law, which shows that the premises of each law can be true.
+-- They are the contract of the call `laws::cases`.
 use Rattle.std.specs.Prelude.{◌≡◌, ℕ, true, false, List, [], ◌∷◌, ◌++◌, length, map, Option, Some}
 use Rattle.std.specs.Prelude.{None, IsSome, Bool}
 use Rattle.std.specs.List.{AllByRecursion}
@@ -99,7 +99,7 @@ pub record CasesOfRunLaws : Type 0 where
         given = given ∷ [];
       } ∷ []) ((h ∷ []) ∷ [])
 
--- of laws of catalogues and reports
+-- laws about catalogues and reports
 pub record CasesOfCatalogueLaws : Type 0 where
   pub none_lacks : LackIsFirst → (c : List Told) (id : List ℕ) (file : ℕ)
       → lack_of c id file ≡ None → IsFoundWhole c id file
@@ -131,7 +131,8 @@ pub record CasesOfCatalogueLaws : Type 0 where
   pub a_listing : OneListing → (bytes : List ℕ) → (text : List ℕ) × IsListing bytes text
   pub one_listing : OneListing → (bytes text other : List ℕ) → IsListing bytes text
       → IsListing bytes other → text ≡ other
-  -- one entry per section: of two sections each, and not two of one
+  -- one entry for each section: two entries of different sections are possible, two of one section
+  -- are not
   pub two_entries : HasOneEach (met 1 1 false Good ∷ met 1 2 true Cut ∷ [])
   pub twice : HasOneEach (met 1 1 false Good ∷ met 1 1 false Cut ∷ []) → ⊥
   pub one_entry : OneEntryASection → (before after : Option (List ℕ)) (new : List Told)

@@ -1,6 +1,6 @@
 -- Examples for the definitions of a reel's answer, and of where the table leads over any tapes.
 -- They are the contract of the call `laws::cases`.
-use Rattle.std.specs.Prelude.{◌≡◌, ◌<◌, ◌+◌, ℕ, List, [], ◌∷◌, ◌++◌, length, take, drop}
+use Rattle.std.specs.Prelude.{◌≡◌, ◌<◌, ◌≤◌, ◌+◌, ℕ, List, [], ◌∷◌, ◌++◌, length, take, drop}
 use Rattle.std.specs.Prelude.{codes, Option, Some, None, false}
 use Rattle.std.specs.List.{AllByRecursion}
 use Rattle.tape_image.specs.Tape.{TapeItem, block, bad, mark}
@@ -35,7 +35,7 @@ use Rattle.tape_run.specs.Headline.{HasRun, IsRead, HasStopped, reels_in}
 use Rattle.tape_run.specs.Lead.{Noted, Lead, at_start, lead, AreItems, AreNoted, StandsThere}
 use Rattle.tape_run.specs.Lead.{StopsBy}
 use Rattle.tape_run.specs.Reels.{Reads, ReadsReel, ReadsToBlock, EndedByItem, EndedByMedium}
-use Rattle.tape_run.specs.Reels.{EndedByFault, Leaves, GoesOn, answers_to, behind_items}
+use Rattle.tape_run.specs.Reels.{EndedByFault, Leaves, StopsAt, GoesOn, answers_to, behind_items}
 use Rattle.tape_run.specs.Reels.{delivered_by}
 use Rattle.tape_run.specs.Seen.{Seen}
 use Rattle.tape_run.specs.Steps.{Reeled, CutShort}
@@ -43,44 +43,51 @@ use Rattle.tape_run.specs.WorkedHistory.{block_0, block_1, vol1, hdr1, hdr2, fir
 
 -- ---- what a reel answers
 
--- of answers and what is left unread
+-- answers, and the bytes left unread
 pub record CasesOfAnswers : Type 0 where
   -- of a complete file nothing is read
-  pub complete_reads_nothing : (core : State) (bytes left : List ℕ) (answer : ReelAnswer)
-      → Reads Finished core bytes left answer
-      → (left ≡ bytes) × (answer.answer ≡ Complete) × (answer.fault ≡ None) × (answer.blocks ≡ 0)
-  pub else_a_reel : (core : State) (bytes left : List ℕ) (answer : ReelAnswer)
-      → Reads (Awaits 1 0 0) core bytes left answer → ReadsReel (mount_of core) bytes left answer
+  pub complete_reads_nothing : (core new : State) (bytes left : List ℕ) (answer : ReelAnswer)
+      → Reads Finished core bytes left answer new → (left ≡ bytes) × (answer.answer ≡ Complete)
+      × (answer.fault ≡ None) × (answer.blocks ≡ 0) × (new ≡ core)
+  pub else_a_reel : (core new : State) (bytes left : List ℕ) (answer : ReelAnswer)
+      → Reads (Awaits 1 0 0) core bytes left answer new
+      → ReadsReel (mount_of core) bytes left answer new
   pub goes_on : GoesOn Passed × GoesOn Deliver × (GoesOn Complete → ⊥)
   pub blocks : delivered_by (Passed ∷ Deliver ∷ Deliver ∷ Complete ∷ []) ≡ 2
-  pub on : (core : State) (bytes left : List ℕ) (answer : ReelAnswer)
-      (r : ReadsReel core bytes left answer) → AllByRecursion GoesOn (answers_to core r.items)
+  pub on : (core new : State) (bytes left : List ℕ) (answer : ReelAnswer)
+      (r : ReadsReel core bytes left answer new) → AllByRecursion GoesOn (answers_to core r.items)
       × (answer.blocks ≡ delivered_by (answers_to core r.items))
   -- an item that ended the reading got a final answer, is the last one taken, and is not a fault
-  pub by_item : (core : State) (items : List TapeItem) (bytes left : List ℕ)
-      (answer : ReelAnswer) (e : EndedByItem core items bytes left answer)
-      → (answer.answer ≡ (step_of (behind_items core items) (Some e.item)).0)
+  pub by_item : (core new : State) (items : List TapeItem) (bytes left : List ℕ)
+      (answer : ReelAnswer) (e : EndedByItem core items bytes left answer new)
+      → ((answer.answer, new) ≡ step_of (behind_items core items) (Some e.item))
       × IsFinal answer.answer × (answer.fault ≡ None)
       × Walks 0 bytes (items ++ e.item ∷ []) e.at left
-  pub by_medium : (core : State) (items : List TapeItem) (bytes left : List ℕ)
-      (answer : ReelAnswer) (e : EndedByMedium core items bytes left answer)
-      → (answer.answer ≡ (step_of (behind_items core items) None).0) × (answer.fault ≡ None)
+  pub by_medium : (core new : State) (items : List TapeItem) (bytes left : List ℕ)
+      (answer : ReelAnswer) (e : EndedByMedium core items bytes left answer new)
+      → ((answer.answer, new) ≡ step_of (behind_items core items) None) × (answer.fault ≡ None)
       × TakesEnd 0 items e.ending e.at bytes left
-  pub by_fault : (core : State) (items : List TapeItem) (bytes left : List ℕ)
-      (answer : ReelAnswer) (e : EndedByFault core items bytes left answer)
-      → (answer.answer ≡ (step_of (behind_items core items) None).0)
+  pub by_fault : (core new : State) (items : List TapeItem) (bytes left : List ℕ)
+      (answer : ReelAnswer) (e : EndedByFault core items bytes left answer new)
+      → ((answer.answer, new) ≡ step_of (behind_items core items) None)
       × (answer.fault ≡ Some e.fault) × TakesFault 0 items e.fault bytes left
   -- refused memory left everything unread, a refusing sink what follows the refused block
-  pub memory_left_all : (core : State) (old new : Option (List ℕ)) → Leaves OutOfMemory core old new
-      → new ≡ old
-  pub sink_left : (core : State) (cause : SinkFault) (old new : Option (List ℕ))
-      → Leaves (Sink cause) core old new → IfKnown old new (ReadsToBlock core)
-  pub to_block : (core : State) (bytes left : List ℕ) (r : ReadsToBlock core bytes left)
+  pub memory_left_all : (core new : State) (old left : Option (List ℕ))
+      → Leaves OutOfMemory core old left new → left ≡ old
+  pub sink_left : (core new : State) (cause : SinkFault) (old left : Option (List ℕ))
+      → Leaves (Sink cause) core old left new → IfKnown old left (ReadsToBlock new core)
+  -- the core's position is the refused part: the expected one or a later one
+  pub stops_at_part : (core after new : State) → StopsAt (saved core 0) (saved after 0) new
+      → (part : ℕ) × (part_of core.position ≤ part)
+      × (new.position ≡ at_part part core.position)
+  pub to_block : (core new : State) (bytes left : List ℕ) (r : ReadsToBlock new core bytes left)
       → AllByRecursion GoesOn (answers_to core r.items)
       × ((step_of (behind_items core r.items) (Some (block r.content))).0 ≡ Deliver)
+      × StopsAt (saved (behind_items core r.items) 0)
+      (saved (step_of (behind_items core r.items) (Some (block r.content))).1 0) new
       × Walks 0 bytes (r.items ++ block r.content ∷ []) r.at left
 
--- ---- what the table delivers of any items
+-- ---- the parts that the table delivers for any items
 
 abbrev pub spanned : FileForm
 spanned = record {
@@ -97,7 +104,7 @@ first_items = block vol1 ∷ block hdr1 ∷ block hdr2 ∷ mark ∷ block block_
 abbrev pub at_front : State
 at_front = reader_of (codes "ABC001") 1
 
--- of parts by the table
+-- parts that the table delivers
 pub record CasesOfTable : Type 0 where
   pub passed_gives_none : (item : TapeItem) (p : Position) (known : Option FileForm)
       → parts_by Passed item p known ≡ []
@@ -130,7 +137,7 @@ pub record CasesOfTable : Type 0 where
       × StopsInside (behind_items core c.before) new c.item
       (held ++ delivered_parts core c.before) now
 
--- of where the table leads a run
+-- where the table leads a run
 pub record CasesOfLeads : Type 0 where
   pub starts : at_start (codes "ABC001") 1
       ≡ record { place = at_front; parts = []; notes = [] }
@@ -159,7 +166,7 @@ pub record CasesOfLeads : Type 0 where
       → (c ≡ saved n.place (weight_of n.parts)) × IsFront n.parts parts
   pub each_noted : (n : Noted) (c : Point) (parts : List Portion)
       → (AreNoted [] (n ∷ []) [] parts → ⊥) × (AreNoted [] [] (c ∷ []) parts → ⊥)
-  -- a failed step leaves it where it was led, or inside the reel
+  -- after a failed step the run is where it was before, or inside the reel
   pub save_stops : (t : Lead) (readers : List (List ℕ)) (fault : RunFault) (new : Seen)
       → StopsBy t Save readers fault new → StandsThere t new
   pub reel_stops : (t : Lead) (bytes : List ℕ) (cause : SinkFault) (new : Seen)
@@ -167,7 +174,7 @@ pub record CasesOfLeads : Type 0 where
       → StopsBy t Reel (bytes ∷ []) (Sink cause) new → Begins 0 bytes xs end stop
       → IsCutAt xs (mount_of t.place) new.place t.parts new.parts
       × AreNoted [] t.notes new.notes new.parts
-  -- what calls say of it
+  -- what calls promise about this
   pub run_led : (old new : Seen) (steps : List Step) (bytes : List (List ℕ))
       (left : List (Option (List ℕ))) (t : Lead)
       (tapes : List (List TapeItem)) (r : HasRun old steps bytes left new) → AreItems r.given tapes

@@ -18,7 +18,7 @@ use Rattle.tape_run.specs.Rounds.{Round, turns_of, core_behind, wanted, AreRound
 use Rattle.tape_run.specs.Rounds.{MadeProgress, IsEnough, FollowsRounds, GoesRound}
 use Rattle.tape_run.specs.Seen.{Seen, seen}
 
--- what `extract` says of passes over readers in a list
+-- what `extract` promises for passes over readers in a list
 abbrev pub AgainListed : Listed → Listed → Readers → Readers → Form → Known → Known → Known → Known
     → Option Want → Type 0
 AgainListed session behind shelf left form out written said says want =
@@ -33,7 +33,7 @@ StopsAgainListed session behind shelf left form out written said says =
 
 -- of passes
 pub record CasesOfRounds : Type 0 where
-  -- two passes are one sequence of turns, and lead where the second one ends
+  -- two passes are one sequence of turns, and lead to where the second one ends
   pub two_rounds : (a b : List Turn) (p q core : State)
       → (turns_of (record { turns = a; behind = p } ∷ record { turns = b; behind = q } ∷ [])
       ≡ a ++ (b ++ []))
@@ -43,14 +43,14 @@ pub record CasesOfRounds : Type 0 where
   pub is_wanted : (core : State) → core.position ≡ Awaits 1 2 0
       → wanted core ≡ Some (record { file = core.file; sect = 1; block = 2; part = 0 })
   pub nothing_wanted : (core : State) → core.position ≡ Finished → wanted core ≡ None
-  -- each pass begins with the first image of the source that the pass before left
+  -- each pass begins with the first image of the source that the previous pass left
   pub each_from_the_first : (a b : Option Known) (s t : Turn) (p q : State)
       (left : Readers)
       → AreRounds Took (λ r. r) (a ∷ b ∷ []) (record { turns = s ∷ []; behind = p }
       ∷ record { turns = t ∷ []; behind = q } ∷ []) left
       → (mid : Readers) × AreTurns Took (λ r. r) (a ∷ b ∷ []) 0 (s ∷ []) mid
       × AreTurns Took (λ r. r) mid 0 (t ∷ []) left
-  -- a pass followed by another had all images, and recovered something, but not the rest of the
+  -- a pass followed by another read all images, and recovered something but not the rest of the
   -- file
   pub brought : (turns : List Turn) (core behind : State)
       → MadeProgress 3 core (record { turns = turns; behind = behind } ∷ [])
@@ -58,7 +58,7 @@ pub record CasesOfRounds : Type 0 where
   pub brought_twice : (a b : List Turn) (core p q : State)
       → MadeProgress 3 core (record { turns = a; behind = p }
       ∷ record { turns = b; behind = q } ∷ []) → (length b ≡ 3) × (wanted q ≢ wanted p)
-  -- passes end if nothing is missing or nothing was recovered
+  -- passes end if nothing is missing, or if nothing more was recovered
   pub enough : (before want : Option Want) → IsEnough 3 6 before want
       → (want ≡ None) ⊎ (want ≡ before)
   pub complete_is_enough : (before : Option Want) → IsEnough 3 6 before None
@@ -69,7 +69,7 @@ pub record CasesOfRounds : Type 0 where
       × Follows back true r.behind mid turns last new
   pub follows_none : (back : Bool) (core : State) (old new : Seen)
       → FollowsRounds back core old [] new → new ≡ old
-  -- the last line, and what is written, are those of the session
+  -- the last line and the written records are those of the session
   pub file_ended : (session : Listed) (form : Form) (out now said says : Known)
       (want : Option Want) (e : EndsFile as_sink session form out now said says want)
       → (want ≡ wanted session.core) × Appends said says (last_line want e.records)
@@ -95,7 +95,7 @@ pub record CasesOfRounds : Type 0 where
       → (length e.turns ≤ length shelf) × (length e.turns < length shelf → want ≡ None)
       × IsEnough (length shelf) (length (turns_of e.rounds))
       (wanted (core_behind session.core e.rounds)) want
-  -- over all passes the session ended as over one sequence of images
+  -- over all passes the session ended as it would over one sequence of images
   pub again_ends : (session behind : Listed) (shelf left : Readers) (form : Form)
       (out now said says : Known) (want : Option Want)
       (e : AgainListed session behind shelf left form out now said says want)
@@ -116,7 +116,7 @@ pub record CasesOfRounds : Type 0 where
       × AppendsFront said says
       (reel_lines 1 (map answer_of (turns_of s.rounds ++ s.turns) ++ s.more)
       ++ last_line s.want s.records)
-  -- and the output was not touched, or the file is complete and a prefix of it was written
+  -- and the output was not touched, or the file is complete and a prefix of its records was written
   pub again_output : (session behind : Listed) (shelf left : Readers) (form : Form)
       (out now said says : Known)
       (s : StopsAgainListed session behind shelf left form out now said says)

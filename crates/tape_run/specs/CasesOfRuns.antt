@@ -18,9 +18,9 @@ use Rattle.tape_run.specs.History.{IsHistory, course, course_of}
 use Rattle.tape_run.specs.Mount.{MountEvent, after_mount, cut}
 use Rattle.tape_run.specs.Seen.{Seen, IsSession}
 
--- of runs that a fault ended
+-- runs that a fault ended
 pub record CasesOfStops : Type 0 where
-  -- a step fails only for a reason that it can have
+  -- a step fails only for a reason that applies to it
   pub saves_stop : (set : FileSet) (old new : Seen) (hs : List MountEvent)
       (readers : List (List ℕ)) → (StopsStep set old hs Save readers NoSuchPoint new → ⊥)
       × (StopsStep set old hs Save readers TooFewReels new → ⊥)
@@ -44,8 +44,8 @@ pub record CasesOfStops : Type 0 where
       (readers : List (List ℕ)) (cause : SinkFault)
       → (StopsStep set old hs Save readers (Sink cause) new → Ran set old hs new)
       × (StopsStep set old hs (Restart 0) readers (Sink cause) new → Ran set old hs new)
-  -- a refused part: the sink contains exactly what precedes it, in a block where the items before
-  -- it lead
+  -- a refused part: the sink contains exactly the parts before it, in a block that the items before
+  -- it lead to
   pub part_refused : (set : FileSet) (old new : Seen) (hs : List MountEvent) (xs : List TapeItem)
       (h : MountEvent) (r : PutRefused set old hs xs h new)
       → (new.parts ≡ before set new.place.file new.place.position)
@@ -72,7 +72,7 @@ pub record CasesOfStops : Type 0 where
       → HasStopped old [] bytes left n fault new → ⊥
   -- readers are counted
   pub two_reels : reels_in (Reel ∷ Save ∷ Restart 0 ∷ Reel ∷ []) ≡ 2
-  -- only a rollback in which the device of the sink failed loses what it contains
+  -- only a rollback in which the sink's device failed loses the sink's contents
   pub loses : LosesParts (Reel ∷ Restart 4 ∷ []) 1 (Sink sinks.Device)
   pub mount_keeps : LosesParts (Reel ∷ Restart 4 ∷ []) 0 (Sink sinks.Device) → ⊥
   pub save_keeps : LosesParts (Save ∷ Restart 4 ∷ []) 0 (Sink sinks.Device) → ⊥

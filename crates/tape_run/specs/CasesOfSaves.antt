@@ -1,5 +1,5 @@
--- Examples for the definitions of saves, and of what a crash leaves of a session. They are the
--- contract of the call `laws::cases`.
+-- Examples for the definitions of saves, and of the states that a crash leaves of a session. They
+-- are the contract of the call `laws::cases`.
 use Rattle.std.specs.Prelude.{◌≡◌, ◌≤◌, ◌⊎◌, ℕ, List, [], ◌∷◌, length, true, false}
 use Rattle.tape_blocks.specs.Block.{Portion}
 use Rattle.tape_set.specs.declared.position.Position.TheVariants.{Finished}
@@ -16,11 +16,11 @@ use Rattle.tape_core.specs.Stands.{weight_of}
 use Rattle.tape_core.specs.Table.{saved}
 use Rattle.tape_core.specs.Weight.{IsFront}
 
--- a sink that a crash leaves with one checkpoint and these parts, and that contains any parts
+-- a sink that contains any parts, and of which a crash leaves one checkpoint and these parts
 abbrev pub brings : List Portion → Point → Point → List Portion → Type 0
 brings ps c back there = (back ≡ c) × (there ≡ ps)
 
--- after a crash now only, and since a moment only
+-- after a crash now only, and after a crash since a moment only
 abbrev pub comes_now : List Portion → Point → Crashes
 comes_now ps c = record {
   returns = brings ps c;
@@ -39,7 +39,8 @@ comes_since ps c = record {
   survived = λ t. c.position ≡ Finished;
 }
 
--- a sink that is a checkpoint: it contains any parts of that weight, and a crash leaves it so
+-- a sink that consists of a checkpoint: it contains any parts of that weight, and a crash leaves it
+-- unchanged
 abbrev pub weighing : (Point → Crashes) → Ghosts Point
 weighing crashes = record {
   holds = λ s parts. s.staged ≡ weight_of parts;
@@ -48,7 +49,7 @@ weighing crashes = record {
   crashes = crashes;
 }
 
--- the same of one that cannot be trusted
+-- the same for a sink that cannot be trusted
 abbrev pub holding_none : (Point → Crashes) → Ghosts Point
 holding_none crashes = record {
   holds = λ s parts. ⊥;
@@ -57,9 +58,9 @@ holding_none crashes = record {
   crashes = crashes;
 }
 
--- of what a crash leaves of a session that was saved
+-- the states that a crash leaves of a session that was saved
 pub record CasesOfSaved : Type 0 where
-  -- of two checkpoints the first is left with its own parts, and only the last is left alone
+  -- of two checkpoints, the first is left with its own parts, or only the last is left
   pub first_note : (s : Seen) (c d back : Point) (there : List Portion) → s.notes ≡ c ∷ d ∷ []
       → IsNoteOf 0 s back there
       → (back ≡ c) × IsFront there s.parts × (weight_of there ≡ back.staged)
@@ -73,7 +74,7 @@ pub record CasesOfSaved : Type 0 where
       → old.notes ≡ [] → new.notes ≡ c ∷ []
       → KeepsLast (weighing (comes_now ps)) old held new now
       → (new.sink ≡ c) × IsFront ps now
-  -- if none was made, the one that was left alone still is
+  -- if no checkpoint was made, the only one left before is still left
   pub none_on_the_way : (old new : SessionState Point) (held now ps : List Portion) (c : Point)
       → old.notes ≡ c ∷ [] → new.notes ≡ c ∷ [] → old.sink ≡ c → IsFront ps held
       → weight_of ps ≡ c.staged → KeepsLast (weighing (comes_now ps)) old held new now
@@ -93,14 +94,14 @@ pub record CasesOfSaved : Type 0 where
   pub goes_on : (old new : SessionState Point) (held now : List Portion)
       → KeepsLast (weighing (comes_since [])) old held new now
       → (length old.notes ≤ length new.notes) × (old.sink.file ≤ new.sink.file)
-  -- a session at this position is there, and its sink contains these parts
+  -- a session at this position may be left, and its sink contains these parts
   pub stood : (old new : SessionState Point) (held ps : List Portion) (now : Seen) (c : Point)
       → old.notes ≡ [] → now.notes ≡ c ∷ []
       → StoodSaved (weighing (comes_now ps)) old held
       new now
       → (new.sink ≡ c) × (now.place ≡ rest_of new.core)
       × IsFront ps now.parts × (c.staged ≡ weight_of now.parts)
-  -- after a fault only the checkpoint made meanwhile, or the session's position, is left
+  -- after a fault only the checkpoint made meanwhile, or the session's position, may be left
   pub left_at_a_fault : (old new : SessionState Point) (held ps : List Portion) (now : Seen) (c : Point)
       → old.notes ≡ [] → now.notes ≡ c ∷ []
       → LeavesSaved (weighing (comes_now ps)) old held

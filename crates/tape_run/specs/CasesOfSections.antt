@@ -17,21 +17,21 @@ use Rattle.tape_run.specs.Passing.{Told, told_from}
 use Rattle.tape_run.specs.WholeReels.{IsListedGood}
 use Rattle.tape_run.specs.WholeSet.{AreAllGood, key_in}
 
--- of sections, one by one
+-- single sections
 pub record CasesOfSections : Type 0 where
-  -- of two that are not good the one found first stays
+  -- if two copies are not good, the one found first is kept
   pub first_stays : noted (met 1 1 false Cut ∷ []) (met 1 1 true Bad) ≡ met 1 1 false Cut ∷ []
-  -- each file up to the greatest number is looked up, whichever was found last
+  -- each file up to the greatest number is examined, whichever was found last
   pub last_file : lacks (met 3 1 true Good ∷ met 1 1 true Good ∷ []) ≡ lack 2 1 ∷ []
-  -- if all of them are good this one is
+  -- if all of them are good, so is the given one
   pub all_good : (set : FileSet) (c : List Told) (x : Placed) → AreAllGood set c (x ∷ [])
       → IsGoodAt c (key_in set x)
-  -- after running out of memory the sections in a prefix of the items were added
+  -- after memory ran out, the sections in a prefix of the items were added
   pub added_in_part : (before : Option (List ℕ)) (old new : List Told)
       (a : AddsInPart before old new)
       → IfSome before (λ xs. (place : ℕ) × (ys : List ℕ) × Walks 0 xs a.items place ys)
       × (new ≡ noted_all old (told_from Volume a.items))
-  -- a section that is listed as good has its own line among the others, which says so
+  -- a section that is listed as good has its own line among the others, and this says GOOD
   pub listed : (lines : List SectionLine) (key : SectionKey) (l : IsListedGood lines key)
       → (lines ≡ l.front ++ l.line ∷ l.rest) × (l.line.set_id ≡ key.set_id)
       × (l.line.file ≡ key.file) × (l.line.sect ≡ key.sect) × (l.line.state ≡ Good)

@@ -1,5 +1,5 @@
--- Examples for the definitions of what is seen of a session, and of readers that tell their bytes.
--- They are the contract of the call `laws::cases`.
+-- Examples for the definitions about sessions with known parts, and about readers that know their
+-- bytes. They are the contract of the call `laws::cases`.
 use Rattle.std.specs.Prelude.{◌≡◌, ◌⊎◌, ◌≤◌, ℕ, ◌+◌, List, [], ◌∷◌, length, ⊤, Bool, false}
 use Rattle.std.specs.Prelude.{Some, None}
 use Rattle.tape_blocks.specs.Block.{Portion}
@@ -25,7 +25,8 @@ use Rattle.tape_run.specs.declared.fault.RunFault.{RunFault}
 use Rattle.tape_run.specs.declared.script.Step.TheVariants.{Reel, Save, Restart}
 use Rattle.tape_run.specs.SessionState.{SessionState}
 
--- a sink that is a count: it contains any parts of that number, and refused as many calls
+-- a sink that consists of a number: it contains any list of as many parts, and has refused as many
+-- calls
 abbrev pub counting : Ghosts ℕ
 counting = record {
   holds = λ n parts. length parts ≡ n;
@@ -34,36 +35,36 @@ counting = record {
   crashes = λ n. lost;
 }
 
--- of what is seen of a session
+-- sessions with known parts
 pub record CasesOfSeen : Type 0 where
   pub is_seen : (s : SessionState ℕ) (parts : List Portion)
       → (seen counting s parts).place ≡ rest_of s.core
   pub seen_counts : (s : SessionState ℕ) (parts : List Portion)
       → ((seen counting s parts).failures ≡ s.failures)
       × ((seen counting s parts).refusals ≡ s.sink)
-  -- of a sink that contains one part: this can be any part, and no part is not one
+  -- a sink that contains one part: any part is possible, but not an empty list
   pub each_part : (s : SessionState ℕ) (p : Portion) → s.sink ≡ 1
       → IfSeen counting s (λ is. is.parts ≡ p ∷ []) → (q : Portion) → q ≡ p
   pub no_others : (s : SessionState ℕ) → s.sink ≡ 1 → IfSeen counting s (λ is. is.parts ≡ [] → ⊥)
   pub some_part : (s : SessionState ℕ) (p : Portion) → s.sink ≡ 1
       → IsSeen counting s (λ is. is.parts ≡ p ∷ [])
   pub no_part : (s : SessionState ℕ) → s.sink ≡ 1 → IsSeen counting s (λ is. is.parts ≡ []) → ⊥
-  -- a sink that lost its parts may be seen with any
+  -- a sink that lost its parts may contain any parts
   pub lost_parts : (s : SessionState ℕ) (parts : List Portion)
       → IsSeenUnless ⊤ counting s (λ is. is.parts ≡ parts)
   pub not_lost : (s : SessionState ℕ) → s.sink ≡ 1 → IsSeenUnless ⊥ counting s (λ is. is.parts ≡ []) → ⊥
-  -- what is true of known bytes is required if each reader tells its own
+  -- a claim about known bytes is required only if each reader knows its bytes
   pub told : (a b : List ℕ) (all : List (List ℕ))
       → IfTold (λ r. r) (Some a ∷ Some b ∷ []) (λ bytes. bytes ≡ all) → all ≡ a ∷ b ∷ []
   pub both_told : (a b : List ℕ)
       → IfTold (λ r. r) (Some a ∷ Some b ∷ []) (λ bytes. bytes ≡ a ∷ b ∷ [])
   pub one_untold : (a : List ℕ) → IfTold (λ r. r) (Some a ∷ None ∷ []) (λ bytes. ⊥)
-  -- a crash leaves what it did, for a sink that contained parts
+  -- a crash leaves the same as before, for a sink that contained parts
   pub brings_no_more : (old new : Point) → old.staged ≡ 0
       → BringsNoMore (weighing (comes_now [])) old new → new ≡ old
   pub of_no_parts : (old new : Point) → BringsNoMore (holding_none (comes_now [])) old new
-  -- a session goes from its earlier state to its current one, with its checkpoints and the last of
-  -- them
+  -- a session changes from its earlier state to its current one, with its checkpoints and the last
+  -- of them
   pub carried : (back : Bool) (old new : SessionState Point) → old.sink.staged ≡ 0 → new.sink.staged ≡ 0
       → IsKeptFor back (seen (weighing (comes_now [])) old [])
       → Carries (weighing (comes_now [])) back old new
@@ -73,8 +74,8 @@ pub record CasesOfSeen : Type 0 where
   pub not_kept : (back : Bool) (old new : SessionState Point)
       → ((was : Seen) → was.notes ≡ old.notes → IsKeptFor back was → ⊥)
       → Carries (weighing (comes_now [])) back old new (λ was is. ⊥)
-  -- a reel is not read because the sink refused, or memory was refused and nothing changed, and for
-  -- no other reason
+  -- a reel is not read because the sink refused a part, or because memory was refused and nothing
+  -- changed, and for no other reason
   pub reel_refused : (cause : SinkFault) (old new : SessionState ℕ)
       → Refuses counting (Sink cause) old new
       → (new.failures ≡ old.failures) × Rose old.sink new.sink
@@ -82,8 +83,8 @@ pub record CasesOfSeen : Type 0 where
   pub no_other_fault : (old new : SessionState ℕ) → (Refuses counting NoSuchPoint old new → ⊥)
       × (Refuses counting TooFewReels old new → ⊥)
       × (Refuses counting OtherFile old new → ⊥)
-  -- a session does not roll back because the sink refused, or weighs too little, as is possible
-  -- only if nothing is known about its contents
+  -- a session does not roll back because the sink refused the call, or weighs too little, which is
+  -- only possible if its contents are unknown
   pub back_refused : (cause : SinkFault) (n : ℕ) (old new : SessionState ℕ)
       → RefusesRestart counting n (Sink cause) old new → (new.failures ≡ old.failures)
       × (Rose old.sink new.sink ⊎ ((cause ≡ Failed) × (new.sink ≡ old.sink)
@@ -105,8 +106,8 @@ pub record CasesOfSeen : Type 0 where
   pub second_not_made : (fault : RunFault) (old new : SessionState ℕ)
       (s : StopsFor counting (Save ∷ Reel ∷ []) 1 fault old new) → (s.step ≡ Reel)
       × (s.mid.sink ≡ old.sink) × RefusesStep counting s.step fault s.mid new
-  -- images are not read because the sink refused, or failed with nothing known about its contents;
-  -- or memory ran out, or a write failed, and it refused no call
+  -- images are not read because the sink refused a call, or failed with unknown contents; or,
+  -- without a refusal, because memory ran out or a write failed
   pub not_extracted : (back : Bool) (cause : SinkFault) (old new : SessionState ℕ)
       → ExtractFails counting back (engine.Run (Sink cause)) old new
       → Rose old.sink new.sink ⊎ ((cause ≡ Failed)
@@ -114,7 +115,7 @@ pub record CasesOfSeen : Type 0 where
   pub no_memory_to_extract : (back : Bool) (old new : SessionState ℕ)
       → (ExtractFails counting back (engine.Run OutOfMemory) old new → new.sink ≡ old.sink)
       × (ExtractFails counting back engine.WriteFailed old new → new.sink ≡ old.sink)
-  -- a session with a checkpoint has no other fault, nor has one that does not roll back
+  -- a session with a checkpoint has no other fault, and neither has one that does not roll back
   pub noted : (back : Bool) (c : Point) (old new : SessionState ℕ) → old.notes ≡ c ∷ []
       → ExtractFails counting back (engine.Run NoSuchPoint) old new → ⊥
   pub goes_on : (old new : SessionState ℕ) → ExtractFails counting false (engine.Run NoSuchPoint) old new
@@ -131,7 +132,7 @@ pub record CasesOfSeen : Type 0 where
       × (new.notes ≡ [] → old.notes ≡ []) × ((held : List Portion) → length held ≡ old.sink
       → IsKept (seen counting old held)
       → IsSeen counting new (λ is. IsKept is))
-  -- only the sink of a session may differ, with the same contents
+  -- only the sink of a session may differ, and it has the same contents
   pub walked : (old new : SessionState Point) (ps : List Portion) → old.sink.staged ≡ 0
       → IsWalked (weighing (comes_now ps)) old new → (new.core ≡ old.core)
       × (new.notes ≡ old.notes) × (new.failures ≡ old.failures) × (new.sink ≡ old.sink)

@@ -60,12 +60,13 @@ use Rattle.tape_run.specs.SurveyTally.{is_whole_sight, no_images, with_state, st
 use Rattle.tape_run.specs.SurveySets.{standing_of, is_all}
 use Rattle.tape_run.specs.Survey.{image_texts, TellsSight, Surveys, SurveysInPart, summary_at}
 
--- an image that was read this far and ended like this, with a file that is not read or without one
+-- an image that was read this far and ended like this, with or without a file in an unsupported
+-- format
 abbrev pub sight : LabelOrder → Option ℕ → ImageStop → ImageSurvey
 sight course unread stop =
     record { glance = record blank_glance { course = course; unread = unread }; stop = stop }
 
--- the header label of the first file of BCK001, with these
+-- the header label of the first file of BCK001, with these values
 abbrev pub label : List ℕ → List ℕ → List ℕ → Head1
 label file_id created generation = record {
   file_id = file_id;
@@ -84,7 +85,7 @@ label file_id created generation = record {
 abbrev pub first_week : Head1
 first_week = label (codes "WEEKLY.BCK       ") (codes " 85100") (codes "0001")
 
--- what was found: sections, files and copies, on images that are all complete or not
+-- findings: sections, files and copies, on images that are all complete or not
 abbrev pub found_with : Bool → List Told → List Filed → Copied → Found
 found_with whole sections files copies = record {
   sections = sections;
@@ -108,7 +109,7 @@ in_dispute = record { notes = []; conflicts = (file_key (codes "ABC001") 1, 1) �
 abbrev pub date : ℕ → ℕ → ℕ → Date
 date year month day = record { year = year; month = month; day = day }
 
--- of images at a glance
+-- single images
 pub record CasesOfGlances : Type 0 where
   -- what images begin with
   pub nothing : glance_of [] ≡ blank_glance
@@ -117,27 +118,27 @@ pub record CasesOfGlances : Type 0 where
   pub begins_mark : first_of mark ≡ firsts.Mark
   pub ebcdic : is_ebcdic (229 ∷ 214 ∷ 211 ∷ 241 ∷ replicate 76 64) ≡ true
   pub short_ebcdic : is_ebcdic (229 ∷ 214 ∷ 211 ∷ 241 ∷ []) ≡ false
-  -- a volume label after something else, the first of several
+  -- a volume label after another item; the first of several is reported
   pub late : late_with None 1 bad ≡ None
   pub late_stays : (x : TapeItem) → or_else {T = ℕ} (Some 2) (Some 9) ≡ Some 2
   pub other_kind : is_kind_vol1 (Some kinds.Hdr1) ≡ false
-  -- an HDR2 that does not read is reported with its file; one that does, or another label, is not
+  -- an unsupported HDR2 is reported with its file; a supported one, or another label, is not
   pub unread : (f : LabelFault) → unread_with 2 (Err f) ≡ Some 2
   pub read : (h : Head2) → unread_with 2 (Ok h) ≡ None
   pub no_second_label : (b : List ℕ) → unread_by 2 None b ≡ None
-  -- a mark first leaves the order at once
+  -- a mark as the first item leaves the order at once
   pub mark_first : course_of (mark ∷ []) ≡ Leaves 1 wanted.Volume
   pub bad_first : course_of (bad ∷ mark ∷ []) ≡ Leaves 1 wanted.Volume
-  -- a volume of its label and two marks is blank; with one mark it has not ended
+  -- a volume with its label and two marks is blank; with one mark it has not ended
   pub blank : (v : List ℕ) → course_with Follows 2 (phases.Labels v) mark phases.Over ≡ Blank
   pub blank_ends : course_with Blank 3 phases.Over mark phases.Over ≡ Ended
   pub one_mark : (b : List ℕ)
       → course_with Blank 3 phases.Over (block b) phases.Over ≡ Leaves 3 wanted.SecondMark
-  -- a second mark after a section ends the volume, and nothing follows it
+  -- a second mark after a section ends the volume, and no further item is read
   pub ends : (v : List ℕ) → course_with Follows 12 (phases.Next v) mark phases.Over ≡ Ended
   pub behind_the_end : (x : TapeItem)
       → course_with Ended 13 phases.Over x phases.Over ≡ Leaves 13 wanted.End
-  -- what is expected where the order is left
+  -- the item expected where the order of a volume is left
   pub no_section : (v : List ℕ)
       → course_with Follows 2 (phases.Labels v) bad phases.Over ≡ Leaves 2 wanted.Section
   pub no_second : (m : Met)
@@ -154,7 +155,7 @@ pub record CasesOfGlances : Type 0 where
   pub followed : (has_left Ended ≡ false) × (has_left Blank ≡ false)
   pub marks : end_marks [] ≡ mark ∷ mark ∷ []
 
--- of one complete image, and of all
+-- one complete image, and all images
 pub record CasesOfWholes : Type 0 where
   pub whole : is_whole_sight (sight Ended None Marked) ≡ true
   pub whole_too : is_whole_sight (sight Ended None Physical) ≡ true
@@ -163,7 +164,7 @@ pub record CasesOfWholes : Type 0 where
   pub early : is_whole_sight (sight Follows None Marked) ≡ false
   pub half_blank : is_whole_sight (sight Blank None Marked) ≡ false
   pub left : (w : ExpectedItem) → is_whole_sight (sight (Leaves 9 w) None Marked) ≡ false
-  -- other files under one number: by identifier, date or generation
+  -- different files with one number differ in identifier, date or generation
   pub other_name : is_other first_week
       (label (codes "DAILY.BCK        ") (codes " 85100") (codes "0001")) ≡ true
   pub other_date : is_other first_week
@@ -171,22 +172,22 @@ pub record CasesOfWholes : Type 0 where
   pub other_generation : is_other first_week
       (label (codes "WEEKLY.BCK       ") (codes " 85100") (codes "0002")) ≡ true
   pub same : is_other first_week first_week ≡ false
-  -- the label found first is kept, and that another was found is not forgotten
+  -- the label found first is kept, and it is recorded that another was found
   pub first_kept : with_head (with_head (with_head [] first_week)
       (label (codes "DAILY.BCK        ") (codes " 85100") (codes "0001"))) first_week
       ≡ (file_key (codes "BCK001") 1, record { head = first_week; differs = true }) ∷ []
   pub noted : note_at (with_head [] first_week) (file_key (codes "BCK001") 1)
       ≡ Some (record { head = first_week; differs = false })
   pub not_noted : note_at (with_head [] first_week) (file_key (codes "BCK001") 2) ≡ None
-  -- what is said of a file
+  -- the report on a file
   pub complete : standing_of (met 1 1 true Good ∷ []) (codes "ABC001") 1 ≡ Complete
   pub damaged : standing_of (met 1 1 true Bad ∷ []) (codes "ABC001") 1
       ≡ Damaged 1 (met 1 1 true Bad).1
   pub behind : standing_of (met 1 1 false Good ∷ []) (codes "ABC001") 1
       ≡ Behind 2 (codes "ABC001")
   pub missing : standing_of (met 2 1 true Good ∷ []) (codes "ABC001") 1 ≡ Missing 1
-  -- nothing is missing only if images are complete, something was found, each section has a good
-  -- copy, and neither labels nor good copies differ
+  -- nothing is missing only if the images are complete, something was found, each section has a
+  -- good copy, and neither labels nor good copies differ
   pub all : is_all (found true []) ≡ true
   pub not_whole : is_all (found false []) ≡ false
   pub nothing_met : is_all nothing_found ≡ false
@@ -195,7 +196,8 @@ pub record CasesOfWholes : Type 0 where
   pub not_good : is_all (found_with true (met 1 1 true Good ∷ met 1 2 true Bad ∷ []) [] no_copies)
       ≡ false
   pub disputed : is_all (found_with true (met 1 1 true Good ∷ []) [] in_dispute) ≡ false
-  -- the date of a label, in years with and without a leap day; none if it is no date
+  -- the date of a label, in years with and without a leap day; no date if the label has no valid
+  -- one
   pub day : date_of (codes " 85113") ≡ Some (date 1985 4 23)
   pub last_day : date_of (codes " 85365") ≡ Some (date 1985 12 31)
   pub leap_day : date_of (codes "000060") ≡ Some (date 2000 2 29)
@@ -207,9 +209,10 @@ pub record CasesOfWholes : Type 0 where
   pub trimmed : trimmed_text (codes "A B   ") ≡ codes "A B"
   pub all_spaces : trimmed_text (codes "      ") ≡ []
 
--- of the order of a volume, and of what is reported
+-- the order of a volume, and the report on it
 pub record CasesOfSurveys : Type 0 where
-  -- a section has its labels, of one section, and a volume its label and its sections
+  -- a section has labels with the numbers of one section, and a volume has its label and its
+  -- sections
   pub section : (items : List TapeItem) (s : IsSectionInOrder items) → IsHead1 s.hdr1 s.head
       × HasKind s.hdr2 kinds.Hdr2 × IsTrail1 s.trailer s.trail
       × (s.trail.head.sect ≡ s.head.sect) × (s.trail.head.sequence ≡ s.head.sequence)
@@ -260,7 +263,8 @@ pub record CasesOfSurveys : Type 0 where
       → file_text y d set_id 1 ≡ []
   pub first_found : (y : Wording) (d : Found) (set_id : List ℕ) → is_found d set_id 1 ≡ true
       → file_text y d set_id 1 ≡ found_text y d set_id 1
-  -- a section is on the image on which its label was found, unless a good copy was found before
+  -- a section is recorded for the image on which its label was found, unless a good copy was found
+  -- before
   pub no_location : (c : List Told) (l : List Located) (image : ℕ)
       → with_location c l image None ≡ l
   pub location : (c : List Told) (image : ℕ) (h : Head1)
@@ -274,7 +278,7 @@ pub record CasesOfSurveys : Type 0 where
   pub tells : (y : Wording) (reel : Reel) (name : List ℕ) (c d : Found)
       (old new : Option (List ℕ)) (t : TellsSight y reel name c d old new) → IsViewed reel t.0 c d
       × Appends old new (image_text y name t.0)
-  -- what follows the images is printed if none is left
+  -- the text after the images is printed if no image is left
   pub summary_last : (y : Wording) (names : List (List ℕ)) (d : Found)
       → summary_at y names true d ≡ summary y names d
   pub no_summary_before : (y : Wording) (names : List (List ℕ)) (d : Found)
@@ -294,21 +298,22 @@ pub record CasesOfSurveys : Type 0 where
       ≡ codes "MISSING\t" ++ decimal n ++ codes "\t" ++ codes "ABC001"
   pub nothing_wanted : standing_cells Complete ≡ codes "COMPLETE\t\t"
   pub no_conflict : conflict_cell false ≡ codes "\t\t"
-  -- the survey that is written is that of the images read, each of them in its place
+  -- the survey that is written describes the images that were read, in their order
   pub surveyed : (y : Wording) (names : List (List ℕ)) (shelf left : Readers) (old new : Known)
       (all : Bool) (s : Surveys y Took (λ r. r) names shelf left old new all)
       → (length s.sights ≡ length names)
       × AreViewed Took (λ r. r) shelf 0 s.sights nothing_found left s.found
       × Appends old new (image_texts y names s.sights ++ summary y names s.found)
       × (all ≡ is_all s.found)
-  -- after a fault a prefix of it is, of the first images, with the summary after the last one
+  -- after a fault a prefix of a survey of the first images was written; the summary follows the
+  -- last image
   pub surveyed_in_part : (y : Wording) (names : List (List ℕ)) (shelf : Readers) (old new : Known)
       (s : SurveysInPart y Took (λ r. r) names shelf old new)
       → (length s.sights ≤ length names)
       × AreViewed Took (λ r. r) shelf 0 s.sights nothing_found s.left s.found
       × AppendsFront old new
       (image_texts y names s.sights ++ summary_at y names (length s.sights == length names) s.found)
-  -- what a caller can conclude from the laws of a glance
+  -- conclusions that a caller can draw from the laws about image summaries
   pub left_there : LeavesThere → (items : List TapeItem) (n : ℕ) (w : ExpectedItem)
       → course_of items ≡ Leaves n w → IsFirstAstray items n
   pub ended_there : EndedIsVolume → (items : List TapeItem) → course_of items ≡ Ended

@@ -1,7 +1,7 @@
 -- Examples for the definitions of unpacking. They are the contract of the call `laws::cases`.
 use Rattle.std.specs.Prelude.{◌≡◌, ◌≢◌, ℕ, ◌<◌, ◌^◌, List, [], ◌∷◌, ◌++◌, length, Bool}
 use Rattle.std.specs.Prelude.{true, false, is_some}
-use Rattle.std.specs.Prelude.{Some, None}
+use Rattle.std.specs.Prelude.{Option, Some, None}
 use Rattle.std.specs.Prelude.{codes, map, replicate, chars, IsUtf8}
 use Rattle.std.specs.List.{AllByRecursion, flat_map}
 use Rattle.tape_label.specs.declared.values.Head1.{Head1}
@@ -14,15 +14,23 @@ use Rattle.tape_run.specs.declared.unpack.line.UnpackOutcome.TheVariants as outc
 use Rattle.tape_run.specs.CasesOfExtracts.{Readers}
 use Rattle.tape_run.specs.Quoting.{is_hidden, name_text, quoted}
 use Rattle.tape_run.specs.QuotingLaws.{NamesShow, NamesTellApart, NamesKeep}
+use Rattle.tape_run.specs.Lacks.{key_at}
+use Rattle.tape_run.specs.ReadingOrder.{followed_by, section_images, images_of, is_of_set}
 use Rattle.tape_run.specs.Reeling.{Took}
 use Rattle.tape_run.specs.SurveyCopies.{dispute_at}
 use Rattle.tape_run.specs.SurveyFiles.{note_at, file_key}
+use Rattle.tape_run.specs.SurveyLocations.{Located}
 use Rattle.tape_run.specs.SurveyRead.{Found, nothing_found, AreViewed}
 use Rattle.tape_run.specs.Unpacking.{heading_of, file_at, set_files, files_of, file_name, FilesOn}
 use Rattle.tape_run.specs.Unpacking.{set_of}
 use Rattle.tape_run.specs.UnpackLine.{file_line, unpack_outcome_text, left_over_line}
 use Rattle.tape_run.specs.UnpackLaws.{NamesDiffer, NamesStay, NamesFit, AreBytes, IsNameOfOne}
 use Rattle.tape_run.specs.UnpackLaws.{IsNoDevice, folded}
+
+-- sections 1, 2 and 4 of a file, and the first of another, on these images
+abbrev pub on_shelf : List Located
+on_shelf = (key_at (codes "ABC001") 1 1, 4) ∷ (key_at (codes "ABC001") 1 2, 2)
+    ∷ (key_at (codes "ABC001") 1 4, 0) ∷ (key_at (codes "ABC001") 2 1, 7) ∷ []
 
 -- what unpacking says of files, names and lines
 pub record CasesOfUnpacking : Type 0 where
@@ -42,6 +50,17 @@ pub record CasesOfUnpacking : Type 0 where
       → map (λ (f : SetFile). f.heading) (file_at d set_id file)
       ≡ heading_of n (is_some (dispute_at d.copies (file_key set_id file))) ∷ []
   pub no_files : files_of nothing_found ≡ []
+  -- no image of a file comes twice, and an image that does not exist is left out
+  pub each_once : followed_by 3 [] (2 ∷ 0 ∷ 2 ∷ 3 ∷ 0 ∷ 1 ∷ 2 ∷ []) ≡ 2 ∷ 0 ∷ 1 ∷ []
+  pub up_to_a_gap : section_images on_shelf (codes "ABC001") 1 1 4 ≡ 4 ∷ 2 ∷ []
+  pub of_this_file : section_images on_shelf (codes "ABC001") 2 1 4 ≡ 7 ∷ []
+  pub of_this_set : section_images on_shelf (codes "DEF001") 1 1 4 ≡ []
+  pub all_images : images_of true (codes "ABC001") 5 (None ∷ None ∷ []) ≡ 5 ∷ 6 ∷ []
+  pub images_of_set : images_of false (codes "ABC001") 5 (None ∷ None ∷ []) ≡ []
+  pub set_alone : (is_of_set (codes "ABC001") (Some (codes "ABC001")) ≡ true)
+      × (is_of_set (codes "ABC001") (Some (codes "ABC002")) ≡ false)
+  pub of_its_set : (image : ImageSurvey) → is_of_set (codes "ABC001") (set_of (Some image)) ≡ true
+      → images_of false (codes "ABC001") 5 (None ∷ Some image ∷ []) ≡ 6 ∷ []
   -- names
   pub name : file_name (codes "ABC001") 1 (codes "PAYROLL          ") ≡ codes "ABC001.1.PAYROLL"
   pub escaped : file_name (codes "A/_. -") 12 (codes "A/B C.D          ")
@@ -55,7 +74,7 @@ pub record CasesOfUnpacking : Type 0 where
       ≡ codes "A%62%2E01_.1.a%5CB.~_-%2E"
   pub refused : file_name (codes "000000") 7 (codes "%\"*:<>?|!$&'()[] ")
       ≡ codes "000000.7.%25%22%2A%3A%3C%3E%3F%7C!$&'()[]"
-  -- paths: what a terminal would obey or not show is written out, and `\` is doubled
+  -- paths: characters that control a terminal or are invisible are escaped, and `\` is doubled
   pub hidden : map is_hidden (0 ∷ 31 ∷ 127 ∷ 159 ∷ 173 ∷ 1564 ∷ 8203 ∷ 8207 ∷ 8232 ∷ 8238 ∷ 8288
       ∷ 8303 ∷ 65279 ∷ []) ≡ replicate 13 true
   pub seen : map is_hidden (32 ∷ 126 ∷ 160 ∷ 172 ∷ 174 ∷ 1563 ∷ 1565 ∷ 8202 ∷ 8208 ∷ 8231 ∷ 8239
@@ -85,7 +104,7 @@ pub record CasesOfUnpacking : Type 0 where
       → (length met.images ≡ length shelf)
       × AreViewed Took (λ r. r) shelf 0 met.images nothing_found left f.found
       × (met.files ≡ files_of f.found) × (met.whole ≡ f.found.whole)
-  -- an image on which no section begins is of no set, and another is of the set of its first
+  -- an image on which no section begins belongs to no set, any other to the set of its first
   -- section
   pub of_no_set : (s : ImageSurvey) → s.glance.head ≡ None → set_of (Some s) ≡ None
   pub of_a_set : (s : ImageSurvey) (h : Head1) → s.glance.head ≡ Some h

@@ -13,8 +13,8 @@ use Rattle.tape_run.specs.Seen.{IsKept, IfSeen, IsSeen}
 use Rattle.tape_run.specs.SessionState.{SessionState}
 
 -- why the records of a sink were not written: it refused a call; or it returned fewer than were
--- counted, as is possible only if nothing is known about its contents; or a write failed, and it
--- refused none
+-- counted, which is only possible if its contents are unknown; or a write failed, and it refused
+-- none
 abbrev pub WritingFails : {S : Type 0} → (S → List Portion → Type 0) → (S → ℕ) → S → S
     → EngineFault → Type 0
 WritingFails holds refusals old new (Run (Sink cause)) = Rose (refusals old) (refusals new)
@@ -26,9 +26,9 @@ WritingFails holds refusals old new (Run OtherFile) = ⊥
 WritingFails holds refusals old new WriteFailed = refusals new ≡ refusals old
 
 -- why images were not read, or the records of a session's sink not written, by one that rolls back
--- or not: the sink refused a call; or it has failed, as is possible only if nothing is known about
--- its contents; or memory ran out, or a write failed, and the sink refused no call. A session
--- without a checkpoint does not roll back.
+-- or not: the sink refused a call; or it has failed, which is only possible if its contents are
+-- unknown; or memory ran out, or a write failed, and the sink refused no call. A session without a
+-- checkpoint does not roll back.
 abbrev pub ExtractFails : {S : Type 0} → Ghosts S → Bool → EngineFault → SessionState S → SessionState S → Type 0
 ExtractFails g back (Run (Sink cause)) old new = Rose (g.refusals old.sink) (g.refusals new.sink)
     ⊎ ((cause ≡ Failed) × IfSeen g old (λ was. IsKept was → ⊥))
@@ -54,12 +54,12 @@ pub record IsCalm {S : Type 0} (g : Ghosts S) (old new : SessionState S) : Type 
   pub notes : new.notes ≡ [] → old.notes ≡ []
   pub kept : IfSeen g old (λ was. IsKept was → IsSeen g new (λ is. IsKept is))
 
--- a write failed before, a record is unfinished, or the requested form is not the one that was
--- written
+-- a write failed before, a record is unfinished, or another form was written than is requested
 abbrev pub CannotEnd : Bool → Bool → Form → Form → Type 0
 CannotEnd failed begun form asked = (failed ≡ true) ⊎ (begun ≡ true) ⊎ (form ≢ asked)
 
--- why what a sink wrote was not ended: it cannot be; or it can, and the writer failed
+-- why the output of a sink was not finished: it cannot be finished; or it can, and the writer
+-- failed
 abbrev pub EndingFails : Bool → Bool → Form → Form → EngineFault → Type 0
 EndingFails failed begun form asked (Run fault) = (fault ≡ Sink Failed)
     × CannotEnd failed begun form asked

@@ -41,7 +41,7 @@ pub record SectionsAreWorked : Type 0 where
   })
       ≡ codes "LACKS ? ~??? 1 2\n"
 
--- what follows the lines of images, and in which order
+-- the text after the lines of images, in its order
 pub record SummaryIsWorked : Type 0 where
   pub order : (s : SectionLine) (l : Lack) → summary_of (s ∷ []) (l ∷ []) false
       ≡ (section_line s ++ []) ++ (lack_line l ++ []) ++ []

@@ -22,7 +22,7 @@ stop_text Marked = codes "MARKED"
 stop_text Physical = codes "PHYSICAL"
 stop_text (Fault fault) = stop_fault fault
 
--- the number of an image among those named
+-- the number of an image among those specified
 abbrev pub image_front : ℕ → List ℕ
 image_front n = codes "IMAGE " ++ decimal n ++ codes " "
 
@@ -30,7 +30,8 @@ image_front n = codes "IMAGE " ++ decimal n ++ codes " "
 abbrev pub items_text : ImageLine → List ℕ
 items_text line = decimal line.items ++ codes " " ++ stop_text line.stop
 
--- what was found on an image; one that was not opened has no items
+-- the number of items found on an image, and how it ended; an image that was not opened has no
+-- items
 abbrev pub met_text : Option ImageLine → List ℕ
 met_text (Some line) = items_text line
 met_text None = codes "0 NOT OPENED"

@@ -16,11 +16,11 @@ use Rattle.tape_run.specs.CheckLine.{image_line, image_lines, section_line, lack
 use Rattle.tape_image.specs.Written.{AppendsFront}
 use Rattle.tape_run.specs.Reeling.{Mounting, AreMounted}
 
--- an image: none if it was not opened, otherwise the bytes of its reader, if these are known
+-- an image: `None` if it was not opened, otherwise the bytes of its reader, if known
 abbrev pub Reel : Type 0
 Reel = Option (Option (List ℕ))
 
--- an image that was opened, or could not be, is this one
+-- an image that was opened, or could not be opened, is described by this
 abbrev pub IsReel : {R : Type 0} → (R → Option (List ℕ)) → Option R → Reel → Type 0
 IsReel remaining image reel = reel ≡ option_map remaining image
 
@@ -31,7 +31,7 @@ AddsImage None None c d = d ≡ c
 AddsImage (Some before) (Some line) c d = (after : Option (List ℕ)) × Adds before after c line d
 AddsImage _ _ c d = ⊥
 
--- the same of images one after another
+-- the same for images one after another
 abbrev pub AddsImages : List Reel → List (Option ImageLine) → List Told → List Told → Type 0
 AddsImages [] [] c d = d ≡ c
 AddsImages (reel ∷ reels) (line ∷ lines) c d =
@@ -47,8 +47,8 @@ abbrev pub summary_of : List SectionLine → List Lack → Bool → List ℕ
 summary_of listed lacking found =
     flat_map section_line listed ++ flat_map lack_line lacking ++ last_line found
 
--- What follows the lines of images: the sections that were found, the first missing section of each
--- file, and the last line if sections were found and none is missing.
+-- The text after the lines of images: the sections that were found, the first missing section of
+-- each file, and the last line if sections were found and none is missing.
 abbrev pub summary : List Told → List ℕ
 summary d = summary_of (map line_of d) (lacks d) (found_all d)
 
@@ -76,8 +76,8 @@ abbrev pub StopsAtImage : Reel → ℕ → List Told → Option (List ℕ) → O
 StopsAtImage reel n c old new = Appends old new [] ⊎ ((line : Option ImageLine) × (d : List Told)
     × AddsImage reel line c d × AppendsFront old new (image_line n line))
 
--- The text is the report of these images, and says whether all was found. After the images the
--- catalogue has these sections.
+-- The text is the report on these images, and the result is whether all was found. After the images
+-- the catalogue has these sections.
 pub record IsReport (reels : List Reel) (text : List ℕ) (found : Bool) : Type 0 where
   pub lines : List (Option ImageLine)
   pub sections : List Told

@@ -1,4 +1,4 @@
--- What a crash leaves of a session.
+-- The states that a crash leaves of a session.
 use Rattle.std.specs.Prelude.{◌≡◌, ◌⊎◌, ℕ, ◌+◌, ◌≤◌, List, [], ◌∷◌, length, Option, Some}
 use Rattle.std.specs.Prelude.{None, slice_get, ⊤, Bool, true, false}
 use Rattle.tape_blocks.specs.Block.{Portion}
@@ -15,7 +15,7 @@ use Rattle.tape_run.specs.Seen.{Seen, seen}
 use Rattle.tape_run.specs.Steps.{Reeled, Saved, WentBack}
 use Rattle.tape_run.specs.SessionState.{SessionState}
 
--- the session's position, with its parts
+-- the session's position, with the parts before it
 abbrev pub IsHere : Seen → Point → List Portion → Type 0
 IsHere s back there = (back ≡ saved s.place (weight_of s.parts)) × (there ≡ s.parts)
 
@@ -39,10 +39,10 @@ abbrev pub LastAlone : Crashes → Seen → Type 0
 LastAlone now s = BringsLast now.returns s
     × ((t : ℕ) × (t ≤ now.moment) × BringsLast (now.returned t) s)
 
--- What a crash leaves of a session between two of its states. Only the last checkpoint is left if
--- the session made one meanwhile, or if nothing else was left before. If it made none, and nothing
--- else was left between a moment t and the start, nothing else is left since t. If something
--- survived every crash before, it still does, now and at each moment since t.
+-- What a crash leaves of a session, between two of its states. Only the last checkpoint is left if
+-- the session has made one since, or if nothing else was left before. If it made none, and from
+-- moment t to the start only the old checkpoint was left, then that is true from t until now. If
+-- something survived every crash before, something still does, now and at each moment since t.
 pub record KeepsLast {S : Type 0} (g : Ghosts S) (old : SessionState S) (held : List Portion)
     (new : SessionState S) (now : List Portion) : Type 0 where
   pub last : (length new.notes ≡ length old.notes
@@ -71,9 +71,9 @@ LeavesStep g goes old held new =
 
 -- A fault came after the session had the state `now`. A crash leaves only the last checkpoint of
 -- that state, or the session's position after the fault, if the session made a checkpoint meanwhile
--- or nothing but its last one was left before. If it made none, and nothing else was left between a
--- moment t and the start, nothing else is left since t. If something survived every crash before,
--- it still does, now and at each moment since t.
+-- or nothing but its last one was left before. If it made none, and from moment t to the start only
+-- the old checkpoint was left, then that is true from t until now. If something survived every
+-- crash before, something still does, now and at each moment since t.
 pub record LeavesSaved {S : Type 0} (g : Ghosts S) (old : SessionState S) (held : List Portion)
     (now : Seen) (new : SessionState S) : Type 0 where
   pub comes : (length now.notes ≡ length old.notes
@@ -89,13 +89,13 @@ pub record LeavesSaved {S : Type 0} (g : Ghosts S) (old : SessionState S) (held 
   pub survived : (t : ℕ) → t ≤ (g.crashes old.sink).moment
       → (g.crashes old.sink).survived t → (g.crashes new.sink).survived t
 
--- If a sink contained parts, a crash leaves no more of it than before.
+-- If a sink contained parts, a crash leaves nothing that it could not leave before.
 abbrev pub BringsNoMore : {S : Type 0} → Ghosts S → S → S → Type 0
 BringsNoMore g old new = (parts : List Portion) → g.holds old parts
     → AddsNothing (g.crashes old) (g.crashes new)
 
--- The session is unchanged, except perhaps its sink. That has the same contents, and a crash leaves
--- no more of it.
+-- The session is unchanged, except perhaps for its sink. The sink has the same contents, and a
+-- crash leaves nothing that it could not leave before.
 pub record IsWalked {S : Type 0} (g : Ghosts S) (old new : SessionState S) : Type 0 where
   pub core : new.core ≡ old.core
   pub notes : new.notes ≡ old.notes
@@ -115,7 +115,7 @@ abbrev pub IsOf : Seen → Point → List Portion → Type 0
 IsOf s back there = IsHere s back there ⊎ ((n : ℕ) × IsNoteOf n s back there)
 
 -- This is true of the session before the first of the steps, or after one that succeeded, with
--- readers that have this left. After a reader that does not know its bytes nothing is known.
+-- these bytes left to the readers. After a reader that does not know its bytes nothing is known.
 abbrev pub StoodAt : Seen → List Step → List (Option (List ℕ)) → List (Option (List ℕ)) → Point
     → List Portion → Type 0
 StoodAt s [] reels left back there = IsOf s back there

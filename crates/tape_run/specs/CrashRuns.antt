@@ -18,13 +18,13 @@ use Rattle.tape_run.specs.Given.{AreGivenBy}
 use Rattle.tape_run.specs.Headline.{HasRun}
 use Rattle.tape_run.specs.Crash.{StoodAt}
 
--- the position of the course, or one of its checkpoints
+-- the position of the history, or one of its checkpoints
 abbrev pub IsPlaceOf : Course → Position → Type 0
 IsPlaceOf c p = (p ≡ c.at) ⊎ ((n : ℕ) × (slice_get c.notes n ≡ Some p))
 
--- This was left of the session after these of its steps: for every valid set and every history that
--- these steps and the returned bytes are, it is valid, at the position that the history leads to or
--- at one of the checkpoints made meanwhile.
+-- This was left of the session after these of its steps: for every valid set, and every history
+-- that these steps and the returned bytes represent, it is valid, at the position that the history
+-- leads to or at one of the checkpoints made since.
 pub record ComesBack (old : Seen) (steps done : List Step) (bytes : List (List ℕ))
     (left : List (Option (List ℕ))) (given : List (List ℕ))
     (back : Point) (there : List Portion) : Type 0 where
@@ -44,8 +44,8 @@ StoodComesBack = (old : Seen) (steps : List Step) (bytes : List (List ℕ))
     → StoodAt old steps (map Some bytes) left back there → (done : List Step)
     × (given : List (List ℕ)) × ComesBack old steps done bytes left given back there
 
--- one run of a session, up to a crash: its beginning, its steps and readers, with what these have
--- left, and the steps after which what was left is valid, with what was returned
+-- one run of a session, up to a crash: its start, its steps and readers, the bytes that these have
+-- left, and the steps after which the remaining state is valid, given the returned bytes
 pub record CrashRun : Type 0 where
   pub began : Seen
   pub steps : List Step
@@ -61,8 +61,8 @@ pub record IsResumed (c : Point) (ps : List Portion) (s : Seen) : Type 0 where
   pub notes : s.notes ≡ []
   pub failures : s.failures ≡ 0
 
--- Each run was resumed at what the crash before it left: what was there when the run began, or what
--- a crash leaves of it.
+-- Each run was resumed at the state that the crash before it left: either the state that existed
+-- when the run began, or one that the crash left of that run.
 abbrev pub Outlives : Point → List Portion → List CrashRun → Point → List Portion → Type 0
 Outlives c ps [] back there = (back ≡ c) × (there ≡ ps)
 Outlives c ps (life ∷ lives) back there =
@@ -72,8 +72,8 @@ Outlives c ps (life ∷ lives) back there =
     ⊎ ComesBack life.began life.steps life.done life.bytes life.left life.given mid front)
     × Outlives mid front lives back there)
 
--- If only this checkpoint with these parts was left before, what is left now is that, or what a
--- crash leaves of a run of these steps.
+-- If only this checkpoint with these parts was left before, then either that is left now, or a
+-- state that a crash leaves of a run of these steps.
 abbrev pub LivesOn : Point → List Portion → List Step → List (List ℕ) → List (Option (List ℕ))
     → Returns → Returns → Type 0
 LivesOn c ps steps bytes left old new = OnlyThis c ps old → (back : Point) (there : List Portion)
@@ -88,7 +88,7 @@ AreHistories set (life ∷ lives) [] = ⊥
 AreHistories set (life ∷ lives) (hs ∷ hss) = IsHistory set 0 life.done life.given hs
     × AreHistories set lives hss
 
--- Across any number of crashes what is left is valid.
+-- Across any number of crashes the state that is left is valid.
 abbrev pub StandsAcrossCrashes : Type 0
 StandsAcrossCrashes = (set : FileSet) (c : Point) (ps : List Portion) (lives : List CrashRun)
     (hss : List (List MountEvent)) (back : Point) (there : List Portion) → IsLawful set
@@ -96,8 +96,8 @@ StandsAcrossCrashes = (set : FileSet) (c : Point) (ps : List Portion) (lives : L
     → Stands set c.file back there
 
 -- What such a session delivered after its steps: for every valid set in which the checkpoint is
--- valid, and every history that the returned bytes are, it is where this leads from there, with the
--- parts before that position.
+-- valid, and every history that the returned bytes represent, the session is where this history
+-- leads from the checkpoint, with the parts before that position.
 abbrev pub ResumedGoesOn : Type 0
 ResumedGoesOn = (set : FileSet) (c : Point) (ps : List Portion) (began new : Seen)
     (steps : List Step) (bytes : List (List ℕ)) (left : List (Option (List ℕ)))

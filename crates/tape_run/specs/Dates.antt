@@ -40,7 +40,7 @@ abbrev pub in_century : Option ℕ → ℕ → Option Date
 in_century (Some first) n = in_year (first + n / 1000) (n % 1000)
 in_century None n = None
 
--- the date that the six characters of a label are, if they are one
+-- the date in the six characters of a label, if they are a date
 abbrev pub date_of : List ℕ → Option Date
 date_of [] = None
 date_of (c ∷ ds) = if all_ascii_digits ds then in_century (century c) (number_of ds) else None
@@ -49,7 +49,7 @@ date_of (c ∷ ds) = if all_ascii_digits ds then in_century (century c) (number_
 abbrev pub two_digits : ℕ → List ℕ
 two_digits n = (if nat_lt n 10 then codes "0" else []) ++ decimal n
 
--- a date, as in 1985-04-23; spaces if there is none
+-- a date, such as 1985-04-23; spaces if there is none
 abbrev pub date_text : Option Date → List ℕ
 date_text (Some d) =
     decimal d.year ++ (codes "-" ++ (two_digits d.month ++ (codes "-" ++ two_digits d.day)))

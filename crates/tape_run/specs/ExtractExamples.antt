@@ -20,11 +20,11 @@ worked_parts =
     ∷ record { span = Last; bytes = codes "E" }
     ∷ record { span = First; bytes = codes "F" } ∷ []
 
--- block 2 of the first section of file 9, of which this many parts were delivered
+-- block 2 of the first section of file 9, after the given number of its parts was delivered
 abbrev pub worked_want : ℕ → Want
 worked_want part = record { file = 9; sect = 1; block = 2; part = part }
 
--- a reel that is cut off in the item at byte 1,884
+-- a reel that is truncated in the item at byte 1,884
 abbrev pub worked_end : Option ReelAnswer
 worked_end = Some (record {
   answer = Useless ReelEnded;
@@ -32,7 +32,7 @@ worked_end = Some (record {
   blocks = 2;
 })
 
--- what is written and reported, worked out
+-- the records written and the lines reported, worked out
 pub record ExtractIsWorked : Type 0 where
   pub lines : output_of Lines worked_parts ≡ codes "AB\nCDE\n"
   pub raw : output_of Raw worked_parts ≡ codes "ABCDE"

@@ -20,17 +20,17 @@ use Rattle.tape_run.specs.ReelLine.{reel_lines, last_line}
 use Rattle.tape_run.specs.Reeling.{Turn, answer_of, AreTurns, Follows, AreSteps, goes_back}
 use Rattle.tape_run.specs.Reeling.{IsKeptFor, AreFirstTurns, Mounting, StoodSaved}
 
--- what was written if something is missing, and if nothing is: the records, which were counted
+-- the output if something is missing, and if nothing is: the records, which were counted
 abbrev pub IsWritten : Option Want → ℕ → Form → Option (List ℕ) → Option (List ℕ) → List Portion
     → Type 0
 IsWritten (Some want) records form out written parts = ⊤
 IsWritten None records form out written parts = (records ≡ length (join parts).records)
     × Appends out written (output_of form parts)
 
--- What a session came to, over the images that were read: its position is what is missing, and if
--- nothing is missing the records of the parts that it recovered were written. One that came without
--- checkpoints, or read no suspect reel, is where the history of its mounts leads. One that has a
--- checkpoint rolled back to the last one after each suspect reel; one without stays where such a
+-- The result of a session over the images that were read: its position is the missing part, and if
+-- nothing is missing the records of the parts that it recovered were written. A session that had no
+-- checkpoints, or read no suspect reel, is where the history of its mounts leads. One with a
+-- checkpoint rolled back to the last one after each suspect reel; one without remains where such a
 -- reel left it.
 pub record Ends (spares : Bool) (first : State) (old : Seen) (turns : List Turn)
     (want : Option Want) (records : ℕ) (form : Form) (out written : Option (List ℕ)) : Type 0 where
@@ -41,8 +41,8 @@ pub record Ends (spares : Bool) (first : State) (old : Seen) (turns : List Turn)
   pub wanted : want ≡ want_at now.place.file now.place.position
   pub is_written : IsWritten want records form out written now.parts
 
--- The last line was reported, with what is missing or how many records the file has; and if nothing
--- is missing the records of the parts that the sink contains were written.
+-- The last line was reported, with the missing part or the number of records in the file; and if
+-- nothing is missing, the records of the sink's parts were written.
 pub record EndsFile {S : Type 0} (g : Ghosts S) (session : SessionState S) (form : Form)
     (out written said says : Option (List ℕ)) (want : Option Want) : Type 0 where
   pub wanted : want ≡ want_at session.core.file session.core.position
@@ -50,14 +50,14 @@ pub record EndsFile {S : Type 0} (g : Ghosts S) (session : SessionState S) (form
   pub line : Appends said says (last_line want records)
   pub is_written : IfSeen g session (λ is. IsWritten want records form out written is.parts)
 
--- The last line reports what a session at this position needs, or how many records its parts have;
--- if less was reported it may be any.
+-- The last line reports the part that a session at this position needs, or the number of records of
+-- its parts; if less of the line was reported, either is possible.
 abbrev pub TellsEnd : Type 0 → Option Want → ℕ → Seen → Type 0
 TellsEnd less want records now = less ⊎ ((want ≡ want_at now.place.file now.place.position)
     × (want ≡ None → records ≡ length (join now.parts).records))
 
--- A fault ended that: a prefix of the line was reported, and the output was not touched, or the
--- file is complete and a prefix of its records was written.
+-- The end of a run with a fault: a prefix of the line was reported, and the output was not touched,
+-- or the file is complete and a prefix of its records was written.
 pub record StopsAtEnd {S W : Type 0} (g : Ghosts S) (session : SessionState S) (form : Form)
     (contents : W → Option (List ℕ)) (out written : W) (said says : Option (List ℕ))
     : Type 0 where
@@ -70,8 +70,8 @@ pub record StopsAtEnd {S W : Type 0} (g : Ghosts S) (session : SessionState S) (
       × AppendsFront (contents out) (contents written) (output_of form is.parts)))
 
 -- Images were read in their order, all of them or up to the one that completed the file; a line was
--- reported for each, and a last one with what is missing or how many records the file has; and the
--- session that the sink's parts belong to ended like this.
+-- reported for each, and a last one with the missing part or the number of records in the file; and
+-- the session with the sink's parts ended like this.
 pub record Extracts {S L R : Type 0} (g : Ghosts S) (size : L → ℕ) (gives : Mounting L R)
     (remaining : R → Option (List ℕ)) (old new : SessionState S) (shelf left : L) (form : Form)
     (out written said says : Option (List ℕ)) (want : Option Want) : Type 0 where
@@ -85,8 +85,8 @@ pub record Extracts {S L R : Type 0} (g : Ghosts S) (size : L → ℕ) (gives : 
       → (e : Ends false old.core was turns want records form out written)
       × StoodSaved g old was.parts new e.now)
 
--- A fault ended it: what was reported is a prefix of such a report, with the line of at most one
--- more image than those that were read, which are the first of the images; and the output was not
+-- A fault ended the run: the report is a prefix of such a report, with the line of at most one more
+-- image than those that were read, which are the first of the images; and the output was not
 -- touched, or the file is complete and a prefix of its records was written.
 pub record Stops {S L R W : Type 0} (g : Ghosts S) (size : L → ℕ) (gives : Mounting L R)
     (remaining : R → Option (List ℕ)) (old new : SessionState S) (shelf left : L) (form : Form)

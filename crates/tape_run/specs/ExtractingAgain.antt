@@ -1,4 +1,4 @@
--- What `extract` leaves after passes over the images.
+-- What `extract` leaves after several passes over the images.
 use Rattle.std.specs.Prelude.{◌≡◌, ◌⊎◌, ℕ, ◌+◌, ◌<◌, ◌≤◌, List, ◌++◌, length, map, Option, None}
 use Rattle.std.specs.Prelude.{true}
 use Rattle.std.specs.Io.KnownBytes.{Appends}
@@ -22,8 +22,8 @@ use Rattle.tape_run.specs.SessionState.{SessionState}
 
 -- Images were read pass by pass: passes that recovered something, and a last one, of all images or
 -- up to the one that completed the file. A line was reported for each image of each pass, numbered
--- continuously, and a last one with what is missing or how many records the file has; and over all
--- passes the session ended as over images that are named that often.
+-- continuously, and a last one with the missing part or the number of records in the file; and over
+-- all passes the session ended as it would over images that are specified that often.
 pub record ExtractsAgain {S L R : Type 0} (g : Ghosts S) (size : L → ℕ) (gives : Mounting L R)
     (remaining : R → Option (List ℕ)) (old new : SessionState S) (shelf left : L) (form : Form)
     (out written said says : Option (List ℕ)) (want : Option Want) : Type 0 where
@@ -45,10 +45,10 @@ pub record ExtractsAgain {S L R : Type 0} (g : Ghosts S) (size : L → ℕ) (giv
       × GoesRound (goes_back old.notes) old.core was rounds turns e.last e.now
       × StoodSaved g old was.parts new e.now)
 
--- A fault ended the passes. The report is a prefix of such a report, with the line of at most one
--- more image than those that were read; these are the images of passes that recovered something,
--- and the first images of another pass. The output was not touched; or the file is complete and a
--- prefix of its records was written.
+-- A fault ended the passes. The images that were read are those of passes that recovered something,
+-- and the first images of another pass. The report is a prefix of the report on these images, and
+-- perhaps one more. The output was not touched; or the file is complete and a prefix of its records
+-- was written.
 pub record StopsAgain {S L R W : Type 0} (g : Ghosts S) (size : L → ℕ) (gives : Mounting L R)
     (remaining : R → Option (List ℕ)) (old new : SessionState S) (shelf left : L) (form : Form)
     (contents : W → Option (List ℕ)) (out written : W) (said says : Option (List ℕ))

@@ -1,4 +1,4 @@
--- What `unpack` leaves of a complete file, if an image is read once for all of its files.
+-- What `unpack` leaves for a complete file, if an image is read once for all of its files.
 use Rattle.std.specs.Prelude.{◌≡◌, ◌≢◌, ◌⊎◌, ℕ, ◌<◌, Bool, true, false, List, [], ◌∷◌, ◌++◌}
 use Rattle.std.specs.Prelude.{Option, Some, None, IsSome, is_some, ⊤}
 use Rattle.std.specs.Map.{lookup}
@@ -39,15 +39,15 @@ abbrev pub ArePassed : FileKey → List TapeItem → Type 0
 ArePassed key front = (core : State) → core.set_id ≡ key.set_id → key.file < core.file
     → is_finished core.position ≡ false → core.phase ≢ Broken → PassedOver core front
 
--- The bytes of an image begin with items that every later file's session skips, and these are left.
+-- The bytes of an image begin with items that the session of every later file skips, and these
+-- bytes are left.
 pub record PassesTo (key : FileKey) (bytes left : List ℕ) : Type 0 where
   pub front : List TapeItem
   pub at : ℕ
   pub walks : Walks 0 bytes front at left
   pub passed : ArePassed key front
 
--- The open image, if there is one, has these bytes, and later files' sessions continue where its
--- reader is.
+-- The open image, if any, has these bytes, and later files' sessions continue where its reader is.
 abbrev pub IsHeld : {R : Type 0} → (R → Option (List ℕ)) → Option (Mounted R) → Option (List ℕ)
     → Type 0
 IsHeld remaining None whole = ⊤
@@ -55,8 +55,8 @@ IsHeld remaining (Some m) whole = IfKnown whole (remaining m.device) (PassesTo m
 
 -- ---- what a session reads
 
--- What a session read of an image: the bytes of the image, the items before those that it read, the
--- bytes that the reader then had and has left, and whether it failed.
+-- One reading of an image by a session: the bytes of the image, the items before those that it
+-- read, the bytes that the reader then had and those that it has left, and whether it failed.
 pub record Stretch : Type 0 where
   pub whole : Option (List ℕ)
   pub front : List TapeItem
@@ -64,12 +64,13 @@ pub record Stretch : Type 0 where
   pub left : Option (List ℕ)
   pub failed : Bool
 
--- The image begins with the items before, and the reader had what follows them.
+-- The image begins with the items before the reading, and the reader had the rest.
 abbrev pub IsPartOf : Stretch → Type 0
 IsPartOf s = IfKnown s.whole s.had (λ bytes rest. (at : ℕ) × Walks 0 bytes s.front at rest)
 
--- The session went where the table leads over the whole image: over the items before, and those of
--- the bytes that the reader returned, all that it had or, if it failed, what it no longer has.
+-- The session went where the table leads over the whole image: over the items before the reading,
+-- and those of the bytes that the reader returned (all the bytes that it had or, if it failed,
+-- those that it no longer has).
 pub record ReadsOn (s : Stretch) (old new : Seen) : Type 0 where
   pub given : List ℕ
   pub is_given : IfKnown s.whole s.had (λ bytes had. IsGiven s.failed had s.left given)
@@ -86,7 +87,7 @@ AreGivenOf (s ∷ ss) (g ∷ given) =
 AreGivenOf ss given = ⊥
 
 -- The items of each image: those before, and those that the returned bytes begin with. Each reader
--- told its bytes.
+-- knew its bytes.
 abbrev pub AreTapesOf : List Stretch → List (List ℕ) → List (List TapeItem) → Type 0
 AreTapesOf [] [] [] = ⊤
 AreTapesOf (s ∷ ss) (g ∷ given) (xs ∷ tapes) = IsSome s.whole
@@ -122,8 +123,8 @@ pub record IsThere (t : Lead) (s : Seen) : Type 0 where
   pub place : s.place ≡ t.place
   pub parts : s.parts ≡ t.parts
 
--- For every valid set and all mounts that the images are, the session is where these lead; and for
--- any images, it is where the table leads.
+-- For every valid set and all mounts that the images represent, the session is where these lead;
+-- and for any images, it is where the table leads.
 pub record GathersOf (stretches : List Stretch) (old new : Seen) : Type 0 where
   pub given : List (List ℕ)
   pub are_given : AreGivenOf stretches given
@@ -135,16 +136,20 @@ pub record GathersOf (stretches : List Stretch) (old new : Seen) : Type 0 where
 
 -- ---- which images
 
--- Each stretch is of the open image, which has these bytes, or of one that the source yielded,
--- which is then open. The source may have yielded one more.
-abbrev pub AreFrom : {L R : Type 0} → Mounting L R → (R → Option (List ℕ)) → Option (List ℕ) → L
-    → List Stretch → L → Type 0
-AreFrom gives remaining whole shelf [] last = (last ≡ shelf)
-    ⊎ ((number : ℕ) × (image : Option _) × gives shelf number image last)
-AreFrom gives remaining whole shelf (s ∷ ss) last = IsPartOf s
-    × (((s.whole ≡ whole) × AreFrom gives remaining s.whole shelf ss last)
-    ⊎ ((number : ℕ) × (device : _) × (next : _) × gives shelf number (Some device) next
-    × (s.whole ≡ remaining device) × AreFrom gives remaining s.whole next ss last))
+-- A section of the session's file begins on the image with this number.
+abbrev pub BeginsOn : List Located → State → ℕ → Type 0
+BeginsOn locations core image = (sect : ℕ)
+    × (lookup (same_key (key_at core.set_id core.file sect)) locations ≡ Some image)
+
+-- Each stretch was read from the open image with these bytes, if there is one, or from an image
+-- that the source yielded; a section begins on that image, and then it is open.
+abbrev pub AreFrom : {L R : Type 0} → (ℕ → Type 0) → Mounting L R → (R → Option (List ℕ)) → Bool
+    → Option (List ℕ) → L → List Stretch → L → Type 0
+AreFrom on gives remaining opened whole shelf [] last = last ≡ shelf
+AreFrom on gives remaining opened whole shelf (s ∷ ss) last = IsPartOf s
+    × (((opened ≡ true) × (s.whole ≡ whole) × AreFrom on gives remaining true s.whole shelf ss last)
+    ⊎ ((image : ℕ) × on image × (device : _) × (next : _) × gives shelf image (Some device) next
+    × (s.whole ≡ remaining device) × AreFrom on gives remaining true s.whole next ss last))
 
 -- the bytes of the image that is open after these stretches
 abbrev pub held_behind : Option (List ℕ) → List Stretch → Option (List ℕ)
@@ -163,48 +168,52 @@ pub record ReadsPart {S R : Type 0} (g : Ghosts S) (remaining : R → Option (Li
   pub reads : IfSeen g old (λ was. IsSeen g new (λ is. ReadsOn stretch was is))
   pub held : IsHeld remaining after whole
 
--- A stretch was read of the open image or of one that the source yielded; or there is no such
--- image, and nothing changed.
-abbrev pub ReadsLocated : {S L R : Type 0} → Ghosts S → Mounting L R → (R → Option (List ℕ))
-    → SessionState S → SessionState S → L → L → Option (List ℕ) → Option (Mounted R) → Type 0
-ReadsLocated g gives remaining old new shelf left whole after =
-    ((left ≡ shelf) × ReadsPart g remaining whole old new after)
-    ⊎ (((number : ℕ) × (device : _) × gives shelf number (Some device) left
+-- A stretch was read from the open image, or from the image with this number, which the source
+-- yielded. Or that image cannot be opened, and nothing changed.
+abbrev pub ReadsLocated : {S L R : Type 0} → Ghosts S → Mounting L R → (R → Option (List ℕ)) → ℕ
+    → SessionState S → SessionState S → L → L → Bool → Option (List ℕ) → Option (Mounted R)
+    → Type 0
+ReadsLocated g gives remaining image old new shelf left opened whole after =
+    ((opened ≡ true) × (left ≡ shelf) × ReadsPart g remaining whole old new after)
+    ⊎ (((device : _) × gives shelf image (Some device) left
     × ReadsPart g remaining (remaining device) old new after)
-    ⊎ ((number : ℕ) × gives shelf number None left × (new ≡ old) × (after ≡ None)))
+    ⊎ (gives shelf image None left × (new ≡ old) × (after ≡ None)))
 
--- No image is known on which the missing section begins.
-abbrev pub HasNoImage : List Located → State → Type 0
-HasNoImage locations core = (sect number part : ℕ) → core.position ≡ Awaits sect number part
-    → lookup (same_key (key_at core.set_id core.file sect)) locations ≡ None
+-- This is the image on which the missing section begins, if one is known.
+abbrev pub NextBeginsOn : List Located → State → Option ℕ → Type 0
+NextBeginsOn locations core image = (sect block part : ℕ) → core.position ≡ Awaits sect block part
+    → lookup (same_key (key_at core.set_id core.file sect)) locations ≡ image
 
--- The file is complete; or it is not, and no image is known for the missing section, or that image
--- could not be opened, or something was read.
-abbrev pub EndsReading : {L R : Type 0} → Mounting L R → List Located → List Stretch → State → L
+-- The file is complete. Or it is incomplete, and no image is known for the missing section, or
+-- something was read, or the image of the missing section could not be opened.
+abbrev pub EndsReading : {L R : Type 0} → Mounting L R → List Located → List Stretch → State → L → L
     → Bool → Type 0
-EndsReading gives locations stretches core left true = core.position ≡ Finished
-EndsReading gives locations stretches core left false = (core.position ≢ Finished)
-    × (HasNoImage locations core ⊎ ((stretches ≢ [])
-    ⊎ ((shelf : _) × (number : ℕ) × gives shelf number None left)))
+EndsReading gives locations stretches core mid left true =
+    (core.position ≡ Finished) × (left ≡ mid)
+EndsReading gives locations stretches core mid left false = (core.position ≢ Finished)
+    × (((left ≡ mid) × (NextBeginsOn locations core None ⊎ (stretches ≢ [])))
+    ⊎ ((image : ℕ) × NextBeginsOn locations core (Some image) × gives mid image None left))
 
 -- Stretches of images were read, one after another, and this image is open then.
 pub record ReadsSections {S L R : Type 0} (g : Ghosts S) (gives : Mounting L R)
     (remaining : R → Option (List ℕ)) (locations : List Located) (complete : Bool)
-    (old new : SessionState S) (shelf left : L) (whole : Option (List ℕ))
+    (old new : SessionState S) (shelf left : L) (opened : Bool) (whole : Option (List ℕ))
     (after : Option (Mounted R)) : Type 0 where
   pub stretches : List Stretch
-  pub are_from : AreFrom gives remaining whole shelf stretches left
+  pub mid : L
+  pub are_from : AreFrom (BeginsOn locations old.core) gives remaining opened whole shelf stretches
+      mid
   pub held : IsHeld remaining after (held_behind whole stretches)
   pub gathers : IfSeen g old (λ was. IsSeen g new (λ is. GathersOf stretches was is))
-  pub ends : EndsReading gives locations stretches new.core left complete
+  pub ends : EndsReading gives locations stretches new.core mid left complete
 
 -- A file was read in this way. If it is complete, exactly its records have the output's name.
 pub record ExtractsLocated {S L R : Type 0} (g : Ghosts S) (gives : Mounting L R)
     (remaining : R → Option (List ℕ)) (locations : List Located) (session : SessionState S)
-    (shelf left : L) (whole : Option (List ℕ)) (after : Option (Mounted R)) (form : Form)
-    (tells : Type 0) (stands : Option (List ℕ)) (records : Option ℕ) : Type 0 where
+    (shelf left : L) (opened : Bool) (whole : Option (List ℕ)) (after : Option (Mounted R))
+    (form : Form) (tells : Type 0) (stands : Option (List ℕ)) (records : Option ℕ) : Type 0 where
   pub last : SessionState S
   pub reads : ReadsSections g gives remaining locations (is_some records) session last shelf left
-      whole after
+      opened whole after
   pub complete : (n : ℕ) → records ≡ Some n → (parts : List Portion) → g.holds last.sink parts
       → IsPut None tells n form stands parts

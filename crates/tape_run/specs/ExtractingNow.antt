@@ -20,15 +20,15 @@ use Rattle.tape_run.specs.ReelLine.{reel_lines, last_line}
 use Rattle.tape_run.specs.Reeling.{Turn, answer_of, AreTurns, AreFirstTurns, Follows, AreSteps}
 use Rattle.tape_run.specs.Reeling.{Mounting}
 
--- what has the output's name if something is missing, and if nothing is: exactly the records, which
--- were counted; the bytes, for a writer that tells them
+-- the contents of the output's name: unchanged if something is missing; otherwise exactly the
+-- records, which were counted, if the writer knows its bytes
 abbrev pub IsPut : Option Want → Type 0 → ℕ → Form → Option (List ℕ) → List Portion → Type 0
 IsPut (Some want) tells records form stands parts = ⊤
 IsPut None tells records form stands parts = (records ≡ length (join parts).records)
     × (tells → stands ≡ Some (output_of form parts))
 
--- What a session came to, over the images that were read. It never rolls back: what was written
--- cannot be dropped.
+-- The result of a session over the images that were read. It never rolls back, because written
+-- records cannot be dropped.
 pub record EndsNow (first : State) (old : Seen) (turns : List Turn) (want : Option Want)
     (records : ℕ) (form : Form) (tells : Type 0) (stands : Option (List ℕ)) : Type 0 where
   pub last : State
@@ -39,8 +39,8 @@ pub record EndsNow (first : State) (old : Seen) (turns : List Turn) (want : Opti
   pub is_put : IsPut want tells records form stands now.parts
 
 -- Images were read in their order, all of them or up to the one that completed the file; a line was
--- reported for each, and a last one; and if nothing is missing, exactly the records have the
--- output's name.
+-- reported for each, and a last one; and if nothing is missing, the file with the output's name
+-- contains exactly the records.
 pub record ExtractsNow {S L R : Type 0} (g : Ghosts S) (size : L → ℕ) (gives : Mounting L R)
     (remaining : R → Option (List ℕ)) (session : SessionState S) (shelf left : L) (form : Form)
     (tells : Type 0) (stands said says : Option (List ℕ)) (want : Option Want) : Type 0 where
@@ -53,9 +53,9 @@ pub record ExtractsNow {S L R : Type 0} (g : Ghosts S) (size : L → ℕ) (gives
   pub ends : IfSeen g session (λ was.
       EndsNow session.core was turns want records form tells stands)
 
--- A fault ended it: what was reported is a prefix of such a report, for the first of the images;
--- and what has the output's name was not touched, or the file is complete and the same has the
--- name, or exactly its records.
+-- A fault ended the run: the report is a prefix of such a report, for the first of the images; and
+-- the output's name was not touched, or the file is complete, and the file with the output's name
+-- is unchanged or contains exactly the records.
 pub record StopsNow {S L R O : Type 0} (g : Ghosts S) (size : L → ℕ) (gives : Mounting L R)
     (remaining : R → Option (List ℕ)) (session : SessionState S) (shelf left : L) (form : Form)
     (tells : Type 0) (stands : O → Option (List ℕ)) (out put : O) (said says : Option (List ℕ))

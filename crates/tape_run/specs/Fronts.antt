@@ -6,13 +6,13 @@ use Rattle.tape_run.specs.Mount.{MountEvent, IsMountOf, cut}
 use Rattle.tape_run.specs.History.{IsHistory}
 use Rattle.tape_run.specs.Given.{AreGivenBy}
 
--- The prefix of a reel that a reader returned before it failed is a mount: of the same volume, up
--- to some item, or foreign.
+-- The part of a reel that a reader returned before it failed is a mount: of a prefix of the same
+-- volume, or of a foreign reel.
 abbrev pub FrontsAreMounts : Type 0
 FrontsAreMounts = (set : FileSet) (front rest : List ℕ) (h : MountEvent)
     → IsMountOf set (front ++ rest) h → (n : ℕ) × IsMountOf set front (cut n h)
 
--- So whichever readers failed, what was returned is a history too.
+-- So whichever readers failed, the returned bytes represent a history too.
 abbrev pub GivenIsHistory : Type 0
 GivenIsHistory = (set : FileSet) (notes : ℕ) (which : List Bool) (steps : List Step)
     (bytes given : List (List ℕ)) (left : List (Option (List ℕ))) (hs : List MountEvent)

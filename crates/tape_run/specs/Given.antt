@@ -16,7 +16,7 @@ is_device_cause (Reserved _) = false
 is_device_cause TooLong = false
 is_device_cause OutOfMemory = false
 
--- whether the fault, if there is one, is that of a reader that failed
+-- whether the fault, if any, is that of a reader that failed
 abbrev pub is_device : Option ImageFault → Bool
 is_device None = false
 is_device (Some fault) = is_device_cause fault.cause
@@ -26,7 +26,7 @@ abbrev pub IsGiven : Bool → List ℕ → Option (List ℕ) → List ℕ → Ty
 IsGiven false bytes left given = given ≡ bytes
 IsGiven true bytes left given = (rest : List ℕ) × (left ≡ Some rest) × (bytes ≡ given ++ rest)
 
--- If each of the readers knows its bytes, this is true of them.
+-- If each of the readers knows its bytes, the claim about them is true.
 abbrev pub IfTold : {R : Type 0} → (R → Option (List ℕ)) → List R → (List (List ℕ) → Type 0)
     → Type 0
 IfTold remaining readers so = (bytes : List (List ℕ)) → map remaining readers ≡ map Some bytes

@@ -47,15 +47,14 @@ pub record PassedOver (core : State) (items : List TapeItem) : Type 0 where
   pub behind : behind_items (mount_of core) items ≡ behind_of core
   pub nothing : delivered_parts (mount_of core) items ≡ []
 
--- What the reader of one file read up to the end of a section is skipped by the reader of each
--- later file of the set: it continues after that as if it had read the reel from its start.
+-- The items that the reader of one file read up to the end of a section are skipped by the reader
+-- of each later file of the set: it continues there as if it had read the reel from its start.
 abbrev pub PassesFiles : Type 0
 PassesFiles = (first later : State) (items : List TapeItem) (item : TapeItem)
     → AreInOrder first later → later.phase ≢ Broken → ReadsSection first items item
     → PassedOver later (items ++ item ∷ [])
 
--- So if the reading that continued after them is led over the other items, the whole reel leads
--- there.
+-- So if the table leads the continued reading over the other items, it leads over the whole reel.
 abbrev pub LeadsOverAll : Type 0
 LeadsOverAll = (core new : State) (front more : List TapeItem) (held now : List Portion)
     → PassedOver core front → IsLed more (behind_of core) new held now
@@ -63,8 +62,8 @@ LeadsOverAll = (core new : State) (front more : List TapeItem) (held now : List 
 
 -- ---- calls
 
--- A reel was read on after a trailer label: what its reader returned, all of it or, if the reader
--- failed, what it no longer has.
+-- A reel was continued after a trailer label: the reader returned all its bytes or, if it failed,
+-- those that it no longer has.
 pub record ReeledBehind (bytes : List ℕ) (left : Option (List ℕ)) (failed : Bool) (old new : Seen)
     : Type 0 where
   pub given : List ℕ
@@ -98,11 +97,11 @@ ReelFailsBehind bytes OutOfMemory old new = new ≡ old
 ReelFailsBehind bytes OtherFile old new = ⊥
 
 -- What a continued reel answers and leaves unread: for a complete file nothing is read.
-abbrev pub ReadsBehind : Position → State → List ℕ → List ℕ → ReelAnswer → Type 0
-ReadsBehind Finished core bytes left answer =
-    (left ≡ bytes) × (answer.answer ≡ Complete) × (answer.fault ≡ None) × (answer.blocks ≡ 0)
-ReadsBehind (Awaits sect number part) core bytes left answer =
-    ReadsReel (behind_of core) bytes left answer
+abbrev pub ReadsBehind : Position → State → List ℕ → List ℕ → ReelAnswer → State → Type 0
+ReadsBehind Finished core bytes left answer new = (left ≡ bytes) × (answer.answer ≡ Complete)
+    × (answer.fault ≡ None) × (answer.blocks ≡ 0) × (new ≡ core)
+ReadsBehind (Awaits sect number part) core bytes left answer new =
+    ReadsReel (behind_of core) bytes left answer new
 
 -- So the headline is true of it: for every valid set and each history that the reel is, if it
 -- begins with these items, which were skipped, the session is where that history leads, with the
@@ -118,17 +117,17 @@ ReadsByHistory = (set : FileSet) (h : MountEvent) (old new : Seen) (core : State
 
 -- After a reel that completed a section, the items that follow that section are left.
 abbrev pub LeavesBehind : Type 0
-LeavesBehind = (core : State) (bytes left : List ℕ) (answer : ReelAnswer)
+LeavesBehind = (core new : State) (bytes left : List ℕ) (answer : ReelAnswer)
     → is_finished core.position ≡ false → core.phase ≢ Broken
-    → ReadsReel (mount_of core) bytes left answer → EndsSection answer.answer
+    → ReadsReel (mount_of core) bytes left answer new → EndsSection answer.answer
     → (items : List TapeItem) × (item : TapeItem) × (at : ℕ) × ReadsSection core items item
     × Walks 0 bytes (items ++ item ∷ []) at left
 
 -- The same if the reading continued after items that were skipped.
 abbrev pub LeavesBehindAgain : Type 0
-LeavesBehindAgain = (core : State) (front : List TapeItem) (bytes left : List ℕ)
+LeavesBehindAgain = (core new : State) (front : List TapeItem) (bytes left : List ℕ)
     (answer : ReelAnswer) → is_finished core.position ≡ false → core.phase ≢ Broken
     → PassedOver core front
-    → ReadsReel (behind_of core) bytes left answer → EndsSection answer.answer
+    → ReadsReel (behind_of core) bytes left answer new → EndsSection answer.answer
     → (items : List TapeItem) × (item : TapeItem) × (at : ℕ)
     × ReadsSection core (front ++ items) item × Walks 0 bytes (items ++ item ∷ []) at left

@@ -1,6 +1,6 @@
--- The headline: what a run of a session leaves, over the mounts that happened.
+-- The headline: the state that a run of a session leaves, over the mounts that happened.
 --
--- Premises, each a parameter or a field below: the set is valid (`IsLawful`); each reader told its
+-- Premises, each a parameter or a field below: the set is valid (`IsLawful`); each reader knew its
 -- bytes, and these are a copy of one of the set's volumes, complete, cut or damaged, or a foreign
 -- reel (`IsHistory`); the checkpoints that the script returns to exist (`IsHistory`); the sink
 -- contains the parts of the session before (`IsSession`, `IsNew`); no call was refused (`HasRun`,
@@ -35,9 +35,9 @@ pub record Ran (set : FileSet) (old : Seen) (hs : List MountEvent) (new : Seen) 
   pub same_file : new.place.file ≡ old.place.file
   pub reached : course set old.place.file (course_of old) hs ≡ course_of new
 
--- All steps succeeded: for every valid set and every history that the returned bytes are, the
--- session is where this leads; and for any bytes, it is where the table leads. What each reader
--- returned follows from what it has left.
+-- All steps succeeded: for every valid set and every history that the returned bytes represent, the
+-- session is where this history leads; and for any bytes, it is where the table leads. The bytes
+-- that each reader returned follow from those that it has left.
 pub record HasRun (old : Seen) (steps : List Step) (bytes : List (List ℕ))
     (left : List (Option (List ℕ))) (new : Seen) : Type 0 where
   pub given : List (List ℕ)
@@ -51,7 +51,7 @@ pub record HasRun (old : Seen) (steps : List Step) (bytes : List (List ℕ))
 
 -- ---- a session that begins a file
 
--- the course of a file of which nothing was read
+-- the position history of a file before anything was read
 abbrev pub begins : Course
 begins = record { at = start; notes = [] }
 
@@ -71,10 +71,10 @@ pub record IsStart (set_id : List ℕ) (file : ℕ) (s : Seen) : Type 0 where
   pub each : (set : FileSet) → IsLawful set → set_id ≡ set.set_id → IsSome (file_of set file)
       → IsNew set file s
 
--- What was read of a file from its start: for every valid set with this identifier that has the
--- file, and every history that the returned bytes are, the sink contains the parts before the
--- position that this leads to, and the position and the checkpoints are those of the history. For
--- any bytes, all is as the table leads.
+-- After a file was read from its start: for every valid set with this identifier that has the file,
+-- and every history that the returned bytes represent, the sink contains the parts before the
+-- position that the history leads to, and the position and the checkpoints are those of the
+-- history. For any bytes, all of this is as the table leads.
 pub record IsRead (set_id : List ℕ) (file : ℕ) (steps : List Step) (bytes : List (List ℕ))
     (left : List (Option (List ℕ))) (s : Seen) : Type 0 where
   pub given : List (List ℕ)
@@ -98,8 +98,8 @@ reels_in (Reel ∷ steps) = suc (reels_in steps)
 reels_in (Save ∷ steps) = reels_in steps
 reels_in (Restart n ∷ steps) = reels_in steps
 
--- The step with this number, which failed for this reason, is a rollback in which the sink's device
--- failed: nothing is known about what the sink then contains.
+-- The failed step is a rollback in which the sink's device failed: the contents of the sink are
+-- unknown.
 abbrev pub LosesParts : List Step → ℕ → RunFault → Type 0
 LosesParts steps n fault =
     ((note : ℕ) × (slice_get steps n ≡ Some (Restart note))) × (fault ≡ Sink Device)
@@ -132,8 +132,8 @@ StopsStep set old hs (Restart n) readers (Sink cause) new = Ran set old hs new
 StopsStep set old hs step readers fault new = ⊥
 
 -- The first n steps succeeded, and the next one failed: for every valid set and every history that
--- the successful steps and the returned bytes are, the session is where this leads, or at a part
--- that the sink refused.
+-- the successful steps and the returned bytes represent, the session is where this history leads,
+-- or at a part that the sink refused.
 pub record HasStopped (old : Seen) (steps : List Step) (bytes : List (List ℕ))
     (left : List (Option (List ℕ))) (n : ℕ) (fault : RunFault) (new : Seen) : Type 0 where
   pub step : Step

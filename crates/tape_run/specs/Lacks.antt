@@ -1,4 +1,4 @@
--- What is missing from a catalogue.
+-- The missing sections of a catalogue.
 use Rattle.std.specs.Prelude.{◌≡◌, ◌<◌, ◌≤◌, ℕ, zero, suc, ◌+◌, max, Bool, true, false, MatchOption}
 use Rattle.std.specs.Prelude.{if◌then◌else◌, List, [], ◌∷◌, ◌++◌, Option, Some, None}
 use Rattle.std.specs.List.{flat_map}
@@ -12,17 +12,17 @@ use Rattle.tape_run.specs.declared.section.Lack.{Lack}
 use Rattle.tape_run.specs.Passing.{Told}
 use Rattle.tape_run.specs.Noted.{same_key, is_good}
 
--- what is known of a section
+-- the entry of a section
 abbrev pub entry_at : List Told → SectionKey → Option Entry
 entry_at c key = lookup (same_key key) c
 
--- the section is good, and this is what is known of it
+-- the section is good, and has this entry
 pub record IsGoodAt (c : List Told) (key : SectionKey) : Type 0 where
   pub entry : Entry
   pub there : entry_at c key ≡ Some entry
   pub good : entry.state ≡ Good
 
--- whether a good section ends its file; none if there is no good one
+-- whether the good section with this key ends its file; `None` if it is not good
 abbrev pub good_end : Option Entry → Option Bool
 good_end None = None
 good_end (Some e) = if is_good e.state then Some e.eof else None
@@ -31,15 +31,15 @@ good_end (Some e) = if is_good e.state then Some e.eof else None
 abbrev pub key_at : List ℕ → ℕ → ℕ → SectionKey
 key_at set_id file sect = record { set_id = set_id; file = file; sect = sect }
 
--- a section is missing if it is not known whether it ends its file; nothing is if it does;
--- otherwise what is missing after it
+-- the first missing section, if it is known whether this section ends its file: none if it does,
+-- otherwise the first one after it; if it is not known, this section
 abbrev pub lack_by : Option Bool → ℕ → Option ℕ → Option ℕ
 lack_by None sect behind = Some sect
 lack_by (Some true) sect behind = None
 lack_by (Some false) sect behind = behind
 
--- The first section of a file that is not good, counting from this one while good ones end with
--- EOV, among this many at most; none if the file ends before.
+-- The first section of a file that is not good, counting from `from` while good sections end with
+-- EOV, among at most `most` sections; `None` if the file ends before.
 abbrev pub first_lack : List Told → List ℕ → ℕ → ℕ → ℕ → Option ℕ
 first_lack c set_id file sect zero = Some sect
 first_lack c set_id file sect (suc n) =
@@ -55,7 +55,7 @@ abbrev pub GoesOnTo : List Told → List ℕ → ℕ → ℕ → Type 0
 GoesOnTo c set_id file sect =
     (i : ℕ) → 1 ≤ i → i < sect → good_end (entry_at c (key_at set_id file i)) ≡ Some false
 
--- Nothing is missing of the file: its sections are good up to one that ends it.
+-- Nothing of the file is missing: its sections are good up to one that ends it.
 pub record IsFoundWhole (c : List Told) (set_id : List ℕ) (file : ℕ) : Type 0 where
   pub sect : ℕ
   pub numbered : (1 ≤ sect) × (sect ≤ 9999)
@@ -69,12 +69,13 @@ pub record IsFirstLack (c : List Told) (set_id : List ℕ) (file sect : ℕ) : T
   pub goes_on : GoesOnTo c set_id file sect
   pub lacks : sect ≤ 9999 → good_end (entry_at c (key_at set_id file sect)) ≡ None
 
--- What is missing of a file is its first section that is not good, and nothing is if all are good.
+-- The missing section of a file is its first section that is not good; none is missing if all are
+-- good.
 abbrev pub LackIsFirst : Type 0
 LackIsFirst = (c : List Told) (set_id : List ℕ) (file : ℕ)
     → MatchOption (lack_of c set_id file) (IsFoundWhole c set_id file) (IsFirstLack c set_id file)
 
--- a set, and the greatest number of a file of it that was found
+-- a set, and the greatest number of a file found in it
 abbrev pub SetFiles : Type 0
 SetFiles = List ℕ × ℕ
 
@@ -95,23 +96,23 @@ abbrev pub sets_from : List SetFiles → List Told → List SetFiles
 sets_from sets [] = sets
 sets_from sets (t ∷ ts) = sets_from (with_file sets t.0.set_id t.0.file) ts
 
--- what is missing of a file, as a list
+-- the missing section of a file, as a list
 abbrev pub one_lack : List ℕ → ℕ → Option ℕ → List Lack
 one_lack set_id file None = []
 one_lack set_id file (Some sect) =
     record { set_id = set_id; file = file; sect = sect } ∷ []
 
--- what is missing of n files of a set, from this one on
+-- the missing sections of n files of a set, beginning with the given file
 abbrev pub file_lacks : List Told → List ℕ → ℕ → ℕ → List Lack
 file_lacks c set_id file zero = []
 file_lacks c set_id file (suc n) =
     one_lack set_id file (lack_of c set_id file) ++ file_lacks c set_id (file + 1) n
 
--- what is missing of these sets, file by file up to the greatest number of each
+-- the missing sections of these sets, file by file up to the greatest number of each
 abbrev pub set_lacks : List Told → List SetFiles → List Lack
 set_lacks c sets = flat_map (λ x. file_lacks c x.0 1 x.1) sets
 
--- what is missing from a catalogue: set by set in the order in which they were found first
+-- the missing sections of a catalogue: set by set in the order in which the sets were found first
 abbrev pub lacks : List Told → List Lack
 lacks c = set_lacks c (sets_from [] c)
 

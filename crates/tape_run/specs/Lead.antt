@@ -1,4 +1,4 @@
--- Where the reader's table leads a run, for any reels: no set is named here.
+-- Where the reader's table leads a run, for any reels, without reference to a set.
 use Rattle.std.specs.Prelude.{◌≡◌, ℕ, ◌+◌, List, [], ◌∷◌, ◌++◌, take, Option, Some, None, slice_get}
 use Rattle.std.specs.Prelude.{⊤}
 use Rattle.tape_blocks.specs.Block.{Portion}
@@ -50,8 +50,8 @@ over_save t = record {
   notes = t.notes ++ record { place = t.place; parts = t.parts } ∷ [];
 }
 
--- back at checkpoint n, if there is one, with no reading under way: the later checkpoints are
--- dropped
+-- after a rollback to checkpoint n, if it exists, with no reading under way: the later checkpoints
+-- are dropped
 abbrev pub back_to : Lead → ℕ → Option Noted → Lead
 back_to t n None = t
 back_to t n (Some note) = record {
@@ -76,8 +76,8 @@ AreItems (bytes ∷ given) [] = ⊥
 AreItems (bytes ∷ given) (xs ∷ reels) =
     ((end : ℕ) × (stop : Stop) × Begins 0 bytes xs end stop) × AreItems given reels
 
--- The points are those of the checkpoints, whose parts are prefixes of the parts, each at least as
--- long as the one before, and the first at least as long as this prefix.
+-- These are the positions of the checkpoints, whose parts are prefixes of the parts, each at least
+-- as long as the one before, and the first at least as long as this prefix.
 abbrev pub AreNoted : List Portion → List Noted → List Point → List Portion → Type 0
 AreNoted front [] [] parts = IsFront front parts
 AreNoted front [] (c ∷ cs) parts = ⊥
@@ -91,7 +91,7 @@ pub record StandsThere (t : Lead) (s : Seen) : Type 0 where
   pub parts : s.parts ≡ t.parts
   pub notes : AreNoted [] t.notes s.notes s.parts
 
--- The steps lead a session to where the table leads, whatever the items of its reels are.
+-- The steps lead a session to where the table leads, for any items of its reels.
 abbrev pub LeadsBy : Seen → List Step → List (List ℕ) → Seen → Type 0
 LeadsBy old steps given new = (t : Lead) (reels : List (List TapeItem)) → AreItems given reels
     → StandsThere t old → StandsThere (lead t steps reels) new
@@ -101,8 +101,8 @@ abbrev pub ItemsAreThere : Type 0
 ItemsAreThere = (given : List (List ℕ)) → (reels : List (List TapeItem)) × AreItems given reels
     × ((others : List (List TapeItem)) → AreItems given others → others ≡ reels)
 
--- A step failed, for this reason, in a session in this state: it is still in it, or inside the reel
--- at a part that the sink refused, with its checkpoints.
+-- A step failed, for this reason, in a session in this state: the state is unchanged, or inside the
+-- reel at a part that the sink refused, with the session's checkpoints.
 abbrev pub StopsBy : Lead → Step → List (List ℕ) → RunFault → Seen → Type 0
 StopsBy t Reel (bytes ∷ readers) (Sink cause) new = AreNoted [] t.notes new.notes new.parts
     × ((xs : List TapeItem) (end : ℕ) (stop : Stop) → Begins 0 bytes xs end stop

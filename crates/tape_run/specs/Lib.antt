@@ -1,4 +1,4 @@
--- Definitions to believe, with those that they import from the crates below: what is read, in this
+-- Definitions to believe, with those that they import from the crates below; read them in this
 -- order.
 pub mod SessionState
 pub mod Seen
@@ -9,7 +9,7 @@ pub mod Lead
 pub mod Headline
 pub mod Back
 pub mod Fault
--- Preserved step by step, and to believe if a single call's contract is read.
+-- Preserved step by step; to be believed by readers of a single call's contract.
 pub mod Reels
 pub mod ByTable
 pub mod GoesBehind
@@ -28,13 +28,13 @@ pub mod Noted
 pub mod Added
 pub mod Lacks
 pub mod WholeSet
--- Preserved item by item, and what laws say of those above.
+-- Preserved item by item, and the terms in which laws describe those above.
 pub mod Passing
--- Readings cut short, and one history that satisfies every premise.
+-- Truncated readings, and one history that satisfies every premise.
 pub mod Fronts
 pub mod WorkedHistory
 pub mod WorkedDays
--- Writers, and identifiers as they are printed: of the reports below.
+-- Writers, and identifiers as they are printed, for the reports below.
 pub mod Identifier
 pub mod Quoting
 pub mod QuotingLaws
@@ -45,7 +45,7 @@ pub mod Listed
 pub mod ListExamples
 pub mod Placed
 pub mod PlacedExamples
--- Reports of what is on reels: definitions to believe, in this order.
+-- Reports on reels: definitions to believe, in this order.
 pub mod CheckLine
 pub mod Checked
 pub mod WholeReels
@@ -74,6 +74,7 @@ pub mod Survey
 pub mod SurveyLaws
 -- Files unpacked: definitions to believe, in this order.
 pub mod Unpacking
+pub mod ReadingOrder
 pub mod UnpackLine
 pub mod UnpackLaws
 -- Recovered files, and reports of that: definitions to believe, in this order.
@@ -95,11 +96,12 @@ pub mod MergeSteps
 pub mod MergeCalls
 pub mod MergedImages
 pub mod MergeLines
+pub mod MergeLog
 pub mod MergeNow
 -- Laws of those.
 pub mod MergeLaws
 pub mod MergedCopies
--- What is recovered of a file that no image has completely: definitions to believe, in this order.
+-- Recovering a file that no image has completely: definitions to believe, in this order.
 pub mod SalvageWalk
 pub mod SalvageCopies
 pub mod SalvageRecords
@@ -113,7 +115,7 @@ pub mod Salvaging
 pub mod SalvageWhole
 pub mod SalvageSections
 pub mod SalvageFile
--- Examples, which keep the definitions from saying too little.
+-- Examples, which show that the definitions are not too weak.
 pub mod Cases
 pub mod CasesOfRuns
 pub mod CasesOfReels

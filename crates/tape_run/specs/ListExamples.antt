@@ -19,7 +19,7 @@ pub record ListingIsWorked : Type 0 where
   pub listing : listing_of (mark ∷ bad ∷ []) (ends Marked)
       ≡ codes "000001 MARK\n000002 BAD\nEND MARKED\n"
 
--- what a run of `list` that ended the medium says
+-- the outcome of a run of `list` that reached the end of the medium
 pub record EndSays (old new : Option (List ℕ)) (bytes left : List ℕ) : Type 0 where
   pub took : (l : ListsToEnd old new bytes left) → TakesEnd 0 l.items l.ending l.place bytes left
   pub listed : (l : ListsToEnd old new bytes left)
@@ -27,15 +27,15 @@ pub record EndSays (old new : Option (List ℕ)) (bytes left : List ℕ) : Type 
   pub wrote : (l : ListsToEnd old new bytes left)
       → Appends old new (listing_of l.items (ends l.ending))
 
--- what a run that found a fault of the image says
+-- the outcome of a run that found a fault of the image
 abbrev pub FaultSays : ImageFault → Option (List ℕ) → Option (List ℕ) → List ℕ → List ℕ → Type 0
 FaultSays fault old new bytes left = (l : ListsToFault fault old new bytes left)
     → TakesFault 0 l.items fault bytes left
     × (fault.cause ≢ Device → IsListing bytes (lines_from 1 l.items))
     × Appends old new (lines_from 1 l.items)
 
--- what a run whose write failed says: a prefix of the bytes was read, and a prefix of what `list`
--- says of it was written
+-- the outcome of a run whose write failed: a prefix of the bytes was read, and a prefix of the
+-- listing of these was written
 abbrev pub StopSays : Option (List ℕ) → Option (List ℕ) → List ℕ → List ℕ → Type 0
 StopSays old new bytes left = StopsWriting old new bytes left
     → ((taken : List ℕ) × (bytes ≡ taken ++ left)) × ((text : List ℕ) × AppendsFront old new text)
@@ -47,7 +47,7 @@ pub record FaultFits (before after old new : Option (List ℕ)) : Type 0 where
   pub of_memory : (fault : ImageFault) → FitsCause OutOfMemory fault before after old new
       → (fault.place ≡ 0) × (after ≡ before) × Keeps old new
 
--- what the outcomes of `list` say
+-- the meaning of the outcomes of `list`
 pub record OutcomesSay : Type 0 where
   pub at_end : (old new : Option (List ℕ)) (bytes left : List ℕ) → EndSays old new bytes left
   pub at_fault : (fault : ImageFault) (old new : Option (List ℕ)) (bytes left : List ℕ)

@@ -43,7 +43,7 @@ head1_text head = codes "HDR1 " ++ head_text head
 abbrev pub trail_name : Bool → List ℕ
 trail_name eof = if eof then codes "EOF1 " else codes "EOV1 "
 
--- the same as a header, and the number of blocks
+-- the same fields as in a header, and the number of blocks
 abbrev pub trail1_text : Trail1 → List ℕ
 trail1_text label =
     trail_name label.eof ++ head_text label.head ++ codes " " ++ digits 6 label.blocks
@@ -66,7 +66,7 @@ label_text (labels.Trail1 label) = trail1_text label
 abbrev pub plain_text : List ℕ → List ℕ
 plain_text bytes = codes "BLOCK " ++ digits 5 (length bytes)
 
--- the text of what was read, otherwise the other text
+-- the text of the label that was read, otherwise the other text
 abbrev pub text_or : {T : Type 0} → Result T LabelFault → (T → List ℕ) → List ℕ → List ℕ
 text_or (Ok label) text other = text label
 text_or (Err _) text other = other

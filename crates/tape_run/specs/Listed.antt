@@ -1,4 +1,4 @@
--- What a run of `list` leaves; the writer contained `old` before and contains `new` after.
+-- The state after a run of `list`; the writer contained `old` before and contains `new` after.
 use Rattle.std.specs.Prelude.{◌≡◌, ◌≢◌, ℕ, ◌+◌, List, [], ◌∷◌, ◌++◌, length, Option}
 use Rattle.std.specs.Io.KnownBytes.{Appends, Keeps}
 use Rattle.tape_image.specs.declared.item.Ending.{Ending}
@@ -39,13 +39,13 @@ pub record ListsToFault (fault : ImageFault) (old new : Option (List ℕ)) (byte
 abbrev pub ListsInPart : Option (List ℕ) → Option (List ℕ) → List ℕ → Type 0
 ListsInPart old new bytes = (text : List ℕ) × IsListing bytes text × AppendsFront old new text
 
--- All of this was written, and then a prefix of that.
+-- The whole of one text was written, and then a prefix of another.
 abbrev pub AppendsInto : Option (List ℕ) → Option (List ℕ) → List ℕ → List ℕ → Type 0
 AppendsInto old new all part =
     (front rest : List ℕ) × Appends old new (all ++ front) × (part ≡ front ++ rest)
 
--- If a write failed: what was read of the bytes, and which line was not written completely. Nothing
--- is read after the item of that line.
+-- After a failed write: the bytes that were read, and the line that was not written completely.
+-- Nothing is read after the item of that line.
 pub data StopsWriting (old new : Option (List ℕ)) (bytes left : List ℕ) : Type 0 where
   -- at the line of an item
   at_item : (done : List TapeItem) (item : TapeItem) (place : ℕ)
@@ -71,7 +71,7 @@ FitsCause OutOfMemory fault before after old new =
     (fault.place ≡ 0) × (after ≡ before) × Keeps old new
 FitsCause _ fault before after old new = IfKnown before after (ListsToFault fault old new)
 
--- the fault comes where it should, for a reader with the bytes `before` and then `after`
+-- the fault is reported where it is, for a reader with the bytes `before` and then `after`
 abbrev pub FitsFault : Option (List ℕ) → Option (List ℕ) → Option (List ℕ) → Option (List ℕ)
     → ListFault → Type 0
 FitsFault before after old new (Image fault) = FitsCause fault.cause fault before after old new

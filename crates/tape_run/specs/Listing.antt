@@ -16,7 +16,7 @@ abbrev pub end_line : Ending → List ℕ
 end_line Marked = codes "END MARKED\n"
 end_line Physical = codes "END PHYSICAL\n"
 
--- the last line is that of the end of the medium; after a fault there is none
+-- the last line is that for the end of the medium; after a fault there is none
 abbrev pub last_line : Stop → List ℕ
 last_line (ends ending) = end_line ending
 last_line (faults _) = []

@@ -11,9 +11,9 @@ use Rattle.tape_run.specs.Runs.{Runs, RunsUpTo}
 use Rattle.tape_run.specs.Seen.{Seen}
 
 -- The first `made` steps succeeded, with the first of the readers: `which` says which of these
--- failed, `unread` what they have left. If the remaining steps lead somewhere from here, all steps
--- lead there from the start. If the remaining ones stop, all stop, `made` steps later. Each state
--- of the session between the remaining steps is one between all steps.
+-- failed, and `unread` which bytes they have left. All steps lead from the start to where the
+-- remaining steps lead from here. If the remaining steps stop, all steps stop, `made` steps later.
+-- Each state of the session between the remaining steps is one between all steps.
 pub record HasMade (made : ℕ) (which : List Bool) (old : Seen) (steps : List Step)
     (readers unread : List (Option (List ℕ))) (new : Seen) (left : List Step)
     (others : List (Option (List ℕ))) : Type 0 where
@@ -27,9 +27,9 @@ pub record HasMade (made : ℕ) (which : List Bool) (old : Seen) (steps : List S
       → StoodAt new left others behind back there
       → StoodAt old steps readers (unread ++ behind) back there
 
--- A step succeeded, with the first of the readers if it is a reel. If the steps after it lead
--- somewhere from here, all of them lead there from before it. If, whenever only reels followed the
--- last save, a crash left only the last checkpoint, this is still so after the step.
+-- A step succeeded, with the first of the readers if it is a reel. The steps from before it lead to
+-- where the steps after it lead. If a crash left only the last checkpoint whenever only reels
+-- followed the last save, this is still true after the step.
 pub record IsMade (which : List Bool) (step : Step) (readers unread others : List (Option (List ℕ)))
     (was now : Crashes) (old new : Seen) : Type 0 where
   pub makes : (rest : List Step) → HasMade 1 which old (step ∷ rest) readers unread new rest others

@@ -1,6 +1,7 @@
 -- What the calls of merging do.
 use Rattle.std.specs.Prelude.{[], ◌∷◌, ◌≡◌, ◌≢◌, ℕ, zero, suc, ◌+◌, ◌==◌, Bool, true, false, List}
-use Rattle.std.specs.Prelude.{length, map, take, slice_get, Option, Some, None, Err, ⊤}
+use Rattle.std.specs.Prelude.{length, map, take, Option, Some, None, Err, ⊤}
+use Rattle.std.specs.Io.KnownBytes.{Appends}
 use Rattle.tape_image.specs.Tape.{TapeItem, block, bad, mark, IsTapeItem}
 use Rattle.tape_image.specs.Reader.{going}
 use Rattle.tape_image.specs.declared.item.ImageWriteFault.{ImageWriteFault}
@@ -19,8 +20,9 @@ use Rattle.tape_run.specs.declared.section.SectionState.{SectionState}
 use Rattle.tape_run.specs.declared.passing.Phase.TheVariants.{Volume}
 use Rattle.tape_run.specs.Passing.{Told, told_from}
 use Rattle.tape_run.specs.Merging.{IsMerged, Differ}
-use Rattle.tape_run.specs.MergeSteps.{bads, one_if, is_good_one, HaveTaken, AllStopped, AreUpTo}
-use Rattle.tape_run.specs.MergeSteps.{AreJudged}
+use Rattle.tape_run.specs.MergeSteps.{bads, one_if, column, goods_in, HaveTaken, AllStopped}
+use Rattle.tape_run.specs.MergeSteps.{AreUpTo, AreJudged}
+use Rattle.tape_run.specs.MergeLog.{log_rows}
 
 -- the item of this kind and content
 abbrev pub candidate_of : Kind → List ℕ → Option TapeItem
@@ -33,15 +35,14 @@ candidate_of Block content = Some (block content)
 
 -- how many readings have the item after so many others, readable
 abbrev pub witnesses_at : ℕ → List (List TapeItem) → ℕ
-witnesses_at j [] = 0
-witnesses_at j (r ∷ rs) = one_if (is_good_one (slice_get r j)) + witnesses_at j rs
+witnesses_at j rs = goods_in (column j rs)
 
 -- how many of the first items only one reading has, readable
 abbrev pub alone_in : ℕ → List (List TapeItem) → ℕ
 alone_in zero rs = 0
 alone_in (suc n) rs = alone_in n rs + one_if (witnesses_at n rs == 1)
 
--- the section's trailer label has another count
+-- the section's trailer label counts another number of blocks
 abbrev pub has_wrong_count : SectionState → ℕ
 has_wrong_count states.Good = 0
 has_wrong_count states.Bad = 0
@@ -67,7 +68,7 @@ pub record Counts (readings : List (List TapeItem)) (merged : List TapeItem) (m 
 
 -- ---- calls
 
--- 1 if the reading has the best item, readable
+-- 1 if the reading has the best item in readable form
 abbrev pub has_first : Verdict → ℕ
 has_first verdicts.First = 1
 has_first verdicts.Bad = 0
@@ -92,15 +93,15 @@ abbrev pub RefusesCandidate : Option TapeItem → ImageWriteFault → Writer →
 RefusesCandidate None fault old new = ⊥
 RefusesCandidate (Some x) fault old new = Refuses x fault old new
 
--- the item was written, if there is one
+-- the item was written, unless there is none
 abbrev pub Puts : Option TapeItem → Bool → Writer → Writer → Type 0
 Puts None some old new = (some ≡ false) × (new ≡ old)
 Puts (Some x) some old new = (some ≡ true) × PutItem x old new
 
 -- The readings were read to their ends, and the items of the least tape of which they are readings
--- were written and counted.
+-- were written and counted. The log has their rows.
 pub record Merges {R : Type 0} (firsts nows : List (Reading R)) (m : Merged) (old new : Writer)
-    : Type 0 where
+    (log logged : Option (List ℕ)) : Type 0 where
   pub readings : List (List TapeItem)
   pub have : HaveTaken firsts nows readings
   pub ended : AllStopped nows
@@ -108,10 +109,11 @@ pub record Merges {R : Type 0} (firsts nows : List (Reading R)) (m : Merged) (ol
   pub is : IsMerged readings merged
   pub count : Counts readings merged m
   pub wrote : PutItems merged old new
+  pub rows : Appends log logged (log_rows 0 merged readings)
 
 -- There is no tape of which the items that were read are readings. Each reading was read up to the
--- n-th item, and says how its item compares with the others. The items before that one make a tape,
--- which was written.
+-- n-th item; its verdict says how its item compares with the others. The items before that one make
+-- a tape, which was written.
 pub record DiffersAt {R : Type 0} (firsts nows : List (Reading R)) (n : ℕ) (old new : Writer)
     : Type 0 where
   pub readings : List (List TapeItem)
@@ -126,7 +128,7 @@ pub record DiffersAt {R : Type 0} (firsts nows : List (Reading R)) (n : ℕ) (ol
   pub count : length merged + 1 ≡ n
   pub wrote : PutItems merged old new
 
--- Up to some item there was such a tape, which was written.
+-- Up to some item there was such a tape, and its items were written.
 pub record HasWritten {R : Type 0} (firsts : List (Reading R)) (old new : Writer) : Type 0 where
   pub mids : List (Reading R)
   pub fronts : List (List TapeItem)
@@ -135,11 +137,12 @@ pub record HasWritten {R : Type 0} (firsts : List (Reading R)) (old new : Writer
   pub is : IsMerged fronts merged
   pub wrote : PutItems merged old new
 
--- what is so after each fault
+-- the properties after each fault
 abbrev pub FitsFault : {R : Type 0} → List (Reading R) → List (Reading R) → Writer → Writer
     → MergeFault → Type 0
 FitsFault firsts nows old new (faults.Differ n) = DiffersAt firsts nows n old new
 FitsFault firsts nows old new faults.OutOfMemory = HasWritten firsts old new
+FitsFault firsts nows old new faults.Log = HasWritten firsts old new
 FitsFault firsts nows old new (faults.Write fault) =
     (mid : Writer) × HasWritten firsts old mid × (mid.standing ≡ writing)
     × (x : TapeItem) × IsTapeItem x × Refuses x fault mid new

@@ -29,7 +29,7 @@ abbrev pub end_text : Option ImageStop → List ℕ
 end_text (Some stop) = stop_text stop
 end_text None = codes "-"
 
--- the reading with this number: its items, how many of them are bad, and how it stopped
+-- the line about a reading: its items, how many of them are bad, and how it stopped
 abbrev pub reading_text : ℕ → ReadingLine → List ℕ
 reading_text n r =
     codes "IMAGE " ++ decimal n ++ codes " " ++ decimal r.items ++ codes " " ++ decimal r.bad
@@ -41,7 +41,7 @@ merged_end Marked = codes "MARKED"
 merged_end Physical = codes "PHYSICAL"
 merged_end Cut = codes "CUT"
 
--- how many sections have a wrong count, if any do
+-- the number of sections with a wrong count, unless it is 0
 abbrev pub miscounted_text : ℕ → List ℕ
 miscounted_text zero = []
 miscounted_text (suc n) = codes " COUNT " ++ decimal (suc n)
@@ -62,7 +62,7 @@ kind_text (kinds.Block n) = codes "BLOCK " ++ decimal n
 kind_text kinds.Mark = codes "MARK"
 kind_text kinds.Bad = codes "BAD"
 
--- what the reading with this number has there: the letter of its item, the item, and its offset
+-- the line about the item of a reading at the difference: its letter, the item, and its offset
 abbrev pub has_text : ℕ → HasLine → List ℕ
 has_text n has =
     codes "HAS " ++ decimal n ++ codes " " ++ has.letter ∷ codes " " ++ kind_text has.kind
@@ -70,7 +70,7 @@ has_text n has =
 
 -- ---- the lines of readings
 
--- how a reading stopped, if it did
+-- how a reading stopped, if it stopped
 abbrev pub stop_of : Option Ending → Verdict → Option ImageStop
 stop_of (Some ending) verdict = Some (stop_at ending)
 stop_of None verdicts.First = None
@@ -80,7 +80,7 @@ stop_of None verdicts.Third = None
 stop_of None verdicts.Ended = None
 stop_of None (verdicts.Failed fault) = Some (ends.Fault fault)
 
--- what was read of a reading
+-- the number of items of a reading, and how it stopped
 abbrev pub line_of : {R : Type 0} → Reading R → ReadingLine
 line_of r = record {
   items = r.items;
@@ -88,7 +88,7 @@ line_of r = record {
   stop = stop_of (ending_of r.image.status) r.verdict;
 }
 
--- an item that could be read: a block of so many bytes, or a mark
+-- an item that could be read: a block with its length, or a mark
 abbrev pub kind_of : ℕ → ItemKind
 kind_of zero = kinds.Mark
 kind_of (suc n) = kinds.Block (suc n)
@@ -115,7 +115,7 @@ abbrev pub reading_line : {R : Type 0} → List (List ℕ) → ℕ → Reading R
 reading_line names number r =
     with_name (reading_text (number + 1) (line_of r)) (name_at names number)
 
--- the line of what it has, if it has an item there
+-- the line about its item, if it has one there
 abbrev pub item_line : Option HasLine → ℕ → List ℕ → List ℕ
 item_line None number name = []
 item_line (Some has) number name = with_name (has_text (number + 1) has) name
@@ -123,7 +123,7 @@ item_line (Some has) number name = with_name (has_text (number + 1) has) name
 abbrev pub has_line : {R : Type 0} → List (List ℕ) → ℕ → Reading R → List ℕ
 has_line names number r = item_line (has_of r) number (name_at names number)
 
--- the lines of these readings, the first of which has this number
+-- the lines about these readings, the first of which has the given number
 abbrev pub lines_from : {A : Type 0} → (ℕ → A → List ℕ) → ℕ → List A → List ℕ
 lines_from line number [] = []
 lines_from line number (x ∷ xs) = line number x ++ lines_from line (number + 1) xs

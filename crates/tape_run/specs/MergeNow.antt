@@ -1,5 +1,5 @@
--- What `merge_now` leaves: all images of a shelf mounted, the merged one in the output's place, and
--- the report.
+-- What `merge_now` leaves: all images opened, the merged one under the output's name, and the
+-- report.
 use Rattle.std.specs.Prelude.{◌≡◌, ◌≢◌, ◌⊎◌, ℕ, ◌<◌, List, [], ◌∷◌, ◌++◌, length, map, Option, Some}
 use Rattle.std.specs.Prelude.{None, ⊤}
 use Rattle.std.specs.List.{flat_map}
@@ -22,21 +22,22 @@ use Rattle.tape_run.specs.Merging.{IsMerged}
 use Rattle.tape_run.specs.MergeSteps.{AllStopped}
 use Rattle.tape_run.specs.MergeCalls.{Counts, AreAtFront}
 use Rattle.tape_run.specs.MergeLines.{reading_line, has_line, lines_from, merged_line, differ_line}
+use Rattle.tape_run.specs.MergeLog.{log_text}
 use Rattle.tape_run.specs.MergedImages.{TakeImages, DifferImages}
 
--- ---- the images of a shelf
+-- ---- the images of a source
 
 -- the image exists, on this device
 abbrev pub IsOn : {R : Type 0} → Option R → R → Type 0
 IsOn image device = image ≡ Some device
 
--- every image of the shelf was mounted, in order
+-- every image of the source was opened, in order
 pub record MountsAll {L R : Type 0} (size : L → ℕ) (gives : Mounting L R) (shelf left : L)
     (devices : List R) : Type 0 where
   pub mounted : AreMounted gives IsOn shelf 0 devices left
   pub all : length devices ≡ size shelf
 
--- the images before the one with this number were mounted, and that one does not exist
+-- the images before the one with this number were opened, and that one does not exist
 pub record IsMissing {L R : Type 0} (gives : Mounting L R) (shelf left : L) (number : ℕ) : Type 0
   where
     pub devices : List R
@@ -47,15 +48,15 @@ pub record IsMissing {L R : Type 0} (gives : Mounting L R) (shelf left : L) (num
 
 -- ---- the merged image
 
--- a reading that took so many items reached this end of the medium
+-- a reading with this number of items reached the given end of the medium
 abbrev pub SomeEnds : {R : Type 0} → ℕ → Ending → List (Reading R) → Type 0
 SomeEnds items ending [] = ⊥
 SomeEnds items ending (r ∷ rs) =
     ((r.items ≡ items) × (r.image.status ≡ ended ending)) ⊎ SomeEnds items ending rs
 
--- The merged image, which has so many items, ends as one of the readings of that length: by an
--- end-of-medium marker if one of them does, else by the end of its bytes. It is cut if each of them
--- stopped at a fault.
+-- The merged image, which has this many items, ends like one of the readings of that length: with
+-- an end-of-medium marker if one of them does, otherwise with the end of its bytes. It is truncated
+-- if each of them stopped at a fault.
 abbrev pub EndsAs : {R : Type 0} → ℕ → List (Reading R) → MergedEnd → Type 0
 EndsAs items nows Marked = SomeEnds items endings.Marked nows
 EndsAs items nows Physical =
@@ -69,7 +70,7 @@ end_bytes Marked = 255 ∷ 255 ∷ 255 ∷ 255 ∷ []
 end_bytes Physical = []
 end_bytes Cut = []
 
--- It is whole if no item is bad, no section has a wrong count, and it is not cut.
+-- It is complete if no item is bad, no section has a wrong count, and it is not truncated.
 abbrev pub FitsEnd : ℕ → ℕ → MergedEnd → MergeEnd → Type 0
 FitsEnd bad miscounted end Whole = (bad ≡ 0) × (miscounted ≡ 0) × (end ≢ Cut)
 FitsEnd bad miscounted end Partial = (0 < bad) ⊎ ((0 < miscounted) ⊎ (end ≡ Cut))
@@ -77,9 +78,10 @@ FitsEnd bad miscounted end Differs = ⊥
 
 -- The images were read to their ends. After what the output had before are the items of the least
 -- tape of which they are readings, each in the encoding that is written, and perhaps an
--- end-of-medium marker. The report has a line for each image, and one for the merged image.
+-- end-of-medium marker. The log has the rows of its items. The report has a line for each image,
+-- and one for the merged image.
 pub record HoldsMerged (R : Type 0) (images names : List (List ℕ))
-    (out stands : Option (List ℕ)) (says : List ℕ → Type 0) (end : MergeEnd) : Type 0 where
+    (out stands : Option (List ℕ)) (logs says : List ℕ → Type 0) (end : MergeEnd) : Type 0 where
   pub nows : List (Reading R)
   pub readings : List (List TapeItem)
   pub have : TakeImages images nows readings
@@ -92,6 +94,7 @@ pub record HoldsMerged (R : Type 0) (images names : List (List ℕ))
   pub ends_as : EndsAs counts.items nows ends
   pub holds : Appends out stands (flat_map written merged ++ end_bytes ends)
   pub fits : FitsEnd counts.bad counts.miscounted ends end
+  pub logged : logs (log_text names readings merged)
   pub lines : says (lines_from (reading_line names) 0 nows ++ merged_line counts ends)
 
 -- The images differ. The report has a line for each image, the number of the first item at which
@@ -106,26 +109,27 @@ pub record ReportsDiffering (R : Type 0) (images names : List (List ℕ))
 
 -- what came of images with these bytes
 abbrev pub ComesTo : Type 0 → List (List ℕ) → List (List ℕ) → Option (List ℕ)
-    → Option (List ℕ) → (List ℕ → Type 0) → MergeEnd → Type 0
-ComesTo R images names out stands says Whole = HoldsMerged R images names out stands says Whole
-ComesTo R images names out stands says Partial =
-    HoldsMerged R images names out stands says Partial
-ComesTo R images names out stands says Differs = ReportsDiffering R images names says
+    → Option (List ℕ) → (List ℕ → Type 0) → (List ℕ → Type 0) → MergeEnd → Type 0
+ComesTo R images names out stands logs says Whole =
+    HoldsMerged R images names out stands logs says Whole
+ComesTo R images names out stands logs says Partial =
+    HoldsMerged R images names out stands logs says Partial
+ComesTo R images names out stands logs says Differs = ReportsDiffering R images names says
 
 -- what comes of readings, if they are at the beginning of images with known bytes
 abbrev pub ReadingsComeTo : {R : Type 0} → List (Reading R) → List (List ℕ) → Option (List ℕ)
-    → Option (List ℕ) → (List ℕ → Type 0) → MergeEnd → Type 0
-ReadingsComeTo {R} firsts names out stands says end = (images : List (List ℕ))
-    → AreAtFront (map Some images) firsts → ComesTo R images names out stands says end
+    → Option (List ℕ) → (List ℕ → Type 0) → (List ℕ → Type 0) → MergeEnd → Type 0
+ReadingsComeTo {R} firsts names out stands logs says end = (images : List (List ℕ))
+    → AreAtFront (map Some images) firsts → ComesTo R images names out stands logs says end
 
 -- All images of the shelf were mounted, and merged if their bytes are known.
 pub record MergesNow {L R : Type 0} (size : L → ℕ) (gives : Mounting L R)
     (remaining : R → Option (List ℕ)) (shelf left : L) (names : List (List ℕ))
-    (out stands : Option (List ℕ)) (says : List ℕ → Type 0) (end : MergeEnd) : Type 0 where
+    (out stands : Option (List ℕ)) (logs says : List ℕ → Type 0) (end : MergeEnd) : Type 0 where
   pub devices : List R
   pub mounts : MountsAll size gives shelf left devices
   pub comes : (images : List (List ℕ)) → map remaining devices ≡ map Some images
-      → ComesTo R images names out stands says end
+      → ComesTo R images names out stands logs says end
 
 -- an image that could not be opened is missing
 abbrev pub Misses : (ℕ → Type 0) → MergeStop → Type 0
@@ -133,6 +137,7 @@ Misses missing (stops.NotOpened number) = missing number
 Misses missing (stops.TooLong size) = ⊤
 Misses missing stops.OutOfMemory = ⊤
 Misses missing stops.WriteFailed = ⊤
+Misses missing stops.LogFailed = ⊤
 
 -- The output's place after a fault: it was not touched, or, if a write failed, what is there did
 -- not change, or the merged image is there. An image that could not be opened is missing.
@@ -141,4 +146,5 @@ abbrev pub LeavesPlace : {O : Type 0} → (O → Option (List ℕ)) → O → O 
 LeavesPlace stands old new missing made (stops.NotOpened number) = (new ≡ old) × missing number
 LeavesPlace stands old new missing made (stops.TooLong size) = new ≡ old
 LeavesPlace stands old new missing made stops.OutOfMemory = new ≡ old
+LeavesPlace stands old new missing made stops.LogFailed = new ≡ old
 LeavesPlace stands old new missing made stops.WriteFailed = (stands new ≡ stands old) ⊎ made

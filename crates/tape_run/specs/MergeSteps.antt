@@ -1,7 +1,7 @@
 -- One item of the merged tape, as readings are asked for it one after another, and what readings
 -- have taken.
 use Rattle.std.specs.Prelude.{◌≡◌, ◌≢◌, ◌⊎◌, ℕ, ◌+◌, ◌≤◌, Bool, true, false, List, [], ◌∷◌}
-use Rattle.std.specs.Prelude.{◌++◌, length, Option, Some, None, ⊤}
+use Rattle.std.specs.Prelude.{◌++◌, length, map, slice_get, Option, Some, None, ⊤}
 use Rattle.tape_image.specs.declared.item.Ending.{Ending}
 use Rattle.tape_image.specs.Tape.{TapeItem, block, bad, mark}
 use Rattle.tape_image.specs.declared.item.ImageFault.{ImageFault}
@@ -25,8 +25,8 @@ agrees (Some mark) (block bytes) = ⊥
 agrees (Some mark) bad = ⊤
 agrees (Some mark) mark = ⊤
 
--- the better of the best item so far and one that agrees with it: no item is less than a bad one,
--- and a bad one is less than any other
+-- the better of the best item so far and one that agrees with it: any item is better than none, and
+-- a readable one better than a bad one
 abbrev pub joined : Option TapeItem → TapeItem → TapeItem
 joined None x = x
 joined (Some bad) x = x
@@ -45,7 +45,7 @@ abbrev pub best_items : Option TapeItem → List TapeItem
 best_items None = []
 best_items (Some x) = x ∷ []
 
--- The item agrees, and the better of the two is the best one now; or it does not, and nothing
+-- The item agrees, and the better of the two is now the best one; or it does not agree, and nothing
 -- changed.
 abbrev pub Takes : Option TapeItem → TapeItem → Bool → Option TapeItem → Type 0
 Takes best x true now = agrees best x × (now ≡ Some (joined best x))
@@ -75,15 +75,24 @@ abbrev pub one_if : Bool → ℕ
 one_if true = 1
 one_if false = 0
 
+-- what each reading has after so many items, if it has as many
+abbrev pub column : ℕ → List (List TapeItem) → List (Option TapeItem)
+column j rs = map (λ r. slice_get r j) rs
+
+-- how many of these could be read
+abbrev pub goods_in : List (Option TapeItem) → ℕ
+goods_in [] = 0
+goods_in (x ∷ xs) = one_if (is_good_one x) + goods_in xs
+
 -- how many items are bad
 abbrev pub bads : List TapeItem → ℕ
 bads [] = 0
 bads (x ∷ xs) = one_if (is_bad_one (Some x)) + bads xs
 
--- ---- a reading asked for its next item
+-- ---- a reading that is asked for its next item
 
--- How the item of a reading compares with the best one, which it may replace, and, if it differs
--- from that, with the other one.
+-- How the item of a reading compares with the best one, which it may replace, and, if it differs,
+-- with the other one.
 abbrev pub Compares : Verdict → TapeItem → Option TapeItem → Option TapeItem → Option TapeItem
     → Option TapeItem → Type 0
 Compares verdicts.First x best now other beside =
@@ -112,7 +121,7 @@ StopsAs verdicts.Bad status = ⊥
 StopsAs verdicts.Second status = ⊥
 StopsAs verdicts.Third status = ⊥
 
--- whether the verdict is on a reading that stopped
+-- whether the verdict is that of a reading that stopped
 abbrev pub is_stop : Verdict → Bool
 is_stop verdicts.First = false
 is_stop verdicts.Bad = false
@@ -140,7 +149,7 @@ pub data Answered (old new : Reader) (verdict : Verdict) (len : ℕ)
   without : Stopped old new → StopsAs verdict new.status → now ≡ best → beside ≡ other
       → Answered old new verdict len best now other beside
 
--- the count rose by so many, if it can: it never exceeds its greatest value
+-- the count increased by n, but never exceeds its greatest value
 abbrev pub RisesBy : ℕ → ℕ → ℕ → Type 0
 RisesBy old more new = old + more ≤ 18446744073709551615 → new ≡ old + more
 
@@ -151,7 +160,7 @@ pub record CountsItem {R : Type 0} (old new : Reading R) (x : TapeItem) : Type 0
   pub from : new.from ≡ old.image.place
   pub len : new.length ≡ block_length x
 
--- the fields of a reading that took nothing
+-- the fields of a reading before anything was read
 pub record CountsNothing {R : Type 0} (old new : Reading R) : Type 0 where
   pub items : new.items ≡ old.items
   pub bad : new.bad ≡ old.bad
@@ -179,8 +188,8 @@ AskedAll _ _ best now other beside = ⊥
 
 -- ---- what readings have taken
 
--- The reader has returned the items, from where it began, and continues after them, or reached the
--- end or a fault there.
+-- The reader returned the items, from where it began, and continues after them, or reached the end
+-- or a fault there.
 pub record HasRead (first now : Reader) (items : List TapeItem) : Type 0 where
   pub behind : Reader
   pub gave : Gave first items behind
@@ -191,7 +200,7 @@ pub record HasRead (first now : Reader) (items : List TapeItem) : Type 0 where
 abbrev pub EndWith : List TapeItem → TapeItem → Type 0
 EndWith items x = (before : List TapeItem) × (items ≡ before ++ x ∷ [])
 
--- The fields say where the last item that was taken begins, and its length.
+-- The fields record where the last item that was read begins, and its length.
 pub data TookLast {R : Type 0} (first now : Reading R) (items : List TapeItem) : Type 0 where
   nothing : items ≡ [] → now.from ≡ first.from → now.length ≡ first.length
       → TookLast first now items
@@ -199,14 +208,14 @@ pub data TookLast {R : Type 0} (first now : Reading R) (items : List TapeItem) :
       → Gave first.image before mid → now.from ≡ mid.place → now.length ≡ block_length x
       → TookLast first now items
 
--- The reading took these items from its image, from where it began, and counted them.
+-- The reading consists of these items of its image, from where it began, and they were counted.
 pub record HasTaken {R : Type 0} (first now : Reading R) (taken : List TapeItem) : Type 0 where
   pub read : HasRead first.image now.image taken
   pub items : RisesBy first.items (length taken) now.items
   pub bad : RisesBy first.bad (bads taken) now.bad
   pub last : TookLast first now taken
 
--- each of the readings took these items
+-- each reading consists of the items in its list
 abbrev pub HaveTaken : {R : Type 0} → List (Reading R) → List (Reading R) → List (List TapeItem)
     → Type 0
 HaveTaken [] [] [] = ⊤
@@ -214,7 +223,7 @@ HaveTaken (f ∷ firsts) (n ∷ nows) (r ∷ readings) =
     HasTaken f n r × HaveTaken firsts nows readings
 HaveTaken _ _ _ = ⊥
 
--- every reading has stopped, and says how
+-- every reading has stopped, and its verdict says how
 abbrev pub AllStopped : {R : Type 0} → List (Reading R) → Type 0
 AllStopped [] = ⊤
 AllStopped (r ∷ rs) = StopsAs r.verdict r.image.status × AllStopped rs
@@ -228,7 +237,7 @@ AreUpTo number (n ∷ nows) (r ∷ readings) =
     × AreUpTo number nows readings
 AreUpTo number _ _ = ⊥
 
--- What the verdict says of a reading that took these items: how the last one compares with the best
+-- The meaning of the verdict on a reading of these items: how the last item compares with the best
 -- one and the other one, or how the reading stopped.
 abbrev pub Judges : Verdict → Status → List TapeItem → Option TapeItem → Option TapeItem → Type 0
 Judges verdicts.First status items best other = (status ≡ going) × (x : TapeItem)
@@ -241,7 +250,7 @@ Judges verdicts.Third status items best other = (status ≡ going) × (x : TapeI
 Judges verdicts.Ended status items best other = StopsAs verdicts.Ended status
 Judges (verdicts.Failed fault) status items best other = StopsAs (verdicts.Failed fault) status
 
--- so do the verdicts of all readings
+-- the same for the verdicts of all readings
 abbrev pub AreJudged : {R : Type 0} → List (Reading R) → List (List TapeItem) → Option TapeItem
     → Option TapeItem → Type 0
 AreJudged [] [] best other = ⊤

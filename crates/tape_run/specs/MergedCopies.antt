@@ -28,8 +28,8 @@ abbrev pub AreWithin : List Reading → Reading → Type 0
 AreWithin [] s = ⊤
 AreWithin (r ∷ rs) s = IsWithin r.good s.good × AreWithin rs s
 
--- The merged items of copies of a volume are a copy of it, with a reading in which each item was
--- read well that was read well in one of theirs.
+-- The merged items of copies of a volume are a copy of it, with a reading in which an item was read
+-- well if it was in one of the copies.
 abbrev pub MergedIsCopy : Type 0
 MergedIsCopy = (set : FileSet) (k : ℕ) (images : List (List TapeItem)) (rs : List Reading)
     (merged : List TapeItem) → IsSome (nth set.volumes k) → AreCopies set k images rs
@@ -41,12 +41,12 @@ abbrev pub BetterIsAsFar : Type 0
 BetterIsAsFar = (set : FileSet) (file : ℕ) (p : Position) (r s : Reading) → r.volume ≡ s.volume
     → IsWithin r.good s.good → IsUpTo (far set file p r) (far set file p s)
 
--- s is a reading of the volume that r is of, and a better one
+-- s is a reading of the same volume as r, and a better one
 abbrev pub IsBetter : Reading → Reading → Type 0
 IsBetter s r = (r.volume ≡ s.volume) × IsWithin r.good s.good
 
--- In a lawful set, it takes a position at least as far as all the others together, one after
--- another, in any order and each as often as one likes.
+-- In a valid set, it takes a position at least as far as all the others together, one after
+-- another, in any order and any number of times.
 abbrev pub OnceIsEnough : Type 0
 OnceIsEnough = (set : FileSet) (file : ℕ) (p : Position) (rs : List Reading) (s : Reading)
     → IsLawful set → AllByRecursion (λ r. IsBetter s r) rs

@@ -1,6 +1,7 @@
 -- Merging, in terms of the bytes of images.
 use Rattle.std.specs.Prelude.{◌≡◌, ◌≢◌, ℕ, ◌+◌, List, [], ◌∷◌, ◌++◌, length, map, take, Option}
 use Rattle.std.specs.Prelude.{Some, ⊤}
+use Rattle.std.specs.Io.KnownBytes.{Appends}
 use Rattle.tape_image.specs.declared.item.ImageWriteFault.TheVariants.{BlockLength, Finished}
 use Rattle.tape_image.specs.Tape.{TapeItem}
 use Rattle.tape_image.specs.Begins.{Stop, Begins, Walks}
@@ -12,9 +13,10 @@ use Rattle.tape_run.specs.declared.merge.reading.Reading.{Reading}
 use Rattle.tape_run.specs.Merging.{IsMerged, Differ}
 use Rattle.tape_run.specs.MergeSteps.{bads, block_length, AllStopped, AreUpTo, AreJudged}
 use Rattle.tape_run.specs.MergeLaws.{TakesAs}
+use Rattle.tape_run.specs.MergeLog.{log_rows}
 use Rattle.tape_run.specs.MergeCalls.{Counts}
 
--- The fields say where the last item of the image begins, and its length.
+-- The fields record where the last item of the image begins, and its length.
 pub data LastIsAt {R : Type 0} (bytes : List ℕ) (now : Reading R) (items : List TapeItem) : Type 0
   where
     no_item : items ≡ [] → LastIsAt bytes now items
@@ -23,8 +25,8 @@ pub data LastIsAt {R : Type 0} (bytes : List ℕ) (now : Reading R) (items : Lis
         → LastIsAt bytes now items
 
 -- The reading took these items from the beginning of an image with these bytes, and its reader has
--- the rest: it may be read on, or is at the end of the medium or at a fault. If its device failed,
--- the items are those of the bytes that it returned. The fields count the items.
+-- the rest: it continues, or is at the end of the medium or at a fault. If its device failed, the
+-- items are those of the bytes that it returned. The fields count the items.
 pub record TakesImage {R : Type 0} (bytes : List ℕ) (now : Reading R) (taken : List TapeItem)
     : Type 0 where
   pub left : List ℕ
@@ -42,7 +44,7 @@ TakeImages (bytes ∷ images) (n ∷ nows) (r ∷ readings) =
     TakesImage bytes n r × TakeImages images nows readings
 TakeImages _ _ _ = ⊥
 
--- the bytes of each image begin with these items, and with no further one
+-- the bytes of each image begin with these items, and with no further item
 abbrev pub AllBegin : List (List ℕ) → List (List TapeItem) → Type 0
 AllBegin [] [] = ⊤
 AllBegin (bytes ∷ images) (r ∷ readings) =
@@ -50,9 +52,9 @@ AllBegin (bytes ∷ images) (r ∷ readings) =
 AllBegin _ _ = ⊥
 
 -- The images were read to their ends, and merged: the items of the least tape of which they are
--- readings were written and counted.
+-- readings were written and counted. The log has their rows.
 pub record MergesImages {R : Type 0} (images : List (List ℕ)) (nows : List (Reading R))
-    (m : Merged) (old new : Writer) : Type 0 where
+    (m : Merged) (old new : Writer) (log logged : Option (List ℕ)) : Type 0 where
   pub readings : List (List TapeItem)
   pub have : TakeImages images nows readings
   pub ended : AllStopped nows
@@ -60,6 +62,7 @@ pub record MergesImages {R : Type 0} (images : List (List ℕ)) (nows : List (Re
   pub is : IsMerged readings merged
   pub count : Counts readings merged m
   pub wrote : PutItems merged old new
+  pub rows : Appends log logged (log_rows 0 merged readings)
 
 -- There is no tape of which the images are readings. They were read up to the n-th item, at which
 -- they differ; each reading says how its item compares with the others. The items before that one
@@ -78,8 +81,9 @@ pub record DifferImages {R : Type 0} (images : List (List ℕ)) (nows : List (Re
   pub is : IsMerged (map (take (length merged)) readings) merged
   pub count : length merged + 1 ≡ n
 
--- A write fails by the device, or since the merged image would be too long.
+-- A write fails because the device fails, or because the merged image would be too long.
 abbrev pub FaultsImages : {R : Type 0} → List (List ℕ) → List (Reading R) → MergeFault → Type 0
 FaultsImages images nows (faults.Differ n) = DifferImages images nows n
 FaultsImages images nows faults.OutOfMemory = ⊤
+FaultsImages images nows faults.Log = ⊤
 FaultsImages images nows (faults.Write fault) = (fault ≢ BlockLength) × (fault ≢ Finished)

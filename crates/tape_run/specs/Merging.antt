@@ -2,12 +2,12 @@
 use Rattle.std.specs.Prelude.{◌≡◌, ◌⊎◌, List, [], ◌∷◌, ⊤}
 use Rattle.tape_image.specs.Tape.{TapeItem, bad}
 
--- the item t of a tape was read as x: as a bad one, or as it is
+-- the item t of a tape was read as x: as a bad item, or unchanged
 abbrev pub IsReadAs : TapeItem → TapeItem → Type 0
 IsReadAs x t = (x ≡ bad) ⊎ (x ≡ t)
 
--- The items are a reading of the tape: they are its first items, each read as a bad one or as it
--- is. After them the reading was cut, or the tape ends.
+-- The items are a reading of the tape: they are its first items, each read as a bad item or
+-- unchanged. Then the reading was cut, or the tape ends.
 abbrev pub IsReadFrom : List TapeItem → List TapeItem → Type 0
 IsReadFrom [] tape = ⊤
 IsReadFrom (x ∷ xs) [] = ⊥
@@ -18,8 +18,8 @@ abbrev pub AreReadFrom : List (List TapeItem) → List TapeItem → Type 0
 AreReadFrom [] tape = ⊤
 AreReadFrom (r ∷ rs) tape = IsReadFrom r tape × AreReadFrom rs tape
 
--- The tape that the readings make together, the least one of which all of them are readings: it is
--- a reading of every such tape.
+-- The merged tape: the least tape of which every reading is a reading. That is, it is itself a
+-- reading of every such tape.
 pub record IsMerged (readings : List (List TapeItem)) (merged : List TapeItem) : Type 0 where
   pub all : AreReadFrom readings merged
   pub least : (tape : List TapeItem) → AreReadFrom readings tape → IsReadFrom merged tape

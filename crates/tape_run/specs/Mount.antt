@@ -1,4 +1,4 @@
--- What may be mounted, and the position after a mount.
+-- The reels that may be mounted, and the position after a mount.
 use Rattle.std.specs.Prelude.{◌≡◌, ◌≢◌, ℕ, true, false, List, [], ◌++◌, length, take}
 use Rattle.tape_image.specs.Tape.{TapeItem}
 use Rattle.tape_image.specs.Begins.{Stop, Begins}
@@ -8,15 +8,15 @@ use Rattle.tape_set.specs.Reading.{Reading, IsReadingOf, as_read}
 use Rattle.tape_set.specs.Reach.{passes, far}
 use Rattle.tape_core.specs.Foreign.{starts_set}
 
--- what happens to a session
+-- an event in a session
 pub data MountEvent : Type 0 where
   reads : Reading → MountEvent
   foreign_reel : MountEvent
   saves : MountEvent
   restarts : ℕ → MountEvent
 
--- The items are those of a reading of a volume; after a complete volume of which only data blocks
--- are bad any items may follow.
+-- The items are those of a reading of a volume; after a complete volume, of which only data blocks
+-- are bad, any items may follow.
 pub record IsCopy (set : FileSet) (xs : List TapeItem) (r : Reading) : Type 0 where
   pub is_reading : IsReadingOf set r
   pub more : List TapeItem
@@ -43,7 +43,7 @@ cut n foreign_reel = foreign_reel
 cut n saves = saves
 cut n (restarts m) = restarts m
 
--- the position after a mount, from p
+-- the position after a mount, starting at p
 abbrev pub after_mount : FileSet → ℕ → Position → MountEvent → Position
 after_mount set file p (reads r) = far set file p r
 after_mount set file p _ = p

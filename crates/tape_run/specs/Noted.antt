@@ -1,4 +1,4 @@
--- How found sections change a catalogue, seen as the list of its sections in the order in which
+-- How the sections found change a catalogue, seen as the list of its sections in the order in which
 -- they were found first.
 use Rattle.std.specs.Prelude.{◌≡◌, ◌⊎◌, ◌==◌, ◌&&◌, not, Bool, true, false, if◌then◌else◌, Option}
 use Rattle.std.specs.Prelude.{Some, None, List, [], ◌∷◌, ◌++◌, map}
@@ -26,7 +26,7 @@ is_good Cut = false
 abbrev pub better : Entry → Entry → Entry
 better old new = if is_good new.state && not (is_good old.state) then new else old
 
--- what is kept of a section of which this was known
+-- the entry that is kept for a section with a known entry
 abbrev pub kept : Option Entry → Entry → Entry
 kept None new = new
 kept (Some old) new = better old new
@@ -36,7 +36,7 @@ abbrev pub noted : List Told → Told → List Told
 noted [] t = t ∷ []
 noted (x ∷ xs) t = if same_key t.0 x.0 then (x.0, better x.1 t.1) ∷ xs else x ∷ noted xs t
 
--- after each of these in turn
+-- after each of these sections in turn
 abbrev pub noted_all : List Told → List Told → List Told
 noted_all sections [] = sections
 noted_all sections (t ∷ ts) = noted_all (noted sections t) ts
@@ -45,12 +45,12 @@ noted_all sections (t ∷ ts) = noted_all (noted sections t) ts
 abbrev pub StandsIn : List Told → Told → Type 0
 StandsIn ts t = (front rest : List Told) × (ts ≡ front ++ t ∷ rest)
 
--- The sections from before keep their places, and new ones follow them.
+-- The earlier sections keep their places, and new ones follow them.
 abbrev pub KeepsPlaces : List Told → List Told → Type 0
 KeepsPlaces old new =
     (more : List SectionKey) × (map (λ t. t.0) new ≡ map (λ t. t.0) old ++ more)
 
--- What is good was so before, or these items show it.
+-- Every good section was good before, or these items show it.
 abbrev pub GoodIsShown : List TapeItem → List Told → List Told → Type 0
 GoodIsShown items old new =
     (t : Told) → StandsIn new t → t.1.state ≡ Good → StandsIn old t ⊎ Shown items t.0 t.1

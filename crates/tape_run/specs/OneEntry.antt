@@ -7,16 +7,16 @@ use Rattle.tape_run.specs.Added.{Adds, AddsInPart}
 use Rattle.tape_run.specs.Checked.{Reel, IsReport}
 use Rattle.tape_run.specs.Passing.{Told}
 
--- none of these entries is of this section
+-- none of these entries belongs to the section
 abbrev pub AreOthers : SectionKey → List Told → Type 0
 AreOthers key c = AllByRecursion (λ t. t.0 ≢ key) c
 
--- no two of these entries are of one section
+-- no two of these entries belong to the same section
 abbrev pub HasOneEach : List Told → Type 0
 HasOneEach [] = ⊤
 HasOneEach (t ∷ ts) = AreOthers t.0 ts × HasOneEach ts
 
--- Whatever images are added to a catalogue, even if memory was refused, it has one entry per
+-- Whatever images are added to a catalogue, even if memory was refused, it has one entry for each
 -- section; and so a report has one line for each.
 pub record OneEntryASection : Type 0 where
   pub added : (before after : Option (List ℕ)) (old new : List Told) (line : ImageLine)

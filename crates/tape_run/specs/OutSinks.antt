@@ -7,12 +7,12 @@ use Rattle.tape_core.specs.Stands.{weight_of}
 use Rattle.tape_blocks.specs.declared.parts.Form.{Form}
 use Rattle.tape_run.specs.RecordText.{output_of}
 
--- what there is of an unfinished record
+-- the bytes of an unfinished record, if there is one
 abbrev pub begun_text : Option (List ℕ) → List ℕ
 begun_text None = []
 begun_text (Some front) = front
 
--- the records that the parts join to, and what there is of an unfinished one
+-- the records that the parts join to, and the bytes of an unfinished one
 abbrev pub text_so_far : Form → List Portion → List ℕ
 text_so_far form parts = output_of form parts ++ begun_text (join parts).rest
 
@@ -25,13 +25,13 @@ with_end false n = n + 1
 abbrev pub TellsAlways : {W : Type 0} → (W → Option (List ℕ)) → Type 0
 TellsAlways {W} contents = (w : W) → IsSome (contents w)
 
--- known bytes are this text; after a failed write, followed by anything
+-- known bytes are this text; after a failed write, any bytes may follow
 abbrev pub IsText : Bool → List ℕ → Option (List ℕ) → Type 0
 IsText failed text known = (more : List ℕ) × (known ≡ Some (text ++ more))
     × (failed ≡ false → more ≡ [])
 
--- The parts were received: their weight and their records are recorded, and whether a record is
--- unfinished. If the writer knows its bytes, these are the text of the parts.
+-- The parts were received: their weight, the number of their records, and whether a record is
+-- unfinished are recorded. If the writer knows its bytes, these are the text of the parts.
 pub record HasTaken {W : Type 0} (contents : W → Option (List ℕ)) (form : Form) (out : W)
     (weight records : ℕ) (begun failed : Bool) (parts : List Portion) : Type 0 where
   pub weighs : weight ≡ weight_of parts

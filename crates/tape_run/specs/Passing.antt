@@ -1,5 +1,5 @@
--- Reading a reel with every section skipped: what is expected after each item, and which sections
--- the items contain.
+-- Reading a reel with every section skipped: the phase after each item, and the sections that the
+-- items contain.
 use Rattle.std.specs.Prelude.{ℕ, ◌+◌, ◌==◌, ◌&&◌, ◌||◌, not, Bool, true, false, if◌then◌else◌, List}
 use Rattle.std.specs.Prelude.{[], ◌∷◌, ◌++◌, Option, Some, None, Result, Ok, Err}
 use Rattle.tape_image.specs.Tape.{TapeItem, block, bad, mark}
@@ -22,7 +22,7 @@ use Rattle.tape_run.specs.declared.passing.Phase.{Phase}
 use Rattle.tape_run.specs.declared.passing.Phase.TheVariants.{Volume, Labels, Second, Headers, Data}
 use Rattle.tape_run.specs.declared.passing.Phase.TheVariants.{Trailer, Trailers, Next, Over}
 
--- a section and what is to be known of it
+-- a section and its entry
 abbrev pub Told : Type 0
 Told = SectionKey × Entry
 
@@ -53,7 +53,7 @@ told met trail =
     let state = state_by met trail.blocks in
     (met.key, record { volume = met.volume; blocks = met.blocks; eof = trail.eof; state = state })
 
--- after a block that was read as a trailer label, or could not be
+-- after a block that was read as a trailer label, or could not be read as one
 abbrev pub told_with : Met → Result Trail1 LabelFault → Phase × Option Told
 told_with met (Ok trail) =
     if closes met trail then (Trailers met.volume, Some (told met trail))
@@ -64,7 +64,7 @@ told_with met (Err _) = (Over, Some (cut met))
 abbrev pub told_by : Met → List ℕ → Phase × Option Told
 told_by met b = told_with met (trail1_at b)
 
--- after a block that was read as a volume label, or could not be
+-- after a block that was read as a volume label, or could not be read as one
 abbrev pub volume_with : Result Vol1 LabelFault → Phase
 volume_with (Ok label) = Labels label.volume
 volume_with (Err _) = Over
@@ -80,7 +80,7 @@ met_by volume head =
     record { set_id = head.set_id; file = head.sequence; sect = head.sect } in
     record { volume = volume; key = key; blocks = 0; bad = false }
 
--- after a block that was read as a header label, or could not be
+-- after a block that was read as a header label, or could not be read as one
 abbrev pub header_with : List ℕ → Result Head1 LabelFault → Phase → Phase
 header_with volume (Ok head) other = Second (met_by volume head)
 header_with volume (Err _) other = other
@@ -98,10 +98,11 @@ second_with met _ = Over
 abbrev pub labels_phase : List ℕ → List ℕ → Phase
 labels_phase v b = if is_volume_label b then Labels v else header_phase v b Over
 
--- What is expected after an item, and the section that it completes, if any.
+-- The phase after an item, and the section that it completes, if any.
 --
--- In the order of a volume: its label, further labels; for each section two labels, what follows
--- them, a mark, data, a mark, a trailer label, what follows it, a mark; then a second mark.
+-- The phases in the order of a volume: its label, further labels; for each section two labels,
+-- further headers, a mark, data, a mark, a trailer label, further trailers, a mark; then a second
+-- mark.
 abbrev pub step : Phase → TapeItem → Phase × Option Told
 step Volume (block b) = (volume_phase b, None)
 step Volume bad = (Over, None)

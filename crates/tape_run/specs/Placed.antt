@@ -1,5 +1,5 @@
--- The listing of an image with the offset and the size of each item, and what a run that writes it
--- leaves; the writer contained `old` before and contains `new` after.
+-- The listing of an image with the offset and the size of each item, and the state after a run that
+-- writes it; the writer contained `old` before and contains `new` after.
 use Rattle.std.specs.Prelude.{◌≡◌, ℕ, ◌+◌, ◌-◌, List, [], ◌∷◌, ◌++◌, length, Option, Some, None}
 use Rattle.std.specs.Prelude.{codes, decimal, unwrap_or}
 use Rattle.std.specs.Io.KnownBytes.{Appends, Keeps}
@@ -18,28 +18,27 @@ use Rattle.tape_run.specs.ListLine.{line_of}
 use Rattle.tape_run.specs.Listing.{end_line}
 use Rattle.tape_run.specs.Listed.{AppendsInto}
 
--- an item, where the item before it ended, and where it ends itself
+-- an item, the end of the item before it, and its own end
 pub record PlacedItem : Type 0 where
   pub item : TapeItem
   pub from : ℕ
   pub behind : ℕ
 
--- From offset p on the bytes xs are these items, with gaps between them, up to offset q, and then
--- ys.
+-- From offset p on the bytes xs are these items, with gaps between them, up to offset q, followed
+-- by ys.
 abbrev pub Places : ℕ → List PlacedItem → ℕ → List ℕ → List ℕ → Type 0
 Places p [] q xs ys = (p ≡ q) × (xs ≡ ys)
 Places p (x ∷ more) q xs ys =
     (x.from ≡ p) × (mid : List ℕ) × TakesItem p x.item x.behind xs mid
     × Places x.behind more q mid ys
 
--- how many bytes of an image an item takes; a bad block does not say
+-- how many bytes of an image an item takes; not known for a bad block
 abbrev pub item_extent : TapeItem → Option ℕ
 item_extent (block bytes) = Some (block_extent (length bytes))
 item_extent bad = None
 item_extent mark = Some 4
 
--- how many bytes an item takes; for a bad block, all from the item before it on, with the gaps
--- there
+-- how many bytes an item takes; for a bad block, all bytes after the item before it, including gaps
 abbrev pub item_size : PlacedItem → ℕ
 item_size x = unwrap_or (item_extent x.item) (x.behind - x.from)
 
@@ -56,13 +55,13 @@ abbrev pub placed_lines : ℕ → List PlacedItem → List ℕ
 placed_lines n [] = []
 placed_lines n (x ∷ more) = placed_line n x ++ placed_lines (n + 1) more
 
--- the last line, after this many bytes: an end-of-medium marker has an offset and a size too
+-- the last line, after the given number of bytes: an end-of-medium marker has an offset and a size
+-- too
 abbrev pub placed_end : Ending → ℕ → List ℕ
 placed_end ending behind = told_at (behind - end_len ending) (end_len ending) (end_line ending)
 
--- The items that the bytes begin with, up to the end of the medium, were read, and their lines were
--- written, and the last one. The rest of the bytes begins after the end-of-medium marker, if there
--- is one.
+-- All items up to the end of the medium were read; their lines and the last line were written. The
+-- rest of the bytes begins after the end-of-medium marker, if there is one.
 pub record PlacesToEnd (old new : Option (List ℕ)) (bytes left : List ℕ) : Type 0 where
   pub items : List PlacedItem
   pub at : ℕ
@@ -83,8 +82,8 @@ pub record PlacesToFault (fault : ImageFault) (old new : Option (List ℕ)) (byt
   pub takes : TakesFault at [] fault rest left
   pub wrote : Appends old new (placed_lines 1 items)
 
--- If a write failed: what was read of the bytes, and which line was not written completely. Nothing
--- is read after the item of that line.
+-- After a failed write: the bytes that were read, and the line that was not written completely.
+-- Nothing is read after the item of that line.
 pub data StopsPlacing (old new : Option (List ℕ)) (bytes left : List ℕ) : Type 0 where
   -- at the line of an item
   at_item : (done : List PlacedItem) (x : PlacedItem) (at : ℕ)
@@ -108,7 +107,7 @@ FitsPlacesCause OutOfMemory fault before after old new =
     (fault.place ≡ 0) × (after ≡ before) × Keeps old new
 FitsPlacesCause _ fault before after old new = IfKnown before after (PlacesToFault fault old new)
 
--- the fault comes where it should, for a reader with the bytes `before` and then `after`
+-- the fault is reported where it is, for a reader with the bytes `before` and then `after`
 abbrev pub FitsPlaces : Option (List ℕ) → Option (List ℕ) → Option (List ℕ) → Option (List ℕ)
     → ListFault → Type 0
 FitsPlaces before after old new (Image fault) =

@@ -1,5 +1,5 @@
--- Examples for the listing with offsets: a worked one, and that each number in it is the one that
--- the image's bytes have.
+-- Examples for the listing with offsets: a worked one, in which each number is the one in the
+-- image's bytes.
 use Rattle.std.specs.Prelude.{◌≡◌, ℕ, ◌+◌, ◌-◌, List, [], ◌∷◌, ◌++◌, length, map, codes, Option}
 use Rattle.std.specs.Io.KnownBytes.{Appends, Keeps}
 use Rattle.tape_image.specs.declared.item.Ending.TheVariants.{Marked}
@@ -30,13 +30,13 @@ abbrev pub PlacedAreFirst : Type 0
 PlacedAreFirst = (items : List PlacedItem) (p q : ℕ) (xs ys : List ℕ) → Places p items q xs ys
     → Walks p xs (map (λ x. x.item) items) q ys
 
--- bytes are this many items in one way only
+-- bytes encode this number of items in only one way
 abbrev pub OnePlaces : Type 0
 OnePlaces = (items others : List PlacedItem) (p q r : ℕ) (xs ys zs : List ℕ)
     → Places p items q xs ys → Places p others r xs zs → length items ≡ length others
     → items ≡ others
 
--- the offset of a block, and of a mark, is that of its first word: after the gaps before it
+-- the offset of a block or a mark is that of its first word, after the gaps before it
 abbrev pub PlaceIsOfWord : TapeItem → Type 0
 PlaceIsOfWord item = (p q : ℕ) (xs ys : List ℕ) (t : TakesItem p item q xs ys)
     → q - item_size (record { item = item; from = p; behind = q }) ≡ p + length t.gaps
@@ -45,20 +45,21 @@ PlaceIsOfWord item = (p q : ℕ) (xs ys : List ℕ) (t : TakesItem p item q xs y
 abbrev pub items_of : List PlacedItem → List TapeItem
 items_of items = map (λ x. x.item) items
 
--- what a run that ended the medium says: it has the items that `list` lists, each in its line
+-- the outcome of a run that reached the end of the medium: it lists the same items as `list`, each
+-- in its line
 abbrev pub PlacesEndSays : Option (List ℕ) → Option (List ℕ) → List ℕ → List ℕ → Type 0
 PlacesEndSays old new bytes left = (l : PlacesToEnd old new bytes left)
     → TakesEnd 0 (items_of l.items) l.ending l.place bytes left
     × Appends old new (placed_lines 1 l.items ++ placed_end l.ending l.place)
 
--- what a run that found a fault of the image says
+-- the outcome of a run that found a fault of the image
 abbrev pub PlacesFaultSays : ImageFault → Option (List ℕ) → Option (List ℕ) → List ℕ → List ℕ
     → Type 0
 PlacesFaultSays fault old new bytes left = (l : PlacesToFault fault old new bytes left)
     → TakesFault 0 (items_of l.items) fault bytes left
     × Appends old new (placed_lines 1 l.items)
 
--- what a run whose write failed says
+-- the outcome of a run whose write failed
 abbrev pub PlacesStopSays : Option (List ℕ) → Option (List ℕ) → List ℕ → List ℕ → Type 0
 PlacesStopSays old new bytes left = StopsPlacing old new bytes left
     → ((taken : List ℕ) × (bytes ≡ taken ++ left)) × ((text : List ℕ) × AppendsFront old new text)
@@ -70,7 +71,7 @@ pub record PlacesFaultFits (before after old new : Option (List ℕ)) : Type 0 w
   pub of_memory : (fault : ImageFault) → FitsPlacesCause OutOfMemory fault before after old new
       → (fault.place ≡ 0) × (after ≡ before) × Keeps old new
 
--- what a listing with offsets says
+-- the meaning of the outcomes of a listing with offsets
 pub record PlacesSay : Type 0 where
   pub at_end : (old new : Option (List ℕ)) (bytes left : List ℕ) → PlacesEndSays old new bytes left
   pub at_fault : (fault : ImageFault) (old new : Option (List ℕ)) (bytes left : List ℕ)

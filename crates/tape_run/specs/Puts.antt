@@ -14,7 +14,7 @@ use Rattle.tape_core.specs.Stands.{inside_block}
 use Rattle.tape_core.specs.Place.{place_of}
 use Rattle.tape_run.specs.declared.reel_reader.Refused.{Refused}
 
--- an item that came has a size that items can have
+-- an item that was read has a size that items can have
 abbrev pub IsSized : Option TapeItem → Type 0
 IsSized None = ⊤
 IsSized (Some item) = IsTapeItem item
@@ -39,8 +39,7 @@ pub record PutsFew (holds : List Portion → Type 0) (held parts : List Portion)
   pub held_now : holds (held ++ drop first (take r.part parts))
   pub begun_now : r.begun ≡ begun_behind begun (drop first (take r.part parts))
 
--- the checkpoint at the refused part of a block: the one before the block, if none of its parts was
--- put now
+-- the checkpoint at the refused part of a block: the one before the block if no part of it was put
 abbrev pub refused_point : Point → Point → ℕ → Bool → Point
 refused_point before after part begun =
     if part == part_of before.position then before

@@ -11,8 +11,8 @@ abbrev pub EachEnds : List Portion → Type 0
 EachEnds [] = ⊤
 EachEnds (p ∷ ps) = (leaves p.span ≡ false) × EachEnds ps
 
--- This many parts come first, each of which ends a record, and the records that they join to were
--- written; if `all` is set, these are all parts.
+-- Each of these first parts ends a record, and the records to which they join were written. If
+-- `all` is set, there are no other parts.
 pub record WritesFront (form : Form) (count : ℕ) (all : Bool) (old new : Option (List ℕ))
     (parts : List Portion) : Type 0 where
   pub first : List Portion

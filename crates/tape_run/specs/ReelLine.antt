@@ -38,7 +38,7 @@ reason_text SectionDiffers = codes "SECTION DIFFERS"
 reason_text (BadLabel fault) = codes "BAD LABEL " ++ decimal (label_faults.number fault)
 reason_text Broken = codes "BROKEN"
 
--- what ended a reading; the first two never do
+-- what ended a reading; the first two answers never end one
 abbrev pub answer_text : Answer → List ℕ
 answer_text Passed = codes "PASSED"
 answer_text Deliver = codes "DELIVER"
@@ -46,7 +46,7 @@ answer_text SectionDone = codes "SECTION DONE"
 answer_text Complete = codes "COMPLETE"
 answer_text (Useless reason) = reason_text reason
 
--- the fault of the image that ended the reading, if there was one
+-- the fault of the image that ended the reading, if any
 abbrev pub end_text : Option ImageFault → List ℕ
 end_text None = []
 end_text (Some fault) =
@@ -61,7 +61,7 @@ outcome_text (Some answer) = answer_text answer.answer ++ end_text answer.fault
 abbrev pub reel_line : ℕ → Option ReelAnswer → List ℕ
 reel_line n outcome = codes "REEL " ++ decimal n ++ codes " " ++ outcome_text outcome ++ codes "\n"
 
--- the last line of a complete file, which has this many records
+-- the last line for a complete file, with the number of its records
 abbrev pub complete_line : ℕ → List ℕ
 complete_line records = codes "COMPLETE " ++ decimal records ++ codes "\n"
 
@@ -69,12 +69,12 @@ complete_line records = codes "COMPLETE " ++ decimal records ++ codes "\n"
 abbrev pub part_text : ℕ → List ℕ
 part_text part = if part == 0 then [] else codes " " ++ decimal part
 
--- the last line of an incomplete one: what is missing
+-- the last line of the report on an incomplete file: the missing part
 abbrev pub awaits_line : Want → List ℕ
 awaits_line want = codes "AWAITS " ++ decimal want.file ++ codes " " ++ decimal want.sect
     ++ codes " " ++ decimal want.block ++ part_text want.part ++ codes "\n"
 
--- the last line: what is missing, or how many records the file has
+-- the last line: the missing part, or the number of records in the file
 abbrev pub last_line : Option Want → ℕ → List ℕ
 last_line None records = complete_line records
 last_line (Some want) records = awaits_line want

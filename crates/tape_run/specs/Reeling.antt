@@ -35,8 +35,8 @@ use Rattle.tape_run.specs.SessionState.{SessionState}
 use Rattle.tape_image.specs.Written.{AppendsFront}
 use Rattle.tape_run.specs.ReelLine.{reel_line, reel_lines}
 
--- An image that was opened: the bytes that its reader had and has left, if these are known, what
--- its reel answered, and whether a checkpoint was made after it.
+-- An image that was opened: the bytes that its reader had and has left, if these are known, the
+-- answer of its reel, and whether a checkpoint was made after it.
 pub record Opened : Type 0 where
   pub had : Option (List ℕ)
   pub left : Option (List ℕ)
@@ -47,13 +47,13 @@ pub record Opened : Type 0 where
 abbrev pub Turn : Type 0
 Turn = Option Opened
 
--- what an image answered, if it was opened
+-- the answer of an image, if it was opened
 abbrev pub answer_of : Turn → Option ReelAnswer
 answer_of None = None
 answer_of (Some o) = Some o.answer
 
--- An image that was opened, or could not be, is this turn: its reader had these bytes, and was
--- closed with those left.
+-- An image that was opened, or could not be opened, is this turn: its reader had these bytes, and
+-- was closed with those left.
 abbrev pub IsTurn : {R : Type 0} → (R → Option (List ℕ)) → Option R → Turn → Type 0
 IsTurn remaining None None = ⊤
 IsTurn remaining (Some old) (Some o) =
@@ -64,12 +64,12 @@ IsTurn remaining image turn = ⊥
 abbrev pub Mounting : Type 0 → Type 0 → Type 1
 Mounting L R = L → ℕ → Option R → L → Type 0
 
--- The reader with this number is taken from a list, if there is one.
+-- The reader with a given number is removed from a list, if it is there.
 abbrev pub Took : {R : Type 0} → Mounting (List (Option R)) R
 Took readers number image left =
     (image ≡ get_or readers number None) × (left ≡ set readers number None)
 
--- The images of a source from this number on, opened one after another, are each as the list says.
+-- The images of a source from this number on, opened one after another, are described by the list.
 abbrev pub AreMounted : {L R T : Type 0} → Mounting L R → (Option R → T → Type 0) → L → ℕ → List T
     → L → Type 0
 AreMounted gives is shelf number [] last = last ≡ shelf
@@ -89,7 +89,7 @@ AreFirstTurns gives remaining shelf turns last = (mid : _)
     × AreTurns gives remaining shelf 0 turns mid
     × ((last ≡ mid) ⊎ ((image : Option _) × gives mid (length turns) image last))
 
--- whether the trailer label of the reel, or of a reel before it, counted other blocks
+-- whether the trailer label of the reel, or of a reel before it, gave a different number of blocks
 abbrev pub counts_differ : Answer → Bool
 counts_differ (Useless (BlockCount label seen)) = true
 counts_differ (Useless Broken) = true
@@ -103,9 +103,9 @@ WentToLast old new = (n : ℕ) × (length old.notes ≡ n + 1) × WentBack n old
 abbrev pub HasNotedHere : Seen → Type 0
 HasNotedHere s = IsLast s (saved s.place (weight_of s.parts)) s.parts
 
--- After a reel the session made a checkpoint of its position. One that spares checkpoints made it
--- only if its last one has another position; if it has this one nothing changed. If the reel is
--- suspect no checkpoint was made: a session that rolls back is at its last one, another is
+-- After a reel the session made a checkpoint of its position. A session that spares checkpoints
+-- made it only if its last one has another position; otherwise nothing changed. If the reel is
+-- suspect, no checkpoint was made: a session that rolls back is at its last one, and any other is
 -- unchanged.
 abbrev pub IsNoted : Bool → Bool → Bool → Bool → Seen → Seen → Type 0
 IsNoted back spares false true old new = (spares ≡ true → HasNotedHere old → ⊥) × Saved old new
@@ -118,7 +118,7 @@ abbrev pub goes_back : List Point → Bool
 goes_back [] = false
 goes_back (c ∷ cs) = true
 
--- The checkpoints of a session that rolls back are its own, as those of every session are.
+-- The checkpoints of a session that rolls back belong to it, as those of every session do.
 abbrev pub IsKeptFor : Bool → Seen → Type 0
 IsKeptFor false s = ⊤
 IsKeptFor true s = IsKept s
@@ -129,8 +129,9 @@ IsKeptFor true s = IsKept s
 pub record ReadsAndNotes (back spares : Bool) (core : State) (old : Seen) (o : Opened)
     (next : State) (new : Seen) : Type 0 where
   pub waits : core.position ≢ Finished
+  pub behind : State
   pub answers : IfKnown o.had o.left
-      (λ bytes left. Reads core.position core bytes left o.answer)
+      (λ bytes left. Reads core.position core bytes left o.answer behind)
   pub reeled : IfSome o.had (λ bytes. (mid : Seen)
       × Reeled bytes o.left (is_device o.answer.fault) old mid
       × IsNoted back spares (counts_differ o.answer.answer) o.noted mid new)
@@ -146,7 +147,8 @@ Follows back spares core old (Some o ∷ turns) last new = (next : State) × (be
     × ReadsAndNotes back spares core old o next behind
     × Follows back spares next behind turns last new
 
--- The step after a reel, of a session that has this many checkpoints, if there is one.
+-- The step after a reel, for a session with the given number of checkpoints; `None` if no step
+-- follows.
 abbrev pub step_behind : Bool → Bool → Bool → ℕ → List Step
 step_behind back false true notes = Save ∷ []
 step_behind back false false notes = []
@@ -154,15 +156,15 @@ step_behind false true noted notes = []
 step_behind true true noted zero = []
 step_behind true true noted (suc n) = Restart n ∷ []
 
--- how many checkpoints there are then
+-- how many checkpoints there are afterwards
 abbrev pub notes_behind : Bool → Bool → ℕ → ℕ
 notes_behind false true notes = notes + 1
 notes_behind false false notes = notes
 notes_behind true noted notes = notes
 
--- The steps of a session over images, which has this many checkpoints before: for each image that
--- was opened its reel, and after it a save, if a checkpoint was made; after a suspect one it rolls
--- back to the last checkpoint.
+-- The steps of a session over images, with this many checkpoints before: for each image that was
+-- opened its reel, followed by a save if a checkpoint was made; after a suspect reel the session
+-- rolls back to the last checkpoint.
 abbrev pub steps_of : Bool → ℕ → List Turn → List Step
 steps_of back notes [] = []
 steps_of back notes (None ∷ turns) = steps_of back notes turns
@@ -170,14 +172,14 @@ steps_of back notes (Some o ∷ turns) =
     Reel ∷ step_behind back (counts_differ o.answer.answer) o.noted notes
     ++ steps_of back (notes_behind (counts_differ o.answer.answer) o.noted notes) turns
 
--- Each reader of an image that was opened told its bytes, and they are these.
+-- Each reader of an image that was opened knew its bytes, and these are the ones.
 abbrev pub AreTold : List Turn → List (List ℕ) → Type 0
 AreTold [] bytes = bytes ≡ []
 AreTold (None ∷ turns) bytes = AreTold turns bytes
 AreTold (Some o ∷ turns) [] = ⊥
 AreTold (Some o ∷ turns) (b ∷ bytes) = (o.had ≡ Some b) × AreTold turns bytes
 
--- what is left of the images that were opened
+-- the bytes left of the images that were opened
 abbrev pub left_in : List Turn → List (Option (List ℕ))
 left_in [] = []
 left_in (None ∷ turns) = left_in turns
@@ -189,9 +191,9 @@ failed_in [] = []
 failed_in (None ∷ turns) = failed_in turns
 failed_in (Some o ∷ turns) = is_device o.answer.fault ∷ failed_in turns
 
--- What was done with the images are steps of a run, one that rolls back after a suspect reel: so
--- the headline is true of them, over all histories that the images are; and exactly the listed
--- readers failed.
+-- The session's calls for the images are the steps of a run that rolls back after a suspect reel:
+-- so the headline is true of them, over all histories that the images represent; and exactly the
+-- listed readers failed.
 abbrev pub AreSteps : Bool → List Turn → Seen → Seen → Type 0
 AreSteps back turns old new = (bytes : List (List ℕ)) → AreTold turns bytes
     → (run : HasRun old (steps_of back (length old.notes) turns) bytes (left_in turns) new)
@@ -199,8 +201,8 @@ AreSteps back turns old new = (bytes : List (List ℕ)) → AreTold turns bytes
 
 -- ---- calls
 
--- For any parts of its sink, the session went like this from its earlier state to its current one,
--- a session that rolls back still has its own checkpoints, and a crash leaves the last one.
+-- For any parts of its sink, the session changed in this way from its earlier state to its current
+-- one, a session that rolls back still has its own checkpoints, and a crash leaves the last one.
 abbrev pub Carries : {S : Type 0} → Ghosts S → Bool → SessionState S → SessionState S → (Seen → Seen → Type 0)
     → Type 0
 Carries g back old new so = IfSeen g old (λ was. IsKeptFor back was
@@ -217,8 +219,8 @@ pub record Takes {S R : Type 0} (g : Ghosts S) (remaining : R → Option (List �
   pub follows : Carries g back old new
       (λ was is. Follows back spares old.core was (turn ∷ []) new.core is)
 
--- Images, of which there are so many, were read in their order, all of them or up to the one that
--- completed the file, and a line was reported for each, after the given number of earlier lines.
+-- The given number of images was read in order, all of them or up to the one that completed the
+-- file, and a line was reported for each, after the given number of earlier lines.
 pub record TakesAll {S L R : Type 0} (g : Ghosts S) (size before : ℕ) (gives : Mounting L R)
     (remaining : R → Option (List ℕ)) (back spares : Bool) (old new : SessionState S) (shelf left : L)
     (said says : Option (List ℕ)) : Type 0 where
@@ -236,14 +238,14 @@ abbrev pub IsReported : ℕ → Option (List ℕ) → Option (List ℕ) → Type
 IsReported number said says = (more : List (Option ReelAnswer)) × (length more ≤ 1)
     × AppendsFront said says (reel_lines number more)
 
--- The session is here, and its sink contains these parts; and a crash leaves only its last
--- checkpoint, if it made one since its old state or only that was left before.
+-- The session's position is here, and its sink contains these parts; and a crash leaves only its
+-- last checkpoint, if it has made one since its old state or only that was left before.
 abbrev pub StoodSaved : {S : Type 0} → Ghosts S → SessionState S → List Portion → SessionState S → Seen → Type 0
 StoodSaved g old held new now = (parts : List Portion) × g.holds new.sink parts
     × (now ≡ seen g new parts) × KeepsLast g old held new parts
 
--- Images were read in their order, and a fault ended that: a line was reported for each of them,
--- and a prefix of one for one more. Those after that one were not opened.
+-- Images were read in their order until a fault ended the run: a line was reported for each of
+-- them, and a prefix of one for one more. The images after that one were not opened.
 pub record StopsReading {S L R : Type 0} (g : Ghosts S) (size before : ℕ) (gives : Mounting L R)
     (remaining : R → Option (List ℕ)) (back spares : Bool) (old new : SessionState S) (shelf left : L)
     (said says : Option (List ℕ)) : Type 0 where

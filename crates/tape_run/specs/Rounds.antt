@@ -27,7 +27,7 @@ abbrev pub core_behind : State → List Round → State
 core_behind core [] = core
 core_behind core (r ∷ rounds) = core_behind r.behind rounds
 
--- what is missing of a file if its reader is in this state
+-- the missing part of a file whose reader is in this state
 abbrev pub wanted : State → Option Want
 wanted core = want_at core.file core.position
 
@@ -38,15 +38,15 @@ AreRounds gives remaining shelf [] last = last ≡ shelf
 AreRounds gives remaining shelf (r ∷ rounds) last = (mid : _)
     × AreTurns gives remaining shelf 0 r.turns mid × AreRounds gives remaining mid rounds last
 
--- Each pass had all images, of which there are so many, and recovered something: something is
--- missing after it, but not the same as before.
+-- Each pass read all images, and recovered something: a part is still missing after it, but not the
+-- same part as before.
 abbrev pub MadeProgress : ℕ → State → List Round → Type 0
 MadeProgress size core [] = ⊤
 MadeProgress size core (r ∷ rounds) = (length r.turns ≡ size) × (wanted r.behind ≢ None)
     × (wanted r.behind ≢ wanted core) × MadeProgress size r.behind rounds
 
--- After a pass there is no other one: nothing is missing, or the same as before it, or the lines of
--- another one have no numbers in 64 bits. This many lines precede the pass.
+-- No other pass follows: no part is missing, or the same part as before the pass, or line numbers
+-- are exhausted. The given number of lines precedes the pass.
 abbrev pub IsEnough : ℕ → ℕ → Option Want → Option Want → Type 0
 IsEnough size lines before want = (want ≡ None) ⊎ ((want ≡ before)
     ⊎ (18446744073709551615 < lines + size + size))
@@ -67,7 +67,7 @@ GoesRound back core old rounds turns last new = (mid : Seen)
 -- ---- calls
 
 -- Complete passes were made, each recovered something, and a line was reported for each image of
--- each.
+-- each pass.
 pub record HasGone {S L R : Type 0} (g : Ghosts S) (size : ℕ) (gives : Mounting L R)
     (remaining : R → Option (List ℕ)) (back : Bool) (old new : SessionState S) (shelf left : L)
     (said says : Option (List ℕ)) (rounds : List Round) : Type 0 where
@@ -90,7 +90,7 @@ pub record TakesRounds {S L R : Type 0} (g : Ghosts S) (size : ℕ) (gives : Mou
       between left told says
   pub enough : IsEnough size (length (turns_of rounds)) (wanted mid.core) (wanted new.core)
 
--- Passes were made, and a fault ended the one after them.
+-- Passes were made, and a fault ended the next one.
 pub record StopsInRound {S L R : Type 0} (g : Ghosts S) (size : ℕ) (gives : Mounting L R)
     (remaining : R → Option (List ℕ)) (back : Bool) (old new : SessionState S) (shelf left : L)
     (said says : Option (List ℕ)) : Type 0 where

@@ -1,4 +1,4 @@
--- What the steps of a run do, one after another.
+-- The effects of the steps of a run, one after another.
 use Rattle.std.specs.Prelude.{◌≡◌, ℕ, Bool, List, [], ◌∷◌, length, map, take, drop, Option, Some}
 use Rattle.std.specs.Prelude.{None, slice_get, ⊤, ◌⊎◌}
 use Rattle.tape_set.specs.Layout.{FileSet}
@@ -17,8 +17,9 @@ use Rattle.tape_run.specs.Causes.{IsCalm}
 use Rattle.tape_run.specs.SessionState.{SessionState}
 use Rattle.tape_core.specs.declared.sink.PartSink.{Ghosts}
 
--- All steps succeeded, one after another, each reel with the next reader; the lists say whether it
--- failed, and what it has left. After a reader that does not know its bytes nothing is known.
+-- All steps succeeded, one after another, each reel with the next reader; the lists say whether the
+-- reader failed, and which bytes it has left. After a reader that does not know its bytes nothing
+-- is known.
 abbrev pub Runs : List Bool → Seen → List Step → List (Option (List ℕ)) → List (Option (List ℕ))
     → Seen → Type 0
 Runs which old [] reels left new = (which ≡ []) × (new ≡ old)
@@ -65,7 +66,7 @@ pub record StopsFor {S : Type 0} (g : Ghosts S) (steps : List Step) (n : ℕ) (f
   pub calm : IsCalm g old mid
   pub refuses : RefusesStep g step fault mid new
 
--- the sink refused, or memory ran out
+-- the sink refused a call, or memory ran out
 abbrev pub IsRefusal : RunFault → Type 0
 IsRefusal (Sink cause) = ⊤
 IsRefusal NoSuchPoint = ⊥

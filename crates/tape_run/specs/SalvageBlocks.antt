@@ -1,4 +1,4 @@
--- The data items of a section taken one after another, and what is reported of missing blocks.
+-- The data items of a section, processed one after another, and the report on missing blocks.
 use Rattle.std.specs.Prelude.{◌≡◌, ℕ, ◌-◌, ◌||◌, Bool, true, false, if◌then◌else◌, List, [], ◌++◌}
 use Rattle.std.specs.Prelude.{is_some, Option, Some, None}
 use Rattle.std.specs.Io.KnownBytes.{Appends}
@@ -11,8 +11,8 @@ use Rattle.tape_run.specs.SalvageRecords.{torn, is_cut}
 use Rattle.tape_run.specs.SalvageLine.{gap_line, torn_line, refused_line}
 use Rattle.tape_run.specs.declared.salvage.recovery.Recovery.{Recovery}
 
--- the records so far, the first block of a gap that is not reported yet, and whether something is
--- missing
+-- the records so far, the first block of a gap that has not been reported yet, and whether
+-- something is missing
 pub record Salvaged : Type 0 where
   pub piece : Piece
   pub gap : Option ℕ
@@ -30,7 +30,7 @@ gap_text sect (Some first) next records = gap_line sect first (next - 1) records
 abbrev pub torn_text : Bool → ℕ → ℕ → ℕ → List ℕ
 torn_text is sect n records = if is then torn_line sect n records else []
 
--- the lines of a block that holds no records
+-- the lines of a block that contains no records
 abbrev pub refused_text : ℕ → ℕ → Option BlockFault → Bool → ℕ → List ℕ
 refused_text sect n None begun records = []
 refused_text sect n (Some fault) begun records =
@@ -57,7 +57,8 @@ with_block_text sect form n b g =
     ++ (torn_text (is_cut form g.piece b) sect n g.piece.records
     ++ refused_text sect n (found_fault form g.piece b) g.piece.begun g.piece.records)
 
--- an item was read, which is the data item with this number of the section, or no data item of it
+-- an item was read: the data item of the section with this number, or an item that is not one of
+-- its data
 abbrev pub salvaged_at : Option FileForm → Salvaged → Option ℕ → TapeItem → Salvaged
 salvaged_at form g None x = g
 salvaged_at form g (Some n) (block b) = with_block form b g
@@ -70,14 +71,14 @@ text_at sect form g (Some n) (block b) = with_block_text sect form n b g
 text_at sect form g (Some n) bad = without_block_text sect n g
 text_at sect form g (Some n) mark = []
 
--- what a recovery has written, buffered and noted
+-- the records that a recovery has written and buffered, and its gaps
 pub record HasSalvaged {W : Type 0} (contents : W → Option (List ℕ)) (start : Start)
     (r : Recovery W) (g : Salvaged) : Type 0 where
   pub piece : HasPiece contents start r.mender g.piece
   pub same_gap : r.gap ≡ g.gap
   pub same_missing : r.missing ≡ g.missing
 
--- The recovery went on so from whatever it had, and its report grew by this text.
+-- The recovery continued like this from any state, and its report was extended by this text.
 abbrev pub Recovers : {W : Type 0} → (W → Option (List ℕ)) → Recovery W → Recovery W
     → Option (List ℕ) → Option (List ℕ) → (Salvaged → Salvaged) → (Salvaged → List ℕ) → Type 0
 Recovers contents old new said says after text = (start : Start) (g : Salvaged)

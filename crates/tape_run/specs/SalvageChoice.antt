@@ -1,4 +1,4 @@
--- Which copy of a section is read, and what the copies say of the file.
+-- The copy from which a section is read, and the facts in the copies about the file.
 use Rattle.std.specs.Prelude.{◌≡◌, ℕ, ◌<◌, ◌≤◌, ◌==◌, ◌&&◌, not, max, Bool, false, if◌then◌else◌}
 use Rattle.std.specs.Prelude.{List, [], ◌∷◌, ◌++◌, Option, Some, None, is_some}
 use Rattle.std.specs.List.{AllByRecursion}
@@ -6,7 +6,7 @@ use Rattle.tape_set.specs.Lawful.{FileForm}
 use Rattle.tape_run.specs.declared.salvage.copies.SectionCopy.{SectionCopy}
 use Rattle.tape_run.specs.SalvageCopies.{rank}
 
--- the copies of a section that are considered: the first of it on each image
+-- the copies of a section that are considered: the first one on each image
 abbrev pub is_on : ℕ → Option ℕ → Bool
 is_on image None = false
 is_on image (Some last) = last == image
@@ -19,13 +19,13 @@ firsts sect last [] = []
 firsts sect last (c ∷ cs) = if is_considered sect last c then c ∷ firsts sect (Some c.image) cs
     else firsts sect last cs
 
--- the first of those with the greatest rank, if there is one
+-- the first of these with the greatest rank, if there are any
 abbrev pub IsBest : List SectionCopy → Option SectionCopy → Type 0
 IsBest cs None = cs ≡ []
 IsBest cs (Some b) = (front rest : List SectionCopy) × (cs ≡ front ++ b ∷ rest)
     × AllByRecursion (λ c. rank c < rank b) front × AllByRecursion (λ c. rank c ≤ rank b) rest
 
--- the image of the last of them
+-- the image of the last of these copies
 abbrev pub last_image : ℕ → Option ℕ → List SectionCopy → Option ℕ
 last_image sect last [] = last
 last_image sect last (c ∷ cs) =

@@ -1,4 +1,4 @@
--- The copies of a file's sections on images, and how much of each is certain.
+-- The copies of a file's sections on images, and how much of each is reliable.
 use Rattle.std.specs.Prelude.{◌≡◌, ℕ, ◌+◌, ◌-◌, ◌==◌, ◌&&◌, Bool, if◌then◌else◌, List, []}
 use Rattle.std.specs.Prelude.{◌∷◌, ◌++◌, Option, Some, None, option_map, is_none, is_some}
 use Rattle.std.specs.Str.{bytes_eq}
@@ -14,12 +14,12 @@ use Rattle.tape_run.specs.declared.salvage.walk.Expected.{Expected}
 use Rattle.tape_run.specs.declared.salvage.walk.Expected.TheVariants.{Outside}
 use Rattle.tape_run.specs.SalvageWalk.{FoundSection, FoundAt, sections_in, skipping}
 
--- it is a section of this file
+-- the section belongs to this file
 abbrev pub is_of : List ℕ → ℕ → FoundSection → Bool
 is_of set_id file t = bytes_eq t.0.key.set_id set_id && (t.0.key.file == file)
 
--- how many items of the image precede its data, if its HDR1 was not read; its items end where so
--- many were read
+-- the number of items of the image that precede its data, if its HDR1 was not read, given the
+-- number of items before its end
 abbrev pub skip_of : ℕ → OpenSection → Option ℕ
 skip_of place u = option_map (λ n. place - n - u.blocks) u.after
 
@@ -39,7 +39,7 @@ of_file set_id file image (t ∷ ts) =
     if is_of set_id file t.1 then copy_of image t ∷ of_file set_id file image ts
     else of_file set_id file image ts
 
--- What is expected at the first item of a copy's image when the section is read from it. If its
+-- The phase expected at the first item of a copy's image if the section is read from it. If its
 -- HDR1 was not read, its data are found by their place.
 abbrev pub start_of : SectionCopy → Expected
 start_of c = start_by c.skip c.section
@@ -49,7 +49,7 @@ start_of c = start_by c.skip c.section
     start_by (Some n) u = skipping n (record u { blocks = 0 })
 
 -- how many of the data items are certainly blocks of the section: all if it closes, otherwise those
--- before the first item after its HDR1 that could not be read
+-- before the first unreadable item after its HDR1
 abbrev pub believed : SectionCopy → ℕ
 believed s = believed_by s.closed s.section.certain s.section.blocks
   where
@@ -71,15 +71,16 @@ wrong_count s = wrong_by s.closed s.section.blocks
 abbrev pub blocks_read : SectionCopy → ℕ
 blocks_read s = if is_some s.closed then s.section.blocks - s.section.unreadable else believed s
 
--- it closes, all of it was read, and its trailer label counts its blocks
+-- it closes, all of it was readable, and its trailer label counts its blocks
 abbrev pub is_complete : SectionCopy → Bool
 is_complete s = is_some s.closed && (is_none s.section.certain && is_none (wrong_count s))
 
--- a complete copy is before all others, and then one with more blocks read before one with fewer
+-- complete copies come first, then those with more readable blocks
 abbrev pub rank : SectionCopy → ℕ
 rank s = (if is_complete s then 4294967296 else 0) + blocks_read s
 
--- All items of an image were read, and its sections of the file follow those found before.
+-- All items of an image were read, and its sections of the file were appended to those found
+-- before.
 pub record FindsCopies (before after : Option (List ℕ)) (set_id : List ℕ) (file image : ℕ)
     (old new : List SectionCopy) : Type 0 where
   pub items : List TapeItem

@@ -1,4 +1,4 @@
--- What is reported after the blocks of a section.
+-- The report at the end of the blocks of a section.
 use Rattle.std.specs.Prelude.{ℕ, ◌-◌, ◌&&◌, ◌||◌, nat_lt, Bool, true, if◌then◌else◌, List, []}
 use Rattle.std.specs.Prelude.{◌++◌, Option, Some, None, is_some}
 use Rattle.tape_run.specs.declared.salvage.copies.SectionCopy.{SectionCopy}
@@ -9,11 +9,11 @@ use Rattle.tape_run.specs.SalvageLine.{open_gap_line, unsure_line, count_line, n
 use Rattle.tape_run.specs.SalvageLine.{no_form_line}
 use Rattle.tape_run.specs.SalvageBlocks.{Salvaged, gap_text, torn_text}
 
--- all or the rest of a section is missing
+-- all of a section, or its rest, is missing
 abbrev pub without_rest : Salvaged → Salvaged
 without_rest g = record { piece = torn g.piece; gap = g.gap; missing = true }
 
--- the line of the unfinished record that is left out, if there is one
+-- the line about the unfinished record that is left out, if any
 abbrev pub rest_text : ℕ → ℕ → Salvaged → List ℕ
 rest_text sect n g = torn_text g.piece.begun sect n g.piece.records
 
@@ -24,7 +24,7 @@ no_section_text sect g = rest_text sect 0 g ++ no_section_line sect g.piece.reco
 abbrev pub no_form_text : ℕ → Salvaged → List ℕ
 no_form_text sect g = rest_text sect 0 g ++ no_form_line sect g.piece.records
 
--- the items after those that are believed
+-- the items after the reliable ones
 abbrev pub unsure_text : ℕ → ℕ → ℕ → List ℕ
 unsure_text sect first blocks =
     if nat_lt first blocks then unsure_line sect first (blocks - 1) else []
@@ -41,7 +41,7 @@ open_text c g =
 abbrev pub without_gap : Salvaged → Salvaged
 without_gap g = record { piece = g.piece; gap = None; missing = g.missing }
 
--- the trailer label counts other blocks
+-- the trailer label counts another number of blocks
 abbrev pub with_count : Option ℕ → Salvaged → Salvaged
 with_count label g =
     record { piece = g.piece; gap = g.gap; missing = g.missing || is_some label }
@@ -75,7 +75,8 @@ abbrev pub stopped_text : ℕ → ℕ → Salvaged → List ℕ
 stopped_text sect n g = gap_text sect g.gap n g.piece.records
     ++ (rest_text sect n g ++ open_gap_line sect n g.piece.records)
 
--- after a copy of which so many data items were read again: all that are certain, or too few
+-- after a copy of which the given number of data items was read again: all the reliable ones, or
+-- fewer
 abbrev pub read_again : ℕ → SectionCopy → Salvaged → Salvaged
 read_again n c g = if nat_lt n (believed c) then stopped g else ended c c.closed g
 

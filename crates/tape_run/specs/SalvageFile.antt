@@ -1,4 +1,5 @@
--- What is recovered of a file from readings of the volumes of a lawful set, each section from one.
+-- The records recovered of a file from readings of the volumes of a valid set, each section from
+-- one reading.
 use Rattle.std.specs.Prelude.{◌≡◌, ℕ, Bool, true, false, List, [], ◌∷◌, ◌++◌, length, Option, Some}
 use Rattle.std.specs.Prelude.{None}
 use Rattle.std.specs.List.{AllByRecursion}
@@ -27,7 +28,7 @@ abbrev pub closed_copy : ℕ → OpenSection → Closing → SectionCopy
 closed_copy image section closed =
     record { image = image; section = section; closed = Some closed; skip = None }
 
--- The section was recovered from a reading of a volume of a lawful set, on which it is once. It was
+-- The section was recovered from a reading of a volume of a valid set, on which it is once. It was
 -- found as it is (`FindsSection`), and read up to the mark after its data (`ReadsSection`).
 pub record IsTakenFrom (set_id : List ℕ) (volumes : ℕ) (known : Option FileForm) (form : FileForm)
     (eof : Bool) (t : Taken) (r : SectionRead) : Type 0 where
@@ -57,7 +58,7 @@ pub record IsTakenFrom (set_id : List ℕ) (volumes : ℕ) (known : Option FileF
   pub splits : read_volume labels (before ++ r ∷ rest) ≡ items ++ unread
   pub ends : EndsData (Outside 0) section.key items
 
--- sections one after another, of which none ends the file
+-- consecutive sections, none of which ends the file
 abbrev pub AreTakenFrom : List ℕ → ℕ → Option FileForm → FileForm → List Taken → List SectionRead
     → Type 0
 AreTakenFrom set_id volumes known form [] [] = Unit {0}
@@ -66,12 +67,12 @@ AreTakenFrom set_id volumes known form (t ∷ ts) [] = ⊥
 AreTakenFrom set_id volumes known form (t ∷ ts) (r ∷ rs) =
     IsTakenFrom set_id volumes known form false t r × AreTakenFrom set_id volumes known form ts rs
 
--- the blocks of sections, one after another
+-- the blocks of consecutive sections
 abbrev pub blocks_of : List SectionRead → Blocks
 blocks_of [] = []
 blocks_of (r ∷ rs) = r.blocks ++ blocks_of rs
 
--- what is recovered of a file from its sections
+-- the records recovered of a file from its sections
 abbrev pub file_after : Option FileForm → List Taken → Salvaged
 file_after known ts = after_all Records known ts none_salvaged
 
@@ -87,7 +88,7 @@ RecoversBlocks = (set_id : List ℕ) (volumes : ℕ) (known : Option FileForm) (
     (g.piece.done ≡ (piece_after form nothing bs).done)
     × (g.missing ≡ false → AllByRecursion (λ b. b.0 ≡ true) bs)
 
--- Of the file exactly the records are recovered all of whose parts are in blocks that were read;
+-- Exactly those records of the file are recovered all of whose parts are in blocks that were read;
 -- and if nothing is missing, these are all parts of the file.
 abbrev pub RecoversFile : Type 0
 RecoversFile = (set_id : List ℕ) (volumes : ℕ) (known : Option FileForm) (form : FileForm)
@@ -100,8 +101,8 @@ RecoversFile = (set_id : List ℕ) (volumes : ℕ) (known : Option FileForm) (fo
     → (g.piece.done ≡ whole_parts (parts_with bs))
     × (g.missing ≡ false → g.piece.done ≡ all_parts bs)
 
--- Nothing is left out before the first block that was not read: the records so far, with the
--- unfinished one, are all parts of these blocks, and the records remain whatever follows.
+-- No record is left out before the first block that was not read: the records so far, with the
+-- unfinished one, are all parts of these blocks, and they remain a prefix whatever follows.
 abbrev pub RecoversUpToGap : Type 0
 RecoversUpToGap = (set_id : List ℕ) (volumes : ℕ) (known : Option FileForm) (form : FileForm)
     (eof end : Bool) (ts : List Taken) (t : Taken) (rs : List SectionRead) (r : SectionRead)

@@ -26,8 +26,7 @@ read_in key (Data u) = if same_key u.key key then u.blocks else 0
 read_in key (Trailer u) = if same_key u.key key then u.blocks else 0
 read_in key _ = 0
 
--- the number of the next item among the data items of this section, if it is one of the first
--- `most`
+-- the number of the next item among the data items of the section, if it is one of the first `most`
 abbrev pub number_in : SectionKey → ℕ → Expected → Option ℕ
 number_in key most (Data u) =
     if same_key u.key key && nat_lt u.blocks most then Some u.blocks else None
@@ -40,7 +39,7 @@ salvaged_from key most form s g [] = g
 salvaged_from key most form s g (x ∷ xs) =
     salvaged_from key most form (step s x).0 (salvaged_at form g (number_in key most s) x) xs
 
--- and the lines of these items
+-- and the lines reported for these items
 abbrev pub text_from : SectionKey → ℕ → Option FileForm → Expected → Salvaged → List TapeItem
     → List ℕ
 text_from key most form s g [] = []
@@ -64,7 +63,7 @@ EndsData start key items = (front : List TapeItem) × (items ≡ front ++ mark �
     × (is_in key (expected_after start front) ≡ true)
 
 -- These items of an image were read: up to the mark after the section's data if it was found,
--- otherwise all of them.
+-- otherwise all items.
 pub record ReadsSection (before after : Option (List ℕ)) (start : Expected) (key : SectionKey)
     (items : List TapeItem) (is_ended : Bool) : Type 0 where
   pub walked : IfSome before (λ xs. (place : ℕ) × (ys : List ℕ) × Walks 0 xs items place ys)
@@ -72,8 +71,8 @@ pub record ReadsSection (before after : Option (List ℕ)) (start : Expected) (k
   pub all : is_ended ≡ false → (stop : ImageStop) × IfKnown before after (StopsBehind items stop)
   pub unended : is_ended ≡ false → closings key start items ≡ 0
 
--- Items of the image were read, so many of them data items of the section, and its blocks were
--- taken.
+-- Items of the image were read, among them the given number of data items of the section, and its
+-- blocks were processed.
 pub record RecoversSection {W : Type 0} (contents : W → Option (List ℕ))
     (before after : Option (List ℕ)) (start : Expected) (key : SectionKey) (most : ℕ)
     (form : Option FileForm) (old new : Recovery W) (said says : Option (List ℕ)) (read : ℕ)
@@ -88,8 +87,8 @@ pub record RecoversSection {W : Type 0} (contents : W → Option (List ℕ))
 
 -- ---- the rest of the image
 
--- If the data of the section end once on the image, and are not open at its end, then nothing more
--- is recovered from the items after the mark that ends them.
+-- If the data of the section end once on the image, and are not being read at its end, then nothing
+-- more is recovered from the items after the mark that ends them.
 abbrev pub RestHasNothing : Type 0
 RestHasNothing = (key : SectionKey) (most : ℕ) (form : Option FileForm) (start : Expected)
     (items rest : List TapeItem) (g : Salvaged) → EndsData start key items

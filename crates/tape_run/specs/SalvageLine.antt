@@ -7,7 +7,7 @@ use Rattle.tape_blocks.specs.Numbers.{cause_number}
 abbrev pub number_text : ℕ → List ℕ
 number_text n = codes " " ++ decimal n
 
--- these blocks of the section are missing after so many records
+-- blocks of the section are missing after the given number of records
 abbrev pub gap_line : ℕ → ℕ → ℕ → ℕ → List ℕ
 gap_line sect first last records =
     codes "GAP" ++ number_text sect ++ number_text first ++ number_text last
@@ -29,7 +29,7 @@ abbrev pub no_form_line : ℕ → ℕ → List ℕ
 no_form_line sect records =
     codes "NO FORM" ++ number_text sect ++ number_text records ++ codes "\n"
 
--- the block holds no records in the file's form
+-- the block contains no records in the file's form
 abbrev pub refused_line : ℕ → ℕ → BlockFault → ℕ → List ℕ
 refused_line sect block fault records =
     codes "REFUSED" ++ number_text sect ++ number_text block
@@ -41,12 +41,12 @@ abbrev pub torn_line : ℕ → ℕ → ℕ → List ℕ
 torn_line sect block records =
     codes "TORN" ++ number_text sect ++ number_text block ++ number_text records ++ codes "\n"
 
--- the trailer label counts other blocks
+-- the trailer label counts another number of blocks
 abbrev pub count_line : ℕ → ℕ → ℕ → List ℕ
 count_line sect label seen =
     codes "COUNT" ++ number_text sect ++ number_text label ++ number_text seen ++ codes "\n"
 
--- these items may be blocks of the section or not
+-- these items may or may not be blocks of the section
 abbrev pub unsure_line : ℕ → ℕ → ℕ → List ℕ
 unsure_line sect first last =
     codes "UNSURE" ++ number_text sect ++ number_text first ++ number_text last ++ codes "\n"

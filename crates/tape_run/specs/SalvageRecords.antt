@@ -1,4 +1,4 @@
--- The complete records of blocks of which some are missing.
+-- The complete records in blocks, some of which are missing.
 use Rattle.std.specs.Prelude.{◌≡◌, ℕ, ◌+◌, ◌&&◌, min, Bool, true, false, if◌then◌else◌, List, []}
 use Rattle.std.specs.Prelude.{◌∷◌, ◌++◌, Option, Some, None, Result, Ok, Err}
 use Rattle.std.specs.List.{flat_map}
@@ -14,7 +14,7 @@ use Rattle.tape_core.specs.Parts.{goes_on_at, parts_in}
 use Rattle.tape_run.specs.RecordText.{part_text}
 use Rattle.tape_run.specs.declared.salvage.mender.Mender.{Mender}
 
--- The parts of the complete records, those of a record that has begun after them, and whether
+-- The parts of the complete records, those of an unfinished record after them, and whether
 -- something is missing and no record has begun since.
 pub record Piece : Type 0 where
   pub done : List Portion
@@ -36,7 +36,7 @@ with_open p x = record {
   records = p.records;
 }
 
--- one more part, which ends its record; the count stops at the greatest number of 64 bits
+-- one more part, which ends its record; the count never exceeds the greatest number of 64 bits
 abbrev pub with_end : Piece → Portion → Piece
 with_end p x = record {
   done = (p.done ++ p.front) ++ x ∷ [];
@@ -46,7 +46,7 @@ with_end p x = record {
   records = min (p.records + 1) 18446744073709551615;
 }
 
--- one more part; after something missing a part that continues a record is left out
+-- one more part; if its record began in a missing block, the part is left out
 abbrev pub with_part : Piece → Portion → Piece
 with_part p x =
     if p.torn && continues x.span then p
@@ -60,21 +60,22 @@ with_parts p (x ∷ xs) = with_parts (with_part p x) xs
 abbrev pub torn : Piece → Piece
 torn p = record { done = p.done; front = []; begun = false; torn = true; records = p.records }
 
--- whether a record is unfinished before the block; after something missing the block itself says so
+-- whether a record is unfinished before the block; if something is missing before it, the block
+-- itself says so
 abbrev pub begun_at : FileForm → Piece → List ℕ → Bool
 begun_at form p block = if p.torn then goes_on_at form.format form.offset block else p.begun
 
--- how the block is judged there
+-- the result of checking the block there
 abbrev pub judged_at : FileForm → Piece → List ℕ → Result Bool BlockFault
 judged_at form p block =
     judged form.format form.rec_len form.offset (begun_at form p block) block
 
--- the records after a block that was judged so
+-- the records after a block with this result
 abbrev pub mended_by : FileForm → Piece → List ℕ → Result Bool BlockFault → Piece
 mended_by form p block (Ok end) = with_parts p (parts_in form block)
 mended_by form p block (Err fault) = torn p
 
--- a block taken as one record, whatever it holds
+-- a block that counts as one record, whatever it contains
 abbrev pub as_it_is : List ℕ → Portion
 as_it_is block = record { span = Whole; bytes = block }
 
@@ -83,7 +84,7 @@ abbrev pub mended : Option FileForm → Piece → List ℕ → Piece
 mended None p block = with_part p (as_it_is block)
 mended (Some form) p block = mended_by form p block (judged_at form p block)
 
--- why the block holds no records in this form
+-- why the block contains no records in this form
 abbrev pub fault_by : Result Bool BlockFault → Option BlockFault
 fault_by (Ok end) = None
 fault_by (Err fault) = Some fault
@@ -92,22 +93,23 @@ abbrev pub found_fault : Option FileForm → Piece → List ℕ → Option Block
 found_fault None p block = None
 found_fault (Some form) p block = fault_by (judged_at form p block)
 
--- something is missing before the block, and it continues a record whose beginning is missing
+-- something is missing before the block, and the block continues a record whose beginning is
+-- missing
 abbrev pub is_cut : Option FileForm → Piece → List ℕ → Bool
 is_cut None p b = false
 is_cut (Some form) p b = p.torn && goes_on_at form.format form.offset b
 
--- parts as they are written
+-- the text written for parts
 abbrev pub parts_text : Form → List Portion → List ℕ
 parts_text form parts = flat_map (part_text form) parts
 
--- what the writer had at the start, where that is known, and how records are written
+-- the contents of the writer at the start, if known, and how records are written
 pub record Start : Type 0 where
   pub had : Option (List ℕ)
   pub form : Form
 
--- The complete records were written after what the writer had at the start, the unfinished one is
--- buffered, and the flags and the count are right.
+-- The complete records were appended to the contents of the writer, the unfinished one is buffered,
+-- and the flags and the count are right.
 pub record IsPiece (start : Start) (now : Option (List ℕ)) (form : Form) (unfinished : List ℕ)
     (records : ℕ) (begun torn : Bool) (p : Piece) : Type 0 where
   pub forms : form ≡ start.form
@@ -118,7 +120,7 @@ pub record IsPiece (start : Start) (now : Option (List ℕ)) (form : Form) (unfi
   pub tears : torn ≡ p.torn
   pub none : p.begun ≡ false → p.front ≡ []
 
--- what a mender has written and buffered
+-- the records that a mender has written and buffered
 abbrev pub HasPiece : {W : Type 0} → (W → Option (List ℕ)) → Start → Mender W → Piece → Type 0
 HasPiece contents start m p =
     IsPiece start (contents m.out) m.form m.unfinished.items m.records m.begun m.torn p

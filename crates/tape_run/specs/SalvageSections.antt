@@ -1,5 +1,5 @@
--- What is recovered of a section of a lawful set of which HDR1, the trailer label and the tape marks
--- were read; any of its blocks, and any of its other labels, may be unreadable.
+-- The records recovered of a section of a valid set of which HDR1, the trailer label and the tape
+-- marks were read; any of its blocks, and any of its other labels, may be unreadable.
 use Rattle.std.specs.Prelude.{◌≡◌, ◌⊎◌, ℕ, nat_lt, Bool, true, false, if◌then◌else◌, List, []}
 use Rattle.std.specs.Prelude.{◌∷◌, ◌++◌, length, Some, Err}
 use Rattle.std.specs.List.{AllByRecursion}
@@ -22,7 +22,7 @@ use Rattle.tape_run.specs.SalvageWhole.{Blocks, piece_after}
 
 -- ---- what was read
 
--- the items of these blocks: a bad item in the place of each that could not be read
+-- the items of these blocks, with a bad item in place of each unreadable one
 abbrev pub read_blocks : Blocks → List TapeItem
 read_blocks [] = []
 read_blocks (b ∷ bs) = (if b.0 then block b.1.bytes else bad) ∷ read_blocks bs
@@ -36,7 +36,7 @@ filled_of (b ∷ bs) = b.1 ∷ filled_of bs
 abbrev pub Labels : Type 0
 Labels = List (Bool × List ℕ)
 
--- the items of these labels: a bad item in the place of each that could not be read
+-- the items of these labels, with a bad item in place of each unreadable one
 abbrev pub read_labels : Labels → List TapeItem
 read_labels [] = []
 read_labels (l ∷ ls) = (if l.0 then block l.1 else bad) ∷ read_labels ls
@@ -46,8 +46,8 @@ abbrev pub labels_of : Labels → List (List ℕ)
 labels_of [] = []
 labels_of (l ∷ ls) = l.1 ∷ labels_of ls
 
--- what was read of a section: of the labels after HDR1, of the blocks, and of the labels after the
--- trailer label
+-- which labels and blocks of a section were read: of the labels after HDR1, of the blocks, and of
+-- the labels after the trailer label
 pub record SectionRead : Type 0 where
   pub placed : Placed
   pub headers : Labels
@@ -70,14 +70,14 @@ AreNoHeads [] = Unit {0}
 AreNoHeads ((true, b) ∷ ls) = IsNoHead b × AreNoHeads ls
 AreNoHeads ((false, b) ∷ ls) = AreNoHeads ls
 
--- None of the labels after the first that could not be read is HDR1: that one may have been the tape
--- mark, so the next section may begin there.
+-- None of the labels after the first unreadable one is HDR1: the unreadable one may have been the
+-- tape mark, so the next section may begin there.
 abbrev pub NoneBegins : Labels → Type 0
 NoneBegins [] = Unit {0}
 NoneBegins ((true, b) ∷ ls) = NoneBegins ls
 NoneBegins ((false, b) ∷ ls) = AreNoHeads ls
 
--- This was read of a section of a lawful set.
+-- This was read of a section of a valid set.
 pub record IsRead (set_id : List ℕ) (volumes : ℕ) (r : SectionRead) : Type 0 where
   pub is : IsSection set_id volumes r.placed
   pub headers : labels_of r.headers ≡ r.placed.section.hdr2 ∷ r.placed.section.headers
@@ -97,14 +97,14 @@ MayBegin (Outside n) = nat_lt n 2 ≡ true
 MayBegin Next = Unit {0}
 MayBegin _ = ⊥
 
--- what is expected after a section of which these trailer labels were read
+-- the phase expected after a section, if these of its trailer labels were read
 abbrev pub after_trailers : Labels → Expected
 after_trailers [] = Next
 after_trailers ((true, b) ∷ ls) = after_trailers ls
 after_trailers ((false, b) ∷ ls) = Outside 1
 
--- From a section of a lawful set exactly the records of the blocks that were read are recovered,
--- after what was recovered before. After it another section may begin.
+-- From a section of a valid set exactly the records of the blocks that were read are recovered, in
+-- addition to earlier ones. Then another section may begin.
 abbrev pub RecoversSectionOf : Type 0
 RecoversSectionOf = (set_id : List ℕ) (volumes : ℕ) (r : SectionRead) (form : FileForm)
     (key : SectionKey) (s : Expected) (g : Salvaged)
@@ -141,7 +141,7 @@ read_sections (r ∷ rs) = read_section r ++ read_sections rs
 abbrev pub IsOther : List ℕ → SectionKey → SectionRead → Type 0
 IsOther set_id key r = same_key (key_of set_id r) key ≡ false
 
--- the items of a volume of which these labels and sections were read
+-- the items of a volume, if these of its labels and sections were read
 abbrev pub read_volume : Labels → List SectionRead → List TapeItem
 read_volume ls rs = read_labels ls ++ (read_sections rs ++ (mark ∷ []))
 
@@ -149,8 +149,8 @@ read_volume ls rs = read_labels ls ++ (read_sections rs ++ (mark ∷ []))
 abbrev pub AreLabels : Volume → Labels → Type 0
 AreLabels v ls = labels_of ls ≡ v.vol1 ∷ v.labels
 
--- From a volume exactly the records of the section's blocks that were read are recovered, after what
--- was recovered before, whichever other sections precede and follow it.
+-- From a volume exactly the records of the section's blocks that were read are recovered, in
+-- addition to earlier ones, whichever other sections precede and follow it.
 abbrev pub RecoversFromVolume : Type 0
 RecoversFromVolume = (set_id : List ℕ) (volumes : ℕ) (v : Volume) (ls : Labels)
     (before : List SectionRead) (r : SectionRead) (rest : List SectionRead) (form : FileForm)

@@ -1,4 +1,4 @@
--- The sections of a file recovered one after another, each from its best copy.
+-- The sections of a file, recovered one after another, each from its best copy.
 use Rattle.std.specs.Prelude.{◌≡◌, ◌≢◌, ◌⊎◌, ℕ, ◌+◌, ◌≤◌, min, Bool, true, false, if◌then◌else◌}
 use Rattle.std.specs.Prelude.{List, [], ◌∷◌, ◌++◌, length, Option, Some, None, is_some}
 use Rattle.std.specs.List.{AllByRecursion}
@@ -28,18 +28,19 @@ form_for Blocks own known = None
 form_for Records (Some form) known = Some form
 form_for Records None known = known
 
--- whether its blocks can be read; blocks as they are need no form
+-- whether its blocks can be read; blocks that are copied unchanged need no form
 abbrev pub has_form : Content → Option FileForm → Bool
 has_form Blocks form = true
 has_form Records form = is_some form
 
--- What became of a section: its best copy, and the items of that copy's image that were read. No
--- image is read if there is no copy or no form, and none could be if it can't be opened again.
+-- The result for a section: its best copy, and the items of that copy's image that were read. No
+-- image is read if there is no copy or no form, or if the image cannot be opened again.
 pub record Taken : Type 0 where
   pub copy : Option SectionCopy
   pub items : Option (List TapeItem)
 
--- the number of an image as it is reported, from 1; it stops at the greatest number of 64 bits
+-- the number of an image as it is reported, counted from 1; it never exceeds the greatest number of
+-- 64 bits
 abbrev pub image_number : ℕ → ℕ
 image_number n = min (n + 1) 18446744073709551615
 
@@ -86,7 +87,7 @@ end_of_taken content known (Some c) None = Unknown
 end_of_taken content known (Some c) (Some items) =
     if has_form content (form_for content c.section.form known) then end_by c.closed else Unknown
 
--- the items that were read of an image that was mounted; of one that is not there none are
+-- the items that were read of an image that was opened; none if it could not be opened
 abbrev pub IsReadOf : {R : Type 0} → (R → Option (List ℕ)) → SectionCopy → Option R
     → Option (List TapeItem) → Type 0
 IsReadOf remaining c None items = items ≡ None
@@ -94,19 +95,19 @@ IsReadOf remaining c (Some device) None = ⊥
 IsReadOf remaining c (Some device) (Some items) = (after : Option (List ℕ)) × (is_ended : Bool)
     × ReadsSection (remaining device) after (start_of c) c.section.key items is_ended
 
--- the image of the copy was mounted and read
+-- the image of the copy was opened and read
 abbrev pub MountsCopy : {L R : Type 0} → Mounting L R → (R → Option (List ℕ)) → SectionCopy → L → L
     → Option (List TapeItem) → Type 0
 MountsCopy gives remaining c shelf left items = (image : Option _)
     × gives shelf c.image image left × IsReadOf remaining c image items
 
--- it was, or no image was mounted
+-- it was, or no image was opened
 abbrev pub MountsIf : {L R : Type 0} → Bool → Mounting L R → (R → Option (List ℕ)) → SectionCopy
     → L → L → Option (List TapeItem) → Type 0
 MountsIf true gives remaining c shelf left items = MountsCopy gives remaining c shelf left items
 MountsIf false gives remaining c shelf left items = (left ≡ shelf) × (items ≡ None)
 
--- the image of the section's copy was mounted, if it has one and its blocks can be read
+-- the image of the section's copy was opened, if the section has a copy and its blocks can be read
 abbrev pub MountsTaken : {L R : Type 0} → Mounting L R → (R → Option (List ℕ)) → Content
     → Option FileForm → Option SectionCopy → L → L → Option (List TapeItem) → Type 0
 MountsTaken gives remaining content known None shelf left items = (left ≡ shelf) × (items ≡ None)
@@ -164,13 +165,13 @@ all_text content known sect (t ∷ ts) g = taken_text content known sect t.copy 
 abbrev pub GoOn : Content → Option FileForm → List Taken → Type 0
 GoOn content known = AllByRecursion (λ t. end_of_taken content known t.copy t.items ≢ FileEnds)
 
--- how the last of these sections ended; a file has a first section
+-- how the last of these sections ended; a file has at least one section
 abbrev pub last_end : Content → Option FileForm → List Taken → SectionEnd
 last_end content known [] = Continues
 last_end content known (t ∷ []) = end_of_taken content known t.copy t.items
 last_end content known (t ∷ u ∷ ts) = last_end content known (u ∷ ts)
 
--- They are all sections up to the first that ends the file, or up to the last that was found.
+-- These are all sections up to the first that ends the file, or up to the last that was found.
 abbrev pub AreAllSections : Content → Option FileForm → List SectionCopy → List Taken → Type 0
 AreAllSections content known copies taken =
     ((GoOn content known taken) × (length taken ≡ last_section copies))
@@ -189,11 +190,11 @@ last_text Continues sect g = no_section_text sect g
 last_text FileEnds sect g = []
 last_text Unknown sect g = []
 
--- the number after this one; it stops at the greatest number of 16 bits
+-- the number after this one; it never exceeds the greatest number of 16 bits
 abbrev pub next_section : ℕ → ℕ
 next_section n = min (n + 1) 65535
 
--- after all sections, and their lines
+-- after all sections, with their lines
 abbrev pub after_file : Content → List SectionCopy → List Taken → Salvaged → Salvaged
 after_file content copies taken g =
     at_last (last_end content (form_of_file copies) taken)

@@ -1,4 +1,4 @@
--- Reading the items of an image for the sections on it, past what could not be read.
+-- Reading the items of an image to find its sections, past unreadable ones.
 --
 -- A section extends from its first label to its trailer label. When no section is open, a block
 -- that reads as HDR1 begins one. It closes if its data and a tape mark are followed by a trailer
@@ -33,7 +33,7 @@ use Rattle.tape_run.specs.declared.salvage.walk.Expected.TheVariants.{Skipping}
 abbrev pub FoundSection : Type 0
 FoundSection = OpenSection × Option Closing
 
--- one more data item; no image has so many that the count stops
+-- one more data item; the count cannot overflow, since an image has fewer items
 abbrev pub with_item : OpenSection → OpenSection
 with_item u = record u { blocks = min (u.blocks + 1) 4294967295 }
 
@@ -42,11 +42,11 @@ abbrev pub first_of : Option ℕ → ℕ → Option ℕ
 first_of None n = Some n
 first_of (Some m) n = Some m
 
--- an item could not be read
+-- an unreadable item
 abbrev pub doubted : OpenSection → OpenSection
 doubted u = record u { certain = first_of u.certain u.blocks }
 
--- a data item could not be read
+-- an unreadable data item
 abbrev pub with_unreadable : OpenSection → OpenSection
 with_unreadable u = record (doubted u) { unreadable = min (u.unreadable + 1) 4294967295 }
 
@@ -112,7 +112,7 @@ closed_by u (Err _) h = unclosed_by u h
 
 -- ---- outside of sections
 
--- one item, which was read or not
+-- one item, which could be read or not
 abbrev pub one_read : UnnamedItems
 one_read = record { items = 1; unreadable = 0 }
 
@@ -129,8 +129,7 @@ and_unreadable r = record {
   unreadable = min (r.unreadable + 1) 4294967295;
 }
 
--- the section with this trailer label, whose data these items are; the label and a tape mark follow
--- them
+-- the section with this trailer label and these data; the label is followed by a tape mark
 abbrev pub named_by : UnnamedItems → Trail1 → OpenSection
 named_by r t = record (section_by t.head) {
   blocks = r.items;
@@ -139,7 +138,7 @@ named_by r t = record (section_by t.head) {
   after = Some 2;
 }
 
--- after a block at which the trailer label of these items is expected; it counts them
+-- after a block in place of the trailer label of these items; the label counts the items
 abbrev pub unnamed_by : UnnamedItems → Result Trail1 LabelFault → Result Head1 LabelFault → Expected
 unnamed_by r (Ok t) h =
     if t.blocks == label_count r.items
@@ -147,8 +146,8 @@ unnamed_by r (Ok t) h =
     else begun_by h (Unnamed one_read)
 unnamed_by r (Err _) h = begun_by h (Unnamed one_read)
 
--- after one item outside of sections that begins none; only a tape mark before it may be the one
--- before a section's data
+-- after one item outside of sections that begins no section; only the tape mark before it may be
+-- the one before a section's data
 abbrev pub unnamed_after : ℕ → UnnamedItems → Expected
 unnamed_after marks r = if marks == 1 then Unnamed r else Outside 0
 
@@ -170,7 +169,7 @@ abbrev pub outside_mark : ℕ → Expected
 outside_mark marks =
     if marks == 0 then Outside 1 else (if marks == 1 then Outside 2 else Over)
 
--- after an item outside of sections that could not be read
+-- after an unreadable item outside of sections
 abbrev pub outside_bad : ℕ → Expected
 outside_bad marks =
     if nat_lt marks 2 then unnamed_after marks one_unreadable else Outside marks
@@ -179,7 +178,7 @@ outside_bad marks =
 abbrev pub skipping : ℕ → OpenSection → Expected
 skipping n u = if n == 0 then Data u else Skipping n u
 
--- what is expected after an item, and the section that ended there, if one did
+-- the phase expected after an item, and the section that ended there, if any
 abbrev pub step : Expected → TapeItem → Expected × Option FoundSection
 step (Outside n) (block b) = (outside_by n (kind_at b) (head1_at b), None)
 step (Outside n) bad = (outside_bad n, None)
@@ -211,7 +210,7 @@ step (UnnamedTrailer r) bad = (Unnamed one_unreadable, None)
 step (UnnamedTrailer r) mark = (Outside 2, None)
 step (Skipping n u) _ = (skipping (n - 1) u, None)
 
--- the section that is under way, if the items end here
+-- the current section, if the items end here
 abbrev pub open_section : Expected → Option FoundSection
 open_section (Headers u) = Some (u, None)
 open_section (Data u) = Some (u, None)
@@ -219,20 +218,21 @@ open_section (Trailer u) = Some (u, None)
 open_section (Trailers u k) = Some (u, Some k)
 open_section _ = None
 
--- what is expected after these items
+-- the phase expected after these items
 abbrev pub expected_after : Expected → List TapeItem → Expected
 expected_after s [] = s
 expected_after s (x ∷ xs) = expected_after (step s x).0 xs
 
--- A section that ended, and how many items of the image were read before the one that ended it.
+-- A section that ended, and the number of items of the image that were read before the one that
+-- ended it.
 abbrev pub FoundAt : Type 0
 FoundAt = ℕ × FoundSection
 
--- one more item was read; the count stops at the greatest number of 64 bits
+-- one more item was read; the count never exceeds the greatest number of 64 bits
 abbrev pub one_further : ℕ → ℕ
 one_further n = min (n + 1) 18446744073709551615
 
--- so many items after these
+-- n items after these
 abbrev pub read_after : ℕ → List TapeItem → ℕ
 read_after n [] = n
 read_after n (x ∷ xs) = read_after (one_further n) xs
@@ -242,7 +242,7 @@ abbrev pub in_list : ℕ → Option FoundSection → List FoundAt
 in_list n None = []
 in_list n (Some t) = (n, t) ∷ []
 
--- the sections that end in these items, in order; so many items were read before
+-- the sections that end in these items, in order; `read` items were read before
 abbrev pub found_from : Expected → ℕ → List TapeItem → List FoundAt
 found_from s n [] = []
 found_from s n (x ∷ xs) = in_list n (step s x).1 ++ found_from (step s x).0 (one_further n) xs

@@ -1,5 +1,5 @@
--- What is recovered of a file of which some blocks are missing: exactly the records all of whose
--- parts are in blocks that were read.
+-- The records recovered of a file with missing blocks: exactly those all of whose parts are in
+-- blocks that were read.
 use Rattle.std.specs.Prelude.{◌≡◌, ◌≢◌, ◌&&◌, Bool, true, false, if◌then◌else◌, List, []}
 use Rattle.std.specs.Prelude.{◌∷◌, ◌++◌, Some}
 use Rattle.std.specs.List.{AllByRecursion}
@@ -28,8 +28,8 @@ abbrev pub all_parts : Blocks → List Portion
 all_parts [] = []
 all_parts (b ∷ bs) = b.1.parts ++ all_parts bs
 
--- The parts of the records that end here and have all their parts. `front` has the parts so far of
--- the unfinished record, and `all` says whether they were all read.
+-- The parts of the records that end here and were all read. `front` has the parts so far of the
+-- unfinished record, and `all` says whether they were all read.
 abbrev pub whole_from : List Portion → Bool → List (Bool × Portion) → List Portion
 whole_from front all [] = []
 whole_from front all (x ∷ xs) =
@@ -45,30 +45,30 @@ piece_after form p [] = p
 piece_after form p (b ∷ bs) =
     piece_after form (if b.0 then mended (Some form) p b.1.bytes else torn p) bs
 
--- The block holds its parts in this form, and one that was not read holds some.
+-- The block contains its parts in this form, and a block that was not read has at least one part.
 pub record IsBlock (form : FileForm) (b : Bool × Filled) : Type 0 where
   pub holds : Holds form.format form.rec_len form.offset b.1.bytes b.1.parts
   pub some : b.0 ≡ false → b.1.parts ≢ []
 
--- Of a file whose parts are in order exactly the parts of the records are recovered all of whose
--- parts are in blocks that were read.
+-- If the parts of a file are in order, exactly the parts of those records are recovered all of
+-- whose parts are in blocks that were read.
 abbrev pub RecoversWhole : Type 0
 RecoversWhole = (form : FileForm) (bs : Blocks) (end : Bool) → AllByRecursion (IsBlock form) bs
     → InOrder false (all_parts bs) end
     → (piece_after form nothing bs).done ≡ whole_parts (parts_with bs)
 
--- if all blocks were read and no record is unfinished after them, these are all parts
+-- if all blocks were read, and no record is unfinished after them, these are all parts
 abbrev pub AllWhole : Type 0
 AllWhole = (bs : Blocks) → AllByRecursion (λ b. b.0 ≡ true) bs → InOrder false (all_parts bs) false
     → whole_parts (parts_with bs) ≡ all_parts bs
 
--- What was recovered remains a prefix of what is recovered, whatever follows.
+-- Recovered records remain a prefix of the result, whatever follows.
 abbrev pub FirstStays : Type 0
 FirstStays = (form : FileForm) (p : Piece) (bs : Blocks)
     → (more : List Portion) × ((piece_after form p bs).done ≡ p.done ++ more)
 
--- Up to the first missing block nothing is left out: the complete records, with the unfinished one,
--- are all parts so far.
+-- Up to the first missing block nothing is left out: the complete records and the unfinished one
+-- together are all parts so far.
 abbrev pub NeverLess : Type 0
 NeverLess = (form : FileForm) (bs more : Blocks) (end : Bool)
     → AllByRecursion (IsBlock form) bs → AllByRecursion (λ b. b.0 ≡ true) bs

@@ -1,4 +1,4 @@
--- What `salvage` makes of the images of a shelf.
+-- The result of `salvage` for images.
 use Rattle.std.specs.Prelude.{◌≡◌, ℕ, ◌+◌, not, Bool, List, [], ◌∷◌, ◌++◌, length, Option, Some}
 use Rattle.std.specs.Prelude.{None}
 use Rattle.std.specs.Io.KnownBytes.{Appends}
@@ -13,14 +13,14 @@ use Rattle.tape_run.specs.SalvageBlocks.{none_salvaged}
 use Rattle.tape_run.specs.SalvageChoice.{form_of_file}
 use Rattle.tape_run.specs.SalvageTaking.{Taken, AreTaken, AreAllSections, after_file, file_text}
 
--- An image was read, and the file's sections on it found; or it could not be opened, and its line
--- was written.
+-- An image was read, and the file's sections on it were found; or it could not be opened, and its
+-- line was written.
 abbrev pub FindsOn : List ℕ → ℕ → ℕ → Reel → List SectionCopy → List SectionCopy → List ℕ → Type 0
 FindsOn set_id file n None old new text = (new ≡ old) × (text ≡ not_opened_line (n + 1))
 FindsOn set_id file n (Some before) old new text =
     (after : Option (List ℕ)) × FindsCopies before after set_id file n old new × (text ≡ [])
 
--- the same of images from this number on
+-- the same for images from this number on
 abbrev pub FindsOnAll : List ℕ → ℕ → ℕ → List Reel → List SectionCopy → List SectionCopy → List ℕ
     → Type 0
 FindsOnAll set_id file n [] old new text = (new ≡ old) × (text ≡ [])
@@ -28,7 +28,7 @@ FindsOnAll set_id file n (r ∷ rs) old new text = (mid : List SectionCopy) × (
     × FindsOn set_id file n r old mid one × FindsOnAll set_id file (n + 1) rs mid new rest
     × (text ≡ one ++ rest)
 
--- All images of a shelf were mounted, one after another, and the file's sections found.
+-- All images were opened, one after another, and the file's sections were found.
 pub record FindsAll {L R : Type 0} (size : L → ℕ) (gives : Mounting L R)
     (remaining : R → Option (List ℕ)) (set_id : List ℕ) (file : ℕ) (shelf left : L)
     (copies : List SectionCopy) (said says : Option (List ℕ)) : Type 0 where
@@ -39,9 +39,9 @@ pub record FindsAll {L R : Type 0} (size : L → ℕ) (gives : Mounting L R)
   pub finds : FindsOnAll set_id file 0 reels [] copies text
   pub wrote : Appends said says text
 
--- What is readable of a file was recovered: the copies of its sections were found on the images,
+-- The readable parts of a file were recovered: the copies of its sections were found on the images,
 -- each section was recovered from its best copy, the records were written to the output, which got
--- its name, and the last line tells how many there are and whether nothing is missing.
+-- its name, and the last line gives the number of records and whether any are missing.
 pub record Salvages {W L R : Type 0} (contents : W → Option (List ℕ)) (size : L → ℕ)
     (gives : Mounting L R) (remaining : R → Option (List ℕ)) (task : SalvageTask) (out : W)
     (shelf left : L) (stands : Option (List ℕ)) (said says : Option (List ℕ)) (complete : Bool)

@@ -10,8 +10,8 @@ use Rattle.tape_core.specs.Weight.{IsFront}
 use Rattle.tape_core.specs.declared.sink.PartSink.{Ghosts}
 use Rattle.tape_run.specs.SessionState.{SessionState}
 
--- a session at rest: its core, the parts that its sink contains, its checkpoints, how many readers
--- failed, and how many calls the sink refused
+-- a session between two calls: its core, the parts that its sink contains, its checkpoints, how
+-- many readers failed, and how many calls the sink refused
 pub record Seen : Type 0 where
   pub place : State
   pub parts : List Portion
@@ -20,7 +20,7 @@ pub record Seen : Type 0 where
   pub refusals : ℕ
 
 -- The checkpoints are valid for prefixes of the parts, each at least as long as the one before, and
--- the first at least as long as this prefix.
+-- the first at least as long as the given prefix.
 abbrev pub AreNotes : FileSet → ℕ → List Portion → List Point → List Portion → Type 0
 AreNotes set file front [] parts = IsFront front parts
 AreNotes set file front (c ∷ cs) parts = (ps : List Portion) × IsFront front ps
@@ -32,14 +32,14 @@ pub record IsSession (set : FileSet) (s : Seen) : Type 0 where
   pub at : IsPlaced set s.place s.parts
   pub notes : AreNotes set s.place.file [] s.notes s.parts
 
--- The checkpoint is one of the place's file, and has the weight of these parts.
+-- The checkpoint belongs to the file of this position, and has the weight of these parts.
 pub record IsNote (place : State) (c : Point) (ps : List Portion) : Type 0 where
   pub of_set : c.set_id ≡ place.set_id
   pub of_file : c.file ≡ place.file
   pub staged : c.staged ≡ weight_of ps
 
 -- The checkpoints have the weights of prefixes of the parts, each at least as long as the one
--- before, and the first at least as long as this prefix.
+-- before, and the first at least as long as the given prefix.
 abbrev pub KeepsNotes : State → List Portion → List Point → List Portion → Type 0
 KeepsNotes place front [] parts = IsFront front parts
 KeepsNotes place front (c ∷ cs) parts = (ps : List Portion) × IsFront front ps × IsNote place c ps
@@ -59,15 +59,15 @@ seen g s parts = record {
   refusals = g.refusals s.sink;
 }
 
--- For any parts that its sink contains, the session seen with them satisfies this.
+-- For any parts that its sink contains, this is true of the session with these parts.
 abbrev pub IfSeen : {S : Type 0} → Ghosts S → SessionState S → (Seen → Type 0) → Type 0
 IfSeen g s so = (held : List Portion) → g.holds s.sink held → so (seen g s held)
 
--- The sink contains parts, and the session seen with them satisfies this.
+-- The sink contains parts, and this is true of the session with them.
 abbrev pub IsSeen : {S : Type 0} → Ghosts S → SessionState S → (Seen → Type 0) → Type 0
 IsSeen g s so = (now : List Portion) × g.holds s.sink now × so (seen g s now)
 
--- The same for parts that the sink contains, unless this step lost them.
+-- The same for the parts that the sink contains, unless the step lost them.
 abbrev pub IsSeenUnless : {S : Type 0} → Type 0 → Ghosts S → SessionState S → (Seen → Type 0) → Type 0
 IsSeenUnless lost g s so = (now : List Portion) × ((lost → ⊥) → g.holds s.sink now)
     × so (seen g s now)

@@ -1,4 +1,4 @@
--- What the items of an image show of a section: that it is complete.
+-- The proof in an image's items that a section is complete.
 use Rattle.std.specs.Prelude.{◌≡◌, ℕ, List, ◌∷◌, ◌++◌, length, map}
 use Rattle.std.specs.List.{AllByRecursion}
 use Rattle.tape_image.specs.Tape.{TapeItem, block, mark}
@@ -43,10 +43,10 @@ pub record EndsSection (bytes : List ℕ) (key : SectionKey) (blocks : ℕ) (ent
     pub count : label.blocks ≡ label_count blocks
     pub kind : label.eof ≡ entry.eof
 
--- In the items, which begin a volume, there are one after another a first header label with the
--- section's numbers, a block that is a second header label, further blocks, a tape mark, data
--- blocks, a tape mark, and a trailer label with the same numbers that counts these data blocks. The
--- entry has their number, the trailer's kind and the volume's identifier.
+-- The items, which begin a volume, contain in this order: a first header label with the section's
+-- numbers, a block that is a second header label, further blocks, a tape mark, data blocks, a tape
+-- mark, and a trailer label with the same numbers that counts these data blocks. The entry has
+-- their number, the trailer's kind and the volume's identifier.
 pub record Shown (items : List TapeItem) (key : SectionKey) (entry : Entry) : Type 0 where
   pub volume : BeginsVolume items entry.volume
   pub before : List TapeItem
@@ -63,7 +63,7 @@ pub record Shown (items : List TapeItem) (key : SectionKey) (entry : Entry) : Ty
   pub ends : EndsSection trailer key (length content) entry
   pub blocks : entry.blocks ≡ length content
 
--- Each section that is good by the items is shown by them.
+-- Each section that the items report as good is shown by them.
 abbrev pub GoodAreShown : Type 0
 GoodAreShown = (items : List TapeItem)
     → AllByRecursion (λ t. t.1.state ≡ Good → Shown items t.0 t.1) (met_in items)

@@ -1,4 +1,4 @@
--- What one step of a run does, or leaves if it fails.
+-- The effect of one step of a run, or the state that it leaves if it fails.
 use Rattle.std.specs.Prelude.{◌≡◌, ℕ, ◌+◌, ◌≤◌, Bool, List, ◌∷◌, [], ◌++◌, length, take, Some}
 use Rattle.std.specs.Prelude.{slice_get, Option, ◌⊎◌}
 use Rattle.tape_image.specs.Tape.{TapeItem, block}
@@ -27,8 +27,8 @@ use Rattle.tape_run.specs.SessionState.{SessionState}
 
 -- ---- steps that succeeded
 
--- A mount that began at p was read to its end: the reader's position is the one after it, with the
--- parts before that.
+-- A mount that began at p was read to its end: the reader's position is the one after the mount,
+-- with the parts before that position.
 pub record ReadBy (set : FileSet) (file : ℕ) (p : Position) (h : MountEvent) (place : State)
     (parts : List Portion) : Type 0 where
   pub at : IsPlaced set place parts
@@ -71,7 +71,8 @@ pub record WentBack (n : ℕ) (old new : Seen) : Type 0 where
   pub count : new.failures ≡ old.failures
   pub calm : new.refusals ≡ old.refusals
 
--- the session has the position of the checkpoint with this number, if that is one of its file
+-- the session has the position of the checkpoint with this number, if the position belongs to its
+-- file
 abbrev pub IsAtNote : {S : Type 0} → ℕ → SessionState S → SessionState S → Type 0
 IsAtNote n old new = (point : Point) → slice_get old.notes n ≡ Some point
     → point.set_id ≡ old.core.set_id → point.file ≡ old.core.file
@@ -80,7 +81,7 @@ IsAtNote n old new = (point : Point) → slice_get old.notes n ≡ Some point
 -- ---- steps that failed
 
 -- A mount that began at p was read up to the block expected there, the n-th item counted from 0, of
--- which this part was refused: the reader's position is that part of the block, with the parts
+-- which the given part was refused: the reader's position is that part of the block, with the parts
 -- before it.
 pub record StoppedBy (set : FileSet) (file : ℕ) (p : Position) (xs : List TapeItem) (h : MountEvent)
     (place : State) (parts : List Portion) : Type 0 where
@@ -114,8 +115,8 @@ pub record Unmoved (old new : Seen) : Type 0 where
   pub notes : new.notes ≡ old.notes
   pub count : new.failures ≡ old.failures
 
--- What a reel leaves that was not read to its end, because memory was refused before, or the sink
--- refused a part. Whether the sink did refuse a call is in `Refuses`.
+-- The state after a reel that was not read to its end, because memory was refused before, or
+-- because the sink refused a part. Whether the sink did refuse a call is in `Refuses`.
 abbrev pub ReelFails : List ℕ → RunFault → Seen → Seen → Type 0
 ReelFails bytes (Sink cause) old new = CutShort bytes old new
 ReelFails bytes NoSuchPoint old new = ⊥
@@ -134,7 +135,7 @@ Refuses g OutOfMemory old new = new ≡ old
 Refuses g OtherFile old new = ⊥
 
 -- Why a session did not roll back, for any sink: the sink refused a call, or weighs less than the
--- checkpoint says, as is possible only if nothing is known about its contents; or there is no such
+-- checkpoint says, which is only possible if its contents are unknown; or there is no such
 -- checkpoint.
 abbrev pub RefusesRestart : {S : Type 0} → Ghosts S → ℕ → RunFault → SessionState S → SessionState S → Type 0
 RefusesRestart g n (Sink cause) old new = (new.failures ≡ old.failures)
@@ -146,7 +147,7 @@ RefusesRestart g n TooFewReels old new = ⊥
 RefusesRestart g n OutOfMemory old new = ⊥
 RefusesRestart g n OtherFile old new = ⊥
 
--- what is left if no checkpoint was made; whether the sink did refuse a call is in `Refuses`
+-- the state if no checkpoint was made; whether the sink did refuse a call is in `Refuses`
 abbrev pub SaveFails : RunFault → Seen → Seen → Type 0
 SaveFails (Sink cause) old new = Unmoved old new
 SaveFails NoSuchPoint old new = ⊥
@@ -154,7 +155,7 @@ SaveFails TooFewReels old new = ⊥
 SaveFails OutOfMemory old new = new ≡ old
 SaveFails OtherFile old new = ⊥
 
--- what is left if the session did not roll back; whether the sink did refuse a call is in
+-- the state if the session did not roll back; whether the sink did refuse a call is in
 -- `RefusesRestart`
 abbrev pub RestartFails : ℕ → RunFault → Seen → Seen → Type 0
 RestartFails n (Sink cause) old new = Unmoved old new

@@ -16,7 +16,7 @@ use Rattle.tape_run.specs.SurveySound.{IsSound}
 use Rattle.tape_run.specs.SurveyRead.{Found, nothing_found, IsViewed, AreViewed}
 use Rattle.tape_run.specs.SurveySets.{is_all}
 
--- what is said of images, as far as these names and what was seen go
+-- the reports on images, as far as the names and the results go
 abbrev pub image_texts : Wording → List (List ℕ) → List (Option ImageSurvey) → List ℕ
 image_texts y [] sights = []
 image_texts y (name ∷ names) [] = []
@@ -57,14 +57,14 @@ pub record Surveys {L R : Type 0} (y : Wording) (gives : Mounting L R)
   pub viewed : AreViewed gives remaining shelf 0 sights nothing_found left found
   pub wrote : Appends old new (image_texts y names sights ++ summary y names found)
   pub is_so : all ≡ is_all found
-  -- if all is well, the images are sound; and copies that are reported to differ do
+  -- if all is well, the images are sound; and copies that are reported to differ do differ
   pub sound : all ≡ true → IsSound gives remaining shelf left sights found viewed
   pub conflicts : (key : SectionKey) (n : CopyNote) (other : ℕ)
       → IsIn {X = Noted} found.copies.notes (key, n) → n.other ≡ Some other
       → CopiesDiffer (all_placed gives remaining shelf 0 sights nothing_found left found viewed) key
       n.image other
 
--- the summary follows if there are that many
+-- the summary follows if no image is left
 abbrev pub summary_at : Wording → List (List ℕ) → Bool → Found → List ℕ
 summary_at y names true d = summary y names d
 summary_at y names false d = []

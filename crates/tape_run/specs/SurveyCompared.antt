@@ -1,5 +1,5 @@
--- What a survey says of sections with more than one good copy. The lines are for people, and may
--- change.
+-- The report of a survey on sections with more than one good copy. The lines are for people, and
+-- may change.
 use Rattle.std.specs.Prelude.{ℕ, ◌==◌, ◌&&◌, not, Bool, if◌then◌else◌, List, [], ◌++◌, codes, decimal}
 use Rattle.std.specs.Prelude.{Option, Some, None, is_some, get_or}
 use Rattle.std.specs.List.{flat_map}
@@ -12,7 +12,7 @@ use Rattle.tape_run.specs.Quoting.{name_text}
 use Rattle.tape_run.specs.SurveyLine.{trimmed_text}
 use Rattle.tape_run.specs.SurveyRows.{key_cells}
 
--- the name of the image with this number, if there is one
+-- the name of image number `image`, if it exists
 abbrev pub name_at : List (List ℕ) → ℕ → List ℕ
 name_at names image = name_text (get_or names image [])
 
@@ -30,7 +30,7 @@ abbrev pub conflict_text : List (List ℕ) → ℕ → ℕ → List ℕ
 conflict_text names first other = codes "CONFLICT, " ++ name_at names first ++ codes " and "
     ++ name_at names other ++ codes " differ ('tape compare' shows where)\n"
 
--- what is reported of the copies of a section
+-- the result of comparing the copies of a section
 abbrev pub verdict_by : List (List ℕ) → CopyNote → Option ℕ → List ℕ
 verdict_by names note None = agreed_text note.copies
 verdict_by names note (Some other) = conflict_text names note.image other
@@ -47,7 +47,7 @@ abbrev pub row_front : SectionKey → ℕ → List ℕ
 row_front key copies = codes "COPIES\t" ++ key_cells key.set_id key.file key.sect ++ codes "\t"
     ++ decimal copies ++ codes "\t"
 
--- the name of the image with a copy that differs, if there is one
+-- the name of the image whose copy differs, if any
 abbrev pub other_name : List (List ℕ) → Option ℕ → List ℕ
 other_name names None = []
 other_name names (Some other) = name_at names other

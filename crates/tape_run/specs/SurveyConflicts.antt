@@ -1,4 +1,4 @@
--- What follows for the images if good copies are reported to agree or to differ.
+-- The consequences for the images if good copies are reported to agree or to differ.
 use Rattle.std.specs.Prelude.{◌≡◌, ◌≢◌, ℕ, ◌+◌, List, [], ◌∷◌, ◌++◌, map, Option, Some}
 use Rattle.std.specs.Prelude.{option_map}
 use Rattle.std.specs.List.{AllByRecursion}
@@ -33,13 +33,13 @@ Placed = ℕ × Copy
 abbrev pub placed_on : ℕ → List TapeItem → List Placed
 placed_on image items = map (λ x. (image, x)) (copies_on items)
 
--- those on an image that was read, if it was opened
+-- the good copies on an image that was read; none if it was not opened
 abbrev pub placed_in : (reel : Reel) (sight : Option ImageSurvey) (c d : Found)
     → IsViewed reel sight c d → List Placed
 placed_in (Some before) (Some sight) c d v = placed_on c.images v.1.items
 placed_in _ _ c d v = []
 
--- those on all images that were read
+-- the good copies on all images that were read
 abbrev pub all_placed : {L R : Type 0} (gives : Mounting L R) (remaining : R → Option (List ℕ))
     (shelf : L) (number : ℕ) (sights : List (Option ImageSurvey)) (c : Found) (last : L) (d : Found)
     → AreViewed gives remaining shelf number sights c last d → List Placed
@@ -54,7 +54,7 @@ pub record IsIn {X : Type 0} (xs : List X) (x : X) : Type 0 where
   pub rest : List X
   pub stands : xs ≡ front ++ x ∷ rest
 
--- Two of these are copies of one section, on these images, and their data blocks differ.
+-- Two of these are copies of one section, on two images, and their data blocks differ.
 pub record CopiesDiffer (xs : List Placed) (key : SectionKey) (first other : ℕ) : Type 0 where
   pub one : Placed
   pub two : Placed

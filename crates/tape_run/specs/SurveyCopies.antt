@@ -17,7 +17,7 @@ use Rattle.tape_run.specs.SurveyGlance.{or_else}
 
 -- ---- the good copies on an image
 
--- a good copy of a section: what is known of it, and its data blocks
+-- a good copy of a section: its entry, and its data blocks
 abbrev pub Copy : Type 0
 Copy = Told × List (List ℕ)
 
@@ -32,7 +32,7 @@ abbrev pub good_told : Option Told → List (List ℕ) → List Copy
 good_told None blocks = []
 good_told (Some t) blocks = if is_good t.1.state then (t, blocks) ∷ [] else []
 
--- the good copies that these items complete, from this phase and these blocks on
+-- the good copies that these items complete, beginning with this phase and these blocks
 abbrev pub copies_from : Phase → List (List ℕ) → List TapeItem → List Copy
 copies_from p blocks [] = []
 copies_from p blocks (x ∷ xs) = good_told (step p x).1 blocks
@@ -42,13 +42,13 @@ copies_from p blocks (x ∷ xs) = good_told (step p x).1 blocks
 abbrev pub copies_on : List TapeItem → List Copy
 copies_on items = copies_from Volume [] items
 
--- ---- what is kept of them
+-- ---- the record of the copies
 
--- a section, and what is known of its good copies
+-- a section, and the record of its good copies
 abbrev pub Noted : Type 0
 Noted = SectionKey × CopyNote
 
--- a file with copies of a section that differ, and the number of that section
+-- a file with a section whose copies differ, and the number of that section
 abbrev pub Disputed : Type 0
 Disputed = FileKey × ℕ
 
@@ -65,33 +65,33 @@ no_copies = record { notes = []; conflicts = [] }
 abbrev pub one_copy_more : ℕ → ℕ
 one_copy_more n = min (n + 1) 4294967295
 
--- the note of a section after one more copy, which agrees with the first one
+-- the record of a section after one more copy, which agrees with the first one
 abbrev pub with_same : CopyNote → CopyNote
 with_same n = record n { copies = one_copy_more n.copies }
 
--- and after one on this image, which does not
+-- and after one more copy, on this image, which does not agree
 abbrev pub with_other : CopyNote → ℕ → CopyNote
 with_other n image = record n { other = or_else n.other (Some image) }
 
--- The note of a section after one more good copy, which is on this image and has this number of
--- blocks and this digest: it agrees with the first copy if both are the same.
+-- The record of a section after one more good copy, which is on this image and has this number of
+-- blocks and this digest: it agrees with the first copy if both are equal.
 abbrev pub copy_note : Option CopyNote → ℕ → ℕ → ℕ → CopyNote
 copy_note None image blocks digest =
     record { image = image; blocks = blocks; digest = digest; copies = 1; other = None }
 copy_note (Some n) image blocks digest =
     if (n.blocks == blocks) && (n.digest == digest) then with_same n else with_other n image
 
--- what is known of the good copies of a section
+-- the record of the good copies of a section
 abbrev pub noted_at : List Noted → SectionKey → Option CopyNote
 noted_at notes key = lookup (same_key key) notes
 
--- the files in conflict, with that of a section if copies of it differ
+-- the files in conflict, including that of a section whose copies differ
 abbrev pub with_conflict : List Disputed → SectionKey → Bool → List Disputed
 with_conflict files key differs =
     if differs then insert_entry same_file files (file_key key.set_id key.file) key.sect
     else files
 
--- after this note of a section
+-- after this record of a section
 abbrev pub with_note : Copied → SectionKey → CopyNote → Copied
 with_note c key note = record {
   notes = insert_entry same_key c.notes key note;
@@ -103,7 +103,7 @@ abbrev pub with_good : Copied → ℕ → SectionKey → ℕ → ℕ → Copied
 with_good c image key blocks digest =
     with_note c key (copy_note (noted_at c.notes key) image blocks digest)
 
--- after a section that was completed on this image, if one was, with this digest
+-- after the section that was completed on this image, if any, with its digest
 abbrev pub with_told : Copied → ℕ → Option Told → ℕ → Copied
 with_told c image None digest = c
 with_told c image (Some t) digest =
@@ -115,7 +115,7 @@ with_copies image c [] = c
 with_copies image c (x ∷ xs) =
     with_copies image (with_good c image x.0.0 x.0.1.blocks (digest_of x.1)) xs
 
--- after those that the items of this image contain
+-- after the good copies that the items of this image contain
 abbrev pub copied_in : ℕ → Copied → List TapeItem → Copied
 copied_in image c items = with_copies image c (copies_on items)
 
@@ -137,9 +137,9 @@ digest_in digest p (block b) = digest_at digest p b
 digest_in digest p bad = digest
 digest_in digest p mark = digest_past digest p
 
--- ---- what is asked of them
+-- ---- questions about them
 
--- a section of a file whose good copies differ, if there is one
+-- a section of a file whose good copies differ, if any
 abbrev pub dispute_at : Copied → FileKey → Option ℕ
 dispute_at c key = lookup (same_file key) c.conflicts
 

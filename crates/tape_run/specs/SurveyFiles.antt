@@ -1,4 +1,4 @@
--- What is known of files by their header labels.
+-- The facts about files in their header labels.
 use Rattle.std.specs.Prelude.{ℕ, ◌==◌, ◌&&◌, ◌||◌, not, Bool, false, List, [], ◌∷◌}
 use Rattle.std.specs.Prelude.{Option, Some, None}
 use Rattle.std.specs.Map.{lookup}
@@ -13,7 +13,7 @@ use Rattle.tape_run.specs.declared.survey.files.FileNote.{FileNote}
 use Rattle.tape_run.specs.Passing.{step}
 use Rattle.tape_run.specs.SurveyGlance.{head_in}
 
--- a file, and what is known of it
+-- a file, and its record
 abbrev pub Filed : Type 0
 Filed = FileKey × FileNote
 
@@ -26,7 +26,7 @@ abbrev pub is_other : Head1 → Head1 → Bool
 is_other a b = not (bytes_eq a.file_id b.file_id)
     || (not (bytes_eq a.created b.created) || not (bytes_eq a.generation b.generation))
 
--- what is known of a file of which this was known, after one more label
+-- the record of a file after one more label
 abbrev pub note_of : Option FileNote → Head1 → FileNote
 note_of None head = record { head = head; differs = false }
 note_of (Some note) head =
@@ -36,7 +36,7 @@ note_of (Some note) head =
 abbrev pub file_key : List ℕ → ℕ → FileKey
 file_key set_id file = record { set_id = set_id; file = file }
 
--- what is known of a file
+-- the record of a file
 abbrev pub note_at : List Filed → FileKey → Option FileNote
 note_at files key = lookup (same_file key) files
 
@@ -60,7 +60,7 @@ with_all files p (x ∷ xs) = with_all (with_met files (head_in p x)) (step p x)
 abbrev pub filed_in : List Filed → List TapeItem → List Filed
 filed_in files items = with_all files Volume items
 
--- different files were found under the number of one of these
+-- different files were found under the number of one of these files
 abbrev pub any_differs : List Filed → Bool
 any_differs [] = false
 any_differs (f ∷ fs) = f.1.differs || any_differs fs

@@ -1,4 +1,4 @@
--- Numbers of files of which no label was found.
+-- Numbers of files without any label found.
 use Rattle.std.specs.Prelude.{ℕ, zero, suc, ◌+◌, ◌-◌, Bool, if◌then◌else◌, List, [], ◌++◌, nat_lt}
 use Rattle.std.specs.Prelude.{is_some, codes, decimal}
 use Rattle.tape_run.specs.declared.survey.Wording.{Wording}
@@ -18,7 +18,7 @@ gap_first d set_id zero = 1
 gap_first d set_id (suc n) =
     if is_found d set_id (suc n) then suc (suc n) else gap_first d set_id n
 
--- the numbers from the first one up to the one before a file
+-- the file numbers from `first` to `file - 1`
 abbrev pub numbers_text : ℕ → ℕ → List ℕ
 numbers_text first file = decimal first
     ++ (if nat_lt first (file - 1) then codes "-" ++ decimal (file - 1) else [])
@@ -43,6 +43,6 @@ abbrev pub gap_by : Wording → List ℕ → ℕ → ℕ → List ℕ
 gap_by Words set_id first file = gap_line first file
 gap_by Rows set_id first file = gap_row set_id first file
 
--- the text for the numbers from the first one up to the one before a file, if there are any
+-- the text for the file numbers from `first` to `file - 1`, if there are any
 abbrev pub gap_text : Wording → List ℕ → ℕ → ℕ → List ℕ
 gap_text y set_id first file = if nat_lt first file then gap_by y set_id first file else []

@@ -1,4 +1,4 @@
--- What an image is, at a glance over its items.
+-- A summary of an image, from its items.
 use Rattle.std.specs.Prelude.{ℕ, ◌+◌, ◌==◌, ◌&&◌, ◌||◌, is_some, not, Bool, true, false, if◌then◌else◌}
 use Rattle.std.specs.Prelude.{List, [], ◌∷◌, length, Option, Some, None, Result, Ok, Err}
 use Rattle.std.specs.Str.{bytes_eq}
@@ -39,17 +39,17 @@ abbrev pub first_by : List ℕ → Result Vol1 LabelFault → First
 first_by b (Ok label) = firsts.Volume label
 first_by b (Err _) = first_other b
 
--- a first block
+-- a first block that was read as a volume label, or could not be read as one
 abbrev pub first_block : List ℕ → First
 first_block b = first_by b (vol1_at b)
 
--- what an image begins with whose first item this is
+-- what an image with this first item begins with
 abbrev pub first_of : TapeItem → First
 first_of (block b) = first_block b
 first_of bad = firsts.Bad
 first_of mark = firsts.Mark
 
--- the same, of an item with this number
+-- the same, for an item with this number
 abbrev pub first_with : First → ℕ → TapeItem → First
 first_with first number x = if number == 1 then first_of x else first
 
@@ -64,7 +64,7 @@ is_vol1 (block b) = is_kind_vol1 (kind_at b)
 is_vol1 bad = false
 is_vol1 mark = false
 
--- the first of two that exists
+-- the first of two values that exists
 abbrev pub or_else : {T : Type 0} → Option T → Option T → Option T
 or_else (Some x) second = Some x
 or_else None second = second
@@ -74,22 +74,22 @@ abbrev pub late_with : Option ℕ → ℕ → TapeItem → Option ℕ
 late_with late number x =
     if not (number == 1) && is_vol1 x then or_else late (Some number) else late
 
--- what was read, if it could be
+-- the label that was read, if the block could be read as one
 abbrev pub head_by : Result Head1 LabelFault → Option Head1
 head_by (Ok head) = Some head
 head_by (Err _) = None
 
--- the header label that a block is
+-- the block as a header label, if it is one
 abbrev pub head_of : List ℕ → Option Head1
 head_of b = head_by (head1_at b)
 
--- the header label that a block is, if a section may begin there
+-- the block as a header label, if it is one and a section may begin there
 abbrev pub head_at : Phase → List ℕ → Option Head1
 head_at (phases.Labels v) b = head_of b
 head_at (phases.Next v) b = head_of b
 head_at _ b = None
 
--- the same of an item
+-- the same for an item
 abbrev pub head_in : Phase → TapeItem → Option Head1
 head_in p (block b) = head_at p b
 head_in p bad = None
@@ -100,23 +100,23 @@ abbrev pub unread_with : ℕ → Result Head2 LabelFault → Option ℕ
 unread_with file (Ok head) = None
 unread_with file (Err _) = Some file
 
--- the file of which a block of this kind is an HDR2 that is not read
+-- the file to which an unsupported HDR2 of this kind belongs
 abbrev pub unread_by : ℕ → Option Kind → List ℕ → Option ℕ
 unread_by file (Some kinds.Hdr2) b = unread_with file (head2_at b)
 unread_by file _ b = None
 
--- the same for a block, if a second label is expected
+-- the same for a block in place of a second label
 abbrev pub unread_at : Phase → List ℕ → Option ℕ
 unread_at (phases.Second met) b = unread_by met.key.file (kind_at b) b
 unread_at _ b = None
 
--- the same of an item
+-- the same for an item
 abbrev pub unread_in : Phase → TapeItem → Option ℕ
 unread_in p (block b) = unread_at p b
 unread_in p bad = None
 unread_in p mark = None
 
--- what is expected in each phase
+-- the item expected in each phase
 abbrev pub wanted_in : Phase → ExpectedItem
 wanted_in phases.Volume = wanted.Volume
 wanted_in (phases.Labels v) = wanted.Section
@@ -133,27 +133,26 @@ abbrev pub left_by : ℕ → Phase → Phase → LabelOrder
 left_by number p phases.Over = Leaves number (wanted_in p)
 left_by number p _ = Follows
 
--- The course after a tape mark, if all items before it follow the order and the volume continues:
--- after the volume labels it may be that of a blank volume, and one more after a section ends the
--- volume.
+-- The label order after a tape mark, if all items before it are in order and the volume continues:
+-- after the volume labels the volume may be blank, and a second mark after a section ends it.
 abbrev pub behind_mark : ℕ → Phase → Phase → LabelOrder
 behind_mark number (phases.Labels v) next = Blank
 behind_mark number (phases.Next v) next = Ended
 behind_mark number p next = left_by number p next
 
--- the same of an item
+-- the same for an item
 abbrev pub behind : ℕ → Phase → TapeItem → Phase → LabelOrder
 behind number p mark next = behind_mark number p next
 behind number p bad next = left_by number p next
 behind number p (block b) next = left_by number p next
 
--- the course after an item where a second tape mark is expected
+-- the label order after an item in place of the second tape mark
 abbrev pub behind_blank : ℕ → TapeItem → LabelOrder
 behind_blank number mark = Ended
 behind_blank number bad = Leaves number wanted.SecondMark
 behind_blank number (block b) = Leaves number wanted.SecondMark
 
--- the course after an item
+-- the label order after an item
 abbrev pub course_with : LabelOrder → ℕ → Phase → TapeItem → Phase → LabelOrder
 course_with Follows number p x next = behind number p x next
 course_with Blank number p x next = behind_blank number x
@@ -166,16 +165,16 @@ is_bad (block b) = false
 is_bad bad = true
 is_bad mark = false
 
--- one, if this is so
+-- 1 if this is true, otherwise 0
 abbrev pub one_if : Bool → ℕ
 one_if b = if b then 1 else 0
 
--- a header label counts one
+-- a header label counts as one section
 abbrev pub one_head : Option Head1 → ℕ
 one_head None = 0
 one_head (Some head) = 1
 
--- what is known of a section that was found, if one was
+-- the entry of the section that was found, if any
 abbrev pub line_in : Option Told → Option SectionLine
 line_in (Some t) = Some (line_of t)
 line_in None = None
@@ -205,7 +204,7 @@ blank_glance = record {
   course = Follows;
 }
 
--- the glance after one more item, with the phases before and after it
+-- the summary after one more item, with the phases before and after it
 abbrev pub look_to : ImageSummary → Phase → TapeItem → Phase → ImageSummary
 look_to g p x next = record {
   items = g.items + 1;
@@ -221,11 +220,11 @@ look_to g p x next = record {
   course = course_with g.course (g.items + 1) p x next;
 }
 
--- the glance after these items, in this phase
+-- the summary after these items, in this phase
 abbrev pub look_all : ImageSummary → Phase → List TapeItem → ImageSummary
 look_all g p [] = g
 look_all g p (x ∷ xs) = let next = (step p x).0 in look_all (look_to g p x next) next xs
 
--- an image at a glance
+-- the summary of an image
 abbrev pub glance_of : List TapeItem → ImageSummary
 glance_of items = look_all blank_glance phases.Volume items

@@ -28,7 +28,7 @@ use Rattle.tape_run.specs.SurveyRead.{Found}
 -- ---- the order of a volume
 
 -- A section: two header labels and further ones, a mark, its blocks, a mark, a trailer label with
--- the numbers of its first one and further ones, a mark.
+-- the numbers of its first label and further ones, a mark.
 pub record IsSectionInOrder (items : List TapeItem) : Type 0 where
   pub hdr1 : List ℕ
   pub hdr2 : List ℕ
@@ -47,7 +47,7 @@ pub record IsSectionInOrder (items : List TapeItem) : Type 0 where
   pub sect : trail.head.sect ≡ head.sect
   pub file : trail.head.sequence ≡ head.sequence
 
--- A volume up to here: its label, further volume labels, and these sections.
+-- A volume up to this item: its label, further volume labels, and these sections.
 pub record IsBegun (items : List TapeItem) (sections : List (List TapeItem)) : Type 0 where
   pub vol1 : List ℕ
   pub label : Vol1
@@ -57,7 +57,7 @@ pub record IsBegun (items : List TapeItem) (sections : List (List TapeItem)) : T
   pub further : AllByRecursion (λ b. is_volume_label b ≡ true) labels
   pub each : AllByRecursion IsSectionInOrder sections
 
--- what ends a volume of these sections: a mark, and one more if it has none
+-- the end of a volume with these sections: a mark, and one more if there are no sections
 abbrev pub end_marks : List (List TapeItem) → List TapeItem
 end_marks [] = mark ∷ mark ∷ []
 end_marks (section ∷ sections) = mark ∷ []
@@ -91,12 +91,12 @@ pub record IsFirstAstray (items : List TapeItem) (n : ℕ) : Type 0 where
   pub follow : has_left (course_of before) ≡ false
   pub leaves : has_left (course_of (before ++ item ∷ [])) ≡ true
 
--- If a glance says that an item leaves the order, it is the first that does.
+-- If a summary says that an item leaves the order, it is the first that does.
 abbrev pub LeavesThere : Type 0
 LeavesThere = (items : List TapeItem) (n : ℕ) (w : ExpectedItem) → course_of items ≡ Leaves n w
     → IsFirstAstray items n
 
--- If a glance says that the volume ended, the items are a volume, and nothing follows it.
+-- If a summary says that the volume ended, the items are a volume, and nothing follows it.
 abbrev pub EndedIsVolume : Type 0
 EndedIsVolume = (items : List TapeItem) → course_of items ≡ Ended → IsVolumeInOrder items
 

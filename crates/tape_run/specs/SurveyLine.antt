@@ -1,4 +1,4 @@
--- What a survey says of an image. The text is for people, and may change.
+-- The description of an image in a survey. The text is for people, and may change.
 use Rattle.std.specs.Prelude.{Bool, true, false, not, length, take, ◌-◌, ℕ, ◌==◌}
 use Rattle.std.specs.Prelude.{nat_lt, map, if◌then◌else◌, List, [], ◌++◌, codes, decimal}
 use Rattle.std.specs.Prelude.{Option, Some, None, replicate}
@@ -37,7 +37,7 @@ trimmed_len bytes = length bytes - suffix_len is_space bytes
 abbrev pub trimmed_text : List ℕ → List ℕ
 trimmed_text bytes = map printed (take (trimmed_len bytes) bytes)
 
--- what an image begins with
+-- the beginning of an image
 abbrev pub first_text : First → List ℕ
 first_text firsts.Nothing = codes "no items"
 first_text (firsts.Volume label) = codes "volume " ++ trimmed_text label.volume
@@ -63,7 +63,7 @@ files_text n =
     if n == 0 then [] else if n == 1 then codes ", 1 section"
     else codes ", " ++ (decimal n ++ codes " sections")
 
--- Each further fact follows the text between two facts.
+-- Each further fact is preceded by the text between two facts.
 
 -- how many blocks are unreadable
 abbrev pub bad_text : List ℕ → ℕ → List ℕ
@@ -71,18 +71,18 @@ bad_text between n =
     if n == 0 then [] else if n == 1 then between ++ codes "1 unreadable block"
     else between ++ (decimal n ++ codes " unreadable blocks")
 
--- if a volume label follows something else
+-- if a volume label follows another item
 abbrev pub late_text : List ℕ → Option ℕ → List ℕ
 late_text between None = []
 late_text between (Some n) = between ++ (codes "a VOL1 at item " ++ decimal n)
 
--- a file whose records cannot be read, if there is one
+-- a file whose records cannot be read, if any
 abbrev pub unread_text : List ℕ → Option ℕ → List ℕ
 unread_text between None = []
 unread_text between (Some file) =
     between ++ (codes "file " ++ (decimal file ++ codes " has an unsupported record format"))
 
--- what is wrong with a section in this state
+-- the fault of a section in this state
 abbrev pub damage_text : SectionState → List ℕ
 damage_text Good = codes "is good"
 damage_text Bad = codes "has unreadable blocks"
@@ -111,7 +111,7 @@ glance_text between g =
     first_text g.first ++ (system_text g.head ++ (files_text g.files ++ (bad_text between g.bad
     ++ (late_text between g.late ++ unread_text between g.unread))))
 
--- what the item that leaves the order is not
+-- the item that is missing where the order is left
 abbrev pub wanted_text : ExpectedItem → List ℕ
 wanted_text wanted.Volume = codes "is not VOL1"
 wanted_text wanted.Section = codes "is not HDR1"
@@ -122,7 +122,7 @@ wanted_text wanted.Next = codes "is neither HDR1 nor a tape mark"
 wanted_text wanted.SecondMark = codes "is not a second tape mark"
 wanted_text wanted.End = codes "follows the end of the volume"
 
--- That the items begin with no volume label is said before.
+-- A missing volume label at the start is reported already.
 abbrev pub is_told : ExpectedItem → Bool
 is_told wanted.Volume = false
 is_told _ = true
@@ -162,7 +162,7 @@ abbrev pub guess_text : ImageFault → List ℕ
 guess_text fault =
     if is_no_image fault then codes ": not a SIMH image, or compressed (try zcat)" else []
 
--- a fault with this number at this offset, and what the image probably is
+-- a fault's number and offset, and what the image probably is
 abbrev pub fault_at : List ℕ → ℕ → ℕ → List ℕ → List ℕ
 fault_at between number place guess = between ++ (codes "image fault " ++ (decimal number
     ++ (codes " at byte " ++ (decimal place ++ guess))))
@@ -202,8 +202,8 @@ abbrev pub sight_text : Option ImageSurvey → List ℕ
 sight_text (Some s) = opened_text s
 sight_text None = codes "not opened\n"
 
--- the line of an image after its printed name, which has this length: the next column is the same
--- for all that have at most 24 bytes
+-- the line about an image after its printed name, given the length of the name: the next column is
+-- aligned for all names of at most 24 bytes
 abbrev pub line_end : ℕ → Option ImageSurvey → List ℕ
 line_end named sight = replicate (24 - named) 32 ++ (codes "  " ++ sight_text sight)
 

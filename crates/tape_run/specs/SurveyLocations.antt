@@ -1,4 +1,4 @@
--- The image on which each section is.
+-- The image on which each section begins.
 use Rattle.std.specs.Prelude.{ℕ, ◌+◌, min, if◌then◌else◌, List, [], ◌∷◌, Option, Some, None}
 use Rattle.std.specs.Prelude.{is_some}
 use Rattle.indexmap.specs.IndexMap.{insert_entry}
@@ -20,8 +20,8 @@ Located = SectionKey × ℕ
 abbrev pub next_image : ℕ → ℕ
 next_image n = min (n + 1) 18446744073709551615
 
--- After a header label that was found on an image, if there was one: the section begins there,
--- unless a good copy of it was found before.
+-- After a header label that was found on an image, if any: the section begins there, unless a good
+-- copy of it was found before.
 abbrev pub with_location : List Told → List Located → ℕ → Option Head1 → List Located
 with_location sections located image None = located
 with_location sections located image (Some head) =
@@ -29,7 +29,7 @@ with_location sections located image (Some head) =
     if is_some (good_end (entry_at sections key)) then located
     else insert_entry same_key located key image
 
--- after the header labels that these items of an image are, in this phase
+-- after the header labels among these items of an image, in this phase
 abbrev pub locate_all : ℕ → List Told → List Located → Phase → List TapeItem → List Located
 locate_all image sections located p [] = located
 locate_all image sections located p (x ∷ xs) =

@@ -26,7 +26,7 @@ damage_line Rows sect entry =
 abbrev pub found_line : Wording → ℕ → Entry → List ℕ
 found_line y sect entry = if is_good entry.state then [] else damage_line y sect entry
 
--- where to look for missing sections, if this is known of the one before them
+-- where to look for missing sections, if the section before them is known
 abbrev pub where_text : Option Entry → List ℕ
 where_text (Some before) = codes " missing, after volume " ++ trimmed_text before.volume
 where_text None = codes " not found"
@@ -51,7 +51,7 @@ known_text y c set_id file first sect (Some entry) =
     missing_text y c set_id file first sect ++ found_line y sect entry
 known_text y c set_id file first sect None = []
 
--- the first number after a section, if it was found
+-- the number after a section's, if it was found
 abbrev pub first_after : ℕ → ℕ → Option Entry → ℕ
 first_after first sect (Some entry) = sect + 1
 first_after first sect None = first

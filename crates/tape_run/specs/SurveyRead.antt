@@ -40,8 +40,8 @@ nothing_found = record {
 }
 
 -- All items that a reader of the image with this number returned were looked at, and the sections
--- and header labels in them were added, where the sections are, and the good copies. Before the call
--- the reader had the bytes `before`, and then the bytes `after`.
+-- and header labels in them were added, where the sections are, and the good copies. Before the
+-- call the reader had the bytes `before`, and then the bytes `after`.
 pub record ViewsItems (before after : Option (List ℕ)) (image : ℕ) (sections : List Told)
     (files : List Filed) (located : List Located) (known : Copied) (sight : ImageSurvey)
     (told : List Told) (filed : List Filed) (locations : List Located) (copies : Copied) : Type 0

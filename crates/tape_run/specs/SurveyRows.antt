@@ -26,7 +26,7 @@ use Rattle.tape_run.specs.SurveySets.{standing_of, is_mixed, is_whole_file, rest
 abbrev pub whole_cell : Bool → List ℕ
 whole_cell whole = if whole then codes "WHOLE" else codes "PARTIAL"
 
--- the volume, if there is a volume label first
+-- the volume, if the first item is a volume label
 abbrev pub volume_cell : First → List ℕ
 volume_cell (firsts.Volume label) = trimmed_text label.volume
 volume_cell _ = []
@@ -49,16 +49,16 @@ seen_cells s =
     ++ head_cells s.glance.head ++ codes "\t" ++ count_cells s.glance ++ codes "\t"
     ++ stop_text s.stop
 
--- what it is, or that it was not opened
+-- the description of the image, or that it was not opened
 abbrev pub sight_cells : Option ImageSurvey → List ℕ
 sight_cells (Some s) = seen_cells s
 sight_cells None = codes "NOT OPENED\t\t\t\t\t\t\t"
 
--- what follows a name, except the words at the end
+-- the columns after a name, except the words at the end
 abbrev pub middle_cells : Option ImageSurvey → List ℕ
 middle_cells sight = codes "\t" ++ sight_cells sight ++ codes "\t"
 
--- what an image is, in words, at the end of its row
+-- the description of an image in words, at the end of its row
 abbrev pub words_cell : Option ImageSurvey → List ℕ
 words_cell (Some s) = seen_text (codes "; ") s ++ codes "\n"
 words_cell None = codes "not opened\n"
@@ -84,7 +84,7 @@ section_row (key, entry) =
     ++ trimmed_text entry.volume ++ codes "\t" ++ decimal entry.blocks ++ codes "\t"
     ++ state_text entry.state ++ codes "\t" ++ eof_cell entry.eof ++ codes "\n"
 
--- what is known of a file by its labels
+-- the facts about a file in its labels
 abbrev pub known_cells : Option FileNote → List ℕ
 known_cells (Some note) =
     trimmed_text note.head.file_id ++ codes "\t" ++ trimmed_text note.head.created
@@ -95,7 +95,7 @@ abbrev pub wanted_cells : List ℕ → ℕ → List ℕ → List ℕ
 wanted_cells state sect volume =
     state ++ codes "\t" ++ decimal sect ++ codes "\t" ++ trimmed_text volume
 
--- what is reported of a file
+-- the state of a file
 abbrev pub standing_cells : Standing → List ℕ
 standing_cells Complete = codes "COMPLETE\t\t"
 standing_cells (Damaged sect entry) = wanted_cells (state_text entry.state) sect entry.volume

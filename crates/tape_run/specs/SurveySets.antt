@@ -28,22 +28,22 @@ abbrev pub behind_by : ℕ → Option Entry → Standing
 behind_by sect (Some before) = Behind sect before.volume
 behind_by sect None = Missing sect
 
--- a missing section, of which this is known, and this of the one before it
+-- a missing section, with its own entry and that of the section before it
 abbrev pub wanted_by : ℕ → Option Entry → Option Entry → Standing
 wanted_by sect (Some entry) before = Damaged sect entry
 wanted_by sect None before = behind_by sect before
 
--- what is missing of a file without this section
+-- the state of a file without this section
 abbrev pub wanted_at : List Told → List ℕ → ℕ → ℕ → Standing
 wanted_at c set_id file sect = wanted_by sect (entry_at c (key_at set_id file sect))
     (entry_at c (key_at set_id file (sect - 1)))
 
--- what is reported of a file with this missing section
+-- the state of a file with this missing section
 abbrev pub standing_by : List Told → List ℕ → ℕ → Option ℕ → Standing
 standing_by c set_id file None = Complete
 standing_by c set_id file (Some sect) = wanted_at c set_id file sect
 
--- what is reported of a file: it is complete if nothing of it is missing from the catalogue
+-- the state of a file: it is complete if none of its sections is missing from the catalogue
 abbrev pub standing_of : List Told → List ℕ → ℕ → Standing
 standing_of c set_id file = standing_by c set_id file (lack_of c set_id file)
 
@@ -52,7 +52,7 @@ abbrev pub number_text : ℕ → List ℕ
 number_text n = (if nat_lt n 10 then codes "   " else if nat_lt n 100 then codes "  "
     else if nat_lt n 1000 then codes " " else []) ++ decimal n
 
--- what is known of a file by its labels: its identifier, and when it was created
+-- the facts about a file in its labels: its identifier, and when it was created
 abbrev pub known_text : Option FileNote → List ℕ
 known_text (Some note) = identifier_text note.head.file_id
     ++ (codes "  " ++ date_text (date_of note.head.created))
@@ -67,25 +67,25 @@ is_mixed None = false
 abbrev pub is_whole_file : List Told → List ℕ → ℕ → Bool
 is_whole_file c set_id file = is_none (lack_of c set_id file)
 
--- what a file is, in a word, or why it is in conflict: labels of different files have one number, or
--- good copies of a section differ
+-- the state of a file in a word, or why it is in conflict: labels of different files have one
+-- number, or good copies of a section differ
 abbrev pub file_word : Bool → Bool → Bool → List ℕ
 file_word mixed disputed complete =
     if mixed then codes "conflict: labels of different files have this number"
     else if disputed then codes "conflict: good copies of a section differ"
     else if complete then codes "complete" else codes "incomplete"
 
--- the first line of a file, in a conflict and complete as it is
+-- the first line of a file, which may be in conflict or complete
 abbrev pub head_line : ℕ → Option FileNote → Bool → Bool → List ℕ
 head_line file note disputed complete = number_text file ++ (codes " " ++ (known_text note
     ++ (codes "  " ++ (file_word (is_mixed note) disputed complete ++ codes "\n"))))
 
--- what is damaged or missing of a file unless it is complete
+-- the damaged and missing sections of a file, unless it is complete
 abbrev pub rest_lines : Wording → Bool → List Told → List ℕ → ℕ → List ℕ
 rest_lines y true c set_id file = []
 rest_lines y false c set_id file = problem_lines y c set_id file
 
--- the lines of a file: what it is, and then what is damaged or missing unless it is complete
+-- the lines about a file: its state and, unless it is complete, its damaged and missing sections
 abbrev pub file_lines : Found → List ℕ → ℕ → List ℕ
 file_lines d set_id file =
     let complete = is_whole_file d.sections set_id file in
@@ -101,13 +101,13 @@ is_sure d set_id file =
     is_whole_file d.sections set_id file && (not (is_mixed (note_at d.files key))
     && is_none (dispute_at d.copies key))
 
--- how many of n files of a set, from this one on, are
+-- how many of n files of a set, from this one on, are complete
 abbrev pub sure_files : Found → List ℕ → ℕ → ℕ → ℕ
 sure_files d set_id file zero = 0
 sure_files d set_id file (suc n) =
     one_if (is_sure d set_id file) + sure_files d set_id (file + 1) n
 
--- the line of a set of which this many files are complete
+-- the line about a set, with the number of its complete files
 abbrev pub set_line : List ℕ → ℕ → ℕ → List ℕ
 set_line set_id complete files = codes "Set " ++ (trimmed_text set_id ++ (codes ": "
     ++ (decimal complete ++ (codes " of " ++ (decimal files ++ codes " files complete\n")))))
@@ -133,9 +133,9 @@ abbrev pub all_good : List Told → Bool
 all_good [] = true
 all_good (t ∷ ts) = is_good t.1.state && all_good ts
 
--- Nothing is missing, and all was read completely: all images are complete, each file that was
--- found is complete, each section has a good copy, no two files were found under one number, and no
--- good copies differ.
+-- Nothing is missing, and everything was read: all images are complete, each file that was found is
+-- complete, each section has a good copy, no two files were found under one number, and no good
+-- copies differ.
 abbrev pub is_all : Found → Bool
 is_all d = d.whole && (found_all d.sections && (all_good d.sections
     && (not (any_differs d.files) && is_agreed d.copies.conflicts)))

@@ -1,4 +1,4 @@
--- What is so if a survey reports that nothing is missing, damaged or in conflict.
+-- The consequences if a survey reports that nothing is missing, damaged or in conflict.
 use Rattle.std.specs.Prelude.{◌≡◌, ◌≢◌, ℕ, true, false, List, [], Option, Some, None}
 use Rattle.std.specs.List.{AllByRecursion}
 use Rattle.tape_run.specs.declared.section.SectionState.TheVariants.{Good}
@@ -19,9 +19,9 @@ IsWhole (Some sight) = is_whole_sight sight ≡ true
 abbrev pub Agree : Placed → Placed → Type 0
 Agree x y = (x.1.0.1.blocks ≡ y.1.0.1.blocks) × (digest_of x.1.1 ≡ digest_of y.1.1)
 
--- Of these images, on which this was found: each was opened and read to its end; something was
--- found; each section that was found has a good copy; nothing is missing of any file; no number has
--- labels of different files; and no two good copies of a section differ.
+-- These images, on which this was found: each was opened and read to its end; something was found;
+-- each section that was found has a good copy; nothing is missing of any file; no number has labels
+-- of different files; and no two good copies of a section differ.
 pub record IsSound {L R : Type 0} (gives : Mounting L R) (remaining : R → Option (List ℕ))
     (shelf last : L) (sights : List (Option ImageSurvey)) (d : Found)
     (v : AreViewed gives remaining shelf 0 sights nothing_found last d) : Type 0 where

@@ -1,4 +1,4 @@
--- What a survey says, in words or in rows.
+-- The text of a survey, in words or in rows.
 use Rattle.std.specs.Prelude.{ℕ, zero, suc, ◌+◌, ◌-◌, if◌then◌else◌, List, [], ◌++◌, Option}
 use Rattle.std.specs.List.{flat_map}
 use Rattle.tape_run.specs.declared.survey.Wording.{Wording}
@@ -20,7 +20,7 @@ abbrev pub image_text : Wording → List ℕ → Option ImageSurvey → List ℕ
 image_text Words name sight = image_line name sight
 image_text Rows name sight = image_row name sight
 
--- what is said of a file of which a label was found
+-- the text about a file for which a label was found
 abbrev pub found_text : Wording → Found → List ℕ → ℕ → List ℕ
 found_text Words d set_id file = file_lines d set_id file
 found_text Rows d set_id file = file_row d set_id file
@@ -33,7 +33,7 @@ file_text y d set_id file =
     then gap_text y set_id (gap_first d set_id (file - 1)) file ++ found_text y d set_id file
     else []
 
--- of n files of a set, from this one on
+-- the texts for n files of a set, from this one on
 abbrev pub file_texts : Wording → Found → List ℕ → ℕ → ℕ → List ℕ
 file_texts y d set_id file zero = []
 file_texts y d set_id file (suc n) =

@@ -18,8 +18,8 @@ use Rattle.tape_run.specs.ByTable.{IsLed, IsCutAt}
 use Rattle.tape_run.specs.Steps.{ReadBy, StoppedBy}
 use Rattle.tape_run.specs.Under.{is_under}
 
--- what came from an image by what its reader returned: an item, or none at the end of the medium or
--- a fault
+-- the result for an image, from what its reader returned: an item, or none at the end of the medium
+-- or a fault
 abbrev pub came_of : Result (Option TapeItem) ImageFault → Option TapeItem
 came_of (Ok came) = came
 came_of (Err fault) = None
@@ -29,16 +29,16 @@ abbrev pub fault_of : Result (Option TapeItem) ImageFault → Option ImageFault
 fault_of (Ok came) = None
 fault_of (Err fault) = Some fault
 
--- The item was taken: with the parts that the sink now contains the core is right again, and the
--- mount under way is one item further; after a final answer no item of the rest of the mount moves
--- the position.
+-- The item was processed: the core agrees with the parts that the sink now contains, and the mount
+-- has advanced by one item. After a final answer, the remaining items of the mount do not move the
+-- position.
 pub record Taken (set : FileSet) (p : Position) (xs : List TapeItem) (i : ℕ) (h : MountEvent)
     (answer : Answer) (core : State) (now : List Portion) : Type 0 where
   pub at : IsPlaced set (rest_of core) now
   pub goes_on : is_under core set p xs (i + 1) h
   pub done : IsFinal answer → (rest_of core).position ≡ after_mount set (rest_of core).file p h
 
--- for every valid set and every mount under way the item at i was taken
+-- for every valid set and every mount under way the item at i was processed
 abbrev pub TakesItem : Option TapeItem → Answer → State → State → List Portion → List Portion
     → Type 0
 TakesItem item answer old new held now = (set : FileSet) (p : Position) (xs : List TapeItem) (i : ℕ)
@@ -60,8 +60,8 @@ ReadsItems given old new held now = (set : FileSet) (p : Position) (xs : List Ta
     → IsPlaced set (rest_of old) held → is_under old set p xs 0 h
     → ReadBy set (rest_of new).file p h (rest_of new) now
 
--- Of an image that a reader returned, all mounts were read to their end, and for any image, what
--- the table delivers was taken.
+-- All mounts of an image that a reader returned were read to their ends; for every image, the parts
+-- that the table delivers were put.
 pub record ReadsImage (failed : Bool) (old new : State) (held now : List Portion)
     (left : Option (List ℕ)) (bytes : List ℕ) : Type 0 where
   pub given : List ℕ

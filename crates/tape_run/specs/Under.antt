@@ -8,8 +8,8 @@ use Rattle.tape_core.specs.Follows.{IsReading}
 use Rattle.tape_core.specs.Foreign.{IsForeignAt}
 use Rattle.tape_run.specs.Mount.{MountEvent, reads, foreign_reel, saves, restarts}
 
--- The mount of these items, which began at p, is under way, and i of them were taken: the reader
--- follows the reading, or what is left of a foreign reel is still to come.
+-- The mount of these items, which began at p, is under way, and i of them were processed: the
+-- reader follows the reading, or the rest of a foreign reel is still to come.
 abbrev pub is_under : State → FileSet → Position → List TapeItem → ℕ → MountEvent → Type 0
 is_under core set p xs i (reads r) = IsReading set p r.volume (take i r.good) core
 is_under core set p xs i foreign_reel = (core.position ≡ p)

@@ -17,8 +17,8 @@ use Rattle.tape_run.specs.SurveyFiles.{note_at, file_key}
 use Rattle.tape_run.specs.SurveyLine.{trimmed_len}
 use Rattle.tape_run.specs.SurveyRead.{Found, nothing_found, AreViewed}
 
--- what the header labels of a file and its good copies say, given what is known of the file: they are
--- those of different files if the labels differ, or good copies of a section do
+-- what the header labels of a file and its good copies say, given what is known of the file: they
+-- are those of different files if the labels differ, or good copies of a section do
 abbrev pub heading_of : FileNote → Bool → Heading
 heading_of note disputed =
     if note.differs || disputed then Differs else Named note.head.file_id
@@ -79,7 +79,7 @@ pub record FilesOn {L R : Type 0} (size : L → ℕ) (gives : Mounting L R)
 abbrev pub is_plain : ℕ → Bool
 is_plain b = (nat_le 48 b && nat_le b 57) || (nat_le 65 b && nat_le b 90)
 
--- a printable character that every file system keeps: none of `"`, `*`, `/`, `:`, `<`, `>`, `?`,
+-- a printable character that every file system keeps: any except `"`, `*`, `/`, `:`, `<`, `>`, `?`,
 -- `\`, `|`
 abbrev pub is_kept : ℕ → Bool
 is_kept b =
@@ -99,7 +99,7 @@ escaped b = if is_plain b then b ∷ [] else if b == 32 then codes "_" else esca
 abbrev pub escaped_all : List ℕ → List ℕ
 escaped_all set_id = flat_map escaped set_id
 
--- a byte of a file identifier that another one follows
+-- a byte of a file identifier that is followed by another one
 abbrev pub fit : ℕ → List ℕ
 fit b = if is_kept b && not (b == 37) then b ∷ [] else escape b
 
@@ -107,7 +107,7 @@ fit b = if is_kept b && not (b == 37) then b ∷ [] else escape b
 abbrev pub fit_last : ℕ → List ℕ
 fit_last b = if (b == 32) || (b == 46) then escape b else fit b
 
--- so many bytes of a file identifier, or one space instead of none
+-- the first bytes of a file identifier, or one space if there are none
 abbrev pub fit_first : ℕ → List ℕ → List ℕ
 fit_first n bytes =
     if n == 0 then fit_last 32

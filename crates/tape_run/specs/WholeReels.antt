@@ -45,8 +45,8 @@ pub record IsToldWhole (set : FileSet) (lines : List (Option ImageLine)) (text :
   pub told : text ≡ image_lines 1 lines ++ (flat_map section_line listed ++ found_line)
   pub good : AllByRecursion (λ x. IsListedGood listed (key_in set x)) (sections set)
 
--- The report of complete copies of all volumes of a valid set that has a file, in any order and
--- with repeats, has each section of the set as GOOD, and none as missing.
+-- The report on complete copies of all volumes of a valid set that has a file, in any order and
+-- with repeats, lists each section of the set as GOOD, and none as missing.
 abbrev pub WholeSetIsTold : Type 0
 WholeSetIsTold =
     (set : FileSet) (ks : List ℕ) (reels : List Reel) (text : List ℕ) (found : Bool)
@@ -66,7 +66,7 @@ pub record IsShownOn (reels : List Reel) (told : Told) : Type 0 where
   pub read : IfKnown before after (StopsBehind items stop)
   pub shown : Shown items told.0 told.1
 
--- What a report calls GOOD is complete on one of the images.
+-- Each section that a report lists as GOOD is complete on one of the images.
 abbrev pub GoodWasSeen : Type 0
 GoodWasSeen = (reels : List Reel) (text : List ℕ) (found : Bool)
     → (report : IsReport reels text found) (told : Told)

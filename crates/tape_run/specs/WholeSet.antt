@@ -16,7 +16,7 @@ use Rattle.tape_run.specs.Passing.{Told, met_in}
 use Rattle.tape_run.specs.Noted.{noted_all}
 use Rattle.tape_run.specs.Lacks.{IsGoodAt, lack_of, found_all}
 
--- which section of the set it is
+-- which section of the set this is
 abbrev pub key_in : FileSet → Placed → SectionKey
 key_in set x = record { set_id = set.set_id; file = x.file; sect = x.sect }
 
@@ -67,7 +67,8 @@ IsNoDevice (Fault fault) = fault.cause ≢ Device
 IsNoDevice Marked = ⊤
 IsNoDevice Physical = ⊤
 
--- What `add` adds for a complete copy whose reader did not fail is what the volume's items contain.
+-- The sections that `add` adds for a complete copy whose reader did not fail are those in the
+-- volume's items.
 abbrev pub WholeCopiesAreAdded : Type 0
 WholeCopiesAreAdded =
     (set : FileSet) (k : ℕ) (xs : List ℕ) (after : Option (List ℕ))

@@ -1,5 +1,5 @@
--- What the headline says of the worked set if a reader fails, if the sink refuses a part, and if a
--- session is resumed on another day.
+-- The consequences of the headline for the worked set if a reader fails, if the sink refuses a
+-- part, and if a session is resumed on another day.
 use Rattle.std.specs.Prelude.{◌≡◌, ℕ, true, List, [], ◌∷◌, Option, None, Some, codes}
 use Rattle.tape_label.specs.declared.values.Format.TheVariants.{Spanned}
 use Rattle.tape_set.specs.Position.{awaiting, want_at}
@@ -49,13 +49,13 @@ behind_one = record {
   staged = 18;
 }
 
--- What the headline says of them.
+-- The consequences of the headline for this set.
 pub record DaysAreWorked : Type 0 where
-  -- One of four readers failed, whichever it was and wherever it did: the file is complete.
+  -- One of four readers failed, whichever and wherever it was: the file is complete.
   pub failed_reader : (s : Seen) (left : List (Option (List ℕ)))
       → IsRead (codes "ABC001") 1 four_reels twice left s → s.failures ≡ 1 → IsWhole s
   -- A part of volume 1 was refused, whichever it was, and then both volumes were read: the file is
-  -- complete, and no part is there twice.
+  -- complete, and no part is in it twice.
   pub refused_part : (old mid new : Seen) (n : ℕ) (cause : SinkFault)
       (left over : List (Option (List ℕ))) → IsStart (codes "ABC001") 1 old
       → HasStopped old (Reel ∷ []) (reel_1 ∷ []) left n (Sink cause) mid

@@ -1,5 +1,5 @@
 -- A worked history: one small file on two volumes, twelve steps over reels whose bytes are written
--- out, and what the headline says of them.
+-- out, and the consequences of the headline for them.
 use Rattle.std.specs.Prelude.{◌≡◌, ℕ, Bool, true, false, List, [], ◌∷◌, ◌++◌, None, codes}
 use Rattle.std.specs.Prelude.{replicate, Option}
 use Rattle.tape_blocks.specs.declared.parts.Span.TheVariants.{First, Middle, Last}
@@ -134,7 +134,8 @@ reel_1 = headers_1 ++ (data_block block_0 ++ (data_block block_1 ++ trailers_1))
 abbrev pub reel_2 : List ℕ
 reel_2 = headers_2 ++ (data_block block_2 ++ trailers_2)
 
--- volume 1 complete, truncated inside its second data block, and with a bad block in place of one
+-- volume 1 complete, truncated inside its second data block, and with a bad block instead of a data
+-- block
 abbrev pub cut_reel : List ℕ
 cut_reel = headers_1 ++ (data_block block_0 ++ (18 ∷ 0 ∷ 0 ∷ 0 ∷ codes "20018AA"))
 
@@ -158,7 +159,7 @@ other_reel =
     ++ label
     (codes "HDR1PAYROLL          XYZ00100010001000100 00000 00000 000000                    ")
 
--- ---- the script, what happens, and where it leads
+-- ---- the script, its events, and where these lead
 
 abbrev pub worked_steps : List Step
 worked_steps = Reel ∷ Reel ∷ Reel ∷ Reel ∷ Save ∷ Reel ∷ Restart 0 ∷ Reel ∷ Reel ∷ Reel ∷ Reel ∷
@@ -186,13 +187,13 @@ worked_history =
     ∷ reads (reading 2 (replicate 10 true))
     ∷ reads (reading 1 (replicate 11 true)) ∷ []
 
--- the position after each of the twelve, and the checkpoint
+-- the position after each of the twelve steps, and the checkpoint
 abbrev pub positions_after : Course → List MountEvent → List Position
 positions_after c [] = []
 positions_after c (h ∷ hs) =
     (course worked_set 1 c (h ∷ [])).at ∷ positions_after (course worked_set 1 c (h ∷ [])) hs
 
--- What the headline says of it.
+-- The consequences of the headline for this history.
 pub record HistoryIsWorked : Type 0 where
   pub lawful : IsLawful worked_set
   pub history : IsHistory worked_set 0 worked_steps worked_reels worked_history
@@ -207,7 +208,7 @@ pub record HistoryIsWorked : Type 0 where
   pub all_before : before worked_set 1 Finished ≡ first ∷ middle ∷ last ∷ []
   pub one_record : join (before worked_set 1 Finished)
       ≡ record { records = codes "AAAAAAAAAAAAAAAAAAAAAAAAAAAAAA" ∷ []; rest = None }
-  -- A session that made these steps, over these readers none of which failed, contains the three
+  -- A session that made these steps over these readers, if no reader failed, contains the three
   -- parts and needs nothing more.
   pub read : (s : Seen) (left : List (Option (List ℕ)))
       → IsRead (codes "ABC001") 1 worked_steps worked_reels left s → s.failures ≡ 0

@@ -67,13 +67,13 @@ impl Catalogue {
             Err(_) => return Err(RunFault::OutOfMemory),
         };
         let added = add_items(&mut self.sections, &mut image);
-        // The rest of the reader is its caller's again.
+        // The caller gets back the rest of the reader.
         image.into_device();
         added
     }
 }
 
-/// Adds the sections on an image of which nothing was read yet.
+/// Adds the sections on an unread image.
 fn add_items<R: Read>(
     sections: &mut Sections,
     image: &mut ImageReader<'_, R>,
@@ -112,7 +112,7 @@ fn add_items<R: Read>(
     }
 }
 
-/// The end of the medium as a way to stop.
+/// Returns the end of the medium as a way to stop.
 pub(crate) fn stop_at(ending: Ending) -> ImageStop
     ensures { result ≡ stop_at ending }
 {

@@ -30,7 +30,7 @@ pub fn what_lacks_comes_first()
     ensures { LackIsFirst }
 {}
 
-/// And if nothing else was found, no file of the set is missing a section.
+/// And if nothing else was found, no file of the set has a missing section.
 pub fn whole_sets_lack_nothing()
     ensures { WholeSetLacksNothing }
 {}
@@ -41,12 +41,13 @@ pub fn whole_sets_are_found()
 {}
 
 /// What [`Catalogue::add`](crate::Catalogue::add) adds for a complete copy whose reader did not
-/// fail is what the volume's items say.
+/// fail are the sections in the volume's items.
 pub fn whole_copies_are_added()
     ensures { WholeCopiesAreAdded }
 {}
 
-/// Whatever images are added to a catalogue, it has one entry per section, and a report one line.
+/// Whatever images are added to a catalogue, it has one entry for each section, and a report has
+/// one line for each.
 pub fn one_entry_a_section()
     ensures { OneEntryASection }
 {}

@@ -22,14 +22,14 @@ use crate::text::{flush, write_text};
 use std::alloc::{AllocError, Global};
 use std::io::{Read, Write};
 
-/// Reports what is on the images: a line for each image, a line for each section in the order in
-/// which they were found first, a line for each file with a missing section, and a last line if
-/// sections were found and none is missing. Returns whether that is so.
+/// Reports the file sections on the images: a line for each image, a line for each section in the
+/// order in which they were found first, a line for each file with a missing section, and a last
+/// line if sections were found and none is missing. Returns whether all sections were found.
 ///
 /// Opens an image when its turn comes, reads it to its end or to a fault, and closes it. Reports
-/// and skips one that cannot be opened. Allocates the buffer of one image, what opening it takes,
-/// and the sections. Flushes the line of an image before opening the next one, and the rest of the
-/// report at the end; a contract cannot say that of a writer, so tests show it.
+/// and skips one that cannot be opened. Allocates the buffer of one image, the memory for opening
+/// it, and the sections. Flushes the line of an image before opening the next one, and the rest of
+/// the report at the end; no contract can express that, so tests show it.
 ///
 /// # Errors
 ///
@@ -52,7 +52,7 @@ pub fn check_to<R: Read + Drop, L: ImageSource<R>, P: Write>(
     summarize(alloc, &catalogue, report)
 }
 
-/// Opens the images in their order, adds what is on each, and writes a line for it.
+/// Opens the images in their order, adds the sections on each, and writes a line for it.
 fn check_images<R: Read + Drop, L: ImageSource<R>, P: Write>(
     catalogue: &mut Catalogue,
     images: &mut L,
@@ -74,7 +74,7 @@ fn check_images<R: Read + Drop, L: ImageSource<R>, P: Write>(
     Ok(())
 }
 
-/// Adds what is on an image, writes its line, and flushes it.
+/// Adds the sections on an image, writes the image's line, and flushes it.
 fn check_image<R: Read + Drop, P: Write>(
     catalogue: &mut Catalogue,
     image: Option<R>,
@@ -94,7 +94,7 @@ fn check_image<R: Read + Drop, P: Write>(
     Ok(())
 }
 
-/// Adds what is on an image, if it was opened.
+/// Adds the sections on an image, if it was opened.
 fn read_image<R: Read + Drop>(
     catalogue: &mut Catalogue,
     image: Option<R>,
@@ -111,7 +111,8 @@ fn read_image<R: Read + Drop>(
     }
 }
 
-/// Writes what follows the lines of the images, and returns whether all was found.
+/// Writes the part of the report that follows the lines of the images, and returns whether all
+/// sections were found.
 fn summarize<P: Write>(
     alloc: Global,
     catalogue: &Catalogue,
@@ -143,7 +144,7 @@ pub(crate) fn is_found(listed: &[SectionLine], lacking: &[Lack]) -> bool
     }
 }
 
-/// Writes the lines of a report after those of the images, and flushes.
+/// Writes the part of a report that follows the lines of the images, and flushes.
 fn write_summary<P: Write>(
     report: &mut P,
     listed: &[SectionLine],

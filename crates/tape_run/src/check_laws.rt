@@ -9,7 +9,7 @@ pub fn whole_sets_are_told()
     ensures { WholeSetIsTold }
 {}
 
-/// What is reported as GOOD is complete on one of the images.
+/// A section reported as GOOD is complete on one of the images.
 pub fn what_is_good_was_seen()
     ensures { GoodWasSeen }
 {}

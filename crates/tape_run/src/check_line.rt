@@ -13,8 +13,8 @@ use tape_label::Field;
 /// The length of the longest line, which is that of an image with a fault.
 pub type CheckLine = ArrayVec<u8, 256>;
 
-/// Returns the line of the image with this number, counted from 1: what was found on it, or that it
-/// was not opened.
+/// Returns the line about image `number`, counted from 1: what was found on it, or that it was not
+/// opened.
 pub fn image_line(number: usize, met: &Option<ImageLine>) -> CheckLine
     ensures { result.items ≡ image_line number met.now }
 {
@@ -27,7 +27,7 @@ pub fn image_line(number: usize, met: &Option<ImageLine>) -> CheckLine
     line
 }
 
-/// Appends what was found on an image.
+/// Appends the number of items found on an image, and how the image ended.
 fn put_met(line: &mut CheckLine, met: &Option<ImageLine>)
     requires room { array_vec_len line.old ≤ 50 }
     ensures items { line.new.items ≡ line.old.items ++ met_text met.now }
@@ -85,8 +85,8 @@ fn put_fault(line: &mut CheckLine, fault: &ImageFault)
     put_decimal(line, fault.place);
 }
 
-/// Returns the line of a section: its numbers, the volume on which it was found, its blocks and its
-/// state.
+/// Returns the line about a section: its numbers, the volume on which it was found, its blocks and
+/// its state.
 pub fn section_line(section: &SectionLine) -> CheckLine
     ensures { result.items ≡ section_line section.now }
 {
@@ -103,7 +103,7 @@ pub fn section_line(section: &SectionLine) -> CheckLine
     line
 }
 
-/// Returns the line of the first missing section of a file.
+/// Returns the line that reports the first missing section of a file.
 pub fn lack_line(lack: &Lack) -> CheckLine
     ensures { result.items ≡ lack_line lack.now }
 {

@@ -15,7 +15,7 @@ ghost use Rattle.tape_blocks.specs.Block.{Portion};
 ghost use Rattle.tape_blocks.specs.Parts.{view};
 ghost use Rattle.tape_blocks.specs.Spans.{join};
 ghost use Rattle.tape_core.specs.Weight.{Rose};
-ghost use Rattle.tape_run.specs.Causes.{WritingFails, ExtractFails};
+ghost use Rattle.tape_run.specs.Causes.{WritingFails, ExtractFails, IsCalm};
 ghost use Rattle.tape_run.specs.Crash.{IsWalked, BringsNoMore};
 ghost use Rattle.tape_image.specs.Written.{AppendsFront};
 ghost use Rattle.tape_run.specs.Extracting.{Extracts, Stops, EndsFile, StopsAtEnd, IsWritten};
@@ -40,16 +40,16 @@ use tape_core::{PartSink, PartWalk, SinkFault};
 use tape_set::Want;
 
 /// Reads a file from its images, in their order, until it is complete, prints a line for each, and
-/// writes the file's records if it is complete. Otherwise returns what is still missing.
+/// writes the file's records if it is complete. Otherwise returns the part that is still missing.
 ///
-/// An image is opened when its turn comes, and closed when it was read. One that cannot be opened
+/// An image is opened when its turn comes, and closed after it was read. One that cannot be opened
 /// is reported and skipped. The session is saved after each reel, except after one with a wrong
 /// count. If the session came with a checkpoint, it then rolls back to its last one, and the next
 /// reel continues from there; otherwise it stays broken: nothing of the following reels is used,
 /// and nothing is saved. Images after the one that completes the file are not opened. `out` is
 /// written and flushed if the file is complete, and not touched otherwise; then the last line of
 /// the report is written, and the report flushed. The session remains the caller's, with what was
-/// delivered to its sink.
+/// delivered to its sink; after an error the contract says only what a crash leaves of it.
 ///
 /// Allocates only for the session, a buffer while a reel is read, checkpoints, and what opening
 /// takes.
@@ -58,9 +58,9 @@ use tape_set::Want;
 ///
 /// Returns `Run` with the fault of a reel, of a save or of a rollback, with `OutOfMemory` if there
 /// was no memory to open an image, or with the fault of the walk over the sink's parts,
-/// `Sink(Failed)` if this returns fewer records than before; `WriteFailed` if `out` or the report
-/// failed. What was reported is a prefix of such a report. `out` was not touched, or the file is
-/// complete, and a prefix of its records was written.
+/// `Sink(Failed)` if the walk returns fewer records than before; `WriteFailed` if `out` or the
+/// report failed. The lines reported so far are a prefix of such a report. `out` was not touched,
+/// or the file is complete, and a prefix of its records was written.
 pub fn extract_to<S: PartWalk, R: Read + Drop, L: ImageSource<R>, W: Write, P: Write>(
     session: &mut Session<S>,
     images: &mut L,
@@ -80,13 +80,15 @@ pub fn extract_to<S: PartWalk, R: Read + Drop, L: ImageSource<R>, W: Write, P: W
     // is not rolled back.
     ensures cause { IfErr result (λ fault. ExtractFails S.PartSink
         (goes_back session.old.notes) fault session.old session.new) }
+    // After an Ok the session can be used again, for any readers.
+    ensures calm { OnOk result (IsCalm S.PartSink session.old session.new) }
 {
     let back = has_note(session);
     read_images(session, images, back, false, report)?;
     end_file(session, form, out, report)
 }
 
-/// Reports what is missing of the session's file, or writes the file and reports that.
+/// Reports the missing part of the session's file, or writes the file and reports that.
 fn end_file<S: PartWalk, W: Write, P: Write>(
     session: &mut Session<S>,
     form: Form,
@@ -138,8 +140,7 @@ fn end_report<P: Write>(report: &mut P, want: Option<Want>, records: u64) -> Res
 /// # Errors
 ///
 /// Returns `Run(Sink)` with the refusal of the sink's device, or `Failed` if it returns fewer
-/// records than when they were counted; `WriteFailed`. What was written before is a prefix of the
-/// records.
+/// records than when they were counted; `WriteFailed`. The records written so far are a prefix.
 pub fn write_file<S: PartWalk, W: Write>(
     sink: &mut S,
     form: Form,
@@ -190,14 +191,13 @@ pub fn count_records<S: PartWalk>(sink: &mut S) -> Result<u64, SinkFault>
     }
 }
 
-/// Writes the given number of records that the parts still to come join to, in this form: up to the
-/// last part that ends a record, without an unfinished one.
+/// Writes the first `records` records that the parts still to come join to, up to the last part
+/// that ends a record, without an unfinished one.
 ///
 /// # Errors
 ///
 /// Returns `Run(Sink)` with the refusal of the sink's device, or `Failed` if it returns fewer
-/// records than when they were counted; `WriteFailed`. What was written before is a prefix of the
-/// text.
+/// records than when they were counted; `WriteFailed`. The text written so far is a prefix.
 pub fn write_records<S: PartWalk, W: Write>(
     sink: &mut S,
     records: u64,
@@ -232,7 +232,7 @@ pub fn write_records<S: PartWalk, W: Write>(
     Ok(())
 }
 
-/// The fault of a walk over a sink.
+/// Returns the fault of a walk over a sink.
 pub fn walk_fault(cause: SinkFault) -> EngineFault
     ensures { result ≡ EngineFault.Run (RunFault.Sink cause) }
 {
@@ -254,7 +254,7 @@ pub fn write_part<W: Write>(out: &mut W, part: Part<'_>, form: Form) -> Result<(
     write_text(out, record_end(form))
 }
 
-/// The terminator of each record.
+/// Returns the terminator of each record.
 fn record_end(form: Form) -> &'static [u8]
     ensures { result.now ≡ record_end form }
 {

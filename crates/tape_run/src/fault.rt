@@ -12,12 +12,12 @@ use thiserror::Error;
 /// Why a step of a run failed. The steps before it took effect.
 #[derive(Clone, Copy, Debug, PartialEq, Eq, Error)]
 pub enum RunFault {
-    /// The sink refused a call, for this cause. In a reel the session's position is the part that
-    /// was refused, and the next reel continues there; a refused save or restart leaves the session
-    /// unchanged.
+    /// The sink refused a call for this reason. During a reel the session's position is the part
+    /// that was refused, and the next reel continues there; a refused save or restart leaves the
+    /// session unchanged.
     #[error("the sink refused: {0}")]
     Sink(SinkFault),
-    /// There is no checkpoint with this number. Nothing changed.
+    /// There is no checkpoint with the given number. Nothing changed.
     #[error("no checkpoint has this number")]
     NoSuchPoint,
     /// A reel is requested, and no reader is left. Nothing changed.

@@ -1,4 +1,4 @@
-//! What is missing from a catalogue.
+//! The missing sections of a catalogue.
 
 ghost use Rattle.std.specs.Prelude.{◌≡◌, ◌+◌, ◌≤◌};
 ghost use Rattle.tape_run.specs.Lacks.{entry_at, key_at, good_end, first_lack, lack_of};
@@ -10,7 +10,8 @@ use tape_label::Field;
 /// The greatest number of a section.
 const MOST: u16 = 9_999;
 
-/// Returns whether a good section ends its file, or `None` if there is no good one.
+/// Returns whether the good section with this key ends its file, or `None` if there is no good copy
+/// of it.
 pub(crate) fn good_end(sections: &Sections, key: &SectionKey) -> Option<bool>
     ensures { result ≡ good_end (entry_at sections.now.entries key.now) }
 {
@@ -20,7 +21,7 @@ pub(crate) fn good_end(sections: &Sections, key: &SectionKey) -> Option<bool>
     }
 }
 
-/// Returns the first missing section from this one on, among this many at most.
+/// Returns the first missing section from number `from` on, among at most `most` sections.
 fn first_lack(sections: &Sections, set_id: Field<6>, file: u16, from: u16, most: u16) -> Option<u16>
     requires { from + most ≤ 65535 }
     ensures { result ≡ first_lack sections.now.entries set_id file from most }

@@ -30,8 +30,8 @@ pub fn only_refusals_stop()
     ensures { OnlyRefusalsStop }
 {}
 
-/// After a crash, what is left of a session is valid, if the reels read before it were those of the
-/// set.
+/// The state that a crash leaves of a session is valid, if the reels read before it were those of
+/// the set.
 pub fn stood_comes_back()
     ensures { StoodComesBack }
 {}
@@ -66,7 +66,7 @@ pub fn worked_history()
     ensures days { DaysAreWorked }
 {}
 
-/// Any bytes that readers have begin with items, and with these only.
+/// The bytes of any reader begin with a list of items, and with no other list.
 pub fn items_are_there()
     ensures { ItemsAreThere }
 {}

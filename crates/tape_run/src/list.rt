@@ -63,7 +63,7 @@ pub fn reserve(alloc: Global) -> Result<ImageBuffer, ImageFault>
     }
 }
 
-/// Lists the items of an image of which nothing was read yet.
+/// Lists the items of an unread image.
 fn list_items<R: Read, W: Write>(
     image: &mut ImageReader<'_, R>,
     writer: &mut W,

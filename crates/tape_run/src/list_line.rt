@@ -24,7 +24,7 @@ use tape_label::{Head1, Head2, Kind, Label, Trail1, Vol1, digits_of};
 /// The length of the longest line, which is that of a trailer.
 pub type Line = ArrayVec<u8, 64>;
 
-/// Returns the line of the item with this number, counted from 1.
+/// Returns the line about item `number`, counted from 1.
 pub fn line_of(number: u64, item: Item<'_>) -> Line
     requires number { number < 10 ^ 10 }
     requires item { IsTapeItem (tape_item item) }
@@ -54,7 +54,7 @@ fn put_item_number(line: &mut Line, number: u64)
     }
 }
 
-/// Appends the text of an item.
+/// Appends the text about an item.
 fn put_item(line: &mut Line, item: Item<'_>)
     requires room { array_vec_len line.old ≤ 11 }
     requires fits { IsTapeItem (tape_item item) }

@@ -48,7 +48,7 @@ pub fn list_places_to<R: Read, W: Write>(
     listed
 }
 
-/// Lists the items of an image of which nothing was read yet.
+/// Lists the items of an unread image.
 fn list_items<R: Read, W: Write>(
     image: &mut ImageReader<'_, R>,
     writer: &mut W,
@@ -88,7 +88,7 @@ fn list_items<R: Read, W: Write>(
     }
 }
 
-/// Writes the last line, for a medium that ended after this many bytes, and flushes.
+/// Writes the last line, for a medium that ended after `behind` bytes, and flushes.
 fn write_end<W: Write>(writer: &mut W, ending: Ending, behind: u64) -> Result<(), WriteFailed>
     requires { end_len ending ≤ behind }
     ensures ok { OnOk result (Appends (W.contents writer.old) (W.contents writer.new)

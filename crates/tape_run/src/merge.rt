@@ -1,4 +1,4 @@
-//! `merge`: readings of one tape, read side by side, and the tape that they make together.
+//! `merge`: several readings of one tape are read in parallel and combined into one tape.
 
 ghost use Rattle.std.specs.Prelude.{◌≡◌, ◌<◌, ◌≤◌, ◌+◌, ◌==◌, IfOk, IfErr, None};
 ghost use Rattle.tape_image.specs.Writer.{writing};
@@ -8,27 +8,30 @@ ghost use Rattle.tape_run.specs.declared.merge.MergeFault.TheVariants as faults;
 
 pub(crate) mod candidate;
 mod line;
+mod log;
 pub(crate) mod now;
 pub(crate) mod open;
 pub(crate) mod reading;
 
+use crate::fault::WriteFailed;
 use crate::met::Told;
 use crate::passing::Phase;
 use crate::section::SectionState;
 use candidate::Candidate;
+use log::log_item;
 use reading::{Reading, ask};
 use std::alloc::AllocError;
 use std::io::{Read, Write};
 use tape_image::{ImageWriteFault, ImageWriter};
 
-/// The tape that readings make together.
+/// The tape that the readings combine to.
 #[derive(Clone, Copy, Debug, PartialEq, Eq)]
 pub struct Merged {
     /// How many items it has.
     pub items: u64,
-    /// How many of these are bad.
+    /// How many of these items are bad.
     pub bad: u64,
-    /// How many of these only one reading has, readable.
+    /// How many of these items only one reading has in readable form.
     pub alone: u64,
     /// How many file sections have another number of blocks than their trailer label says, as
     /// `check` finds them.
@@ -63,16 +66,18 @@ impl Merged {
     }
 }
 
-/// Why readings were not merged to their end.
+/// Why readings were not merged to their ends.
 #[derive(Clone, Copy, Debug, PartialEq, Eq)]
 pub enum MergeFault {
-    /// Two readings have different items, both readable, at the item with this number, counted
-    /// from 1: they are not readings of one tape.
+    /// At the item with this number, counted from 1, two readings have different readable items:
+    /// they are not readings of one tape.
     Differ(u64),
     /// Memory was refused.
     OutOfMemory,
     /// The merged image could not be written.
     Write(ImageWriteFault),
+    /// The log could not be written.
+    Log,
 }
 
 impl From<AllocError> for MergeFault {
@@ -91,8 +96,16 @@ impl From<ImageWriteFault> for MergeFault {
     }
 }
 
-/// Asks each reading for its next item, and returns how many have it, readable. The best item
-/// becomes the candidate; one that differs from it is kept as the other one.
+impl From<WriteFailed> for MergeFault {
+    ghost from_gives = { λ _ e. e ≡ faults.Log };
+
+    fn from(_fault: WriteFailed) -> MergeFault {
+        MergeFault::Log
+    }
+}
+
+/// Asks each reading for its next item, and returns how many have it in readable form. The best
+/// item becomes the candidate; an item that differs from it is kept as the other one.
 fn ask_all<R: Read>(
     readings: &mut [Reading<'_, R>],
     best: &mut Candidate,
@@ -112,26 +125,29 @@ fn ask_all<R: Read>(
     Ok(witnesses)
 }
 
-/// Reads the readings side by side, item by item, and writes the tape that they make together.
+/// Reads the readings side by side, item by item, and writes the tape that they make together. The
+/// log gets a row for each item that fewer than two readings have, or one has as bad.
 ///
 /// `best` and `other` hold the item under way: the best one that was read, and one that differs
-/// from it. At a difference every reading was asked for its item, and `verdict` of each says how
-/// that compares.
+/// from it. At a difference every reading was asked for its item, and its `verdict` says how the
+/// item compares.
 ///
 /// # Errors
 ///
 /// `Differ` at the first item at which two readings have different items, both readable.
 /// `OutOfMemory` if a block cannot be copied. `Write` with `Device`, or with `TooLong` if the
-/// merged image would be longer than an image may be. What was written before stays written.
-pub fn merge_items<R: Read, W: Write + Drop>(
+/// merged image would be longer than an image may be. `Log` if the log fails. What was written
+/// before stays written.
+pub fn merge_items<R: Read, W: Write + Drop, G: Write>(
     readings: &mut [Reading<'_, R>],
     best: &mut Candidate,
     other: &mut Candidate,
     out: &mut ImageWriter<W>,
+    log: &mut G,
 ) -> Result<Merged, MergeFault>
     requires writing { out.old.standing ≡ writing }
     ensures ok { IfOk result (λ merged. Merges readings.old readings.new merged
-        out.old out.new) }
+        out.old out.new (G.contents log.old) (G.contents log.new)) }
     ensures fault { IfErr result (FitsFault readings.old readings.new out.old out.new) }
 {
     let mut merged = Merged {
@@ -151,6 +167,7 @@ pub fn merge_items<R: Read, W: Write + Drop>(
         if !best.put(out)? {
             return Ok(merged);
         }
+        log_item(merged.items + 1, best, witnesses, readings, log)?;
         let (next, told) = best.step(phase);
         phase = next;
         merged.count(best.is_bad(), witnesses, told);

@@ -1,5 +1,5 @@
-//! Laws of readings and of the tape that they make together: calls that do nothing, whose contract
-//! is the law.
+//! Laws of readings and of the tape that they combine to. Each is the contract of a function that
+//! does nothing.
 
 ghost use Rattle.tape_run.specs.MergeLaws.{ReadingsAreOrdered, MakeOneOrDiffer, AsLongAsLongest};
 ghost use Rattle.tape_run.specs.MergeLaws.{BadWhereAllBad, DifferForGood};
@@ -11,7 +11,7 @@ pub fn readings_are_ordered()
     ensures { ReadingsAreOrdered }
 {}
 
-/// Readings either make one tape together, or differ.
+/// Readings either combine to one tape, or differ.
 pub fn readings_make_one_tape_or_differ()
     ensures either { MakeOneOrDiffer }
     ensures lasting { DifferForGood }
@@ -24,7 +24,7 @@ pub fn merged_is_as_good_as_each()
     ensures bad { BadWhereAllBad }
 {}
 
-/// The merged tape does not depend on the order of the readings, nor on how often one is named.
+/// The merged tape does not depend on the order of the readings, nor on how often one is listed.
 pub fn order_does_not_matter()
     ensures { OrderDoesNotMatter }
 {}
@@ -34,8 +34,8 @@ pub fn readers_give_images()
     ensures { ReadersGiveImages }
 {}
 
-/// The merged image of copies of a volume is a copy of it. Read once, it takes each position at
-/// least as far as they do, each alone and all of them in turn.
+/// The merged image of copies of a volume is a copy of it. Reading it once takes each position at
+/// least as far as the copies do, each alone and all of them in turn.
 pub fn merged_copies()
     ensures copy { MergedIsCopy }
     ensures far { BetterIsAsFar }

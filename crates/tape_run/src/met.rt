@@ -22,7 +22,7 @@ pub(crate) type Told = (SectionKey, Entry);
 impl Met {
     ghost use Rattle.tape_run.specs.Passing.{cut, closes, told, state_by, with_block};
 
-    /// One more data block.
+    /// Counts one more data block.
     pub(crate) fn with_block(self, bad: bool) -> Met
         requires { self.blocks < most_blocks }
         ensures { result ≡ with_block self bad }
@@ -47,14 +47,14 @@ impl Met {
         (self.key, entry)
     }
 
-    /// Returns whether this is its trailer label.
+    /// Returns whether `trail` is the section's trailer label.
     pub(crate) fn closes(&self, trail: &Trail1) -> bool
         ensures { result ≡ closes self.now trail.now }
     {
         trail.head.sect == self.key.sect && trail.head.sequence == self.key.file
     }
 
-    /// The section's state, if its trailer label has this count.
+    /// Returns the section's state, if its trailer label counts `count` blocks.
     fn state_by(&self, count: u32) -> SectionState
         ensures { result ≡ state_by self.now count }
     {
@@ -67,7 +67,7 @@ impl Met {
         }
     }
 
-    /// The description that its trailer label completes.
+    /// Returns the description that its trailer label completes.
     pub(crate) fn told(&self, trail: &Trail1) -> Told
         ensures { result ≡ told self.now trail.now }
     {

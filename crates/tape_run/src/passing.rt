@@ -46,7 +46,8 @@ fn volume_phase(block: &[u8]) -> Phase
     }
 }
 
-/// Returns what is expected after a block where a section may begin; `other` if none does.
+/// Returns what is expected after a block at which a section may begin; `other` if no section
+/// begins.
 fn header_phase(volume: Field<6>, block: &[u8], other: Phase) -> Phase
     ensures { result ≡ header_phase volume block.now other }
 {
@@ -65,7 +66,7 @@ fn header_phase(volume: Field<6>, block: &[u8], other: Phase) -> Phase
     }
 }
 
-/// Returns what is expected after a block where a further volume label or a section may begin.
+/// Returns what is expected after a block at which a further volume label or a section may be.
 fn labels_phase(volume: Field<6>, bytes: &[u8]) -> Phase
     ensures { result ≡ labels_phase volume bytes.now }
 {
@@ -98,7 +99,7 @@ fn told_with(met: Met, trail: &Trail1) -> (Phase, Option<Told>)
     }
 }
 
-/// Returns what is expected after a block where a section's second label is expected.
+/// Returns what is expected after a block in place of a section's second label.
 fn second_phase(met: Met, block: &[u8]) -> Phase
     ensures { result ≡ second_with met (kind_at block.now) }
 {
@@ -151,7 +152,7 @@ fn bad_step(phase: Phase) -> (Phase, Option<Told>)
     }
 }
 
-/// Returns what is expected after an item, with the section that it completes, if any.
+/// Returns what is expected after an item, and the section that it completes, if any.
 pub(crate) fn step(phase: Phase, item: Item<'_>) -> (Phase, Option<Told>)
     requires { blocks_of phase < most_blocks }
     ensures { result ≡ step phase (tape_item item.entry) }
@@ -163,7 +164,7 @@ pub(crate) fn step(phase: Phase, item: Item<'_>) -> (Phase, Option<Told>)
     }
 }
 
-/// The section that an item completes, if any.
+/// Returns the section that an item completes, if any.
 pub(crate) fn told_in(phase: &Phase, item: Item<'_>) -> Option<Told>
     ensures { result ≡ (step phase.now (tape_item item.entry)).1 }
 {

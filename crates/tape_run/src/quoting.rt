@@ -1,4 +1,4 @@
-//! Names as they are printed for people: no character of a name acts on a terminal.
+//! Names as they are printed for people: no character of a name controls the terminal.
 ghost use Rattle.std.specs.Prelude.{◌≡◌, ◌<◌, encode_utf8_all, IfOk};
 ghost use Rattle.tape_run.specs.Quoting.{hex, is_hidden, quoted, name_text};
 
@@ -15,8 +15,8 @@ pub(crate) fn hex(digit: u32) -> u8
     if digit < 10 { b'0' + digit } else { 55 + digit }
 }
 
-/// Whether a character is a control character, or is not seen but ends a line, joins, parts or
-/// turns the text around it.
+/// Returns whether a character is a control character, or an invisible one that ends a line, joins
+/// or separates characters, or changes the direction of the text.
 fn is_hidden(c: char) -> bool
     ensures { result ≡ is_hidden c }
 {
@@ -28,7 +28,7 @@ fn is_hidden(c: char) -> bool
 }
 
 /// Returns a character of a name as it is printed: `\\` for `\`, `\u` and four hexadecimal digits
-/// for a control character or one that is not seen, and any other as it is.
+/// for a control character or an invisible one, and any other character unchanged.
 pub fn quoted_char(c: char) -> ArrayString<8>
     ensures { result.bytes ≡ encode_utf8_all (quoted c) }
 {

@@ -1,8 +1,8 @@
-//! Laws of names as they are printed: calls that do nothing, whose contract is the law.
+//! Laws of names as they are printed. Each is the contract of a function that does nothing.
 
 ghost use Rattle.tape_run.specs.QuotingLaws.{NamesShow, NamesTellApart, NamesKeep};
 
-/// No character of a printed name is a control character, or one that is not seen.
+/// No character of a printed name is a control character or an invisible one.
 pub fn names_show()
     ensures { NamesShow }
 {}
@@ -12,7 +12,7 @@ pub fn names_tell_apart()
     ensures { NamesTellApart }
 {}
 
-/// A name without `\` and hidden characters is printed as it is.
+/// A name without `\` and hidden characters is printed unchanged.
 pub fn names_keep()
     ensures { NamesKeep }
 {}

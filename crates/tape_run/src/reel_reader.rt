@@ -14,13 +14,14 @@ ghost use Rattle.tape_core.specs.Follows.{IsFinal};
 ghost use Rattle.tape_core.specs.Known.{is_finished};
 ghost use Rattle.tape_core.specs.Place.{rest_of};
 ghost use Rattle.tape_core.specs.Arrive.{arrival};
-ghost use Rattle.tape_core.specs.Table.{step_of};
+ghost use Rattle.tape_core.specs.Table.{step_of, saved};
 ghost use Rattle.tape_core.specs.Weight.{IsFront, Rose};
 ghost use Rattle.tape_run.specs.Crash.{BringsNoMore};
 ghost use Rattle.tape_run.specs.ByTable.{parts_of_arrival, StopsInside};
 ghost use Rattle.tape_run.specs.Given.{is_device};
 ghost use Rattle.tape_run.specs.Puts.{IsSized, IsChecked, refused_point, PutUpTo, PutsFew};
-ghost use Rattle.tape_run.specs.Reels.{ReadsReel, ReadsToBlock, IsDelivery, GoesOn, delivered_by};
+ghost use Rattle.tape_run.specs.Reels.{ReadsReel, ReadsToBlock, IsDelivery, StopsAt, GoesOn};
+ghost use Rattle.tape_run.specs.Reels.{delivered_by};
 ghost use Rattle.tape_run.specs.Taking.{TakesItem, RefusesItem, ReadsImage, RefusesImage};
 ghost use Rattle.tape_run.specs.Taking.{CutsTable, came_of, fault_of};
 
@@ -35,14 +36,14 @@ use tape_set::Position;
 pub struct ReelAnswer {
     /// The last answer of the reading: the one that ended it.
     pub answer: Answer,
-    /// The fault of the image that ended the reading, if there was one.
+    /// The fault of the image that ended the reading, if any.
     pub fault: Option<ImageFault>,
     /// How many blocks of the file were delivered.
     pub blocks: u32,
 }
 
 impl ReelAnswer {
-    /// Creates an outcome with these three values.
+    /// Creates an outcome from its three values.
     pub(crate) fn new(answer: Answer, fault: Option<ImageFault>, blocks: u32) -> ReelAnswer
         ensures answer { result.answer ≡ answer }
         ensures fault { result.fault ≡ fault }
@@ -77,8 +78,8 @@ pub struct Refused {
     pub begun: bool,
 }
 
-/// Puts the parts of a checked block, from this one on. `begun` says whether a record is unfinished
-/// before it.
+/// Puts the parts of a checked block from part `first` on. `begun` says whether a record is
+/// unfinished before it.
 pub fn put_parts<S: PartSink>(
     sink: &mut S,
     shape: &Shape,
@@ -167,7 +168,8 @@ fn part_of(position: Position) -> u32
     }
 }
 
-/// Returns the checkpoint at a refused part of the block that was delivered between these two.
+/// Returns the checkpoint at part `part`, which was refused, of the block that was delivered
+/// between the checkpoints `before` and `after`.
 fn refused_point(before: &Checkpoint, after: &Checkpoint, part: u32, begun: bool) -> Checkpoint
     requires waits { is_finished before.now.position ≡ false }
     requires from { part_of before.now.position ≤ part }
@@ -183,8 +185,8 @@ fn refused_point(before: &Checkpoint, after: &Checkpoint, part: u32, begun: bool
 }
 
 impl<S: PartSink> ReelReader<S> {
-    /// Processes one event: passes it to the core, and puts what this delivers. If a part is
-    /// refused, the core's position becomes that part.
+    /// Processes one event: passes it to the core, and puts the parts that this delivers. If a part
+    /// is refused, the core's position becomes that part.
     fn take(&mut self, event: Event<'_>) -> Result<Answer, SinkFault>
         requires sized { IsSized (arrival event) }
         ensures file { self.new.core.file ≡ self.old.core.file }
@@ -197,7 +199,8 @@ impl<S: PartSink> ReelReader<S> {
             self.new.core.position ≡ Position.Finished → answer ≡ Answer.Complete) }
         ensures left { IfOk result (λ answer. arrival event.entry ≡ None
             → (rest_of self.new.core ≡ rest_of self.old.core) × IsFinal answer) }
-        ensures delivery { OnErr result (IsDelivery self.old.core (arrival event.entry)) }
+        ensures delivery { OnErr result
+            (IsDelivery self.old.core (arrival event.entry) self.new.core) }
         ensures ok { IfOk result (λ answer. (held : List Portion) → S.holds self.old.sink held
             → (now : List Portion) × S.holds self.new.sink now × IsFront held now
             × (now ≡ held ++ parts_of_arrival self.old.core (arrival event.entry))
@@ -237,6 +240,8 @@ impl<S: PartSink> ReelReader<S> {
             → self.old.core.known ≡ Some k → Holds k.format k.rec_len k.offset content.now parts
             → S.holds self.old.sink held → PutUpTo (S.holds self.new.sink) before.now held parts
             (rest_of self.old.core) (rest_of self.new.core)) }
+        ensures stops { OnErr result
+            (StopsAt before.now (saved (rest_of self.old.core) 0) self.new.core) }
         ensures file { self.new.core.file ≡ self.old.core.file }
         ensures set_id { self.new.core.set_id ≡ self.old.core.set_id }
         ensures cause { OnErr result (Rose (S.refusals self.old.sink) (S.refusals self.new.sink)) }
@@ -259,8 +264,8 @@ impl<S: PartSink> ReelReader<S> {
         }
     }
 
-    /// Processes the items of an image of which nothing was read yet, up to a final answer, the end
-    /// of the medium or a fault.
+    /// Processes the items of an unread image, up to a final answer, the end of the medium or a
+    /// fault.
     pub fn read<R: Read>(&mut self, image: &mut ImageReader<'_, R>) -> Result<ReelAnswer, SinkFault>
         requires going { image.old.status ≡ going }
         requires first { image.old.place ≡ 0 }
@@ -268,13 +273,13 @@ impl<S: PartSink> ReelReader<S> {
         ensures file { self.new.core.file ≡ self.old.core.file }
         ensures set_id { self.new.core.set_id ≡ self.old.core.set_id }
         ensures answer { IfOk result (λ answer. IfKnown image.old.left image.new.left
-            (λ bytes left. ReadsReel self.old.core bytes left answer)) }
+            (λ bytes left. ReadsReel self.old.core bytes left answer self.new.core)) }
         ensures complete { IfOk result (λ answer. answer.answer ≡ Answer.Complete
             → self.new.core.position ≡ Position.Finished) }
         ensures finished { IfOk result (λ answer.
             self.new.core.position ≡ Position.Finished → answer.answer ≡ Answer.Complete) }
         ensures taken { OnErr result (IfKnown image.old.left image.new.left
-            (ReadsToBlock self.old.core)) }
+            (ReadsToBlock self.new.core self.old.core)) }
         ensures ok { IfOk result (λ answer. (held : List Portion) → S.holds self.old.sink held
             → (now : List Portion) × S.holds self.new.sink now × IsFront held now
             × IfSome image.old.left (ReadsImage (is_device answer.fault) self.old.core

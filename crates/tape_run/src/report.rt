@@ -18,7 +18,7 @@ use std::alloc::{AllocError, Global};
 use tape_label::Field;
 use tape_set::Sequence;
 
-/// The contents of a catalogue, and what is missing.
+/// The sections of a catalogue, and those that are missing.
 #[derive(Drop)]
 pub struct Report {
     /// The sections, in the order in which they were found first.
@@ -45,7 +45,7 @@ pub(crate) fn line_of(key: &SectionKey, entry: &Entry) -> SectionLine
     }
 }
 
-/// Appends the line of the section at an index.
+/// Appends the line about the section at index `place`.
 fn add_line(
     lines: &mut Vec<SectionLine>,
     sections: &Sections,
@@ -121,7 +121,7 @@ pub(crate) fn sets_of(alloc: Global, sections: &Sections) -> Result<Sets, AllocE
     Ok(sets)
 }
 
-/// Adds what is missing of a file, if anything is.
+/// Appends the first missing section of a file, if any.
 fn add_lack(
     lacks: &mut Vec<Lack>,
     sections: &Sections,
@@ -140,7 +140,7 @@ fn add_lack(
     }
 }
 
-/// Adds what is missing of the files of a set, up to the greatest number of a file.
+/// Appends the first missing section of each file of a set, up to file number `greatest`.
 fn add_lacks(
     lacks: &mut Vec<Lack>,
     sections: &Sections,
@@ -156,7 +156,8 @@ fn add_lacks(
     Ok(())
 }
 
-/// Adds what is missing of the files of the set at an index, after those of the sets before it.
+/// Appends the first missing sections for the set at index `place`, after those of the sets before
+/// it.
 fn add_set(
     lacks: &mut Vec<Lack>,
     sections: &Sections,
@@ -175,7 +176,7 @@ fn add_set(
     Ok(())
 }
 
-/// Returns what is missing of the files of these sets.
+/// Returns the first missing section of each incomplete file of the given sets.
 fn lacks_of(alloc: Global, sections: &Sections, sets: &Sets) -> Result<Vec<Lack>, AllocError>
     ensures { IfOk result (λ lacks.
         lacks.items ≡ set_lacks sections.now.entries sets.now.entries) }
@@ -187,7 +188,7 @@ fn lacks_of(alloc: Global, sections: &Sections, sets: &Sets) -> Result<Vec<Lack>
     Ok(lacks)
 }
 
-/// Returns the report of these sections.
+/// Returns the report on the given sections.
 pub(crate) fn report_of(alloc: Global, sections: &Sections) -> Result<Report, AllocError>
     ensures lines { IfOk result (λ report. report.lines ≡ map line_of sections.now.entries) }
     ensures lacks { IfOk result (λ report. report.lacks ≡ lacks sections.now.entries) }
@@ -201,7 +202,7 @@ pub(crate) fn report_of(alloc: Global, sections: &Sections) -> Result<Report, Al
     })
 }
 
-/// Returns the sections of a catalogue, and what is missing of its files.
+/// Returns the sections of a catalogue, and the first missing section of each incomplete file.
 ///
 /// # Errors
 ///

@@ -1,4 +1,4 @@
-//! `salvage`: recovers what is readable of a file of which no image has all.
+//! `salvage`: recovers the readable parts of a file that no image has completely.
 
 ghost use Rattle.std.specs.Prelude.{◌≡◌, ◌<◌, ◌⊎◌, Bool, Option, Some, List, ℕ, option_map, OnOk};
 ghost use Rattle.std.specs.Prelude.{OnErr, IfOk, IfErr};
@@ -29,7 +29,7 @@ use std::io::{Read, Write};
 use tape_blocks::Form;
 use tape_label::Field;
 
-/// What is recovered of each block.
+/// The form in which blocks are recovered.
 #[derive(Clone, Copy)]
 pub enum Content {
     /// Its records, in the form that the labels record.
@@ -41,28 +41,29 @@ pub enum Content {
 /// Which file is recovered, and how it is written.
 #[derive(Clone, Copy)]
 pub struct SalvageTask {
-    /// The file set identifier.
+    /// Whether records or blocks are recovered.
     pub set_id: Field<6>,
     /// The file's number in its set.
     pub file: u16,
-    /// What is recovered of each block.
+    /// Whether its records are recovered, or its blocks.
     pub content: Content,
-    /// How records are written, or blocks.
+    /// How records or blocks are written.
     pub form: Form,
 }
 
-/// Recovers what is readable of a file from the images of a shelf, writes it to `out`, and reports
-/// each gap. Returns whether nothing is missing. When all is written, `out` gets its name from
-/// `place`, and then the last line is reported.
+/// Recovers the readable parts of a file from images, writes them to `out`, and reports each gap.
+/// Returns whether nothing is missing. After everything is written, gives `out` its name, and
+/// reports the last line.
 ///
 /// Each image is read twice: once to find the copies of the file's sections on it, and again if a
 /// section is read from it. Allocates a buffer for one image, a row for each copy of a section, and
-/// room for the record that has begun and not ended.
+/// room for an unfinished record.
 ///
 /// # Errors
 ///
-/// `Run(OutOfMemory)`; `WriteFailed` if `out`, its name or the report failed. What has the name is
-/// unchanged, or all is written and has it, and the last line could not be reported.
+/// `Run(OutOfMemory)`; `WriteFailed` if `out`, its name or the report failed. Then what has the
+/// name is unchanged, or `out` is completely written and has the name, and only the last line could
+/// not be reported.
 pub fn salvage_to<W: Write + Drop, R: Read + Drop, L: ImageSource<R>, O: Place<W>, P: Write>(
     alloc: Global,
     task: &SalvageTask,
@@ -74,11 +75,12 @@ pub fn salvage_to<W: Write + Drop, R: Read + Drop, L: ImageSource<R>, O: Place<W
     ensures ok { IfOk result (λ complete. Salvages W.contents L.size L.gives R.remaining task.now
         out images.old images.new (O.stands place.new) (P.contents report.old)
         (P.contents report.new) complete) }
-    // An error leaves what has the name, or all is written and has it: only the report failed.
+    // After an error the file with the name is unchanged, or everything is written and has the
+    // name, and only the rest of the report could not be written.
     ensures err { OnErr result ((O.stands place.new ≡ O.stands place.old)
         ⊎ ((complete : Bool) × (says : Option (List ℕ)) × Salvages W.contents L.size L.gives
         R.remaining task.now out images.old images.new (O.stands place.new) (P.contents report.old)
-        says complete)) }
+        says complete × ((rest : List ℕ) × Appends (P.contents report.new) says rest))) }
     ensures fault { IfErr result IsCheckFault }
 {
     let copies = find_copies(alloc, task, images, report)?;
@@ -101,7 +103,7 @@ pub fn salvage_to<W: Write + Drop, R: Read + Drop, L: ImageSource<R>, O: Place<W
     Ok(complete)
 }
 
-/// Finds the copies of the file's sections on the images of a shelf.
+/// Finds the copies of the file's sections on the images.
 fn find_copies<R: Read + Drop, L: ImageSource<R>, P: Write>(
     alloc: Global,
     task: &SalvageTask,

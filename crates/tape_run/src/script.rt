@@ -32,15 +32,15 @@ pub enum Step {
     Reel,
     /// Saves a checkpoint.
     Save,
-    /// Rolls back to the checkpoint with this number, counted from 0.
+    /// Rolls back to a checkpoint by its number, counted from 0.
     Restart(usize),
 }
 
 /// Makes the steps, one after another, up to the first error. Each `Reel` takes the next reader,
 /// even if the file is complete and nothing is read of it.
 ///
-/// Writes into `failed`, for each reader that was taken, in their order and as far as the slice
-/// reaches, whether it failed. Callers that do not need this pass `&mut []`.
+/// Writes into `failed`, for each reader that was used, whether it failed, as far as the slice
+/// reaches. Callers that do not need the results pass `&mut []`.
 ///
 /// # Errors
 ///
@@ -177,7 +177,7 @@ fn make<S: PartSink, R: Read>(
     }
 }
 
-/// Writes into the slice at this index, if it reaches that far.
+/// Writes `flag` at index `number` of the slice, unless the slice is shorter.
 fn write_at(row: &mut [bool], number: usize, flag: bool)
     ensures { WritesFrom number (flag ∷ []) row.old row.new (number + 1) }
 {

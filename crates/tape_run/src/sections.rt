@@ -17,7 +17,7 @@ use crate::section::{Entry, SectionKey, SectionState};
 use indexmap::IndexMap;
 use tape_image::Item;
 
-/// What is known of each section.
+/// The entry of each section.
 pub(crate) type Sections = IndexMap<SectionKey, Entry>;
 
 impl SectionState {
@@ -79,7 +79,7 @@ fn make_room(sections: &mut Sections, phase: &Phase) -> Result<(), RunFault>
     }
 }
 
-/// Adds a section that was completed, if one was.
+/// Adds the section that was completed, if any.
 fn note_told(sections: &mut Sections, told: Option<Told>) -> Result<(), RunFault>
     ensures fault { IsOkUnless result faults.OutOfMemory }
     ensures ok { OnOk result (sections.new.entries
@@ -94,8 +94,8 @@ fn note_told(sections: &mut Sections, told: Option<Told>) -> Result<(), RunFault
     }
 }
 
-/// Adds the section that an item completes, and returns what is expected next. A section being read
-/// already has its room: out of memory is reported at its headers, not where it ends.
+/// Adds the section that an item completes, and returns what is expected next. Memory for the entry
+/// of a section is reserved at its headers, so lack of memory is reported there.
 pub(crate) fn take(sections: &mut Sections, phase: Phase, item: Item<'_>) -> Result<Phase, RunFault>
     requires { blocks_of phase < most_blocks }
     ensures fault { IsOkUnless result faults.OutOfMemory }
@@ -111,7 +111,7 @@ pub(crate) fn take(sections: &mut Sections, phase: Phase, item: Item<'_>) -> Res
     Ok(next)
 }
 
-/// Adds the section that is being read when the items end, if there is one.
+/// Adds the section that is being read when the items end, if any.
 pub(crate) fn close(sections: &mut Sections, phase: Phase) -> Result<(), RunFault>
     ensures fault { IsOkUnless result faults.OutOfMemory }
     ensures ok { OnOk result (sections.new.entries

@@ -59,8 +59,8 @@ impl<S> Model for Session<S> {
 }
 
 impl<S: PartSink + Drop> Session<S> {
-    /// Creates a session at the start of a file of the set with this identifier, over an empty
-    /// sink. Does not allocate.
+    /// Creates a session at the start of file `file` of the set with identifier `set_id`, over an
+    /// empty sink. Does not allocate.
     ///
     /// # Errors
     ///
@@ -117,7 +117,7 @@ impl<S: PartSink> Session<S> {
         Session::over(alloc, core, sink)
     }
 
-    /// Returns the sink, with what was delivered.
+    /// Returns the sink, with the parts delivered so far.
     pub fn sink(&self) -> &S
         ensures { result.now ≡ self.now.sink }
     {
@@ -131,13 +131,12 @@ impl<S: PartSink> Session<S> {
         self.reel_reader.sink
     }
 
-    /// Reads a reel up to the first item after which no other one of the reel can say anything of
-    /// the file. The parts of each block that the file needs go to the sink, one by one, from the
-    /// expected part on. If the file is complete nothing is read. Allocates only the image reader's
-    /// buffer.
+    /// Reads a reel up to the first item after which no other item of the reel can affect the file.
+    /// The parts of each block that the file needs go to the sink, one by one, from the expected
+    /// part on. If the file is complete, nothing is read. Allocates only the image reader's buffer.
     ///
     /// A fault of the image, or a reader that failed, ends the reading and is part of the result;
-    /// what was read before it counts.
+    /// items read before it count.
     ///
     /// # Errors
     ///
@@ -165,10 +164,12 @@ impl<S: PartSink> Session<S> {
             S.refusals self.new.sink ≡ S.refusals self.old.sink) }
         ensures refuses { IfErr result (λ fault.
             Refuses S.PartSink fault self.old self.new) }
-        // The answer is the core's last one, and no byte after what ended the reading was read.
+        // The answer and the position are those to which the core's table leads, for any sink, and
+        // no byte after what ended the reading was read.
         ensures answer { IfOk result (λ answer. IfKnown (R.remaining device.old)
             (R.remaining device.new)
-            (λ bytes left. Reads self.old.core.position self.old.core bytes left answer)) }
+            (λ bytes left. Reads self.old.core.position self.old.core bytes left answer
+            self.new.core)) }
         // Whatever was read, the answer is Complete exactly if nothing is missing any more.
         ensures complete { IfOk result (λ answer. answer.answer ≡ Answer.Complete
             → self.new.core.position ≡ Position.Finished) }
@@ -176,7 +177,7 @@ impl<S: PartSink> Session<S> {
             self.new.core.position ≡ Position.Finished → answer.answer ≡ Answer.Complete) }
         ensures unread { IfErr result (λ fault.
             Leaves fault (mount_of self.old.core) (R.remaining device.old)
-            (R.remaining device.new)) }
+            (R.remaining device.new) self.new.core) }
         // In any case: a crash during or after it leaves nothing new.
         ensures crash { BringsNoMore S.PartSink self.old.sink self.new.sink }
     {
@@ -189,7 +190,7 @@ impl<S: PartSink> Session<S> {
         let mut image = ImageReader::over(buffer, device);
         self.reel_reader.core.mount();
         let read = self.reel_reader.read(&mut image);
-        // The rest of the reader is its caller's again.
+        // The caller gets back the rest of the reader.
         image.into_device();
         match read {
             Ok(answer) => {
@@ -251,7 +252,7 @@ impl<S: PartSink> Session<S> {
     }
 
     /// Adds a checkpoint of the session's position to its list only, and stores nothing in the
-    /// sink: for a sink that a crash leaves as it is, such as one that was just opened.
+    /// sink: for a sink in which this state is already durable, such as one that was just opened.
     ///
     /// # Errors
     ///
@@ -280,13 +281,13 @@ impl<S: PartSink> Session<S> {
         self.notes.len()
     }
 
-    /// Rolls back to the checkpoint with this number, counted from 0: the sink is cut to its
-    /// contents at that time, and the later checkpoints are dropped. Does not allocate.
+    /// Rolls back to checkpoint `n`, counted from 0: cuts the sink to its contents at that time,
+    /// and drops the later checkpoints. Does not allocate.
     ///
     /// # Errors
     ///
-    /// Returns `NoSuchPoint` if there are not that many checkpoints; `Sink` if the sink refused.
-    /// Both leave the session unchanged; a sink that returned `Device` must be opened again.
+    /// Returns `NoSuchPoint` if there are at most `n` checkpoints; `Sink` if the sink refused. Both
+    /// leave the session unchanged; a sink that returned `Device` must be opened again.
     pub fn restart(&mut self, n: usize) -> Result<(), RunFault>
         ensures ok { OnOk result (IfSeen S.PartSink self.old (λ old. IsKept old
             → IsSeen S.PartSink self.new (λ new. IsKept new × WentBack n old new))) }
@@ -295,7 +296,8 @@ impl<S: PartSink> Session<S> {
             × RestartFails n fault old (seen S.PartSink self.new old.parts))) }
         // For any sink: the session is at the checkpoint and the later ones are gone, or its
         // position is unchanged; no call of the sink was refused, or the one that was is reported.
-        ensures stays { OnErr result (self.new.core ≡ self.old.core) }
+        ensures stays { OnErr result ((self.new.core ≡ self.old.core)
+            × (self.new.notes ≡ self.old.notes)) }
         ensures place { OnOk result (IsAtNote n self.old self.new) }
         ensures notes { OnOk result (self.new.notes ≡ take (n + 1) self.old.notes) }
         ensures calm { OnOk result (S.refusals self.new.sink ≡ S.refusals self.old.sink) }
@@ -321,7 +323,7 @@ impl<S: PartSink> Session<S> {
         Ok(())
     }
 
-    /// Returns what is missing next of the file, or `None` exactly if it is complete.
+    /// Returns the next missing part of the file, or `None` exactly if the file is complete.
     pub fn want(&self) -> Option<Want>
         ensures { result ≡ want_at (rest_of self.now.core).file (rest_of self.now.core).position }
     {
@@ -336,7 +338,7 @@ impl<S: PartSink> Session<S> {
     }
 }
 
-/// A count of readers that failed, after one more, which failed or did not.
+/// Returns a count of failed readers after one more reader, which failed or did not.
 fn counted(failures: u64, failed: bool) -> u64
     ensures { result ≡ counted failed failures }
 {

@@ -53,16 +53,16 @@ use view::{Findings, ImageSurvey};
 pub enum Wording {
     /// In words, for people.
     Words,
-    /// In rows for scripts, with a tab between columns.
+    /// In tab-separated rows, for scripts.
     Rows,
 }
 
-/// Describes images, by their names: a line for each, as soon as it was read; then each set that
-/// was found, with its files; then each section with more than one complete copy; and a last line
-/// if all is well. In rows, each section precedes the files, and there is no last line. Returns
-/// whether all is well: nothing is missing, each section that was found has a complete copy, no
-/// complete copies differ, no number has labels of different files, and every image was read
-/// completely.
+/// Describes the images named `names`: prints a line for each as soon as it was read; then each set
+/// that was found, with its files; then each section with more than one complete copy; and a last
+/// line if all is well. As rows, each section precedes the files, and there is no last line.
+/// Returns whether all is well: nothing is missing, each section that was found has a complete
+/// copy, no complete copies differ, no number has labels of different files, and every image was
+/// read completely.
 ///
 /// Images are opened in the order of their names, each read to its end or to a fault, and then
 /// closed. Allocates for the reader of one image and for a line, and otherwise only for the
@@ -91,7 +91,7 @@ pub fn survey_to<R: Read + Drop, L: ImageSource<R>, P: Write>(
     sum_up(alloc, &findings, names, wording, report)
 }
 
-/// Reads the images with these names, and writes a line for each.
+/// Reads the images named `names`, and writes a line for each.
 fn survey_images<R: Read + Drop, L: ImageSource<R>, P: Write>(
     alloc: Global,
     findings: &mut Findings,
@@ -116,7 +116,7 @@ fn survey_images<R: Read + Drop, L: ImageSource<R>, P: Write>(
     Ok(())
 }
 
-/// Reads the image with this name, if it was opened, and writes its line.
+/// Reads the image named `name`, if it was opened, and writes its line.
 fn survey_image<R: Read + Drop, P: Write>(
     alloc: Global,
     findings: &mut Findings,
@@ -141,7 +141,7 @@ fn survey_image<R: Read + Drop, P: Write>(
     Ok(())
 }
 
-/// The description of the image with this name.
+/// Returns the description of the image named `name`.
 fn image_text(
     alloc: Global,
     wording: Wording,
@@ -156,7 +156,7 @@ fn image_text(
     }
 }
 
-/// The row of the image with this name.
+/// Returns the row for the image named `name`.
 fn image_row(alloc: Global, name: &str, sight: &Option<ImageSurvey>) -> Result<Vec<u8>, AllocError>
     ensures { IfOk result (λ row. row.items ≡ image_row name.now sight.now) }
 {
@@ -169,7 +169,7 @@ fn image_row(alloc: Global, name: &str, sight: &Option<ImageSurvey>) -> Result<V
     Ok(row)
 }
 
-/// The line of the image with this name.
+/// Returns the line about the image named `name`.
 fn image_line(alloc: Global, name: &str, sight: &Option<ImageSurvey>) -> Result<Vec<u8>, AllocError>
     ensures { IfOk result (λ line. line.items ≡ image_line name.now sight.now) }
 {
@@ -179,7 +179,8 @@ fn image_line(alloc: Global, name: &str, sight: &Option<ImageSurvey>) -> Result<
     Ok(line)
 }
 
-/// Writes what follows the lines of the images, and returns whether all is well.
+/// Writes the part of the survey that follows the lines of the images, and returns whether all is
+/// well.
 fn sum_up<P: Write>(
     alloc: Global,
     findings: &Findings,
@@ -204,7 +205,7 @@ fn sum_up<P: Write>(
     Ok(all)
 }
 
-/// What follows the lines of the images.
+/// Returns the part of the survey that follows the lines of the images.
 fn summary(
     alloc: Global,
     findings: &Findings,
@@ -247,7 +248,7 @@ fn add_end(
     }
 }
 
-/// The last line.
+/// Returns the last line.
 fn last_text(all: bool) -> &'static [u8]
     ensures { result.now ≡ last_text all }
 {

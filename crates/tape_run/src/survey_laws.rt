@@ -1,4 +1,5 @@
-//! Laws of what `survey` says of images, as contracts of calls that do nothing.
+//! Laws about the reports of `survey` on images. Each is the contract of a function that does
+//! nothing.
 
 ghost use Rattle.tape_run.specs.SurveyConflicts.{CopiesAreShown};
 ghost use Rattle.tape_run.specs.SurveyDigest.{TellsWordsApart};
@@ -10,7 +11,7 @@ pub fn leaves_there()
     ensures { LeavesThere }
 {}
 
-/// What is reported to be a complete volume is one: its label, further volume labels, sections in
+/// An image reported as a complete volume is one: its label, further volume labels, sections in
 /// their order, and the marks of its end, with nothing after them.
 pub fn ended_is_volume()
     ensures { EndedIsVolume }

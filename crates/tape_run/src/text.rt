@@ -99,7 +99,7 @@ pub(crate) fn put_trimmed<const W: usize, const N: usize>(
     }
 }
 
-/// An identifier in its full width, with a question mark for each byte that can't be printed.
+/// An identifier in its full width, with a question mark for each unprintable byte.
 #[derive(Clone, Copy)]
 pub(crate) struct Identifier<'a, const W: usize>(pub(crate) &'a Field<W>);
 
@@ -117,8 +117,7 @@ impl<const W: usize> Display for Identifier<'_, W> {
     }
 }
 
-/// An identifier without the spaces at its end, with a question mark for each byte that can't be
-/// printed.
+/// An identifier without the spaces at its end, with a question mark for each unprintable byte.
 #[derive(Clone, Copy)]
 pub(crate) struct Trimmed<'a, const W: usize>(pub(crate) &'a Field<W>);
 
@@ -174,12 +173,12 @@ pub fn write_text<W: Write>(writer: &mut W, text: &[u8]) -> Result<(), WriteFail
     Ok(())
 }
 
-/// Writes a line, all of it at once.
+/// Writes a line in a single call.
 ///
 /// # Errors
 ///
-/// Returns `WriteFailed` as `write_text` does, and for a line of more than 1,024 bytes, which does
-/// not occur.
+/// Returns `WriteFailed` like `write_text`, and for a line of more than 1,024 bytes, which does not
+/// occur.
 pub fn write_line<W: Write, D: Display>(writer: &mut W, line: &D) -> Result<(), WriteFailed>
     ensures ok { OnOk result (IfSome (D.output line.now) (λ text.
         Appends (W.contents writer.old) (W.contents writer.new) text)) }

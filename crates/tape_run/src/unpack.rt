@@ -2,6 +2,7 @@
 
 pub mod line;
 pub mod name;
+mod order;
 
 ghost use Rattle.std.specs.Prelude.{◌≡◌, ◌<◌, ◌+◌, ◌++◌, length, take, IfOk, OnOk};
 ghost use Rattle.std.specs.Result.{IsOkUnless};
@@ -42,13 +43,13 @@ pub struct SetFile {
     pub lacks: bool,
 }
 
-/// What was found on the images.
+/// The findings of `unpack` on its images.
 #[derive(Drop)]
 pub struct FoundFiles {
-    /// The files of which a label was found: set by set in the order in which the sets were found
+    /// The files for which a label was found: set by set in the order in which the sets were found
     /// first, and by their numbers.
     pub files: Sequence<SetFile>,
-    /// What each image is and how far it was read, or `None` if it was not opened.
+    /// For each image what it is and how far it was read, or `None` if it was not opened.
     pub images: Sequence<Option<ImageSurvey>>,
     /// Whether every image was read completely: each was opened, and is a volume from its label to
     /// its end, in formats that are read.
@@ -177,7 +178,7 @@ fn add_files(
     Ok(())
 }
 
-/// Adds the files of the set at a place to those of the sets before it.
+/// Adds the files of the set at an index to those of the sets before it.
 fn add_place(
     files: &mut Vec<SetFile>,
     findings: &Findings,
@@ -196,7 +197,7 @@ fn add_place(
     Ok(())
 }
 
-/// The files of these sets.
+/// Returns the files of the given sets.
 fn files_of_sets(
     alloc: Global,
     findings: &Findings,
@@ -211,7 +212,7 @@ fn files_of_sets(
     Ok(files)
 }
 
-/// The files of all sets that were found.
+/// Returns the files of all sets that were found.
 fn files_of(alloc: Global, findings: &Findings) -> Result<Vec<SetFile>, AllocError>
     ensures { IfOk result (λ files. files.items ≡ files_of findings.now) }
 {

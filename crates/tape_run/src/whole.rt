@@ -10,7 +10,7 @@ ghost use Rattle.tape_run.specs.Headline.{IsRead, IsStart, HasRun, HasStopped, L
 ghost use Rattle.tape_run.specs.CrashRuns.{IsResumed, LivesOn};
 ghost use Rattle.tape_run.specs.Given.{IfTold};
 ghost use Rattle.tape_run.specs.Runs.{StopsFor};
-ghost use Rattle.tape_run.specs.Seen.{Seen, IsSeen, IsSeenUnless};
+ghost use Rattle.tape_run.specs.Seen.{Seen, seen, IsKept, IsSeen, IsSeenUnless};
 ghost use Rattle.tape_run.specs.SessionState.{SessionState};
 
 use crate::fault::Stopped;
@@ -55,6 +55,9 @@ pub fn read_file<R: Read>(
         × (began.core ≡ reader_of set_id file)
         × StopsFor ⟦<MemorySink as PartSink>⟧ steps.now end.step end.fault began read.0)) }
     ensures calm { IfOk result (λ read. OnOk read.1 (read.0.sink.refused ≡ 0)) }
+    // Then the session can be used again, even if a reader does not know its bytes.
+    ensures kept { IfOk result (λ read. OnOk read.1 (IsKept
+        (seen ⟦<MemorySink as PartSink>⟧ read.0 (portions read.0.sink)))) }
     ensures number { IsFileNumber file → IsOk result }
     ensures refused { (IsFileNumber file → ⊥) → result ≡ Err CoreFault.FileNumber }
 {
@@ -90,6 +93,8 @@ pub fn resume_and_run<S: PartSink, R: Read>(
         × (began.notes ≡ [])
         × StopsFor S.PartSink steps.now end.step end.fault began result.0) }
     ensures calm { OnOk result.1 (S.refusals result.0.sink ≡ S.refusals sink) }
+    ensures kept { OnOk result.1 ((held : List Portion) → S.holds sink held
+        → IsSeen S.PartSink result.0 IsKept) }
     // In any case: the state that a crash during or after it leaves existed before, or was saved by
     // this run.
     ensures crash { (held : List Portion) → S.holds sink held → IfTold R.remaining reels.old

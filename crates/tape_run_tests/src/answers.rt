@@ -70,7 +70,7 @@ const SCRIPTS: &[Script<'_>] = &[
         1,
         &[Do::Reads(Reel::Defaced(2), Useless(IDENTIFIER), 0, Some((1, 0)))],
     ),
-    // After the data the block was delivered, and its trailer is expected.
+    // The block after the data was delivered, and its trailer is expected.
     (
         "no trailer label",
         1,
@@ -91,7 +91,7 @@ fn reels_that_contradict_themselves(rt: HostRuntime) -> Result<(), Fail> {
     each_goes(&rt, SCRIPTS)
 }
 
-/// A volume whose first data block begins with a reserved word.
+/// Returns a volume whose first data block begins with a reserved word.
 pub fn with_reserved_word(alloc: Global) -> Result<Image, AllocError> {
     let mut image = Image::new(alloc);
     image.headers(&[VOL1, HDR1, HDR2])?;
@@ -99,7 +99,7 @@ pub fn with_reserved_word(alloc: Global) -> Result<Image, AllocError> {
     Ok(image)
 }
 
-/// A volume of one block, with one of its labels (0 to 3) replaced by 80 bytes 0xFF.
+/// Returns a volume of one block, with one of its labels (0 to 3) replaced by 80 bytes 0xFF.
 pub fn defaced(alloc: Global, which: usize) -> Result<Image, AllocError> {
     let mut image = Image::new(alloc);
     for (number, label) in [VOL1, HDR1, HDR2].iter().enumerate() {

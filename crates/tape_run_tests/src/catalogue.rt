@@ -48,14 +48,14 @@ const FIRST: Reel<'_> = Reel::Section(
     "EOV1PAYROLL          ABC00100010001000100 00000 00000 000001",
 );
 
-/// The worked image, cut inside its last data block.
+/// The worked image, truncated inside its last data block.
 const CUT_OFF: ImageStop = ImageStop::Fault(ImageFault {
     place: 1884,
     cause: ImageCause::Truncated,
 });
 
-/// A name; images, how many items each has, and how it ends; the lines of the catalogue; and what
-/// is missing.
+/// A name; images, the number of items of each, and how it ends; the lines of the catalogue; and
+/// the missing sections.
 type Row<'a> = (
     &'a str,
     &'a [(Reel<'a>, u32, ImageStop)],
@@ -138,7 +138,7 @@ const ROWS: &[Row<'_>] = &[
     ),
 ];
 
-/// Returns whether this is reported of the image.
+/// Returns whether adding the image is reported as in `line`.
 fn adds(
     alloc: Global,
     catalogue: &mut Catalogue,
@@ -149,7 +149,7 @@ fn adds(
     Ok(catalogue.add(&mut image.bytes.as_slice())? == line)
 }
 
-/// Returns whether these are the lines.
+/// Returns whether the lines found are the expected ones.
 fn are_lines(found: &[SectionLine], lines: &[Found<'_>]) -> bool {
     for (found, (set_id, file, sect, volume, blocks, state)) in found.iter().zip(lines) {
         let line = SectionLine {
@@ -167,7 +167,7 @@ fn are_lines(found: &[SectionLine], lines: &[Found<'_>]) -> bool {
     found.len() == lines.len()
 }
 
-/// Returns whether these are missing.
+/// Returns whether the missing sections found are the expected ones.
 fn are_lacking(found: &[Lack], lacks: &[Missing<'_>]) -> bool {
     for (found, (set_id, file, sect)) in found.iter().zip(lacks) {
         let lack = Lack {
@@ -182,7 +182,7 @@ fn are_lacking(found: &[Lack], lacks: &[Missing<'_>]) -> bool {
     found.len() == lacks.len()
 }
 
-/// Returns whether these are the lines of the catalogue and the missing sections.
+/// Returns whether the catalogue has these lines and these missing sections.
 fn reports(
     alloc: Global,
     catalogue: &Catalogue,
@@ -194,7 +194,7 @@ fn reports(
     Ok(are_lines(report.lines.as_slice(), lines) && lacks)
 }
 
-/// Returns whether all of this is reported of the images of a row.
+/// Returns whether the images of a row are reported as the row says.
 fn is_told(alloc: Global, row: &Row<'_>) -> Result<bool, Fail> {
     let (_, images, lines, lacks) = row;
     let mut catalogue = Catalogue::new(alloc);
@@ -217,8 +217,8 @@ fn images_and_sections_are_told(rt: HostRuntime) -> Result<(), Fail> {
     Ok(())
 }
 
-/// Returns how many sections there are, and whether only the one after them is missing, if all that
-/// a file can have were added, each of which continues.
+/// Adds all sections that a file can have, each of which continues. Returns how many sections there
+/// are, and whether only the one after them is missing.
 fn of_all_sections(alloc: Global) -> Result<(usize, bool), Fail> {
     let mut catalogue = Catalogue::new(alloc);
     for number in 1..10000u16 {

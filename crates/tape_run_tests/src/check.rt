@@ -1,4 +1,4 @@
-//! Reports of what is on reels.
+//! Reports on reels.
 use crate::devices::{Dribble, Tail};
 use crate::extract::shelf_of;
 use crate::image::{EOF_FIVE, EOF_THREE, HDR1, Image, blank, five_blocks, front, payroll};
@@ -10,7 +10,7 @@ use std::process::Abort;
 use std::test::Fail;
 use tape_run::check_to;
 
-/// The report of these images.
+/// Fails unless the report on the images has these lines and this result.
 fn check<H: Abort + AllocGlobal, R: Read + Drop>(
     rt: &H,
     images: &mut [Option<R>],
@@ -52,7 +52,7 @@ fn three<'a>(first: &'a [u8], second: &'a [u8], third: &'a [u8]) -> [Option<&'a 
     [Some(first), Some(second), Some(third)]
 }
 
-/// The image has this many bytes.
+/// Fails unless the image has this length.
 fn is_long<A: Abort>(rt: &A, image: &Image, length: usize) {
     assert_eq!(rt; image.bytes.len(), length);
 }
@@ -172,14 +172,14 @@ fn first_section(alloc: Global) -> Result<Image, AllocError> {
     one_section(alloc, HDR1, trailer)
 }
 
-/// Section 3 of the same, and its end.
+/// Section 3 of the same file, and its end.
 fn third_section(alloc: Global) -> Result<Image, AllocError> {
     let header = "HDR1PAYROLL          ABC00100030001000100 00000 00000 000000";
     let trailer = "EOF1PAYROLL          ABC00100030001000100 00000 00000 000001";
     one_section(alloc, header, trailer)
 }
 
-/// File 2 of set XYZ001 is there, and file 1 was not found; the section in the middle of file 1 of
+/// File 2 of set XYZ001 was found, and file 1 was not; the section in the middle of file 1 of
 /// ABC001 is missing.
 #[test]
 fn two_sets(rt: HostRuntime) -> Result<(), Fail> {
@@ -242,7 +242,7 @@ LACKS ABC001 1 1
     check(&rt, &mut [Some(cut.bytes.as_slice()), None], false, lines)
 }
 
-/// Returns three images: one that could not be opened, and these two.
+/// Returns three images: one that could not be opened, and the two given.
 fn behind_unopened<'a>(first: &'a [u8], second: &'a [u8]) -> [Option<&'a [u8]>; 3] {
     [None, Some(first), Some(second)]
 }
@@ -271,7 +271,7 @@ ALL SECTIONS FOUND
     check_one(&rt, unprinted(rt.alloc())?, true, lines)
 }
 
-/// Items after the second mark are counted, and their sections are not found.
+/// Items after the second mark are counted, but sections among them are not found.
 #[test]
 fn items_behind_the_second_mark(rt: HostRuntime) -> Result<(), Fail> {
     let lines = "IMAGE 1 14 PHYSICAL
@@ -281,7 +281,7 @@ ALL SECTIONS FOUND
     check_one(&rt, with_items_behind(rt.alloc())?, true, lines)
 }
 
-/// A reader that returns this many bytes, one per call, and then fails.
+/// Returns a reader that returns `left` bytes, one per call, and then fails.
 fn dribble(bytes: &[u8], left: usize) -> Dribble<'_> {
     Dribble {
         bytes,

@@ -17,7 +17,7 @@ ALL SECTIONS FOUND
 
 const WRITE_FAILED: Result<bool, EngineFault> = Err(EngineFault::WriteFailed);
 
-/// What a check of the worked image returns with this writer.
+/// Returns the result of a check of the worked image with the given writer.
 fn check_worked<W: Write>(
     alloc: Global,
     writer: &mut W,
@@ -27,7 +27,7 @@ fn check_worked<W: Write>(
     Ok(check_to(alloc, &mut images, writer))
 }
 
-/// If the writer accepts this many bytes and fails, these are a prefix of the report.
+/// If the writer accepts `left` bytes and fails, these are a prefix of the report.
 fn stops_at<H: Abort + AllocGlobal>(rt: &H, left: usize) -> Result<(), Fail> {
     let mut narrow = Narrow::failing(rt.alloc(), left, Some(ErrorKind::Other), true);
     let answer = check_worked(rt.alloc(), &mut narrow)?;
@@ -46,7 +46,7 @@ fn a_writer_that_fails(rt: HostRuntime) -> Result<(), Fail> {
     Ok(())
 }
 
-/// A failed flush is a failed write, and what was written remains: the line of the image.
+/// A failed flush is a failed write, and the line about the image has been written.
 #[test]
 fn a_flush_that_fails(rt: HostRuntime) -> Result<(), Fail> {
     for (flushes, wanted, length) in [(true, Ok(true), REPORT.len()), (false, WRITE_FAILED, 18)] {
@@ -77,7 +77,7 @@ impl Write for Flushed {
     }
 }
 
-/// The line of each image is flushed, and then the rest: 18 and 18 bytes, and 52 for the section
+/// The line about each image is flushed, and then the rest: 18 and 18 bytes, and 52 for the section
 /// and the last line.
 #[test]
 fn lines_are_passed_on_one_by_one(rt: HostRuntime) -> Result<(), Fail> {
@@ -94,7 +94,7 @@ fn lines_are_passed_on_one_by_one(rt: HostRuntime) -> Result<(), Fail> {
     Ok(())
 }
 
-/// A survey flushes the line of each image when it was read, 64 bytes each, and then the rest.
+/// A survey flushes the line about each image after reading it, 64 bytes each, and then the rest.
 #[test]
 fn lines_of_a_survey_are_passed_on_one_by_one(rt: HostRuntime) -> Result<(), Fail> {
     let image = payroll(rt.alloc())?;

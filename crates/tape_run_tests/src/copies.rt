@@ -11,7 +11,7 @@ use tape_run::{ReelAnswer, Step};
 
 const ONE: &[Step] = &[Step::Reel];
 
-/// The worked file in five blocks, of which the fourth one or the second one is bad.
+/// The worked file in five blocks, the fourth or the second of which is bad.
 const FOURTH_BAD: Reel<'_> = Reel::Five(3, EOF_FIVE);
 
 const SECOND_BAD: Reel<'_> = Reel::Five(1, EOF_FIVE);

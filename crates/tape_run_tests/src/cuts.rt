@@ -19,8 +19,8 @@ fn blocks_before(cut: usize) -> u16 {
     }
 }
 
-/// What is expected after the first bytes of the volume: the next block, or, once the trailer label
-/// that ends at 932 was read, the next section.
+/// Returns what is expected after the first `cut` bytes of the volume: the next block, or, once the
+/// trailer label that ends at 932 was read, the next section.
 fn awaited(cut: usize) -> Option<Want> {
     if cut >= 932 {
         return wanted(2, 0);
@@ -28,15 +28,15 @@ fn awaited(cut: usize) -> Option<Want> {
     wanted(1, blocks_before(cut) as u32)
 }
 
-/// Returns whether a session that read the volume up to a cut has this position, and this many of
-/// its readers failed.
+/// Returns whether a session that read the volume up to `cut` has the expected position, and
+/// `failed` of its readers failed.
 fn stands_behind(session: &Session<MemorySink>, cut: usize, failed: u64) -> bool {
     session.want() == awaited(cut)
         && session.device_faults() == failed
         && holds_long(session.sink(), blocks_before(cut) as usize)
 }
 
-/// Returns whether a session has this position if the bytes end at the cut.
+/// Returns whether a session has the expected position if the bytes end at `cut`.
 fn ends_at(alloc: Global, whole: &[u8], cut: usize) -> Result<bool, Fail> {
     let mut session = begun(alloc, 1)?;
     run(
@@ -48,8 +48,8 @@ fn ends_at(alloc: Global, whole: &[u8], cut: usize) -> Result<bool, Fail> {
     Ok(stands_behind(&session, cut, 0))
 }
 
-/// Returns whether it has this position if the reader fails at the cut. After the trailer label
-/// nothing is requested from the reader.
+/// Returns whether a session has the expected position if the reader fails at `cut`. After the
+/// trailer label nothing is requested from the reader.
 fn fails_at(alloc: Global, whole: &[u8], cut: usize) -> Result<bool, Fail> {
     let mut session = begun(alloc, 1)?;
     let mut failed = [false];
@@ -77,7 +77,7 @@ fn at_each_length(rt: HostRuntime) -> Result<(), Fail> {
     Ok(())
 }
 
-/// A reader of the first bytes, which then fails; of all bytes, if there are fewer.
+/// Returns a reader of the first `left` bytes, or all if there are fewer, which then fails.
 fn failing_behind(whole: &[u8], left: usize) -> Dribble<'_> {
     Dribble {
         bytes: whole,

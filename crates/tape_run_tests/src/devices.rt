@@ -28,7 +28,7 @@ impl Read for Dribble<'_> {
     }
 }
 
-/// Gives this many zero bytes: tape marks.
+/// Returns `left` zero bytes, which are tape marks.
 #[derive(Drop)]
 pub struct Zeros {
     pub left: usize,
@@ -43,8 +43,8 @@ impl Read for Zeros {
     }
 }
 
-/// Accepts one byte per call, and after `left` of them accepts none, or fails. A flush fails if so
-/// configured.
+/// Accepts one byte per call, and after `left` of them accepts none, or fails. A flush fails if
+/// configured to.
 #[derive(Drop)]
 pub struct Narrow {
     pub taken: Vec<u8>,
@@ -54,12 +54,12 @@ pub struct Narrow {
 }
 
 impl Narrow {
-    /// A writer that accepts this many bytes, and then none.
+    /// Returns a writer that accepts `left` bytes, and then none.
     pub fn new(alloc: Global, left: usize, flushes: bool) -> Narrow {
         Narrow::failing(alloc, left, None, flushes)
     }
 
-    /// A writer that accepts this many bytes, and then fails, or accepts none.
+    /// Returns a writer that accepts `left` bytes, and then fails, or accepts none.
     pub fn failing(alloc: Global, left: usize, kind: Option<ErrorKind>, flushes: bool) -> Narrow {
         Narrow {
             taken: Vec::new(alloc),
@@ -96,7 +96,7 @@ impl Write for Narrow {
     }
 }
 
-/// Fails once, at the call with this number, and accepts everything else. It counts the calls.
+/// Fails once, at call `at`, and accepts everything else. It counts the calls.
 #[derive(Drop)]
 pub struct FailsOnce {
     pub taken: Vec<u8>,

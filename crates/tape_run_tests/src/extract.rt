@@ -1,4 +1,4 @@
-//! Files recovered from images: what is reported, and what is written.
+//! Files recovered from images: the lines reported, and the bytes written.
 use crate::devices::{Dribble, Narrow};
 use crate::image::{
     HDR1, HDR2, Image, blank, long_byte, long_first, long_second, payroll, payroll_with, set_id,
@@ -19,7 +19,7 @@ use tape_set::Want;
 /// What `extract` answers.
 type Answer = Result<Option<Want>, EngineFault>;
 
-/// The images, on a shelf.
+/// Returns the images, in a list.
 pub fn shelf_of<R: Read + Drop>(
     alloc: Global,
     images: &mut [Option<R>],
@@ -31,7 +31,7 @@ pub fn shelf_of<R: Read + Drop>(
     Ok(shelf)
 }
 
-/// File 1 or another one of the set ABC001, from these images.
+/// Recovers a file of the set ABC001 from the given images.
 fn run<R: Read + Drop, W: Write, P: Write>(
     alloc: Global,
     file: u16,
@@ -45,7 +45,7 @@ fn run<R: Read + Drop, W: Write, P: Write>(
     Ok(extract_to(&mut session, &mut shelf, form, out, report))
 }
 
-/// The lines over these images, and what is written of the file.
+/// Fails unless the images yield these lines, and these bytes of the file.
 fn gives<H: Abort + AllocGlobal, R: Read + Drop>(
     rt: &H,
     form: Form,
@@ -61,7 +61,7 @@ fn gives<H: Abort + AllocGlobal, R: Read + Drop>(
     Ok(())
 }
 
-/// The lines over these images, from which something is still missing.
+/// Fails unless the images yield these lines, and do not complete the file.
 fn wants<H: Abort + AllocGlobal, R: Read + Drop>(
     rt: &H,
     file: u16,
@@ -76,12 +76,12 @@ fn wants<H: Abort + AllocGlobal, R: Read + Drop>(
     Ok(())
 }
 
-/// What is reported for images none of which completes file 1.
+/// The report for images none of which completes file 1.
 fn reports<H: Abort + AllocGlobal>(rt: &H, image: Image, lines: &str) -> Result<(), Fail> {
     wants(rt, 1, &mut [Some(image.bytes.as_slice())], lines)
 }
 
-/// The same of two images.
+/// Fails unless two images, which do not complete the file, yield these lines.
 fn reports_both<H: Abort + AllocGlobal>(
     rt: &H,
     first: Image,
@@ -92,7 +92,7 @@ fn reports_both<H: Abort + AllocGlobal>(
     wants(rt, 1, &mut [Some(first), Some(second)], lines)
 }
 
-/// The worked file is complete from this image and the worked one after it.
+/// Fails unless the worked file is complete from the given image and the worked one after it.
 fn completes<H: Abort + AllocGlobal>(rt: &H, first: Image, lines: &str) -> Result<(), Fail> {
     let second = payroll(rt.alloc())?;
     let records = worked_records(rt.alloc(), b"\n")?;
@@ -150,7 +150,7 @@ fn sections_that_lack_others(rt: HostRuntime) -> Result<(), Fail> {
     reports_both(&rt, long_first(rt.alloc())?, long_first(rt.alloc())?, lines)
 }
 
-/// How much of the worked image there is, and what is reported of it.
+/// How much of the worked image there is, and the report on it.
 const CUTS: &[(usize, &str)] = &[
     (2288, "REEL 1 REEL ENDED IMAGE 1 1884\nAWAITS 1 1 2\n"),
     (1885, "REEL 1 REEL ENDED IMAGE 1 1884\nAWAITS 1 1 2\n"),
@@ -167,7 +167,7 @@ fn reels_that_are_cut_off(rt: HostRuntime) -> Result<(), Fail> {
     completes(&rt, cut(rt.alloc(), 2292)?, lines)
 }
 
-/// Volumes of one block: the labels and the block, and what is reported of them.
+/// Volumes of one block: the labels and the block, and the report on them.
 const GIVE_NOTHING: &[(&str, &str, &[u8], &str)] = &[
     (
         "HDR1PAYROLL          XYZ00100010001000100 00000 00000 000000",
@@ -269,7 +269,7 @@ fn a_reader_that_fails(rt: HostRuntime) -> Result<(), Fail> {
     wants(&rt, 1, &mut [Some(dribble)], lines)
 }
 
-/// What `extract` of the worked file answers to these writers.
+/// Returns the result of `extract` for the worked file with the given writers.
 fn extract_worked(alloc: Global, out: &mut Narrow, report: &mut Narrow) -> Result<Answer, Fail> {
     let image = payroll(alloc)?;
     let images = &mut [Some(image.bytes.as_slice())];
@@ -280,7 +280,7 @@ fn extract_worked(alloc: Global, out: &mut Narrow, report: &mut Narrow) -> Resul
 const SAID: &[u8] = b"REEL 1 COMPLETE\nCOMPLETE 25\n";
 
 /// How many bytes the writers of the file and of the report accept, and whether they can be
-/// flushed; and how much is reported and written then.
+/// flushed; and how much is then reported and written.
 const NARROW: &[(usize, bool, usize, bool, usize, usize)] = &[
     (100, true, 100, true, 16, 100),
     (2025, false, 100, true, 16, 2025),
@@ -289,7 +289,7 @@ const NARROW: &[(usize, bool, usize, bool, usize, usize)] = &[
     (2025, true, 100, false, 28, 2025),
 ];
 
-/// Writers that fail: the fault, and what was written.
+/// Writers that fail: the fault, and the bytes written.
 #[test]
 fn writers_that_fail(rt: HostRuntime) -> Result<(), Fail> {
     for (row, (out_left, out_flushes, left, flushes, told, written)) in NARROW.iter().enumerate() {
@@ -306,7 +306,7 @@ fn writers_that_fail(rt: HostRuntime) -> Result<(), Fail> {
     Ok(())
 }
 
-/// The last block of the last file, from this part on.
+/// Returns the last block of the last file, from part `part` on.
 fn last_block(part: u32) -> Want {
     Want {
         file: 9999,

@@ -15,7 +15,7 @@ pub struct Image {
     gaps: bool,
 }
 
-/// The first bytes, or all of them if there are no more.
+/// Returns the first `count` bytes, or all if there are fewer.
 pub fn front(bytes: &[u8], count: usize) -> &[u8] {
     if count <= bytes.len() {
         &bytes[..count]
@@ -24,7 +24,7 @@ pub fn front(bytes: &[u8], count: usize) -> &[u8] {
     }
 }
 
-/// The set of all worked images but the foreign one.
+/// Returns the set of all worked images but the foreign one.
 pub fn set_id() -> Field<6> {
     Field::of_bytes(*b"ABC001")
 }
@@ -38,7 +38,7 @@ impl Image {
         }
     }
 
-    /// An image with an erase gap before each of its words.
+    /// Returns an image with an erase gap before each of its words.
     pub fn with_gaps(alloc: Global) -> Image {
         Image {
             alloc,
@@ -47,7 +47,7 @@ impl Image {
         }
     }
 
-    /// Keeps this many of its first bytes.
+    /// Keeps the first `length` bytes.
     pub fn cut(mut self, length: usize) -> Image {
         self.bytes.truncate(length);
         self
@@ -65,13 +65,14 @@ impl Image {
         self.word([0, 0, 0, 0])
     }
 
-    /// The second mark of a volume, and the end word.
+    /// The second mark of a volume, and the end-of-medium marker.
     pub fn end(&mut self) -> Result<(), AllocError> {
         self.mark()?;
         self.word([0xFF, 0xFF, 0xFF, 0xFF])
     }
 
-    /// The content between two words with this high byte, and a pad byte if its length is odd.
+    /// Appends the content between two words with high byte `high`, and a pad byte if its length is
+    /// odd.
     fn framed(&mut self, content: &[u8], high: u8) -> Result<(), AllocError> {
         let count = content.len();
         let word = [
@@ -125,8 +126,8 @@ impl Image {
         self.headers(labels)
     }
 
-    /// Records of 80 characters, with these numbers, in one block; bad blocks are as long as good
-    /// ones.
+    /// Appends a block of records of 80 characters, with the numbers `from` to `to`; a bad block
+    /// has the same length as a good one.
     pub fn records(&mut self, from: u8, to: u8, good: bool) -> Result<(), AllocError> {
         let mut block = Vec::new(self.alloc);
         for number in from..to {
@@ -140,7 +141,7 @@ impl Image {
     }
 }
 
-/// The record of 80 characters with this number: two digits, and 78 spaces.
+/// Returns record `number` of 80 characters: two digits, and 78 spaces.
 pub fn record(number: u8) -> [u8; 80] {
     let mut record = [b' '; 80];
     record[0] = b'0' + number / 10 % 10;
@@ -156,13 +157,13 @@ pub const HDR1: &str = "HDR1PAYROLL          ABC00100010001000100 00000 00000 00
 /// Format F, records of 80 characters.
 pub const HDR2: &str = "HDR2F0080000080                                   00";
 
-/// The worked volume: 25 records in blocks of 10, 10 and 5, in 2,484 bytes. The first data block
-/// begins at 268, the others at 1,076 and 1,884; the closing mark at 2,292.
+/// Returns the worked volume: 25 records in blocks of 10, 10 and 5, in 2,484 bytes. The first data
+/// block begins at 268, the others at 1,076 and 1,884; the closing mark at 2,292.
 pub fn payroll(alloc: Global) -> Result<Image, AllocError> {
     payroll_on(Image::new(alloc), TRAILERS)
 }
 
-/// The worked volume with an erase gap before each of its words.
+/// Returns the worked volume with an erase gap before each of its words.
 pub fn payroll_with_gaps(alloc: Global) -> Result<Image, AllocError> {
     payroll_on(Image::with_gaps(alloc), TRAILERS)
 }
@@ -173,12 +174,12 @@ const TRAILERS: &[&str] = &[
     "EOF2F0080000080                                   00",
 ];
 
-/// The worked volume with these trailer labels.
+/// Returns the worked volume with the given trailer labels.
 pub fn payroll_with(alloc: Global, trailers: &[&str]) -> Result<Image, AllocError> {
     payroll_on(Image::new(alloc), trailers)
 }
 
-/// The worked volume with these trailer labels, on an empty image.
+/// Appends the worked volume with the given trailer labels to an empty image.
 fn payroll_on(mut image: Image, trailers: &[&str]) -> Result<Image, AllocError> {
     image.headers(&[VOL1, HDR1, HDR2])?;
     image.records(0, 10, true)?;
@@ -189,7 +190,7 @@ fn payroll_on(mut image: Image, trailers: &[&str]) -> Result<Image, AllocError> 
     Ok(image)
 }
 
-/// 25 records in five blocks of 5, of which one may be bad (5: none is), with this count in the
+/// Returns 25 records in five blocks of 5, with block `bad` unreadable (5 means none) and the given
 /// trailer.
 pub fn five_blocks(alloc: Global, bad: u8, trailer: &str) -> Result<Image, AllocError> {
     let mut image = Image::new(alloc);
@@ -205,7 +206,7 @@ pub fn five_blocks(alloc: Global, bad: u8, trailer: &str) -> Result<Image, Alloc
     Ok(image)
 }
 
-/// A volume with no file.
+/// Returns a volume with no file.
 pub fn blank(alloc: Global) -> Result<Image, AllocError> {
     let mut image = Image::new(alloc);
     image.headers(&[VOL1])?;
@@ -218,12 +219,12 @@ pub const EOF_THREE: &str = "EOF1PAYROLL          ABC00100010001000100 00000 000
 
 pub const EOF_FIVE: &str = "EOF1PAYROLL          ABC00100010001000100 00000 00000 000005";
 
-/// The record of 290 bytes in blocks of 18: byte i is `a` and the rest of i by 26.
+/// Returns the record of 290 bytes in blocks of 18: byte i is `a` and the rest of i by 26.
 pub fn long_byte(place: usize) -> u8 {
     b'a' + (place % 26) as u8
 }
 
-/// A block of 18 bytes with 13 bytes of the long record from a place on.
+/// Returns a block of 18 bytes with 13 bytes of the long record, from an offset on.
 fn segment(indicator: u8, from: usize) -> [u8; 18] {
     let mut block = *b"?0018^^^^^^^^^^^^^";
     block[0] = indicator;
@@ -233,9 +234,9 @@ fn segment(indicator: u8, from: usize) -> [u8; 18] {
     block
 }
 
-/// The first volume of the long record: 22 blocks with 286 of its bytes, and an end of volume;
-/// 1,032 bytes. Its first data block begins at 268, each takes 26 bytes, and the closing mark is at
-/// 840.
+/// Returns the first volume of the long record: 22 blocks with 286 of its bytes, and an end of
+/// volume; 1,032 bytes. Its first data block begins at 268, each takes 26 bytes, and the closing
+/// mark is at 840.
 pub fn long_first(alloc: Global) -> Result<Image, AllocError> {
     let mut image = Image::new(alloc);
     image.headers(&[
@@ -255,7 +256,7 @@ pub fn long_first(alloc: Global) -> Result<Image, AllocError> {
     Ok(image)
 }
 
-/// The second volume: one block with the last 4 bytes, and the end of the file; 486 bytes.
+/// Returns the second volume: one block with the last 4 bytes, and the end of the file; 486 bytes.
 pub fn long_second(alloc: Global) -> Result<Image, AllocError> {
     let mut image = Image::new(alloc);
     image.headers(&[
@@ -276,7 +277,7 @@ pub fn long_second(alloc: Global) -> Result<Image, AllocError> {
     Ok(image)
 }
 
-/// The sink contains this many records of 80 characters, with the numbers from 0 on.
+/// Returns whether the sink contains `count` records of 80 characters, numbered from 0.
 pub fn holds_records(sink: &MemorySink, count: u8) -> bool {
     sink.count() == count as usize
         && (0..count).all(|number| match sink.part(number as usize) {
@@ -285,7 +286,8 @@ pub fn holds_records(sink: &MemorySink, count: u8) -> bool {
         })
 }
 
-/// The sink contains this many bytes of the long record, in parts of 13 except perhaps the last.
+/// Returns whether the sink contains the first `parts` parts of the long record, each of 13 bytes
+/// except perhaps the last.
 pub fn holds_long(sink: &MemorySink, parts: usize) -> bool {
     let mut place = 0usize;
     for number in 0..sink.count() {

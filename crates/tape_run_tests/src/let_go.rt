@@ -77,7 +77,7 @@ enum Engine {
     Extract,
 }
 
-/// Reads the two images of a shelf.
+/// Reads the two images of a list.
 fn read(alloc: Global, engine: Engine, shelf: &mut Lender<'_>) -> Result<(), Fail> {
     let mut report = Vec::new(alloc);
     match engine {
@@ -99,7 +99,7 @@ fn read(alloc: Global, engine: Engine, shelf: &mut Lender<'_>) -> Result<(), Fai
     Ok(())
 }
 
-/// Each of these reels is lent once, and none while another one is in use.
+/// Fails unless each reel is lent once, and none while another one is in use.
 fn lets_go<H: Abort + AllocGlobal>(rt: &H, engine: Engine, reels: &[&[u8]]) -> Result<(), Fail> {
     let out = Cell::new(0);
     let mut shelf = Lender {

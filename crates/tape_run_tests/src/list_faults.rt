@@ -1,4 +1,4 @@
-//! Listings of images that can't be read on, and of devices that fail.
+//! Listings of images that cannot be read to the end, and of devices that fail.
 use crate::devices::{Dribble, FailsOnce, Narrow};
 use crate::image::{Image, payroll};
 use crate::listing::WORKED;
@@ -16,8 +16,7 @@ fn fault_at(place: u64, cause: ImageCause) -> ListFault {
     ListFault::Image(ImageFault { place, cause })
 }
 
-/// Listing this reader ends in the fault, after this many lines of the worked listing. Otherwise
-/// the case is reported.
+/// Fails unless listing the reader ends with the fault, after `lines` lines of the worked listing.
 fn check<H: Abort + AllocGlobal, R: Read>(
     rt: &H,
     reader: &mut R,
@@ -31,7 +30,7 @@ fn check<H: Abort + AllocGlobal, R: Read>(
     assert!(rt; told && answer == Err(fault), "{case}: {answer:?}");
 }
 
-/// The first lines of the worked listing.
+/// Returns the first `count` lines of the worked listing.
 fn first_lines(count: usize) -> &'static [u8] {
     let mut left = count;
     let mut length = 0;
@@ -44,7 +43,7 @@ fn first_lines(count: usize) -> &'static [u8] {
     WORKED.as_bytes().get(..length).unwrap_or(&[])
 }
 
-/// The worked image, with these bytes instead of those at an offset.
+/// Returns the worked image with the given bytes at offset `place`.
 fn worked_with(alloc: Global, place: usize, bytes: &[u8]) -> Result<Image, AllocError> {
     let mut image = payroll(alloc)?;
     for (slot, byte) in image.bytes.iter_mut().skip(place).zip(bytes) {
@@ -94,7 +93,7 @@ const STARTS: [usize; 14] = [
     0, 88, 176, 264, 268, 1076, 1884, 2292, 2296, 2384, 2472, 2476, 2480, 2484,
 ];
 
-/// The offset of the item under way after this many bytes, and the number of items before it.
+/// Returns the offset of the current item after `given` bytes, and the number of items before it.
 fn under_way(given: usize) -> (u64, usize) {
     let mut found = (0, 0);
     for (items, start) in STARTS.iter().enumerate() {
@@ -105,7 +104,8 @@ fn under_way(given: usize) -> (u64, usize) {
     found
 }
 
-/// A reader that returns this many bytes of the image and fails.
+/// Fails unless a reader that returns `given` bytes of the image and then fails is listed
+/// correctly.
 fn fails_after<H: Abort + AllocGlobal>(rt: &H, image: &Image, given: usize, kind: ErrorKind) {
     let mut reader = Dribble {
         bytes: image.bytes.as_slice(),
@@ -130,7 +130,7 @@ fn a_reader_fails(rt: HostRuntime) -> Result<(), Fail> {
     Ok(())
 }
 
-/// If the writer accepts this many bytes and fails, these are a prefix of the listing.
+/// If the writer accepts `left` bytes and fails, these are a prefix of the listing.
 fn stops_at<H: Abort + AllocGlobal>(rt: &H, image: &Image, left: usize, kind: Option<ErrorKind>) {
     let mut out = Narrow::failing(rt.alloc(), left, kind, true);
     let answer = list_to(rt.alloc(), &mut image.bytes.as_slice(), &mut out);
@@ -152,7 +152,7 @@ fn a_writer_fails(rt: HostRuntime) -> Result<(), Fail> {
     Ok(())
 }
 
-/// The writer fails at this line.
+/// The writer fails at line `good`.
 fn fails_once<H: Abort + AllocGlobal>(rt: &H, image: &Image, good: usize, kind: Option<ErrorKind>) {
     let mut out = FailsOnce::new(rt.alloc(), good, kind);
     let answer = list_to(rt.alloc(), &mut image.bytes.as_slice(), &mut out);
@@ -192,7 +192,7 @@ const CUT_OFF: Result<(), ListFault> = Err(ListFault::Image(ImageFault {
 }));
 
 /// How much of the worked image there is, how many lines that has, whether the writer can be
-/// flushed, and whether the result is that failure, otherwise the fault of the image.
+/// flushed, and whether the result is a failed flush instead of the fault of the image.
 const FLUSHES: &[(usize, usize, bool, Result<(), ListFault>)] = &[
     (2484, 13, true, Ok(())),
     (2484, 13, false, NOT_WRITTEN),

@@ -23,7 +23,7 @@ pub const WORKED: &str = "000001 VOL1 ABC001
 END MARKED
 ";
 
-/// The listing of what this reader returns, without a fault. The rest of the reader is unread.
+/// Fails unless listing the reader succeeds with these lines. The rest of the reader is unread.
 fn check<H: Abort + AllocGlobal, R: Read>(rt: &H, reader: &mut R, lines: &str) -> Result<(), Fail> {
     let mut out = Vec::new(rt.alloc());
     list_to(rt.alloc(), reader, &mut out)?;
@@ -55,7 +55,7 @@ fn one_byte_a_call(rt: HostRuntime) -> Result<(), Fail> {
     check(&rt, &mut reader, WORKED)
 }
 
-/// No bytes, an end word, a mark and a gap, each alone.
+/// No bytes; an end-of-medium marker, a mark and a gap, each alone.
 const LITTLE: &[(&[u8], &str)] = &[
     (&[], "END PHYSICAL\n"),
     (&[0xFF; 4], "END MARKED\n"),
@@ -92,7 +92,7 @@ fn items_behind_the_second_mark(rt: HostRuntime) -> Result<(), Fail> {
     check(&rt, &mut image.bytes.as_slice(), lines)
 }
 
-/// A block of this many bytes `x`.
+/// Appends a block of `length` bytes `x`.
 fn long_block(alloc: Global, image: &mut Image, length: usize) -> Result<(), AllocError> {
     let content = Vec::from_elem(alloc, b'x', length)?;
     image.block(content.as_slice())

@@ -13,7 +13,7 @@ const SECOND: &str = "HDR1LEDGER           ABC00100010002000100 00000 00000 0000
 
 const END_OF_SECOND: &str = "EOF1LEDGER           ABC00100010002000100 00000 00000 000001";
 
-/// A volume with two files of one record each, of 80 letters A and of 80 letters B.
+/// Returns a volume with two files of one record each, of 80 letters A and of 80 letters B.
 fn two_files(alloc: Global) -> Result<Image, AllocError> {
     let mut image = Image::new(alloc);
     image.headers(&[VOL1, HDR1, HDR2])?;
@@ -26,7 +26,7 @@ fn two_files(alloc: Global) -> Result<Image, AllocError> {
     Ok(image)
 }
 
-/// The outcome of a file, and the first byte of its records if it is complete.
+/// Returns the outcome of a file, and the first byte of its records if it is complete.
 fn extracted<'a>(
     alloc: Global,
     shelf: &mut Vec<Option<&'a [u8]>>,
@@ -48,7 +48,8 @@ fn extracted<'a>(
     Ok((answer, first))
 }
 
-/// The files of the volume in this order, from a source that yields its image once.
+/// Fails unless the files of the volume, recovered in this order from a source that yields its
+/// image once, have these outcomes.
 fn come_to<H: Abort + AllocGlobal>(
     rt: &H,
     files: &[u16],
@@ -70,7 +71,7 @@ fn come_to<H: Abort + AllocGlobal>(
 }
 
 /// The second file is read after the first. The first cannot be read after the second, and a file
-/// that no label names has no section.
+/// that no label mentions has no section.
 #[test]
 fn images_stay_mounted(rt: HostRuntime) -> Result<(), Fail> {
     let (first, second) = ((Some(1), Some(b'A')), (Some(1), Some(b'B')));

@@ -6,7 +6,7 @@ use std::test::Fail;
 use tape_core::PartSink;
 use tape_run::{Session, Step, run};
 
-/// A block with this segment: its control word, and this many of the long record's bytes.
+/// Returns a block with one segment: its control word, and bytes of the long record.
 fn segment(alloc: Global, control: &[u8; 5], count: usize) -> Result<Vec<u8>, AllocError> {
     let mut block = Vec::new(alloc);
     block.extend_from_slice(control)?;
@@ -30,8 +30,8 @@ fn add_blocks(
     Ok(())
 }
 
-/// One record of 3,000,000 bytes in format S: 301 blocks, of 9,999 bytes but the last, whose 1,800
-/// bytes of the record complete the 300 times 9,994 before.
+/// Returns one record of 3,000,000 bytes in format S: 301 blocks, of 9,999 bytes but the last,
+/// whose 1,800 bytes of the record complete the 300 times 9,994 before.
 fn image(alloc: Global) -> Result<Image, AllocError> {
     let mut image = Image::new(alloc);
     image.headers(&[
@@ -56,7 +56,7 @@ fn three_million_bytes(rt: HostRuntime) -> Result<(), Fail> {
         refused: 0,
     };
     let mut session = Session::new(rt.alloc(), set_id(), 1, sink)?;
-    // Cut in the middle of a block, and the whole after it.
+    // Truncated in the middle of a block, followed by the complete volume.
     let whole = image.bytes.as_slice();
     run(
         &mut session,

@@ -13,7 +13,7 @@ use tape_core::SinkFault;
 use tape_run::{EngineFault, OutSink, Place, RunFault, Session, WriteFailed, extract_streaming};
 use tape_set::Want;
 
-/// A name that an output is given if it is free.
+/// A name that an output gets if it is free.
 #[derive(Drop)]
 pub struct Name {
     pub is_free: bool,
@@ -33,8 +33,8 @@ impl Place<Narrow> for Name {
 }
 
 /// How much of the worked image there is, how many bytes of its records are accepted, whether they
-/// can be flushed, and whether their name is free; what is returned and reported then, and how many
-/// bytes have the name.
+/// can be flushed, and whether their name is free; and the result: what is returned and reported,
+/// and how many bytes have the name.
 type Row<'a> = (
     usize,
     usize,
@@ -53,7 +53,7 @@ const THIRD: Option<Want> = Some(Want {
     part: 0,
 });
 
-/// A record could not be written when the parts of its block came.
+/// A record could not be written when the parts of its block arrived.
 const REFUSED: Result<Option<Want>, EngineFault> = Err(EngineFault::Run(RunFault::Sink(
     SinkFault::Device,
 )));

@@ -34,7 +34,7 @@ const SCRIPTS: &[Script<'_>] = &[
             Do::HoldsLong(23, None),
         ],
     ),
-    // The first volume again yields nothing again.
+    // Reading the first volume again yields nothing again.
     (
         "the second volume first",
         1,
@@ -101,7 +101,7 @@ fn reels_in_any_order(rt: HostRuntime) -> Result<(), Fail> {
     each_goes(&rt, SCRIPTS)
 }
 
-/// A volume whose identifier is that of the worked volume, and whose set identifier is not.
+/// Returns a volume whose identifier is that of the worked volume, and whose set identifier is not.
 pub fn foreign(alloc: Global) -> Result<Image, AllocError> {
     let mut image = Image::new(alloc);
     image.headers(&[

@@ -7,7 +7,8 @@ use std::test::Fail;
 use tape_image::{ImageCause, ImageFault};
 use tape_run::{ListFault, list_places_to};
 
-/// A mark, a bad block of 7 bytes, a block of 3, a mark and the end word, a gap before each.
+/// Returns a mark, a bad block of 7 bytes, a block of 3, a mark and the end-of-medium marker, with
+/// a gap before each.
 fn little(alloc: Global) -> Result<Image, AllocError> {
     let mut image = Image::with_gaps(alloc);
     image.mark()?;
@@ -42,7 +43,7 @@ const LISTED: &[(usize, Result<(), ListFault>, &str)] = &[
     (43, CUT_OFF, "4 4 000001 MARK\n8 20 000002 BAD\n"),
 ];
 
-/// A writer that accepts this many bytes contains a prefix of the lines.
+/// A writer that accepts `room` bytes contains a prefix of the lines.
 fn is_listed<H: Abort + AllocGlobal>(
     rt: &H,
     bytes: &[u8],

@@ -1,4 +1,4 @@
-//! Notes, restarts and resumed sessions.
+//! Checkpoints, rollbacks and resumed sessions.
 use crate::image::{front, holds_long, long_first, long_second, set_id};
 use crate::scripts::{Do, Reel, Script, each_goes};
 use crate::sessions::begun;
@@ -16,13 +16,13 @@ const NO_NOTE: Stopped = Stopped {
     fault: RunFault::NoSuchPoint,
 };
 
-/// A third reel is asked for in step 2, and there are two readers.
+/// A third reel is requested in step 2, and there are two readers.
 const NO_THIRD_REEL: Stopped = Stopped {
     step: 2,
     fault: RunFault::TooFewReels,
 };
 
-/// The same of a second reel.
+/// The same test for a second reel.
 const NO_SECOND_REEL: Stopped = Stopped {
     step: 1,
     fault: RunFault::TooFewReels,
@@ -73,7 +73,7 @@ fn notes_and_restarts(rt: HostRuntime) -> Result<(), Fail> {
     each_goes(&rt, SCRIPTS)
 }
 
-/// Reads this many of the reel's bytes, and saves a checkpoint of the position.
+/// Reads the given bytes of the reel, and saves a checkpoint of the position.
 fn stopped(alloc: Global, bytes: &[u8]) -> Result<(Checkpoint, MemorySink), Fail> {
     let mut session = begun(alloc, 1)?;
     run(&mut session, &[Step::Reel], &mut [bytes], &mut [])?;
@@ -106,7 +106,7 @@ fn a_resumed_session_goes_on(rt: HostRuntime) -> Result<(), Fail> {
     Ok(())
 }
 
-/// Returns whether the file is read whole from both volumes.
+/// Returns whether the complete file is read from both volumes.
 fn is_whole(alloc: Global, first: &[u8], second: &[u8]) -> Result<bool, CoreFault> {
     let (session, made) = read_file(alloc, set_id(), 1, TWO, &mut [first, second])?;
     Ok(made == Ok(()) && session.want().is_none() && holds_long(session.sink(), 23))
@@ -118,7 +118,7 @@ fn lacks_a_reel(alloc: Global, first: &[u8]) -> Result<bool, CoreFault> {
     Ok(made == Err(NO_SECOND_REEL) && session.want().is_some())
 }
 
-/// Returns whether there is no file with this number.
+/// Returns whether file `number` is refused.
 fn is_no_file(alloc: Global, number: u16, first: &[u8]) -> bool {
     match read_file(alloc, set_id(), number, TWO, &mut [first]) {
         Ok(_) => false,

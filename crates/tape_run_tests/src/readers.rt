@@ -9,7 +9,7 @@ use std::io::{Error, ErrorKind, Read};
 use tape_blocks::Part;
 use tape_core::{Checkpoint, PartSink, SinkFault};
 
-/// Gives its bytes, and then fails.
+/// Returns its bytes, and then fails.
 #[derive(Drop)]
 pub struct Failing<'a>(pub &'a [u8]);
 

@@ -8,13 +8,13 @@ use tape_core::{CoreFault, MemorySink, PartSink, Refusing, SinkFault};
 use tape_run::{RunFault, Session, Step, Stopped, run};
 use tape_set::Want;
 
-/// A session over a sink in memory that refuses the call with this number, counted from 0.
+/// Returns a session over a sink in memory that refuses call `call`, counted from 0.
 fn refusing(alloc: Global, call: usize) -> Result<Session<Refusing<MemorySink>>, CoreFault> {
     let sink = Refusing::new(MemorySink::new(alloc), call);
     Session::new(alloc, set_id(), 1, sink)
 }
 
-/// A part of a block of section 1 of file 1.
+/// Returns a part of a block of section 1 of file 1.
 fn part_of(block: u32, part: u32) -> Option<Want> {
     Some(Want {
         file: 1,
@@ -27,7 +27,7 @@ fn part_of(block: u32, part: u32) -> Option<Want> {
 /// The device of the sink failed.
 const FAILED: RunFault = RunFault::Sink(SinkFault::Device);
 
-/// The device of the sink failed in the step with this number, counted from 0.
+/// The device of the sink failed in step `step`, counted from 0.
 fn failed_at(step: usize) -> Result<(), Stopped> {
     Err(Stopped {
         step,
@@ -37,7 +37,8 @@ fn failed_at(step: usize) -> Result<(), Stopped> {
 
 const ONE: &[Step] = &[Step::Reel];
 
-/// Returns whether the sink contains this many of the worked records, and this is missing.
+/// Returns whether the sink contains `count` of the worked records, and the session expects `want`
+/// next.
 fn has(session: &Session<Refusing<MemorySink>>, count: u8, want: Option<Want>) -> bool {
     session.want() == want && holds_records(session.sink().inner(), count)
 }
@@ -47,7 +48,7 @@ fn has(session: &Session<Refusing<MemorySink>>, count: u8, want: Option<Want>) -
 fn completes(alloc: Global, whole: &[u8], refused: u8) -> Result<bool, Fail> {
     let mut session = refusing(alloc, refused as usize)?;
     let failed = run(&mut session, ONE, &mut [whole], &mut []) == failed_at(0);
-    // Ten records are in a block.
+    // A block contains ten records.
     let place = part_of((refused / 10) as u32, (refused % 10) as u32);
     let stopped = failed && has(&session, refused, place);
     run(&mut session, ONE, &mut [whole], &mut [])?;
@@ -66,7 +67,7 @@ fn each_put_refused_in_turn(rt: HostRuntime) -> Result<(), Fail> {
     Ok(())
 }
 
-/// The same for both volumes of the long record, of which the first has 22 parts.
+/// Does the same for both volumes of the long record, the first of which has 22 parts.
 fn completes_long(alloc: Global, volumes: [&[u8]; 2], refused: usize) -> Result<bool, Fail> {
     let mut session = refusing(alloc, refused)?;
     let steps = [Step::Reel, Step::Reel];
@@ -88,7 +89,7 @@ fn each_put_of_a_long_record_refused_in_turn(rt: HostRuntime) -> Result<(), Fail
 }
 
 /// Two readings of the worked volume, the first of them cut, with a checkpoint before each, and a
-/// third after a restart.
+/// third reading after a rollback.
 const SCRIPT: &[Step] = &[
     Step::Save,
     Step::Reel,
@@ -98,11 +99,12 @@ const SCRIPT: &[Step] = &[
     Step::Reel,
 ];
 
-/// How many calls the script makes: 1 for each save and the restart, 20 puts, 5 puts, and 25 again.
+/// How many calls of the sink the script makes: 1 for each save and the rollback, 20 puts, 5 puts,
+/// and 25 again.
 const CALLS: usize = 53;
 
-/// How the script ends if this call is refused: in the step that makes it. In a rollback the sink
-/// returns Failed.
+/// Returns how the script ends if call `call` is refused: in the step that makes it. In a rollback
+/// the sink returns Failed.
 fn end_at(call: usize) -> Result<(), Stopped> {
     match call {
         0 => failed_at(0),
@@ -119,8 +121,8 @@ fn end_at(call: usize) -> Result<(), Stopped> {
 }
 
 /// Returns whether the script stops in the step of the refused call, and one more reel completes
-/// the file: the sink contains what precedes the position, and nothing is put twice. After the last
-/// call it is complete.
+/// the file: the sink contains the parts before the position, and nothing is put twice. After the
+/// last call the file is complete.
 fn completes_script(alloc: Global, whole: &[u8], refused: usize) -> Result<bool, Fail> {
     let mut session = refusing(alloc, refused)?;
     let mut reels = [front(whole, 1884), whole, whole];
@@ -157,8 +159,8 @@ fn is_refused(session: &mut Session<Refusing<MemorySink>>) -> bool {
         && has(session, 20, part_of(2, 0))
 }
 
-/// Returns whether a session's position is unchanged after a refused save, after a successful one,
-/// and after a rollback to that.
+/// Returns whether a refused save, a successful save, and a rollback to the saved checkpoint leave
+/// the session's position unchanged.
 fn stands_still(alloc: Global, whole: &[u8]) -> Result<bool, Fail> {
     let mut session = refusing(alloc, 20)?;
     run(&mut session, ONE, &mut [front(whole, 1884)], &mut [])?;
@@ -190,7 +192,8 @@ fn two_records(alloc: Global) -> Result<Image, AllocError> {
     Ok(image)
 }
 
-/// Returns whether this is missing, and the sink contains this many parts with this weight.
+/// Returns whether the session expects `want`, and the sink contains `parts` parts with this
+/// weight.
 fn weighs(
     session: &Session<Refusing<MemorySink>>,
     want: Option<Want>,
@@ -202,7 +205,7 @@ fn weighs(
 }
 
 /// Returns whether a refused second part of a block is put when the reel is read again, and the
-/// first one is not.
+/// first part is not.
 fn goes_on_inside(alloc: Global, whole: &[u8]) -> Result<bool, Fail> {
     let mut session = refusing(alloc, 1)?;
     let failed = run(&mut session, ONE, &mut [whole], &mut []) == failed_at(0);

@@ -34,7 +34,7 @@ impl<'a> ImageSource<&'a [u8]> for Kept<'a> {
     }
 }
 
-/// The worked volume, with its first or its second block unreadable.
+/// Returns the worked volume, with its first or its second block unreadable.
 fn bad_at(alloc: Global, bad: u8) -> Result<Image, AllocError> {
     volume(
         alloc,
@@ -42,7 +42,8 @@ fn bad_at(alloc: Global, bad: u8) -> Result<Image, AllocError> {
     )
 }
 
-/// What a session with a checkpoint reports over these reels, and how many bytes it writes.
+/// Fails unless a session with a checkpoint reports these lines over the reels, and writes `length`
+/// bytes.
 fn gives<H: Abort + AllocGlobal>(
     rt: &H,
     reels: &[&[u8]],

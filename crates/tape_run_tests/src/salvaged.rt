@@ -1,4 +1,4 @@
-//! `salvage` on images whose reader fails as it reads them again, and without HDR1.
+//! `salvage` on images without HDR1, and on images whose second reading fails.
 ghost use Rattle.std.specs.Prelude.{⊤};
 
 use crate::devices::Narrow;
@@ -11,7 +11,7 @@ use std::test::Fail;
 use tape_blocks::Form;
 use tape_run::{Content, ImageSource, SalvageTask, salvage_to};
 
-/// One image, whose reader gives these bytes the first time, and those from then on, before it
+/// One image, whose reader returns one text the first time and another one from then on, and then
 /// fails.
 #[derive(Drop)]
 struct Twice<'a> {
@@ -36,9 +36,9 @@ impl<'a> ImageSource<Failing<'a>> for Twice<'a> {
     }
 }
 
-/// How many bytes of the worked image are read again before its reader fails; whether nothing is
-/// missing then, the report, and how many bytes are written. Its three blocks begin at 268, 1076 and
-/// 1884, and end at 2292.
+/// How many bytes of the worked image are read again before its reader fails; and then: whether
+/// nothing is missing, the report, and how many bytes are written. Its three blocks begin at 268,
+/// 1076 and 1884, and end at 2292.
 const ROWS: &[(usize, bool, &str, usize)] = &[
     (0, false, "SECTION 1 1 3\nGAP 1 0 - 0\nSALVAGED 0\n", 0),
     (268, false, "SECTION 1 1 3\nGAP 1 0 - 0\nSALVAGED 0\n", 0),
@@ -58,9 +58,9 @@ const ROWS: &[(usize, bool, &str, usize)] = &[
     (2484, true, "SECTION 1 1 3\nCOMPLETE 25\n", 2025),
 ];
 
-/// Which bytes of the worked image are changed, and to what; whether nothing is missing then, the
-/// report, and how many bytes are written. HDR1 is at 88, HDR2 at 176, EOF1 at 2296, EOF2 at 2384; a
-/// block whose length words end with 0x80 cannot be read.
+/// Which bytes of the worked image are changed, and to what; and then: whether nothing is missing,
+/// the report, and how many bytes are written. HDR1 is at 88, HDR2 at 176, EOF1 at 2296, EOF2 at
+/// 2384; a block whose length words end with 0x80 cannot be read.
 const CHANGED: &[(&[(usize, u8)], bool, &str, usize)] = &[
     // Without HDR1 the section is found by its EOF1.
     (
@@ -76,7 +76,7 @@ const CHANGED: &[(&[(usize, u8)], bool, &str, usize)] = &[
         "SECTION 1 1 3\nCOMPLETE 25\n",
         2025,
     ),
-    // Nor block 0, the first item after the mark.
+    // Block 0, the first item after the mark, cannot be read either.
     (
         &[(91, 128), (175, 128), (271, 128), (1075, 128)],
         false,
@@ -90,7 +90,7 @@ const CHANGED: &[(&[(usize, u8)], bool, &str, usize)] = &[
         "SECTION 1 1 3\nGAP 1 1 1 10\nSALVAGED 15\n",
         1215,
     ),
-    // Nor any label that has the form.
+    // No label that has the form can be read.
     (
         &[
             (91, 128),
@@ -118,7 +118,7 @@ const CHANGED: &[(&[(usize, u8)], bool, &str, usize)] = &[
         "SECTION 1 1 3\nCOUNT 1 4 3\nSALVAGED 25\n",
         2025,
     ),
-    // Without HDR1 the items are not believed then.
+    // Without HDR1 the items are not accepted then.
     (
         &[(91, 128), (175, 128), (2359, b'4')],
         false,
@@ -127,7 +127,7 @@ const CHANGED: &[(&[(usize, u8)], bool, &str, usize)] = &[
     ),
 ];
 
-/// Returns the worked image with these bytes changed.
+/// Returns the worked image with the given bytes changed.
 fn changed(alloc: Global, changes: &[(usize, u8)]) -> Result<Image, AllocError> {
     let mut image = cut(alloc, 2484)?;
     for (place, value) in changes {
@@ -138,7 +138,7 @@ fn changed(alloc: Global, changes: &[(usize, u8)]) -> Result<Image, AllocError> 
     Ok(image)
 }
 
-/// Returns whether `salvage`, reading `first` and then `again`, has this result.
+/// Returns whether `salvage`, reading `first` and then `again`, has the given result.
 fn comes_to(
     alloc: Global,
     first: &[u8],
@@ -169,7 +169,7 @@ fn comes_to(
     Ok(answer == Ok(complete) && report.as_slice() == lines.as_bytes() && written == Some(length))
 }
 
-/// A block that is not read again is a gap, whatever the first reading found.
+/// A block that cannot be read again is a gap, whatever the first reading found.
 #[test]
 fn readers_that_fail_again(rt: HostRuntime) -> Result<(), Fail> {
     let first = cut(rt.alloc(), 2484)?;

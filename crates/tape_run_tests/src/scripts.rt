@@ -1,4 +1,4 @@
-//! Sessions, step by step: what is read of which image, the answer, and the state afterwards.
+//! Sessions, step by step: what is read from which image, the answer, and the state afterwards.
 use crate::answers::{defaced, with_reserved_word};
 use crate::copies::without_a_mark;
 use crate::image::{
@@ -20,13 +20,13 @@ use tape_set::{Position, Want};
 pub enum Reel<'a> {
     /// The worked volume.
     Worked,
-    /// This many of its first bytes.
+    /// The given number of its first bytes.
     Cut(usize),
-    /// The worked file in five blocks, of which this one is bad (5: none is), with this trailer.
+    /// The worked file in five blocks, one of which is bad (5 means none), with a given trailer.
     Five(u8, &'a str),
-    /// The first bytes of that, with five good blocks and their count.
+    /// The first bytes of the worked file in five good blocks, with the right count.
     FiveCut(usize),
-    /// A volume with this many blocks of one byte, and this trailer.
+    /// A volume with a number of blocks of one byte, and a trailer.
     Blocks(u32, &'a str),
     /// A volume with a section of one block of a byte: its header and its trailer.
     Section(&'a str, &'a str),
@@ -44,7 +44,7 @@ pub enum Reel<'a> {
     Foreign,
     /// Two files, without the mark that closes the first.
     WithoutMark,
-    /// A volume on which the label with this number is not one.
+    /// A volume with a block in place of one of its labels.
     Defaced(usize),
     /// A volume with a reserved word where its first data block begins.
     Reserved,
@@ -56,26 +56,27 @@ pub type Wanted = Option<(u16, u32)>;
 /// A step of a session, and its expected result.
 #[derive(Clone, Copy)]
 pub enum Do<'a> {
-    /// This reel is read, with this answer, without a fault, and this many blocks of it are
-    /// delivered; this is missing then.
+    /// A reel is read without a fault: the answer, the number of blocks delivered, and what is
+    /// expected afterwards.
     Reads(Reel<'a>, Answer, u32, Wanted),
-    /// The same, with a fault of the image.
+    /// A reel is read up to a fault of the image: the answer, the blocks delivered, the fault, and
+    /// what is expected afterwards.
     Breaks(Reel<'a>, ReelAnswer, Wanted),
-    /// These steps are made over these reels, with this result.
+    /// Steps are made over some reels: the result.
     Runs(&'a [Step], &'a [Reel<'a>], Result<(), Stopped>),
-    /// The first two of these reels were read by such steps, and this many bytes of each are left.
+    /// The first two reels were read by such steps: how many bytes of each are left.
     Leaves(&'a [Step], &'a [Reel<'a>], [usize; 2]),
-    /// A checkpoint is saved at this position, with this weight staged.
+    /// A checkpoint is saved: its position, and the weight staged.
     Saves(Position, u64),
-    /// The session rolls back to the checkpoint with this number, with this result.
+    /// The session rolls back to a checkpoint: its number, and the result.
     Restarts(usize, Result<(), RunFault>),
-    /// The sink contains this many of the worked records, and this is missing.
+    /// The sink contains a number of the worked records, and a block is expected next.
     Holds(u8, Wanted),
-    /// The sink contains this many parts of the long record, and this is missing.
+    /// The sink contains a number of parts of the long record, and a block is expected next.
     HoldsLong(usize, Wanted),
-    /// The sink's contents have this weight, and this many readers failed.
+    /// The weight of the sink's contents, and the number of readers that failed.
     Weighs(u64, u64),
-    /// The image of this reel has this many bytes.
+    /// The number of bytes in the image of a reel.
     IsLong(Reel<'a>, usize),
 }
 
@@ -144,7 +145,7 @@ fn stands_so(session: &Session<MemorySink>, file: u16, step: Do<'_>) -> bool {
     }
 }
 
-/// The answer of a reel that was read without a fault.
+/// Returns the answer of a reel that was read without a fault.
 fn of_no_fault(answer: Answer, blocks: u32) -> ReelAnswer {
     ReelAnswer {
         answer,
@@ -153,7 +154,7 @@ fn of_no_fault(answer: Answer, blocks: u32) -> ReelAnswer {
     }
 }
 
-/// Returns whether a checkpoint is saved at this position, with this weight staged.
+/// Returns whether a checkpoint is saved at this position, with weight `staged`.
 fn saves(
     session: &mut Session<MemorySink>,
     position: Position,
@@ -163,7 +164,7 @@ fn saves(
     Ok((point.position, point.staged) == (position, staged))
 }
 
-/// Returns whether this is missing of the file.
+/// Returns whether the session of the file expects `wanted` next.
 fn wants(session: &Session<MemorySink>, file: u16, wanted: Wanted) -> bool {
     let want = match wanted {
         Some((sect, block)) => Some(Want {
@@ -177,7 +178,7 @@ fn wants(session: &Session<MemorySink>, file: u16, wanted: Wanted) -> bool {
     session.want() == want
 }
 
-/// The reel's answer.
+/// Returns the reel's answer.
 fn answers(
     alloc: Global,
     session: &mut Session<MemorySink>,
@@ -187,7 +188,7 @@ fn answers(
     Ok(session.reel(&mut image.bytes.as_slice())?)
 }
 
-/// How these steps over these reels end.
+/// Makes the steps over the reels, and returns how they end.
 fn runs(
     alloc: Global,
     session: &mut Session<MemorySink>,
@@ -199,7 +200,7 @@ fn runs(
     Ok(run(session, steps, readers.as_mut_slice(), &mut []))
 }
 
-/// Returns whether these steps over two reels leave this much of each.
+/// Returns whether the steps over two reels leave `left` bytes of each.
 fn leaves(
     alloc: Global,
     session: &mut Session<MemorySink>,
@@ -216,7 +217,7 @@ fn leaves(
     })
 }
 
-/// The images of these reels.
+/// Returns the images of the reels.
 fn images_of(alloc: Global, reels: &[Reel<'_>]) -> Result<Vec<Image>, AllocError> {
     let mut images = Vec::new(alloc);
     for reel in reels {
@@ -225,7 +226,7 @@ fn images_of(alloc: Global, reels: &[Reel<'_>]) -> Result<Vec<Image>, AllocError
     Ok(images)
 }
 
-/// A reader of each image.
+/// Returns a reader of each image.
 fn readers_of<'a>(alloc: Global, images: &'a [Image]) -> Result<Vec<&'a [u8]>, AllocError> {
     let mut readers = Vec::new(alloc);
     for image in images {
@@ -234,7 +235,7 @@ fn readers_of<'a>(alloc: Global, images: &'a [Image]) -> Result<Vec<&'a [u8]>, A
     Ok(readers)
 }
 
-/// The image of a reel.
+/// Returns the image of a reel.
 pub fn image_of(alloc: Global, reel: Reel<'_>) -> Result<Image, AllocError> {
     match reel {
         Reel::Worked => cut(alloc, 2484),

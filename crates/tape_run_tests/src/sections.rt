@@ -1,8 +1,9 @@
-//! Volumes with the sections that a catalogue is to find.
+//! Volumes with the sections that a catalogue should find.
 use crate::image::{HDR1, HDR2, Image, VOL1, payroll_with};
 use std::alloc::{AllocError, Global};
 
-/// The worked file on a volume that is too small for its end: three blocks, and an end of volume.
+/// Returns the worked file on a volume that is too small for its end: three blocks, and an end of
+/// volume.
 pub fn first_of_two(alloc: Global) -> Result<Image, AllocError> {
     payroll_with(
         alloc,
@@ -29,7 +30,8 @@ pub fn second_of_two(alloc: Global) -> Result<Image, AllocError> {
     Ok(image)
 }
 
-/// A volume with this header label and trailer label, and one block of a byte between them.
+/// Returns a volume with the given header and trailer labels, and one block of one byte between
+/// them.
 pub fn one_section(alloc: Global, header: &str, trailer: &str) -> Result<Image, AllocError> {
     let mut image = Image::new(alloc);
     image.headers(&[VOL1, header, HDR2])?;
@@ -39,7 +41,7 @@ pub fn one_section(alloc: Global, header: &str, trailer: &str) -> Result<Image, 
     Ok(image)
 }
 
-/// A volume with only the section of this number, which continues.
+/// Returns a volume with only section `number`, which continues.
 pub fn numbered(alloc: Global, number: u16) -> Result<Image, AllocError> {
     let header = with_number(
         b"HDR1PAYROLL          ABC00100000001000100 00000 00000 000000",
@@ -52,7 +54,7 @@ pub fn numbered(alloc: Global, number: u16) -> Result<Image, AllocError> {
     one_section(alloc, text(&header), text(&trailer))
 }
 
-/// The label with this section's number in it.
+/// Returns the label with another section number.
 pub fn with_number(label: &[u8; 60], number: u16) -> [u8; 60] {
     let mut label = *label;
     for (place, unit) in [(27usize, 1000u16), (28, 100), (29, 10), (30, 1)] {
@@ -61,12 +63,12 @@ pub fn with_number(label: &[u8; 60], number: u16) -> [u8; 60] {
     label
 }
 
-/// The characters as text.
+/// Returns the characters as text.
 pub fn text(bytes: &[u8]) -> &str {
     std::str::from_utf8(bytes).unwrap_or("")
 }
 
-/// A section with this many blocks of one byte, and this trailer label.
+/// Returns a section with `count` blocks of one byte, and the given trailer label.
 pub fn of_blocks(alloc: Global, count: u32, trailer: &str) -> Result<Image, AllocError> {
     let mut image = Image::new(alloc);
     image.headers(&[VOL1, HDR1, HDR2])?;

@@ -5,12 +5,12 @@ use tape_core::{CoreFault, MemorySink};
 use tape_run::Session;
 use tape_set::Want;
 
-/// A session at the start of this file of the worked set, over a sink in memory.
+/// Returns a session at the start of file `file` of the worked set, over a sink in memory.
 pub fn begun(alloc: Global, file: u16) -> Result<Session<MemorySink>, CoreFault> {
     Session::new(alloc, set_id(), file, MemorySink::new(alloc))
 }
 
-/// The first part of a block of this section of file 1.
+/// Returns the first part of block `block` of section `sect` of file 1.
 pub fn wanted(sect: u16, block: u32) -> Option<Want> {
     Some(Want {
         file: 1,

@@ -7,7 +7,7 @@ use std::process::Abort;
 use std::test::Fail;
 use tape_run::{Wording, survey_to};
 
-/// The survey of images with these names.
+/// Fails unless the survey of the images has these lines and this result.
 pub fn told<H: Abort + AllocGlobal>(
     rt: &H,
     images: &[Option<&[u8]>],
@@ -35,7 +35,7 @@ pub fn survey<H: Abort + AllocGlobal>(
     told(rt, images, names, Wording::Words, all, lines)
 }
 
-/// The survey of one image, with which something is missing.
+/// The survey of one image, from which something is missing.
 fn one<H: Abort + AllocGlobal>(rt: &H, image: &Image, lines: &str) -> Result<(), Fail> {
     survey(
         rt,
@@ -46,7 +46,7 @@ fn one<H: Abort + AllocGlobal>(rt: &H, image: &Image, lines: &str) -> Result<(),
     )
 }
 
-/// An image whose first block this is.
+/// Returns an image whose first block is `block`.
 fn begun(alloc: Global, block: &[u8]) -> Result<Image, AllocError> {
     let mut image = Image::new(alloc);
     image.block(block)?;
@@ -54,7 +54,7 @@ fn begun(alloc: Global, block: &[u8]) -> Result<Image, AllocError> {
     Ok(image)
 }
 
-/// The labels of the worked volume without its `HDR2`, as some systems wrote them.
+/// Returns the labels of the worked volume without its `HDR2`, as some systems wrote them.
 fn without_second(alloc: Global) -> Result<Image, AllocError> {
     let mut image = Image::new(alloc);
     image.headers(&[VOL1, HDR1])?;
@@ -64,7 +64,7 @@ fn without_second(alloc: Global) -> Result<Image, AllocError> {
     Ok(image)
 }
 
-/// A block that could not be read before the volume label.
+/// Returns a block that could not be read before the volume label.
 fn behind_noise(alloc: Global) -> Result<Image, AllocError> {
     let mut image = Image::new(alloc);
     image.bad(b"x")?;
@@ -73,7 +73,7 @@ fn behind_noise(alloc: Global) -> Result<Image, AllocError> {
     Ok(image)
 }
 
-/// A file followed by an unreadable block where the next one would begin.
+/// Returns a file followed by an unreadable block where the next one would begin.
 fn second_unread(alloc: Global) -> Result<Image, AllocError> {
     let mut image = Image::new(alloc);
     image.headers(&[VOL1, HDR1, HDR2])?;
@@ -84,7 +84,7 @@ fn second_unread(alloc: Global) -> Result<Image, AllocError> {
     Ok(image)
 }
 
-/// A file in a format that is not read.
+/// Returns a file in an unsupported format.
 fn undefined(alloc: Global) -> Result<Image, AllocError> {
     let mut image = Image::new(alloc);
     image.headers(&[

@@ -36,7 +36,7 @@ FILE\tABC001\t1\tPAYROLL\t 00000\tCOMPLETE\t\t\tCONFLICT\t
 COPIES\tABC001\t1\t1\t2\t1.tap\t2.tap\tCONFLICT
 ";
 
-/// The worked volume with another byte in its first block.
+/// Returns the worked volume with another byte in its first block.
 fn changed(alloc: Global) -> Result<Image, AllocError> {
     let mut image = payroll(alloc)?;
     for (place, byte) in image.bytes.as_mut_slice().iter_mut().enumerate() {

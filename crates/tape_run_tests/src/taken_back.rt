@@ -1,4 +1,4 @@
-//! Reels whose trailers count other blocks, read by sessions that have a checkpoint and roll back
+//! Reels whose trailers have another count, read by sessions that have a checkpoint and roll back
 //! to it.
 use crate::extract::shelf_of;
 use crate::image::{EOF_THREE, HDR1, HDR2, Image, VOL1, payroll, set_id};
@@ -11,8 +11,8 @@ use tape_core::MemorySink;
 use tape_run::{Session, extract_to};
 use tape_set::Want;
 
-/// The worked volume's labels around these blocks: each with the numbers of its records, and
-/// whether it can be read.
+/// Returns the worked volume's labels around the given blocks: each with the numbers of its
+/// records, and whether it can be read.
 pub fn volume(alloc: Global, blocks: &[(u8, u8, bool)]) -> Result<Image, AllocError> {
     let mut image = Image::new(alloc);
     image.headers(&[VOL1, HDR1, HDR2])?;
@@ -24,8 +24,8 @@ pub fn volume(alloc: Global, blocks: &[(u8, u8, bool)]) -> Result<Image, AllocEr
     Ok(image)
 }
 
-/// A session of the worked file that has a checkpoint at its start, over these images: the lines,
-/// what is missing then, and what is written.
+/// Fails unless a session of the worked file with a checkpoint at its start, over the images,
+/// yields these lines, this missing part and these bytes.
 fn gives<H: Abort + AllocGlobal>(
     rt: &H,
     images: &mut [Option<&[u8]>],
@@ -44,7 +44,7 @@ fn gives<H: Abort + AllocGlobal>(
     Ok(())
 }
 
-/// The block of section 1 from which on the worked file is missing.
+/// Returns the first block of section 1 that is missing from the worked file.
 fn from_block(block: u32) -> Option<Want> {
     Some(Want {
         file: 1,
@@ -54,7 +54,7 @@ fn from_block(block: u32) -> Option<Want> {
     })
 }
 
-/// A volume whose second block was lost, which its trailer shows.
+/// Returns a volume whose second block was lost, which its trailer shows.
 pub fn lost(alloc: Global) -> Result<Image, AllocError> {
     volume(alloc, &[(0, 10, true), (20, 25, true)])
 }
@@ -82,7 +82,7 @@ fn what_a_reel_gave_that_lost_a_block(rt: HostRuntime) -> Result<(), Fail> {
     )
 }
 
-/// The data of the reels before it remains, and none of its own: the last one has no first block.
+/// The data of the reels before it remains, but none of its own: the last reel has no first block.
 #[test]
 fn what_stood_before_such_a_reel(rt: HostRuntime) -> Result<(), Fail> {
     let all = records(rt.alloc(), b"\n")?;

@@ -1,4 +1,4 @@
-//! The files that are on the images of a shelf, by their names.
+//! The files on images, by their names.
 use crate::image::{HDR1, Image, payroll};
 use crate::sections::{first_of_two, one_section, second_of_two};
 use crate::volumes::EOF_ONE;
@@ -24,7 +24,7 @@ fn line_of(alloc: Global, file: &SetFile) -> Result<Vec<u8>, AllocError> {
     }
 }
 
-/// These files are on these images, which were all read completely, or were not.
+/// Fails unless these files are on the images, which were all read completely, or were not.
 fn found<H: Abort + AllocGlobal>(
     rt: &H,
     images: &[Option<&[u8]>],
@@ -43,7 +43,7 @@ fn found<H: Abort + AllocGlobal>(
     Ok(())
 }
 
-/// The third file of a set, alone on its volume.
+/// Returns the third file of a set, alone on its volume.
 fn third(alloc: Global) -> Result<Image, AllocError> {
     one_section(
         alloc,

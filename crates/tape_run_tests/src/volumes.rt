@@ -12,14 +12,14 @@ pub const EOF_ONE: &str = "EOF1PAYROLL          ABC00100010001000100 00000 00000
 
 pub const EOF_FOUR: &str = "EOF1PAYROLL          ABC00100010001000100 00000 00000 000004";
 
-/// This many of the first bytes of the worked volume.
+/// Returns the first `length` bytes of the worked volume.
 pub fn cut(alloc: Global, length: usize) -> Result<Image, AllocError> {
     let mut image = payroll(alloc)?;
     image.bytes.truncate(length);
     Ok(image)
 }
 
-/// The 25 records of the worked volume, each followed by these bytes.
+/// Returns the 25 records of the worked volume, each followed by the bytes `behind`.
 pub fn records(alloc: Global, behind: &[u8]) -> Result<Vec<u8>, AllocError> {
     let mut bytes = Vec::new(alloc);
     for number in 0..25u8 {
@@ -29,7 +29,7 @@ pub fn records(alloc: Global, behind: &[u8]) -> Result<Vec<u8>, AllocError> {
     Ok(bytes)
 }
 
-/// The worked volume with its second block marked as recorded with an error.
+/// Returns the worked volume with its second block marked as recorded with an error.
 pub fn damaged(alloc: Global) -> Result<Image, AllocError> {
     let mut image = payroll(alloc)?;
     for (place, byte) in image.bytes.as_mut_slice().iter_mut().enumerate() {
@@ -41,7 +41,7 @@ pub fn damaged(alloc: Global) -> Result<Image, AllocError> {
     Ok(image)
 }
 
-/// A volume of one section with the given labels, and one block between them.
+/// Returns a volume of one section with the given labels, and one block between them.
 pub fn one_block(
     alloc: Global,
     head: &str,
@@ -57,7 +57,7 @@ pub fn one_block(
     Ok(image)
 }
 
-/// An empty section with this number, which continues.
+/// Appends an empty section with number `number`, which continues.
 fn empty_section(image: &mut Image, number: u16) -> Result<(), AllocError> {
     let header = b"HDR1PAYROLL          ABC00100000001000100 00000 00000 000000";
     let trailer = b"EOV1PAYROLL          ABC00100000001000100 00000 00000 000000";
@@ -77,7 +77,7 @@ pub fn all_sections(alloc: Global) -> Result<Image, AllocError> {
     Ok(image)
 }
 
-/// A volume with unprintable bytes in the identifiers of the set and of the volume.
+/// Returns a volume with unprintable bytes in the identifiers of the set and of the volume.
 pub fn unprinted(alloc: Global) -> Result<Image, AllocError> {
     let mut volume = [b' '; 80];
     volume[..10].copy_from_slice(b"VOL1A\x07 ~\x7F\xE9");
@@ -95,7 +95,7 @@ pub fn unprinted(alloc: Global) -> Result<Image, AllocError> {
     Ok(image)
 }
 
-/// The worked volume, with two items after its second mark.
+/// Returns the worked volume, with two items after its second mark.
 pub fn with_items_behind(alloc: Global) -> Result<Image, AllocError> {
     let mut image = cut(alloc, 2480)?;
     image.block(HDR1.as_bytes())?;

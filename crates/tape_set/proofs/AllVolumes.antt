@@ -1,4 +1,4 @@
--- Whole readings of all volumes, in order, take a file from its start to its end.
+-- Complete readings of all volumes, in order, move a file from its start to its end.
 use Rattle.std.proofs.Common.{◌≡◌, ◌≢◌, ◌⊎◌, inl, inr, ℕ, zero, suc, ◌+◌, ◌<◌, ◌≤◌, Bool, true}
 use Rattle.std.proofs.Common.{false, List, [], ◌∷◌, ◌++◌, length, Option, Some, None, refl, sym, ap}
 use Rattle.std.proofs.Common.{subst, ◌∙◌, arith, eq-eqb}
@@ -36,7 +36,7 @@ chain_behind : (xs ys : List Placed) → Chain GoesOn (xs ++ ys) → Chain GoesO
 chain_behind [] ys c = c
 chain_behind (x ∷ xs) ys c = chain_behind xs ys (chain_rest x (xs ++ ys) c)
 
--- of two sections of a file, one after the other among those numbered from j on
+-- the second of two consecutive sections of a file, numbered from j, is on the next volume
 next_volume : (file j : ℕ) (ss : List Section) (rest : List Placed) (i : ℕ) (s t : Section)
     → Chain GoesOn (numbered file j ss ++ rest) → slice_get ss i ≡ Some s
     → slice_get ss (i + 1) ≡ Some t → t.volume ≡ s.volume + 1
@@ -53,7 +53,7 @@ next_volume file j (x ∷ ss) rest (suc i) s t c e f =
     (chain_rest (placed file j x) (numbered file (j + 1) ss ++ rest) c) e
     (subst (λ n. slice_get (x ∷ ss) n ≡ Some t) q f)
 
--- the same of a file among those numbered from m on
+-- the same for a file among those with numbers from m
 pub next_in : (m n : ℕ) (fs : List (List Section)) (f : List Section) (i : ℕ) (s t : Section)
     → Chain GoesOn (all_numbered m fs) → slice_get fs n ≡ Some f → slice_get f i ≡ Some s
     → slice_get f (i + 1) ≡ Some t → t.volume ≡ s.volume + 1
@@ -105,7 +105,7 @@ has_start set l file h = go (file_of set file) refl h
         ap (λ (o : Option (List Section)). option_and_then (λ f. nth f 1) o) e ∙ first in
         (s, found, omega arith, inl refl)
 
--- its volume is one of the set
+-- the volume of a section is one of the set
 pub lawful_section : (set : FileSet) (file sect : ℕ) (s : Section) → IsLawful set
     → section_of set file sect ≡ Some s
     → (1 ≤ s.volume) × (s.volume ≤ length set.volumes)
@@ -113,14 +113,14 @@ lawful_section set file sect s l e =
     (every_stands (IsSection set.set_id (length set.volumes)) (sections set)
     (placed file sect s) l.each (section_stands set file sect s e)).volume
 
--- ---- what is to come of the file after volume k
+-- ---- the rest of the file after volume k
 
 -- the file is finished, or the start of a section on a later volume is expected
 abbrev pub ToCome : FileSet → ℕ → ℕ → Position → Type 0
 ToCome set file k p = (p ≡ Finished) ⊎ ((sect : ℕ) × (s : Section)
     × (section_of set file sect ≡ Some s) × (k < s.volume) × (p ≡ awaiting sect 0))
 
--- after a section its file is finished, or continues on a later volume
+-- after a section the file is finished, or continues on a later volume
 pub onward : (set : FileSet) (file sect : ℕ) (s : Section) → IsLawful set
     → section_of set file sect ≡ Some s → ToCome set file s.volume (behind sect s)
 onward set zero sect s l e = absurd (cc)
@@ -150,7 +150,7 @@ onward set (suc n) (suc i) s l e = go (slice_get set.files n) refl e
     go None g h = absurd (cc)
     go (Some f) g h = by_end f g h (ends_at f i s (file_is_lawful set (suc n) f l g).ends h)
 
--- a whole reading of the next volume passes its section, or leaves the position where none is on it
+-- a complete reading of the next volume passes the section on it, or leaves the position unchanged
 pub step_over : (set : FileSet) (file k : ℕ) (p : Position) → IsLawful set → ToCome set file k p
     → ToCome set file (k + 1) (far set file p (whole_reading set (k + 1)))
 step_over set file k p l (inl e) = inl (rw e refl)
@@ -177,7 +177,7 @@ step_over set file k p l (inr (sect, s, found, later, e)) = rw e (here (s.volume
         ∙ (rw q refl) in
         inr (sect, s, found, omega (arith, later, other), stays)
 
--- all volumes from the next one on
+-- complete readings of all volumes from the next one
 pub all_over : (set : FileSet) (file n k : ℕ) (p : Position) → IsLawful set
     → k + n ≡ length set.volumes → ToCome set file k p
     → far_over set file p (whole_readings set k n) ≡ Finished
@@ -188,7 +188,7 @@ all_over set file (suc n) k p l e t =
     all_over set file n (k + 1) (far set file p (whole_reading set (k + 1))) l
     (omega (arith, e)) (step_over set file k p l t)
 
--- at its start a file is still to come after no volume
+-- before all volumes the whole file is still to be read
 pub to_come_at_start : (set : FileSet) (file : ℕ) → IsLawful set → IsSome (file_of set file)
     → ToCome set file 0 start
 to_come_at_start set file l has =

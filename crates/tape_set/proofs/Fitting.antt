@@ -1,4 +1,4 @@
--- Positions of a valid set have numbers that fit the digits of a checkpoint.
+-- The positions of a valid set fit the digits of a checkpoint.
 use Rattle.std.proofs.Common.{◌≡◌, ◌<◌, ◌≤◌, ◌⊎◌, ℕ, zero, suc, List, [], ◌∷◌, ◌++◌, length, drop}
 use Rattle.std.proofs.Common.{Option, Some, None, refl, ap, subst, inl, inr, append_assoc, arith}
 use Rattle.std.proofs.Common.{length-append}
@@ -23,7 +23,8 @@ use Rattle.tape_set.proofs.Forms.{blocks_held, form_told, all_four_digits}
 
 -- ---- a block has no more parts than bytes
 
--- only format F has units without a head, and a record that is longer than the padding
+-- a unit has at least one byte: only units of format F have no head, and their records are longer
+-- than the padding
 unit_some : (format : Format) (rec_len : ℕ) (p : Portion) (padding : List ℕ)
     → IsUnit format rec_len p → IsPadding format rec_len padding → 1 ≤ length (spelling format p)
 unit_some Fixed rec_len p padding h pad = omega (arith, h.1, pad.1)
@@ -56,7 +57,7 @@ parts_few format rec_len offset bytes ps (padding, begins, pad) =
     ap (λ v. length v) begins.body in
     omega (arith, body, length-append (spellings format ps) padding, drop_fewer offset bytes)
 
--- ---- the blocks of a section are as long as an image can give
+-- ---- the blocks of a section are no longer than those of an image
 
 entries_of : (xs ys : List Entry) → AllByRecursion IsTapeItem (map item_of (xs ++ ys))
     → AllByRecursion IsTapeItem (map item_of ys)

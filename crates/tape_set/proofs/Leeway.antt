@@ -1,5 +1,5 @@
--- What valid and tight leave free: sets that are both, which no writer should write. A writer's own
--- contract has to refuse them.
+-- Sets that are valid and have no unused space, but which no writer should write. A writer's own
+-- contract has to exclude them.
 use Rattle.std.proofs.Common.{ℕ, List, [], ◌∷◌, ◌++◌, true, refl, codes, lit≤, lit<}
 use Rattle.std.specs.Prelude.{replicate}
 use Rattle.tape_image.specs.Tape.{IsTapeItem, block}
@@ -26,8 +26,8 @@ nothing_lawful = record { volumes = tt; each = tt; files = tt; first = tt; goes_
 nothing_tight : (capacity : ℕ) → IsTight nothing capacity []
 nothing_tight capacity = record { plain = tt; last = refl; files = tt; ends = tt; changes = tt }
 
--- ---- labels of other characters: those of VOL1 are no bytes, and the trailer label says another
--- file, set and day
+-- ---- labels with other characters: those of VOL1 are not bytes, and the trailer label names
+-- another file, set and day
 
 abbrev odd_volume : Volume
 odd_volume = record { vol1 = codes "VOL1" ++ replicate 76 300; labels = [] }

@@ -1,4 +1,4 @@
--- What precedes positions determines their order, as far as blocks without parts allow.
+-- The parts before positions determine the order of the positions, except at blocks without parts.
 use Rattle.std.proofs.Common.{◌≡◌, ◌<◌, ◌⊎◌, inl, inr, ℕ, ◌+◌, List, [], ◌∷◌, ◌++◌, length, Bool}
 use Rattle.std.proofs.Common.{true, false, ltb, Option, Some, None, refl, sym, ap, subst, ◌∙◌}
 use Rattle.std.proofs.Common.{arith, length-append}
@@ -18,7 +18,7 @@ use Rattle.tape_set.proofs.Orders.{up_to_end, up_to_part}
 use Rattle.tape_set.proofs.PartsBefore.{before_grows}
 use Rattle.tape_set.proofs.FileParts.{before_one}
 
--- ---- one of two positions is the earlier one, or they are the same
+-- ---- one of two numbers is less than the other, or they are equal
 
 abbrev Three : ℕ → ℕ → Type 0
 Three m n = (m < n) ⊎ ((m ≡ n) ⊎ (n < m))
@@ -74,7 +74,7 @@ longer_later set file p q less = go (either p q)
 
 -- ---- the same prefix of parts
 
--- with one part more a position is still up to each later one
+-- a position before q is, after one more part, at most q
 next_part : (s b k : ℕ) (q : Position) → IsBefore (Awaits s b k) q → IsUpTo (Awaits s b (k + 1)) q
 next_part s b k Finished h = up_to_end (Awaits s b (k + 1))
 next_part s b k (Awaits t c l) (inl h) = inl (inl h)
@@ -88,7 +88,8 @@ some_there : {A : Type 0} (o : Option A) → IsSome o → (x : A) × (o ≡ Some
 some_there None h = absurd (cc)
 some_there (Some x) h = (x, refl)
 
--- a part that is still to come of the block is before no later position
+-- the parts before a position in a block, if a part of the block is expected, are not those before
+-- any later position
 none_to_come : (set : FileSet) (file s b k : ℕ) (w : Section) (d : Filled) (q : Position)
     → section_of set file s ≡ Some w → slice_get w.blocks b ≡ Some d → k < length d.parts
     → IsBefore (Awaits s b k) q → before set file (Awaits s b k) ≡ before set file q → ⊥

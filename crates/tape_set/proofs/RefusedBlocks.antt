@@ -1,5 +1,5 @@
--- Small sets that are refused by the size of one block alone, wherever it is; and blocks of the
--- greatest size, and blocks after a buffer offset, in sets that are valid.
+-- Small sets that are not valid only because of the size of one block, wherever it is; and valid
+-- sets with blocks of the greatest size, and with a buffer offset.
 use Rattle.std.proofs.Common.{◌≡◌, ◌<◌, ◌≤◌, ℕ, List, [], ◌∷◌, length, true, false, refl, arith}
 use Rattle.std.proofs.Common.{lit≤, lit<}
 use Rattle.std.specs.Prelude.{map, replicate}
@@ -31,7 +31,7 @@ use Rattle.tape_set.proofs.WorkedFile.{shape, shape_fits, record_of, whole}
 use Rattle.tape_set.proofs.RefusedLawful.{set_of}
 use Rattle.tape_set.proofs.RefusedSets.{fit_of}
 
--- ---- all clauses but that on the sizes of blocks
+-- ---- all clauses except the one about the sizes of blocks
 
 -- a section with further blocks after its header labels and after its trailer label
 abbrev section : List (List ℕ) → List Filled → List (List ℕ) → Section
@@ -48,7 +48,7 @@ record AllButSized (s : Section) : Type 0 where
   first : StartsOnFirst (sections (set_of s))
   goes_on : Chain GoesOn (sections (set_of s))
 
--- where the sizes are right too, the set is valid
+-- if the sizes are valid too, the set is valid
 lawful_if_sized : (s : Section) → AllButSized s
     → AllByRecursion IsTapeItem (map item_of (section_entries s)) → IsLawful (set_of s)
 lawful_if_sized s but sized = record {
@@ -129,7 +129,7 @@ empty_header = (
   λ l. absurd (omega (arith, l.each.0.sized.1.1.0.0)),
 )
 
--- a data block is empty, and holds no part
+-- a data block is empty, and has no parts
 abbrev no_bytes : Filled
 no_bytes = record { bytes = []; parts = [] }
 
@@ -143,7 +143,7 @@ empty_data = (
 
 -- ---- long blocks
 
--- a section that ends with a further block of n bytes; n stays a variable in what is proved of it
+-- a section that ends with a further block of n bytes; n stays a variable in the proofs
 abbrev ended_by : ℕ → Section
 ended_by n = section [] [] (replicate n 0 ∷ [])
 
@@ -177,7 +177,7 @@ one_byte_too_long = too_long 100000 (lit< tt)
 
 -- ---- bytes before the records
 
--- each block begins with two bytes that hold no record
+-- each block begins with two bytes that are not part of a record
 abbrev offset_shape : Shape
 offset_shape = record {
   format = Fixed;

@@ -1,4 +1,4 @@
--- For each clause of a valid file a file that this clause alone refuses.
+-- For each clause of a valid file, a file that violates only this clause.
 use Rattle.std.proofs.Common.{◌≡◌, [], ◌∷◌, length, true, false, refl, sym, ap, ◌∙◌, subst, arith}
 use Rattle.std.proofs.Common.{lit≤, lit<}
 use Rattle.std.specs.Prelude.{replicate}
@@ -20,7 +20,7 @@ use Rattle.tape_set.proofs.WorkedSpan as span
 use Rattle.tape_set.proofs.RefusedLawful.{base, set_of}
 use Rattle.tape_set.proofs.RefusedSets.{OnlyFiles, fit_of, empty_section, empty_form}
 
--- its only section ends by EOV1
+-- the only section of the file ends with EOV1
 abbrev unended : FileSet
 unended = set_of (made shape 1 1 1 false [])
 
@@ -39,7 +39,7 @@ no_end = (
   empty_form 1 1 1 false (lit≤ tt) (lit≤ tt) (lit≤ tt) (lit≤ tt),
 )
 
--- its second section has another offset
+-- the second section of the file has another offset
 abbrev other_shape : Shape
 other_shape = record {
   format = Fixed;
@@ -89,7 +89,7 @@ not_alike = (
   (refl, refl),
 )
 
--- a block holds no such parts
+-- a block does not contain its parts
 abbrev letters : Filled
 letters = record { bytes = replicate 80 65; parts = [] }
 
@@ -135,7 +135,7 @@ not_held = (
         told : TellsForm (form shape) base
         told = (empty_form 1 1 1 true (lit≤ tt) (lit≤ tt) (lit≤ tt) (lit≤ tt)).labels
 
--- a record is begun, and the file ends
+-- a record is unfinished at the end of the file
 abbrev unfinished : FileSet
 unfinished = set_of (made span.shape 1 1 1 true (span.first_block ∷ []))
 

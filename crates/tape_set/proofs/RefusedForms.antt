@@ -1,5 +1,5 @@
--- Small sets that volume labels and second labels of another kind refuse, and files whose sections
--- state other forms.
+-- Small sets with invalid volume labels or second labels, and files whose sections state different
+-- forms.
 use Rattle.std.proofs.Common.{◌≡◌, ℕ, List, [], ◌∷◌, ◌++◌, true, false, refl, sym, ap, ◌∙◌, inl}
 use Rattle.std.proofs.Common.{inr, arith, codes, lit≤}
 use Rattle.std.specs.Prelude.{replicate, slice_index}
@@ -41,7 +41,7 @@ long_label : OnlyVolumes
 long_label = only_volume (record { vol1 = vol1; labels = (codes "UVL1" ++ replicate 77 32) ∷ [] })
     (λ h. let e : 81 ≡ 80 = h.labels.0.size in absurd (omega arith))
 
--- it begins as a user header label, or almost as a volume label
+-- a further label begins like a user header label, or almost like a volume label
 header_label : OnlyVolumes
     (on_volume (record { vol1 = vol1; labels = (codes "UHL1" ++ replicate 76 32) ∷ [] }))
 header_label = only_volume (record { vol1 = vol1; labels = (codes "UHL1" ++ replicate 76 32) ∷ [] })
@@ -66,7 +66,7 @@ almost_user = only_volume (record { vol1 = vol1; labels = (codes "UVX1" ++ repli
       | inr e ↦ absurd (let d : 88 ≡ 76 = ap (λ v. slice_index v 2) e in omega arith)
     ])
 
--- both names are free
+-- both identifiers are valid
 volume_labels : IsVolume (record {
   vol1 = vol1;
   labels = (codes "VOL2" ++ replicate 76 32) ∷ (codes "UVL9" ++ replicate 76 32) ∷ [];
@@ -82,7 +82,7 @@ volume_labels = record {
 plain : TellsForm (form shape) (made shape 1 1 1 true [])
 plain = (empty_form 1 1 1 true (lit≤ tt) (lit≤ tt) (lit≤ tt) (lit≤ tt)).labels
 
--- EOF2 is in the place of HDR2, or a block that is not a label
+-- a block that replaces HDR2: EOF2, or a block that is not a label
 abbrev with_second : List ℕ → Section
 with_second label = record (made shape 1 1 1 true []) { hdr2 = label }
 
@@ -100,9 +100,9 @@ no_second told h =
     let e : 32 ≡ 72 = ap (λ v. slice_index v 0) named in
     absurd (omega (arith, e))
 
--- ---- sections that state other forms
+-- ---- sections that state different forms
 
--- no form is stated by both of these labels
+-- no form is stated by the labels of both sections
 apart : (h g : Section) (a b : FileForm) → TellsForm a h → TellsForm b g → (a ≡ b → ⊥)
     → (told : FileForm) → TellsForm told h → TellsForm told g → ⊥
 apart h g a b x y differ told u v = differ (sym (one_form h told a u x) ∙ one_form g told b v y)
@@ -134,8 +134,7 @@ other_record_length =
     }))
     (λ e. let d : 80 ≡ 100 = ap (λ v. v.rec_len) e in absurd (omega arith))
 
--- another format, with records that bind no reader in either: the lengths are 0 in the form that is
--- stated
+-- another record format
 abbrev counted : Shape
 counted = record {
   format = Counted;
@@ -154,7 +153,7 @@ other_format =
     (record { block_len = lit≤ tt; rec_len = (lit≤ tt, lit≤ tt); offset = lit≤ tt }))
     (λ e. let d : Fixed ≡ Counted = ap (λ v. v.format) e in absurd (cc))
 
--- another file identifier
+-- a first header with another file identifier
 abbrev other_head : Head1
 other_head = record (head 1 2) { file_id = codes "WAGES            " }
 
@@ -179,7 +178,7 @@ other_file_id = apart (made shape 1 1 1 true []) other_file_section (form shape)
     })
     (λ e. let d : 80 ≡ 87 = ap (λ v. slice_index v.file_id 0) e in absurd (omega arith))
 
--- another block length binds nothing
+-- another block length, which is not part of the form
 abbrev shorter : Shape
 shorter = record {
   format = Fixed;

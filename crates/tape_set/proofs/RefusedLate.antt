@@ -1,4 +1,4 @@
--- Sets that are not tight by what follows their first section or file, and by the number of their
+-- Sets that are not tight because of a later section or file, or because of the number of their
 -- shapes.
 use Rattle.std.proofs.Common.{◌≡◌, ◌≤◌, ℕ, List, [], ◌∷◌, ◌++◌, true, false, refl, ap, arith, codes}
 use Rattle.std.proofs.Common.{lit≤}
@@ -38,7 +38,7 @@ shape_too_many = record {
 
 -- ---- further trailer labels
 
--- there is a third one
+-- there is a third trailer label
 abbrev more_trailers : List Section
 more_trailers = record (made shape 1 1 1 true []) {
   trailers = second kinds.Eof2 shape
@@ -60,7 +60,7 @@ third_trailer = (
   nothing_packed shape,
 )
 
--- ---- what the second file finds on its volume
+-- ---- space on the volume of the second file
 
 small_file : (capacity volume file : ℕ) → 1042 ≤ capacity
     → IsTightFile capacity span.shape (made span.shape volume file 1 true [] ∷ [])
@@ -73,8 +73,8 @@ small_file capacity volume file room = record {
   packed = nothing_packed span.shape;
 }
 
--- two files without blocks are on a volume of 1,187 bytes: after the second one's end the next
--- one's headers and a volume end would need 1,188
+-- two files without blocks are on a volume of 1,187 bytes: after the end of the second, the headers
+-- of a further file and the end of a volume would need 1,188
 abbrev two_small : FileSet
 two_small = record {
   set_id = set_id;
@@ -91,7 +91,7 @@ no_room_for_second_end = record {
   refused = λ h. let e : false ≡ true = h.1.0.file_end refl in absurd (cc);
 }
 
--- the third file begins on a new volume, the second one does not
+-- the third file begins on a new volume, but the second one does not
 abbrev late_change : FileSet
 late_change = record {
   set_id = set_id;

@@ -1,5 +1,5 @@
--- Small sets that are refused because of where their files end, how their parts begin, and the
--- order of their sections.
+-- Small sets that are not valid because of the end of a file, the start of its parts, or the order
+-- of its sections.
 use Rattle.std.proofs.Common.{◌≡◌, [], ◌∷◌, true, false, refl, inl, inr, arith, lit≤, lit<}
 use Rattle.tape_set.specs.Layout.{FileSet}
 use Rattle.tape_set.specs.Lawful.{HasForm}
@@ -11,7 +11,7 @@ use Rattle.tape_set.proofs.RefusedLawful.{set_of}
 use Rattle.tape_set.proofs.RefusedSets.{OnlyFiles, OnlyGoesOn, fit_of, empty_section, empty_form}
 use Rattle.tape_set.proofs.RefusedSets.{empty_file}
 
--- ---- where a file ends
+-- ---- the end of a file
 
 -- a file has no section
 no_sections : OnlyFiles (record { set_id = set_id; volumes = plain_volume ∷ []; files = [] ∷ [] })
@@ -23,7 +23,7 @@ no_sections = record {
   refused = λ h. absurd h.0.ends;
 }
 
--- EOF1 is in both sections
+-- both sections end with EOF1
 abbrev ended_twice : FileSet
 ended_twice = record {
   set_id = set_id;
@@ -43,7 +43,7 @@ ends_in_first = record {
   refused = λ h. let e : true ≡ false = h.0.ends.0 in absurd (cc);
 }
 
--- EOV1 is in both
+-- both sections end with EOV1
 abbrev never_ended : FileSet
 never_ended = record {
   set_id = set_id;
@@ -63,9 +63,9 @@ ends_in_none = record {
   refused = λ h. let e : false ≡ true = h.0.ends.1 in absurd (cc);
 }
 
--- ---- how its parts begin
+-- ---- the start of its parts
 
--- the file begins in the middle of a record
+-- the file begins inside a record
 abbrev headless : FileSet
 headless = set_of (made span.shape 1 1 1 true (span.last_block ∷ []))
 
@@ -90,7 +90,7 @@ begun_before = (
 
 -- ---- the order of sections
 
--- the second section of a file is on volume 3, after one on volume 1
+-- the second section of a file is on volume 3, although the first is on volume 1
 abbrev volume_skipped : FileSet
 volume_skipped = record {
   set_id = set_id;
@@ -123,7 +123,7 @@ section_skips = record {
   refused = λ h. let d : 3 ≡ 2 = h.0 in absurd (omega arith);
 }
 
--- a file of two volumes, and the next one begins on the first of them again
+-- a file is on two volumes, and the next file begins on the first of them
 abbrev volume_again : FileSet
 volume_again = record {
   set_id = set_id;

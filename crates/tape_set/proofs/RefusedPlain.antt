@@ -1,5 +1,5 @@
--- Labels that are not plain, a second file that is not tight, and a change of volumes before a file
--- end that has no room.
+-- Second labels that do not state the shape, a second file that is not tight, and a change of
+-- volumes before the end of a file that has no room.
 use Rattle.std.proofs.Common.{◌≡◌, ◌≤◌, ℕ, List, [], ◌∷◌, ◌++◌, get_or, true, false, refl, sym, ap}
 use Rattle.std.proofs.Common.{subst, arith, lit≤, lit<}
 use Rattle.std.specs.Prelude.{map, replicate, slice_index, Ok}
@@ -21,7 +21,7 @@ use Rattle.tape_set.proofs.RefusedTight.{OnlyFiles, OnlyChanges}
 
 -- ---- second labels, each wrong by itself
 
--- a label says one block length
+-- a label states one block length
 one_length : (label : List ℕ) (kind : Kind) (h g : Head2) → IsHead2 label kind h
     → IsHead2 label kind g → h.block_len ≡ g.block_len
 one_length label kind h g a b = ap (λ v. v.block_len) same
@@ -35,7 +35,7 @@ one_length label kind h g a b = ap (λ v. v.block_len) same
 shorter_fits : Head2Fits (second_of shorter)
 shorter_fits = record { block_len = lit≤ tt; rec_len = (lit≤ tt, lit≤ tt); offset = lit≤ tt }
 
--- blocks of 400 in HDR2 alone
+-- the block length 400 in HDR2 only
 abbrev other_header : Section
 other_header = record (made shape 1 1 1 true []) { hdr2 = second kinds.Hdr2 shorter }
 
@@ -45,7 +45,7 @@ other_in_header p =
     (second_of shape) (second_is kinds.Hdr2 shorter tt shorter_fits) p.hdr2 in
     absurd (omega (arith, e))
 
--- in EOF2 alone
+-- the block length 400 in EOF2 only
 abbrev other_trailer : Section
 other_trailer = record (made shape 1 1 1 true []) { trailers = second kinds.Eof2 shorter ∷ [] }
 
@@ -81,7 +81,7 @@ two_empty = record {
   files = (made shape 1 1 1 true [] ∷ []) ∷ (made shape 1 2 1 true [] ∷ []) ∷ [];
 }
 
--- its blocks were to have 400 bytes
+-- the second file was to have blocks of 400 bytes
 second_file_not_tight : OnlyFiles two_empty 100000 (shape ∷ shorter ∷ [])
 second_file_not_tight = record {
   plain = (refl, tt);
@@ -97,10 +97,10 @@ second_file_not_tight = record {
       absurd (omega arith);
 }
 
--- ---- a file end that has no room, where a block would have it
+-- ---- the end of a file does not fit, although a block would
 
--- a spanned record of 121 bytes fills ten blocks of 18 bytes; after them on a volume of 1,083 bytes
--- the file end would need 1,084, and one block more only 746
+-- a spanned record of 121 bytes fills ten blocks of 18 bytes; on a volume of 1,083 bytes the end of
+-- the file after them would need 1,084, but one more block only 746
 abbrev ten_blocks : List Filled
 ten_blocks = span.first_block ∷ replicate 8 span.middle_block ++ span.last_block ∷ []
 
@@ -145,7 +145,7 @@ ended_on_second_tight = record {
   changes = (refl, tt);
 }
 
--- with one byte more the file end has room, and the file has to end there
+-- with one more byte the end of the file fits, so the file must end there
 end_would_fit : OnlyChanges ended_on_second 1084 (span.shape ∷ [])
 end_would_fit = record {
   plain = (refl, (refl, tt));

@@ -1,5 +1,5 @@
--- For each further clause of a valid set, and of its volumes and files, a small set that this
--- clause alone refuses.
+-- For each further clause of a valid set, and of its volumes and files, a small set that violates
+-- only this clause.
 use Rattle.std.proofs.Common.{◌≡◌, ◌≤◌, ℕ, [], ◌∷◌, length, Bool, true, false, refl, ap, inl, inr}
 use Rattle.std.proofs.Common.{arith, codes, lit≤}
 use Rattle.std.specs.Prelude.{replicate, slice_index}
@@ -51,7 +51,7 @@ pub record OnlyGoesOn (set : FileSet) : Type 0 where
   pub first : StartsOnFirst (sections set)
   pub refused : Chain GoesOn (sections set) → ⊥
 
--- a set that one of the clauses refuses is not valid
+-- a set that violates one of the clauses is not valid
 volumes_refuse : (set : FileSet) → OnlyVolumes set → IsLawful set → ⊥
 volumes_refuse set only l = only.refused l.volumes
 
@@ -72,7 +72,7 @@ pub fit_of : (file sect n : ℕ) → 1 ≤ file → file ≤ 9999 → 1 ≤ sect
 fit_of file sect n a b c d e =
     record { file_least = a; file_most = b; sect_least = c; sect_most = d; count_most = e }
 
--- a section without blocks of this many volumes
+-- a section without blocks, in a set of `volumes` volumes
 pub empty_section : (volumes volume file sect : ℕ) (eof : Bool) → 1 ≤ volume → volume ≤ volumes
     → 1 ≤ file → file ≤ 9999 → 1 ≤ sect → sect ≤ 9999
     → IsSection set_id volumes (placed file sect (made shape volume file sect eof []))
@@ -107,7 +107,7 @@ only_volume v wrong = record {
   refused = λ h. wrong h.0;
 }
 
--- it begins otherwise
+-- VOL1 begins otherwise
 no_vol1 : OnlyVolumes (on_volume (record { vol1 = replicate 80 32; labels = [] }))
 no_vol1 = only_volume (record { vol1 = replicate 80 32; labels = [] })
     (λ h. let e : 32 ≡ 86 = ap (λ v. slice_index v 0) h.vol1.named in absurd (omega arith))
@@ -117,7 +117,7 @@ short_label : OnlyVolumes (on_volume (record { vol1 = vol1; labels = codes "UVL1
 short_label = only_volume (record { vol1 = vol1; labels = codes "UVL1" ∷ [] })
     (λ h. let e : 4 ≡ 80 = h.labels.0.size in absurd (omega arith))
 
--- a further label is of another kind
+-- a further label does not begin like a volume label
 other_label : OnlyVolumes (on_volume (record { vol1 = vol1; labels = replicate 80 65 ∷ [] }))
 other_label = only_volume (record { vol1 = vol1; labels = replicate 80 65 ∷ [] })
     (λ h. elim h.labels.0.named [
@@ -127,7 +127,7 @@ other_label = only_volume (record { vol1 = vol1; labels = replicate 80 65 ∷ []
 
 -- ---- sections
 
--- the section's volume is not one of the set
+-- the volume of the section does not exist
 abbrev no_volume : FileSet
 no_volume = record { set_id = set_id; volumes = []; files = (base ∷ []) ∷ [] }
 
@@ -198,7 +198,7 @@ not_on_first = record {
   refused = λ h. let e : 2 ≡ 1 = h in absurd (omega arith);
 }
 
--- the second file begins on volume 3, after one that ends on volume 1
+-- the second file begins on volume 3, although the first ends on volume 1
 abbrev volume_left_out : FileSet
 volume_left_out = record {
   set_id = set_id;
@@ -222,7 +222,7 @@ not_on_next = record {
   ];
 }
 
--- both sections of a file are on one volume
+-- both sections of a file are on the same volume
 abbrev volume_twice : FileSet
 volume_twice = record {
   set_id = set_id;

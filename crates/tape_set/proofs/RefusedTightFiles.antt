@@ -1,4 +1,4 @@
--- For each clause of a tight file a file that this clause alone refuses.
+-- For each clause of a tight file, a file that violates only this clause.
 use Rattle.std.proofs.Common.{◌≡◌, ◌≤◌, List, [], ◌∷◌, ◌++◌, get_or, true, false, refl, sym, ap}
 use Rattle.std.proofs.Common.{subst, arith, codes, lit≤}
 use Rattle.std.specs.Prelude.{replicate, slice_index}
@@ -19,12 +19,12 @@ use Rattle.tape_set.proofs.WorkedFile.{shape, shape_fits, writable}
 use Rattle.tape_set.proofs.WorkedReadings.{shorter}
 use Rattle.tape_set.proofs.RefusedTight.{OnlyFiles, nothing_packed}
 
--- ---- files: of the one file all clauses but one hold
+-- ---- files that satisfy all clauses except one
 
 abbrev pub set_of : List Section → FileSet
 set_of f = record { set_id = set_id; volumes = plain_volume ∷ []; files = f ∷ [] }
 
--- its shape has blocks of 10 bytes
+-- a shape with blocks of 10 bytes
 abbrev small : Shape
 small = record {
   format = Fixed;
@@ -57,7 +57,7 @@ not_writable = (
   nothing_packed small,
 )
 
--- its volume has 1,823 bytes, one too few
+-- the capacity is 1,823 bytes, one byte too few
 abbrev plain_file : List Section
 plain_file = made shape 1 1 1 true [] ∷ []
 
@@ -77,7 +77,7 @@ no_room = (
   nothing_packed shape,
 )
 
--- its label HDR2 says another block length
+-- the label HDR2 states another block length
 other_length : OnlyFiles (set_of plain_file) 100000 (shorter ∷ []) × IsWritable shorter
     × (least_capacity shorter ≤ 100000) × packing.IsTight shorter [] (blocks_of_all plain_file)
 other_length = (
@@ -98,7 +98,7 @@ other_length = (
   nothing_packed shorter,
 )
 
--- it has a third header label
+-- the section has a third header label
 abbrev more_headers : List Section
 more_headers =
     record (made shape 1 1 1 true []) { headers = (codes "HDR3" ++ replicate 76 32) ∷ [] } ∷ []
@@ -119,7 +119,7 @@ third_header = (
   nothing_packed shape,
 )
 
--- it has no second trailer label
+-- the section has no second trailer label
 abbrev no_second : List Section
 no_second = record (made shape 1 1 1 true []) { trailers = [] } ∷ []
 
@@ -138,7 +138,7 @@ no_second_trailer = (
   nothing_packed shape,
 )
 
--- its second trailer label is EOV2, after EOF1
+-- the second trailer label is EOV2, after EOF1
 abbrev wrong_second : List Section
 wrong_second = record (made shape 1 1 1 true []) { trailers = second kinds.Eov2 shape ∷ [] } ∷ []
 

@@ -1,4 +1,5 @@
--- A whole reading of a section's volume takes each position in the section after it.
+-- A complete reading of a section's volume moves each position in the section to the position after
+-- it.
 use Rattle.std.proofs.Common.{◌≡◌, ◌≤◌, ℕ, zero, suc, ◌+◌, ◌-◌, List, [], ◌∷◌, ◌++◌, length, take}
 use Rattle.std.proofs.Common.{drop, Bool, true, false, ltb, refl, ap, ◌∙◌, arith, eq-eqb}
 use Rattle.std.proofs.Common.{length-append}
@@ -15,7 +16,7 @@ use Rattle.tape_set.specs.Laws.{WholeGivesSection}
 use Rattle.tape_set.proofs.Reaching.{reading_of, both_true}
 use Rattle.tape_set.proofs.Standing.{data_stands}
 
--- ---- if all was read well
+-- ---- if all items were readable
 
 all_pass : (m : ℕ) (es : List Entry) → length es ≤ m → passes (replicate m true) es ≡ true
 all_pass m [] h = refl
@@ -59,7 +60,7 @@ all_moved p sect b s q le =
     let at_end : ltb n n ≡ false = grind (arith, nat_tests) in
     rw (not_behind, reached, at_end, both_of_all n q) refl
 
--- after a section's data are its closing mark, its trailer label and a mark at least
+-- at least three entries follow a section's data: its closing mark, its trailer label and a mark
 trailers_three : (s : Section) → length (trailer_group s) ≡ length s.trailers + 3
 trailers_three s = omega (
   arith,

@@ -1,4 +1,4 @@
--- Labels, blocks and sections of which the worked sets are made, and why they are valid.
+-- The labels, blocks and sections in the worked sets, and proofs that they are valid.
 use Rattle.std.proofs.Common.{◌≡◌, ◌≤◌, ℕ, List, [], ◌∷◌, ◌++◌, length, Bool, true, false, refl}
 use Rattle.std.proofs.Common.{arith, codes}
 use Rattle.std.specs.Prelude.{map, replicate, if◌then◌else◌}
@@ -79,7 +79,7 @@ trailer eof file sect n = text_of (trail1_pieces (trail eof file sect n))
 pub vol1_is : HasKind vol1 kinds.Vol1
 vol1_is = record { size = refl; named = refl }
 
--- a first label with any identifiers that are as wide
+-- a first label with any identifiers of the right widths
 pub wide : (file sect : ℕ) (name id : List ℕ) → length name ≡ 17 → length id ≡ 6
     → IsWide (record (head file sect) { file_id = name; set_id = id })
 wide file sect name id named identified = record {
@@ -134,9 +134,10 @@ filled shape parts = record { bytes = written shape parts; parts = parts }
 abbrev pub form : Shape → FileForm
 form shape = form_of (head 1 1) (second_of shape)
 
--- ---- why they are valid
+-- ---- proofs that they are valid
 
--- the numbers of a file and of a section fit their digits, and the section has not too many blocks
+-- the numbers of a file and of a section fit their digits, and the section has at most
+-- `most_blocks` blocks
 pub record Fit (file sect n : ℕ) : Type 0 where
   pub file_least : 1 ≤ file
   pub file_most : file ≤ 9999
@@ -148,7 +149,7 @@ head_fits : (file sect n : ℕ) → Fit file sect n → HeadFits (head file sect
 head_fits file sect n fit =
     record { sect = (fit.sect_least, fit.sect_most); sequence = (fit.file_least, fit.file_most) }
 
--- the last six digits of a number fit six digits
+-- the last six digits of a number fit in six digits
 pub label_count_most : (n : ℕ) → label_count n ≤ 999999
 label_count_most n = omega arith
 
@@ -174,7 +175,7 @@ pub is_second : (eof : Bool) → IsSecond (second_kind eof)
 is_second true = tt
 is_second false = tt
 
--- what the header group and the trailer group of such a section are
+-- the header group and the trailer group of a section that `made` returns
 pub headers_sized : (shape : Shape) (file sect : ℕ) → Head2Fits (second_of shape)
     → HeadFits (head file sect)
     → AllByRecursion IsTapeItem (block (hdr1 file sect) ∷ block (second kinds.Hdr2 shape)
@@ -196,7 +197,7 @@ trailers_sized shape eof file sect n fits fit = (
   ),
 )
 
--- what such a section is
+-- the properties of a section that `made` returns
 pub made_sized : (shape : Shape) (volume file sect : ℕ) (eof : Bool) (blocks : List Filled)
     → Head2Fits (second_of shape) → HeadFits (head file sect)
     → AllByRecursion IsTapeItem (map item_of (data_group blocks)) → AllByRecursion IsTapeItem

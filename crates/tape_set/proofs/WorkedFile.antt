@@ -1,5 +1,5 @@
--- The worked file: 25 records of 80 bytes in blocks of 800, on one volume and on two, and a file
--- without records.
+-- The worked file: 25 records of 80 bytes in blocks of 800 bytes, on one volume and on two; and a
+-- file without records.
 use Rattle.std.proofs.Common.{◌≡◌, ◌≤◌, ℕ, zero, suc, ◌+◌, List, [], ◌∷◌, ◌++◌, length, true, false}
 use Rattle.std.proofs.Common.{refl, arith, codes, lit≤, lit<, length-append}
 use Rattle.std.specs.Prelude.{map, replicate}
@@ -49,11 +49,11 @@ pub writable : IsWritable shape
 writable =
     record { least = lit≤ tt; most = lit≤ tt; front = lit≤ tt; units = (lit≤ tt, lit≤ tt, refl) }
 
--- the record with this number: the number in four digits, and 76 spaces
+-- record number i: the number in four digits, and 76 spaces
 abbrev pub record_of : ℕ → List ℕ
 record_of i = digits 4 i ++ replicate 76 32
 
--- this many records from this number on
+-- the given number of records, from number i
 abbrev pub records : ℕ → ℕ → List (List ℕ)
 records i zero = []
 records i (suc n) = record_of i ∷ records (i + 1) n
@@ -144,7 +144,7 @@ one_volume_lawful = record {
   goes_on = tt;
 }
 
--- its labels, as they are written out in the standard's tables
+-- the labels of the volume, as written out in the standard's tables
 vol1_text : vol1
     ≡ codes "VOL1ABC001                                                                     4"
 vol1_text = refl
@@ -172,18 +172,18 @@ one_volume_items : items one_volume 1 ≡
     ∷ mark ∷ block (trailer true 1 1 3) ∷ block (second kinds.Eof2 shape) ∷ mark ∷ mark ∷ []
 one_volume_items = refl
 
--- they take 2,480 bytes of an image, and the end-of-medium marker 4 more
+-- the items take 2,480 bytes of an image, and the end-of-medium marker 4 more
 one_volume_size : items_size (items one_volume 1) ≡ 2480
 one_volume_size = refl
 
--- nothing is on other volumes
+-- other volumes have no items
 none_before : items one_volume 0 ≡ []
 none_before = refl
 
 none_behind : items one_volume 2 ≡ []
 none_behind = refl
 
--- its first 20 records are before block 2
+-- the first 20 records are before block 2
 twenty_before : before one_volume 1 (awaiting 1 2) ≡ wholes 1 20
 twenty_before = refl
 
@@ -247,8 +247,8 @@ one_volume_tight = record {
   changes = tt;
 }
 
--- ---- on two volumes of 2,500 bytes: the file end does not fit after the third block, and the
--- second section is empty
+-- ---- on two volumes of 2,500 bytes: the end of the file does not fit after the third block, and
+-- the second section is empty
 
 abbrev pub two_volumes : FileSet
 two_volumes = record {
@@ -316,7 +316,7 @@ two_volumes_tight = record {
   changes = (refl, tt);
 }
 
--- with their end-of-medium marker the volumes have 2,484 and 460 bytes
+-- the volumes take 2,484 and 460 bytes, including the end-of-medium marker
 two_volumes_sizes : map items_size (all_items two_volumes) ≡ 2480 ∷ 456 ∷ []
 two_volumes_sizes = refl
 

@@ -1,6 +1,6 @@
 -- Two files of 25 records on two volumes of 2,848 bytes: after the first file's end there is
--- exactly enough room for a section without blocks, so the first section of the second file has
--- none, and ends with EOV1.
+-- exactly enough room for a section without blocks, so the first section of the second file has no
+-- blocks, and ends with EOV1.
 use Rattle.std.proofs.Common.{◌≡◌, ◌≤◌, ℕ, [], ◌∷◌, ◌++◌, true, false, refl, inl, lit≤}
 use Rattle.std.specs.Prelude.{map, replicate}
 use Rattle.tape_set.specs.declared.position.Position.TheVariants.{Finished}
@@ -112,30 +112,31 @@ two_files_tight = record {
   changes = (refl, (refl, tt));
 }
 
--- the first volume is full to its last byte, with its end-of-medium marker
+-- the first volume is full to the last byte, including the end-of-medium marker
 two_files_sizes : map items_size (all_items two_files) ≡ 2844 ∷ 2480 ∷ []
 two_files_sizes = refl
 
--- a reading of the first volume takes the second file after its empty section, whose labels alone
--- state its form
+-- a reading of the first volume moves the position in the second file past its empty section; only
+-- the labels of that section state its form
 behind_empty_section : far two_files 2 start (reading 1 (replicate 19 true)) ≡ awaiting 2 0
 behind_empty_section = refl
 
--- where the trailer label of the empty section was not read, its end is expected: the start
+-- if the trailer label of the empty section was not read, its end is expected, which is the start
+-- of the file
 cut_in_empty_section : far two_files 2 start (reading 1 (replicate 15 true)) ≡ start
 cut_in_empty_section = refl
 
 second_volume : far two_files 2 (awaiting 2 0) (reading 2 (replicate 12 true)) ≡ Finished
 second_volume = refl
 
--- ---- what else may be bad on the way
+-- ---- bad items elsewhere on the volume
 
--- data of the first file, passed over
+-- a bad block in the data of the first file is skipped
 bad_data_passed : far two_files 2 start (reading 1 (replicate 5 true ++ false ∷ replicate 13 true))
     ≡ awaiting 2 0
 bad_data_passed = refl
 
--- a mark and a label of the first file: nothing after them counts
+-- a bad mark or label of the first file ends the reading there
 bad_mark_passed : far two_files 2 start (reading 1 (replicate 7 true ++ false ∷ replicate 11 true))
     ≡ start
 bad_mark_passed = refl
@@ -144,13 +145,13 @@ bad_trailer_passed : far two_files 2 start (reading 1
     (replicate 8 true ++ false ∷ replicate 10 true)) ≡ start
 bad_trailer_passed = refl
 
--- the closing mark of the section that is expected: its end is expected, though its trailer label
--- was read well
+-- the closing mark of the expected section is bad: the end of the section is still expected,
+-- although its trailer label was readable
 bad_closing_mark : far two_files 1 start (reading 1 (replicate 7 true ++ false ∷ replicate 11 true))
     ≡ awaiting 1 3
 bad_closing_mark = refl
 
--- what follows the trailer label is of no account
+-- items after the trailer label do not matter
 bad_behind_trailer : far two_files 1 start (reading 1 (replicate 9 true ++ replicate 10 false))
     ≡ Finished
 bad_behind_trailer = refl
@@ -163,6 +164,6 @@ behind_empty_section_none = refl
 second_section_parts : before two_files 2 (awaiting 2 1) ≡ wholes 1 10
 second_section_parts = refl
 
--- the records of the first file are before none of the second's positions
+-- the records of the first file are not before any position of the second
 first_file_apart : before two_files 1 Finished ≡ wholes 1 25
 first_file_apart = refl

@@ -1,5 +1,5 @@
--- Files whose second labels say other record lengths from section to section: in formats D and S
--- these do not bind.
+-- Files whose sections state different record lengths in their second labels, which is valid in
+-- formats D and S.
 use Rattle.std.proofs.Common.{◌≡◌, ◌≤◌, ℕ, [], ◌∷◌, true, false, refl, sym, subst, lit≤}
 use Rattle.tape_label.specs.declared.values.Format.TheVariants.{Counted, Spanned}
 use Rattle.tape_label.specs.Head2.{Head2Fits}
@@ -26,7 +26,7 @@ lengths_differ one other = record {
   files = (made one 1 1 1 false [] ∷ made other 2 1 2 true [] ∷ []) ∷ [];
 }
 
--- their labels state one form
+-- the labels state one form
 abbrev counted_14 : Shape
 counted_14 = record {
   format = Counted;

@@ -1,6 +1,6 @@
--- Sections of many blocks of one byte: up to the most blocks that a section may have they are
--- valid, and their labels say the last six digits of the number; with one block more the number of
--- blocks alone refuses them.
+-- Sections of many blocks of one byte: up to `most_blocks` blocks they are valid, and their labels
+-- state the last six digits of the number; with one more block, only the number of blocks makes
+-- them invalid.
 use Rattle.std.proofs.Common.{◌≡◌, ◌<◌, ◌≤◌, ℕ, zero, suc, List, [], ◌∷◌, length, true, false, refl}
 use Rattle.std.proofs.Common.{sym, ap, subst, arith, codes, lit≤, lit<}
 use Rattle.std.specs.Prelude.{map, replicate}
@@ -75,7 +75,7 @@ set_of s = record { set_id = set_id; volumes = plain_volume ∷ []; files = (s �
 abbrev many : ℕ → FileSet
 many n = set_of (section n)
 
--- all clauses of a valid section but that on the number of its blocks
+-- all clauses of a valid section except the one about the number of blocks
 record AllButFew (of_set : List ℕ) (volumes : ℕ) (x : Placed) : Type 0 where
   header : (h : Head1) × IsHeader of_set x h
   trailer : (t : Trail1) × IsTrailer x t
@@ -164,9 +164,9 @@ most_trailer : (section 4294967295).trailer
 most_trailer =
     ap (λ n. trailer true 1 1 (label_count n)) (length-replicate {A = Filled} 4294967295 letter)
 
--- ---- one block more
+-- ---- one more block
 
--- all clauses but that on the number of blocks hold, and that one does not
+-- all clauses except the one about the number of blocks hold
 record OnlyFew (s : Section) : Type 0 where
   volumes : AllByRecursion IsVolume (set_of s).volumes
   each : AllButFew set_id 1 (placed 1 1 s)
@@ -175,7 +175,7 @@ record OnlyFew (s : Section) : Type 0 where
   goes_on : Chain GoesOn (sections (set_of s))
   refused : IsSection set_id 1 (placed 1 1 s) → ⊥
 
--- n stays a variable here: where it is written out, arithmetic makes the list
+-- n stays a variable here: for a literal number, arithmetic would build the list
 too_many : (n : ℕ) → most_blocks < n → OnlyFew (section n)
 too_many n h = record {
   volumes = (plain_volume_is, tt);

@@ -1,4 +1,4 @@
--- Positions inside a block, in the worked file: its blocks hold 10, 10 and 5 parts.
+-- Positions inside a block, in the worked file: its blocks have 10, 10 and 5 parts.
 use Rattle.std.proofs.Common.{◌≡◌, ◌∷◌, ◌++◌, length, true, false, refl, ap, inl, inr, arith, lit<}
 use Rattle.std.specs.Prelude.{replicate}
 use Rattle.tape_set.specs.declared.position.Position.TheVariants.{Finished}
@@ -8,7 +8,7 @@ use Rattle.tape_set.specs.Reach.{far}
 use Rattle.tape_set.proofs.WorkedFile.{one_volume, two_volumes, wholes}
 use Rattle.tape_set.proofs.WorkedReadings.{reading}
 
--- ---- what lies before
+-- ---- the parts before a position
 
 thirteen_before : before one_volume 1 (at_part 3 (awaiting 1 1)) ≡ wholes 1 13
 thirteen_before = refl
@@ -16,21 +16,21 @@ thirteen_before = refl
 one_before : before one_volume 1 (at_part 1 start) ≡ wholes 1 1
 one_before = refl
 
--- all parts of a block are what lies before the next
+-- all parts of a block are before the next block
 all_of_block_1 : before one_volume 1 (at_part 10 (awaiting 1 1))
     ≡ before one_volume 1 (awaiting 1 2)
 all_of_block_1 = refl
 
--- a block has no more parts than it holds
+-- a block has no more parts than its own
 no_more_of_block_2 : before one_volume 1 (at_part 7 (awaiting 1 2)) ≡ wholes 1 25
 no_more_of_block_2 = refl
 
--- ---- which are positions of the file
+-- ---- the positions of the file
 
 part_9 : IsIn one_volume 1 (at_part 9 (awaiting 1 1))
 part_9 = (_, refl, omega arith, inr (lit< tt))
 
--- where all parts were delivered the next block is expected
+-- once all parts of a block were delivered, the next block is expected
 no_part_10 : IsIn one_volume 1 (at_part 10 (awaiting 1 1)) → ⊥
 no_part_10 (s, found, block, inl h) = absurd (omega arith)
 no_part_10 (s, found, block, inr h) =
@@ -46,9 +46,10 @@ no_part_of_end (s, found, block, inr h) =
     ap (λ o. length (parts_at (blocks_of o) 3)) found in
     absurd (omega (arith, none, h))
 
--- ---- how far readings take them
+-- ---- how far readings move these positions
 
--- cut before block 1, and where block 1 was not read well: its parts are kept
+-- the delivered parts of block 1 are kept if the reading ends before the block, or the block was
+-- not readable
 cut_before_block : far one_volume 1 (at_part 3 (awaiting 1 1)) (reading 1 (replicate 5 true))
     ≡ at_part 3 (awaiting 1 1)
 cut_before_block = refl
@@ -57,7 +58,7 @@ block_not_read : far one_volume 1 (at_part 3 (awaiting 1 1)) (reading 1
     (replicate 5 true ++ false ∷ replicate 6 true)) ≡ at_part 3 (awaiting 1 1)
 block_not_read = refl
 
--- after block 1 no part is kept
+-- after block 1 no delivered parts are kept
 cut_behind_block : far one_volume 1 (at_part 3 (awaiting 1 1)) (reading 1 (replicate 6 true))
     ≡ awaiting 1 2
 cut_behind_block = refl
@@ -66,12 +67,12 @@ next_not_read : far one_volume 1 (at_part 3 (awaiting 1 1)) (reading 1
     (replicate 6 true ++ false ∷ replicate 5 true)) ≡ awaiting 1 2
 next_not_read = refl
 
--- the first block may be bad: it was delivered before
+-- the first block may be bad: its parts were delivered already
 whole_behind_bad : far one_volume 1 (at_part 3 (awaiting 1 1)) (reading 1
     (replicate 4 true ++ false ∷ replicate 7 true)) ≡ Finished
 whole_behind_bad = refl
 
--- another volume keeps them
+-- a reading of another volume keeps the delivered parts
 other_volume : far two_volumes 1 (at_part 3 (awaiting 1 1)) (reading 2 (replicate 9 true))
     ≡ at_part 3 (awaiting 1 1)
 other_volume = refl
@@ -80,7 +81,7 @@ own_volume : far two_volumes 1 (at_part 3 (awaiting 1 1)) (reading 1 (replicate 
     ≡ awaiting 2 0
 own_volume = refl
 
--- a part of the section's end is in no file, and is kept
+-- a position after a part of a section's end, which no file has, does not change
 part_of_end : far one_volume 1 (at_part 1 (awaiting 1 3)) (reading 1 (replicate 8 true))
     ≡ at_part 1 (awaiting 1 3)
 part_of_end = refl

@@ -1,4 +1,4 @@
--- Which positions the worked sets have, and readings of all their volumes.
+-- The positions of the worked sets, and readings of all their volumes.
 use Rattle.std.proofs.Common.{◌≡◌, [], ◌∷◌, length, true, None, refl, ap, inl, arith}
 use Rattle.std.specs.Prelude.{replicate, IsSome}
 use Rattle.tape_image.specs.Tape.{bad}
@@ -21,7 +21,7 @@ end_of_file = refl
 no_end_of_file_2 : IsIn one_volume 2 Finished → ⊥
 no_end_of_file_2 h = let e : IsSome (file_of one_volume 2) = h in absurd (cc)
 
--- the end of a section is one, and the place after it is not
+-- the end of a section is a position of the file, but the block number after it is not
 end_of_section : IsIn one_volume 1 (awaiting 1 3)
 end_of_section = (_, refl, omega arith, inl refl)
 
@@ -35,7 +35,7 @@ no_section_2 (s, found, block, part) =
     let e : None ≡ section_of one_volume 1 2 = refl in
     absurd (cc)
 
--- a block without parts is only expected at its start
+-- a block without parts is only expected from its start
 before_no_parts : IsIn sparse 1 start
 before_no_parts = (_, refl, omega arith, inl refl)
 
@@ -48,15 +48,15 @@ readings_in_order = refl
 over_both : far_over two_volumes 1 start (whole_readings two_volumes 0 2) ≡ Finished
 over_both = refl
 
--- the first volume again finds nothing that is expected
+-- reading the first volume again moves nothing
 over_the_first : far_over two_volumes 1 start (reading 2 (replicate 9 true)
     ∷ reading 1 (replicate 12 true) ∷ reading 1 (replicate 12 true) ∷ []) ≡ awaiting 2 0
 over_the_first = refl
 
--- nothing more was met than there is
+-- a reading longer than the volume returns only the items of the volume
 no_more_met : as_read (bad ∷ []) (true ∷ true ∷ []) ≡ bad ∷ []
 no_more_met = refl
 
--- a bad item takes no room
+-- a bad item has size 0
 no_room_for_bad : items_size (bad ∷ []) ≡ 0
 no_room_for_bad = refl

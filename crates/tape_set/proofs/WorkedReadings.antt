@@ -1,4 +1,4 @@
--- Readings of the worked file, complete and cut, and what is found in them.
+-- Readings of the worked file, complete and truncated, and the positions they reach.
 use Rattle.std.proofs.Common.{◌≡◌, ◌≤◌, ℕ, List, [], ◌∷◌, ◌++◌, Bool, true, false, refl, arith}
 use Rattle.std.proofs.Common.{lit≤}
 use Rattle.std.specs.Prelude.{replicate, IsSome}
@@ -19,7 +19,7 @@ use Rattle.tape_set.proofs.WorkedFile.{shape, wholes, one_volume, two_volumes}
 abbrev pub reading : ℕ → List Bool → Reading
 reading k good = record { volume = k; good = good }
 
--- cut after the last block: the section's end is expected, and nothing more of the file
+-- cut after the last block: only the end of the section is expected
 cut_behind_blocks : far one_volume 1 (awaiting 1 0) (reading 1 (replicate 7 true)) ≡ awaiting 1 3
 cut_behind_blocks = refl
 
@@ -34,18 +34,18 @@ cut_behind_trailer = refl
 cut_behind_headers : far one_volume 1 (awaiting 1 0) (reading 1 (replicate 4 true)) ≡ awaiting 1 0
 cut_behind_headers = refl
 
--- the headers' mark was not read well: nothing after it counts
+-- the mark after the headers was not readable: nothing after it counts
 bad_header_mark : far one_volume 1 (awaiting 1 0) (reading 1
     (replicate 3 true ++ false ∷ replicate 8 true)) ≡ awaiting 1 0
 bad_header_mark = refl
 
--- the section's end is known only where the trailer label was read well
+-- the end of a section is known only if its trailer label was readable
 bad_trailer : far one_volume 1 (awaiting 1 0) (reading 1
     (replicate 8 true ++ false ∷ replicate 3 true)) ≡ awaiting 1 3
 bad_trailer = refl
 
--- on two volumes: the second one alone gives nothing, then the first one its section, and then the
--- second one the file
+-- on two volumes: the second volume alone gives nothing; the first gives its section, and then the
+-- second the rest of the file
 later_section_first : far two_volumes 1 (awaiting 1 0) (reading 2 (replicate 9 true)) ≡ awaiting 1 0
 later_section_first = refl
 
@@ -59,7 +59,7 @@ first_section_again = refl
 last_section : far two_volumes 1 (awaiting 2 0) (reading 2 (replicate 9 true)) ≡ Finished
 last_section = refl
 
--- in blocks of 400, five of them
+-- a shape with blocks of 400 bytes, which needs five of them
 abbrev pub shorter : Shape
 shorter = record {
   format = Fixed;
@@ -79,17 +79,17 @@ five_blocks = record {
       ∷ []) ∷ []) ∷ [];
 }
 
--- block 3 was not read well, and is expected
+-- block 3 was not readable, and is expected
 block_3_bad : far five_blocks 1 (awaiting 1 0) (reading 1
     (replicate 7 true ++ false ∷ replicate 6 true)) ≡ awaiting 1 3
 block_3_bad = refl
 
--- from there block 1 may be bad: it was delivered before
+-- from block 3 on, block 1 may be bad: it was delivered already
 block_1_bad : far five_blocks 1 (awaiting 1 3) (reading 1
     (replicate 5 true ++ false ∷ replicate 8 true)) ≡ Finished
 block_1_bad = refl
 
--- ---- no section and no block that is not there
+-- ---- sections and blocks that do not exist
 
 no_section_0 : far one_volume 1 (awaiting 0 0) (reading 1 (replicate 12 true)) ≡ awaiting 0 0
 no_section_0 = refl
@@ -97,7 +97,7 @@ no_section_0 = refl
 no_block_4 : far one_volume 1 (awaiting 1 4) (reading 1 (replicate 12 true)) ≡ awaiting 1 4
 no_block_4 = refl
 
--- ---- which readings there are, and what is found in them
+-- ---- valid readings, and the items found in them
 
 whole_reading_is : IsReadingOf one_volume (reading 1 (replicate 12 true))
 whole_reading_is = record { volume = refl; within = lit≤ tt }

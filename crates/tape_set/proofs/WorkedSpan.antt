@@ -1,5 +1,5 @@
--- A spanned record of 290 bytes on two volumes of 1,042 bytes: 22 blocks of 18 bytes and EOV1, one
--- block and EOF1.
+-- A spanned record of 290 bytes on two volumes of 1,042 bytes: 22 blocks of 18 bytes and EOV1, then
+-- one block and EOF1.
 use Rattle.std.proofs.Common.{◌≡◌, ◌≤◌, ℕ, zero, suc, List, [], ◌∷◌, ◌++◌, true, false, refl, codes}
 use Rattle.std.proofs.Common.{lit≤, lit<}
 use Rattle.std.specs.Prelude.{map, replicate}
@@ -24,7 +24,7 @@ use Rattle.tape_set.proofs.Worked.{set_id, made, filled, form, made_section, mad
 use Rattle.tape_set.proofs.Worked.{made_plain, plain_volume, plain_volume_is}
 use Rattle.tape_set.proofs.WorkedFile.{fit_of}
 
--- a format that is not F has no least record length
+-- for a format other than F the least record length does not matter
 pub not_fixed : Spanned ≡ Fixed → 1 ≤ 0
 not_fixed e = absurd (cc)
 
@@ -109,7 +109,7 @@ last_written = record {
       λ e. (record { room = lit≤ tt; fills = λ e. absurd (cc); empty = λ e. absurd (cc) }, tt);
 }
 
--- ---- many middle ones
+-- ---- many middle segments
 
 pub every_middle : (P : Filled → Type 0) (n : ℕ) → P middle_block
     → AllByRecursion P (replicate n middle_block)
@@ -215,18 +215,19 @@ spanned_tight = record {
   changes = (refl, tt);
 }
 
--- the parts of the first section are before the second, the last of them before its end
+-- the parts of the first section are before the second section, and the last part before the end of
+-- the second
 before_second : before spanned 1 (awaiting 2 0) ≡ first ∷ replicate 21 middle
 before_second = refl
 
 before_last : before spanned 1 (at_part 1 (awaiting 2 0)) ≡ first ∷ replicate 21 middle ++ last ∷ []
 before_last = refl
 
--- with their end-of-medium marker the volumes have 1,032 and 486 bytes
+-- the volumes take 1,032 and 486 bytes, including the end-of-medium marker
 spanned_sizes : map items_size (all_items spanned) ≡ 1028 ∷ 482 ∷ []
 spanned_sizes = refl
 
--- with one byte less than the next block and a volume end would need, the change is where it has to
--- be
+-- one byte less is free than the next block and the end of a volume need, so the change of volumes
+-- is required there
 just_no_room : ChainBehind (IsTightChange spanned.volumes 1057) [] (sections spanned)
 just_no_room = (refl, tt)

@@ -1,5 +1,5 @@
--- A valid set that no writer writes: a data block without parts, a volume that ends with EOF1 and
--- the next file on the next one, and a volume without sections.
+-- A valid set that no writer writes: a data block without parts, a volume that ends with EOF1
+-- although the next file begins on the next volume, and a volume without sections.
 use Rattle.std.proofs.Common.{◌≡◌, ◌≤◌, ℕ, [], ◌∷◌, true, refl, inr, lit≤, lit<}
 use Rattle.std.specs.Prelude.{map, replicate, length}
 use Rattle.tape_label.specs.declared.values.Format.TheVariants.{Fixed}
@@ -83,18 +83,18 @@ sparse_lawful = record {
   goes_on = (inr refl, tt);
 }
 
--- the last volume has its label and a mark
+-- the last volume contains only its label and a mark
 sparse_lengths : map length (all_items sparse) ≡ 10 ∷ 9 ∷ 2 ∷ []
 sparse_lengths = refl
 
--- the block without parts is passed, and nothing is before any position
+-- the block without parts is passed, and no parts are before any position
 passed : far sparse 1 start (reading 1 (replicate 5 true)) ≡ awaiting 1 1
 passed = refl
 
 none_before : before sparse 1 Finished ≡ []
 none_before = refl
 
--- the second file is not on the first volume, nor on the last
+-- the second file is neither on the first volume nor on the last
 first_volume : far sparse 2 start (reading 1 (replicate 10 true)) ≡ start
 first_volume = refl
 

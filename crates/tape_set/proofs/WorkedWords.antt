@@ -1,5 +1,5 @@
--- Words of the laws, worked out: prefixes of lists, what is in a list, positions up to another,
--- numbers that fit their digits, and the first item that was not read.
+-- Definitions used by the laws, worked out: prefixes of lists, elements of lists, the order of
+-- positions, numbers that fit their digits, and the first item that was not readable.
 use Rattle.std.proofs.Common.{◌≡◌, ◌≤◌, ℕ, [], ◌∷◌, ◌++◌, length, Bool, true, false, Option, Some}
 use Rattle.std.proofs.Common.{refl, ap, inl, inr, arith, lit≤, lit<, length-append}
 use Rattle.std.specs.Prelude.{slice_index, drop, unwrap_or}
@@ -20,11 +20,11 @@ no_longer_front (rest, e) =
     let two : length (1 ∷ 2 ∷ rest) ≡ 1 = ap length e in
     absurd (omega (arith, two))
 
--- what is at the end is no prefix
+-- the end of a list is not a prefix of it
 no_end_front : IsFrontOf {A = ℕ} (2 ∷ []) (1 ∷ 2 ∷ []) → ⊥
 no_end_front (rest, e) = let d : 2 ≡ 1 = ap (λ v. slice_index v 0) e in absurd (omega (arith, d))
 
--- ---- what is in a list
+-- ---- elements of a list
 
 last_stands : StandsIn {A = ℕ} (1 ∷ 2 ∷ []) 2
 last_stands = (1 ∷ [], [], refl)
@@ -74,7 +74,7 @@ block_too_great h = let most : 4294967296 ≤ 4294967295 = h.block in absurd (om
 part_too_great : FitsDigits (Awaits 1 0 99999) → ⊥
 part_too_great h = let most : 99999 ≤ 99998 = h.part in absurd (omega arith)
 
--- ---- the first that was not read
+-- ---- the first item that was not readable
 
 none_before_first : IsFirstUnread (false ∷ []) 1 1 0 → ⊥
 none_before_first h = absurd (omega (arith, h.0))

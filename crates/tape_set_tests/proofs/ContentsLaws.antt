@@ -1,4 +1,4 @@
--- Entries in the order in which they are put, and the sections before a section.
+-- Entries in the order in which they are appended, and the sections before a section.
 use Rattle.std.proofs.Common.{◌≡◌, ◌<◌, ◌≤◌, ℕ, zero, suc, ◌+◌, ◌-◌, List, [], ◌∷◌, ◌++◌, length}
 use Rattle.std.proofs.Common.{take, true, false, Some, refl, sym, ap, ◌∙◌, append_assoc, arith}
 use Rattle.std.proofs.Common.{eq-eqb}
@@ -15,7 +15,7 @@ use Rattle.tape_set.proofs.Numbering.{placed, section_stands}
 use Rattle.tape_set.proofs.Forms.{all_four_digits}
 use Rattle.tape_set.proofs.Standing.{all_entries-append}
 
--- ---- in the order in which they are put
+-- ---- the order in which entries are appended
 
 two_and_more : (xs ys : List Entry) (a b m : Entry)
     → (((xs ++ a ∷ []) ++ b ∷ []) ++ ys) ++ m ∷ [] ≡ xs ++ a ∷ b ∷ (ys ++ m ∷ [])
@@ -36,7 +36,7 @@ section_put xs a b c = simp append_assoc
 
 -- ---- the sections before a section
 
--- in its file, of which these are numbered from j on
+-- the sections before it in its own file, in which numbers begin with j
 earlier_numbered : (file sect j n : ℕ) (ss : List Section) (rest : List Placed) (w : Section)
     → slice_get ss n ≡ Some w → sect ≡ j + n
     → earlier file sect (numbered file j ss ++ rest) ≡ numbered file j (take n ss)
@@ -51,14 +51,14 @@ earlier_numbered file sect j (suc n) (s ∷ ss) rest w h e =
     rw (a, b) (ap (λ v. placed file j s ∷ v)
     (earlier_numbered file sect (j + 1) n ss rest w h (omega (arith, e))))
 
--- behind all of another file
+-- all sections of another file precede it
 earlier_other : (file sect m j : ℕ) (ss : List Section) (rest : List Placed) → (m == file) ≡ false
     → earlier file sect (numbered m j ss ++ rest) ≡ numbered m j ss ++ earlier file sect rest
 earlier_other file sect m j [] rest h = refl
 earlier_other file sect m j (s ∷ ss) rest h =
     rw h (ap (λ v. placed m j s ∷ v) (earlier_other file sect m (j + 1) ss rest h))
 
--- among files that are numbered from m on
+-- the sections before it, if the files have numbers from m
 earlier_files : (file sect m i n : ℕ) (fs : List (List Section)) (f : List Section) (w : Section)
     → slice_get fs i ≡ Some f → slice_get f n ≡ Some w
     → file ≡ m + i → sect ≡ 1 + n → earlier file sect (all_numbered m fs)
@@ -78,7 +78,7 @@ earlier_files file sect m (suc i) n (x ∷ fs) f w g h a b =
     ∙ sym (append_assoc (numbered m 1 x) (all_numbered (m + 1) (take i fs))
     (numbered file 1 (take n f))))
 
--- those of the files before its own, and those before it in its own
+-- the sections of the files before its file, and those before it in its file
 pub earlier_are : (set : FileSet) (file sect : ℕ) (f : List Section) (w : Section)
     → nth set.files file ≡ Some f → nth f sect ≡ Some w
     → earlier file sect (sections set)
@@ -107,7 +107,7 @@ data_before set file sect f w g h =
     ∙ (ap all_entries (filter-append (λ x. x.section.volume == w.volume) files own)
     ∙ all_entries-append (on w.volume files) (on w.volume own)))))
 
--- ---- numbers of a lawful section
+-- ---- numbers of a valid section
 
 pub section_fits : (set : FileSet) (file sect : ℕ) (f : List Section) (w : Section) → IsLawful set
     → nth set.files file ≡ Some f → nth f sect ≡ Some w

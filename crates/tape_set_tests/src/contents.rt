@@ -1,4 +1,4 @@
-//! The contents of a volume of a layout: the definition as a plain program, for tests of faster
+//! The contents of a volume of a layout: the definition as a plain program, for testing faster
 //! readers and writers.
 
 ghost use Rattle.std.specs.Prelude.{◌≡◌, ◌++◌, ℕ, [], ◌∷◌, map, IfOk};
@@ -17,7 +17,7 @@ use tape_set::{BlockLayout, FileLayout, Layout, SectionLayout, Sequence, VolumeL
 /// One entry of a volume.
 #[derive(Debug, Drop)]
 pub enum EntryLayout {
-    /// A block other than a data block: a label, or any other block among labels.
+    /// A block other than a data block: a label, or another block among labels.
     Label(Sequence<u8>),
     /// A data block.
     DataBlock(Sequence<u8>),
@@ -25,13 +25,14 @@ pub enum EntryLayout {
     Mark,
 }
 
-/// Returns the contents of a volume, counted from 1, in order (ECMA-13, 4th edition: labels and
-/// tape marks on a volume): its labels, then each section on it with its labels, data blocks and
-/// marks, and a second mark at the end. Returns nothing if the layout has no such volume.
+/// Returns the contents of volume number `volume`, counted from 1, in order (ECMA-13, 4th edition:
+/// labels and tape marks on a volume): its labels, then each section on it with its labels, data
+/// blocks and marks, and a second mark at the end. Returns an empty list if the layout has no such
+/// volume.
 ///
 /// # Errors
 ///
-/// `AllocError` if memory is refused.
+/// `AllocError` if an allocation fails.
 pub fn entries(
     alloc: Global,
     layout: &Layout,
@@ -49,11 +50,11 @@ pub fn entries(
     Ok(entries)
 }
 
-/// Returns the contents of the volume of this section before the section's data; `own` is its file.
+/// Returns the entries of the section's volume that precede the section's data; `own` is its file.
 ///
 /// # Errors
 ///
-/// `AllocError` if memory is refused.
+/// `AllocError` if an allocation fails.
 pub fn before_data(
     alloc: Global,
     layout: &Layout,
@@ -93,7 +94,7 @@ fn put_labels_of(
     }
 }
 
-/// Appends a volume with these labels, in a set of these files.
+/// Appends a volume with the given labels, in a set of the given files.
 fn put_volume(
     alloc: Global,
     entries: &mut Vec<EntryLayout>,
@@ -122,7 +123,7 @@ fn put_volume_labels(
     put_labels(alloc, entries, labels.labels.as_slice())
 }
 
-/// Appends the sections on this volume, file by file.
+/// Appends the sections on the volume, file by file.
 fn put_files(
     alloc: Global,
     entries: &mut Vec<EntryLayout>,
@@ -138,7 +139,7 @@ fn put_files(
     Ok(())
 }
 
-/// Appends those of these sections of a file that are on this volume.
+/// Appends the sections of a file that are on the volume.
 fn put_sections(
     alloc: Global,
     entries: &mut Vec<EntryLayout>,
@@ -157,7 +158,7 @@ fn put_sections(
     Ok(())
 }
 
-/// Appends a section, from its first label to the mark after its last.
+/// Appends a section, from its first label to the mark after its last label.
 fn put_section(
     alloc: Global,
     entries: &mut Vec<EntryLayout>,

@@ -1,4 +1,4 @@
-//! The parts before a position: the definition as a plain program, for tests of faster programs.
+//! The parts before a position: the definition as a plain program, for testing faster programs.
 
 ghost use Rattle.std.specs.Prelude.{◌≡◌, ◌++◌, IfOk};
 ghost use Rattle.tape_blocks.specs.Tight.{parts_of_all};
@@ -10,13 +10,13 @@ use crate::list::{copied, first, nth};
 use std::alloc::{AllocError, Global};
 use tape_set::{BlockLayout, Layout, PartLayout, Position, SectionLayout};
 
-/// Returns the parts of a file before a position in it: those of the sections before its own, of
-/// the blocks before its block, and the first parts of its block, as many as were delivered.
-/// Returns none if the layout has no such file.
+/// Returns the parts of a file before a position in it: those of the earlier sections, of the
+/// earlier blocks in its section, and the delivered parts of its block. Returns an empty list if
+/// the layout has no such file.
 ///
 /// # Errors
 ///
-/// `AllocError` if memory is refused.
+/// `AllocError` if an allocation fails.
 pub fn before(
     alloc: Global,
     layout: &Layout,
@@ -32,7 +32,7 @@ pub fn before(
     Ok(parts)
 }
 
-/// Appends those of a file of these sections.
+/// Appends the parts before a position in a file with the given sections.
 fn put_before(
     alloc: Global,
     parts: &mut Vec<PartLayout>,
@@ -52,7 +52,7 @@ fn put_before(
     }
 }
 
-/// Returns the data blocks of the section with this number, counted from 1; none if there is no
+/// Returns the data blocks of section number `sect`, counted from 1, or no blocks if there is no
 /// such section.
 fn blocks_at(sections: &[SectionLayout], sect: usize) -> &[BlockLayout]
     ensures { result.now ≡ blocks_of (nth sections.now sect) }
@@ -63,7 +63,8 @@ fn blocks_at(sections: &[SectionLayout], sect: usize) -> &[BlockLayout]
     }
 }
 
-/// Appends the parts of the blocks before this one, and the first `part` parts of this one.
+/// Appends the parts of the blocks before block number `block`, and the first `part` parts of that
+/// block.
 fn put_up_to(
     alloc: Global,
     parts: &mut Vec<PartLayout>,
@@ -79,7 +80,8 @@ fn put_up_to(
     put_parts(alloc, parts, first(under_way, part as usize))
 }
 
-/// Returns the parts of the block with this number, counted from 0; none if there is no such block.
+/// Returns the parts of block number `block`, counted from 0, or no parts if there is no such
+/// block.
 fn parts_at(blocks: &[BlockLayout], block: usize) -> &[PartLayout]
     ensures { result.now ≡ parts_at blocks.now block }
 {
@@ -89,7 +91,7 @@ fn parts_at(blocks: &[BlockLayout], block: usize) -> &[PartLayout]
     }
 }
 
-/// Appends all parts of these sections.
+/// Appends all parts of `sections`.
 fn put_sections(
     alloc: Global,
     parts: &mut Vec<PartLayout>,
@@ -103,7 +105,7 @@ fn put_sections(
     Ok(())
 }
 
-/// Appends all parts of these blocks.
+/// Appends all parts of `blocks`.
 fn put_blocks(
     alloc: Global,
     parts: &mut Vec<PartLayout>,
@@ -117,7 +119,7 @@ fn put_blocks(
     Ok(())
 }
 
-/// Appends copies of these parts.
+/// Appends copies of `parts`.
 fn put_parts(
     alloc: Global,
     parts: &mut Vec<PartLayout>,

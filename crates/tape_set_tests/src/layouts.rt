@@ -1,4 +1,4 @@
-//! The set of the tests: a file on volumes 1 and 2, and another that begins on volume 2.
+//! The set for the tests: a file on volumes 1 and 2, and another file that begins on volume 2.
 
 use std::alloc::{AllocError, Global};
 use tape_blocks::Span;
@@ -61,7 +61,7 @@ fn blocks(alloc: Global) -> Result<Sequence<BlockLayout>, AllocError> {
     Ok(Sequence::of_vec(vec![in alloc; first, second]?))
 }
 
-// A block with these parts. The tests do not check how the block encodes them.
+// A block with the given parts. The tests do not check how the block encodes them.
 fn block(alloc: Global, text: &[u8], contents: &[&[u8]]) -> Result<BlockLayout, AllocError> {
     let mut parts = Vec::new(alloc);
     for content in contents {

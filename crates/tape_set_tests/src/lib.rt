@@ -1,5 +1,5 @@
-//! Tests of positions, lists, look-ups and readings, at values worked out by hand; and the
-//! definitions of a set's contents and readings as plain programs, for tests of what is faster.
+//! Tests of positions, lists, look-ups and readings, with values worked out by hand; and the
+//! definitions of a set's contents and readings as plain programs, for testing faster programs.
 #![tactic(auto)]
 
 mod contents;

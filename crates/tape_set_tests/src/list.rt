@@ -7,18 +7,18 @@ ghost use Rattle.tape_set.specs.Layout.{nth};
 use std::alloc::{AllocError, Global};
 use tape_set::Sequence;
 
-/// Returns a copy of these bytes.
+/// Returns a copy of `bytes`.
 ///
 /// # Errors
 ///
-/// `AllocError` if memory is refused.
+/// `AllocError` if an allocation fails.
 pub(crate) fn copied(alloc: Global, bytes: &[u8]) -> Result<Sequence<u8>, AllocError>
     ensures { IfOk result (λ copy. copy ≡ bytes.now) }
 {
     Ok(Sequence::of_vec(bytes.to_vec(alloc)?))
 }
 
-/// Returns the first `n` elements, or all if there are fewer.
+/// Returns the first `n` elements, or all elements if there are fewer.
 pub(crate) fn first<T>(elements: &[T], n: usize) -> &[T]
     ensures { result.now ≡ take n elements.now }
 {
@@ -32,7 +32,7 @@ pub(crate) fn rest<T>(elements: &[T], n: usize) -> &[T]
     elements.get(n..).unwrap_or(&[])
 }
 
-/// Returns element number `n`, counted from 1.
+/// Returns element number `n`, counted from 1, or `None` if there is no such element.
 pub(crate) fn nth<T>(elements: &[T], n: usize) -> Option<&T>
     ensures { option_copied result ≡ nth elements.now n }
 {

@@ -1,4 +1,4 @@
-//! Counts of labels, lists, and the volumes of sections.
+//! Block counts in labels, lists, and the volumes of sections.
 
 use crate::layouts::two_files;
 use std::test::Fail;

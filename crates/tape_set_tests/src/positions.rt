@@ -63,7 +63,8 @@ fn positions_go_on(rt: HostRuntime) {
     goes_on(&rt, end, end, end);
 }
 
-/// The next block and the next section are these.
+/// Checks that `block` is the start of the block after `from`, and `section` that of the next
+/// section.
 fn goes_on(rt: &impl Abort, from: Position, block: Position, section: Position)
     requires block { block_of from < 4294967295 }
     requires sect { sect_of from < 65535 }

@@ -1,5 +1,5 @@
 //! The definitions as plain programs: the contents of a volume, the parts before a position, and
-//! how far a reading moves one.
+//! how far a reading moves a position.
 
 use crate::contents::{EntryLayout, entries};
 use crate::delivered::before;
@@ -47,7 +47,7 @@ fn put(text: &mut String, kind: &str, bytes: &Sequence<u8>) -> Result<(), AllocE
     text.push_str("|")
 }
 
-// A position in the first section of a file, where most of the tests are.
+// Returns a position in the first section of a file, which most tests use.
 fn at(block: u32, part: u32) -> Position {
     Position::Awaits {
         sect: 1,
@@ -88,7 +88,7 @@ fn all_parts_lie_before_the_end(rt: HostRuntime) -> Result<(), Fail> {
     Ok(())
 }
 
-// These are the parts before the position, each followed by a bar.
+// Checks that the given parts are before the position; each is followed by a bar.
 fn lie_before(
     rt: &impl Abort,
     alloc: Global,
@@ -105,8 +105,8 @@ fn lie_before(
     Ok(())
 }
 
-/// Volume 1: VOL1, UVL1, HDR1, HDR2, mark, two blocks, mark, EOF1, two marks. `+` was read well,
-/// `-` was not.
+/// Volume 1: VOL1, UVL1, HDR1, HDR2, mark, two blocks, mark, EOF1, two marks. `+` is a readable
+/// item, `-` a bad one.
 #[test]
 fn readings_take_positions_on(rt: HostRuntime) -> Result<(), Fail> {
     let layout = two_files(rt.alloc())?;

@@ -1,4 +1,4 @@
-//! How far one reading moves a position: the definition as a plain program, for tests of faster
+//! How far one reading moves a position: the definition as a plain program, for testing faster
 //! readers.
 
 ghost use Rattle.std.specs.Prelude.{◌≡◌, ◌<◌, ◌≤◌, IfSome, IsSome, IfOk, length};
@@ -13,15 +13,15 @@ use crate::list::{first, nth, rest};
 use std::alloc::{AllocError, Global};
 use tape_set::{Layout, Position, SectionLayout};
 
-/// Returns the position in a file that one reading of a volume moves a position to. `good` says for
-/// each item of the volume, in order from its start, whether it was read well.
+/// Returns the position to which one reading of a volume moves a position in a file. `good` says
+/// for each item of the volume, from its start, whether it was readable.
 ///
 /// Returns `None` if the numbers of that position are too great for a `Position`, which is
 /// impossible in a valid set.
 ///
 /// # Errors
 ///
-/// `AllocError` if memory is refused.
+/// `AllocError` if an allocation fails.
 pub fn far(
     alloc: Global,
     layout: &Layout,
@@ -53,7 +53,8 @@ pub fn far(
     Ok(moved(position, sect, block, section, rest(good, past.len())))
 }
 
-/// Returns true if the reading includes all of this, and only data blocks were not read well.
+/// Returns true if the reading includes all entries of `past`, and only data blocks among them were
+/// not readable.
 fn passes(good: &[bool], past: &[EntryLayout]) -> bool
     ensures { result ≡ passes good.now (entries_told past.now) }
 {
@@ -74,7 +75,7 @@ fn is_data(entry: &EntryLayout) -> bool
     matches!(entry, EntryLayout::DataBlock(_))
 }
 
-/// Returns the position that is reached in this section; `good` begins after its headers.
+/// Returns the position reached in the section; `good` begins after its headers.
 fn moved(
     position: Position,
     sect: u16,
@@ -100,7 +101,8 @@ fn moved(
     stopped(position, sect, block, blocks)
 }
 
-/// Returns the position, which is at this block, or the start of the block that was reached.
+/// Returns `position`, which is in block number `block`, or the start of block number `reached` if
+/// that is another block.
 fn stopped(position: Position, sect: u16, block: u32, reached: usize) -> Option<Position>
     ensures found { IfSome result (λ p. p ≡ stopped position sect block reached) }
     ensures some { reached ≤ most_blocks → IsSome result }
@@ -112,7 +114,7 @@ fn stopped(position: Position, sect: u16, block: u32, reached: usize) -> Option<
     Some(Position::awaiting(sect, reached))
 }
 
-/// Returns where the file continues after the section.
+/// Returns the position after the section.
 fn behind(sect: u16, section: &SectionLayout) -> Option<Position>
     ensures found { IfSome result (λ p. p ≡ behind sect section.now) }
     ensures some { sect < 65535 → IsSome result }
@@ -130,7 +132,8 @@ fn ends_file(section: &SectionLayout) -> bool
     first(section.trailer.as_slice(), 4) == b"EOF1".as_slice()
 }
 
-/// Returns the first of so many blocks, from this one on, that was not read well, or their number.
+/// Returns the number of the first unreadable block, from `block` to `blocks - 1`, or `blocks` if
+/// all of them were readable.
 #[tactic(auto, using(tape_set::proofs::Reaching::first_unread_most))]
 fn first_unread(good: &[bool], block: usize, blocks: usize) -> usize
     requires { block ≤ blocks }
@@ -139,7 +142,7 @@ fn first_unread(good: &[bool], block: usize, blocks: usize) -> usize
     block + good_run(first(rest(good, block), blocks - block))
 }
 
-/// Returns how many were read well before the first that was not.
+/// Returns the number of readable items before the first that was not readable.
 fn good_run(good: &[bool]) -> usize
     ensures { result ≡ good_run good.now }
 {
@@ -151,7 +154,7 @@ fn good_run(good: &[bool]) -> usize
     good.len()
 }
 
-/// Returns true if the reading includes both of the next two items, and both were read well.
+/// Returns true if the reading includes both of the next two items, and both were readable.
 fn both_good(good: &[bool]) -> bool
     ensures { result ≡ both_good good.now }
 {

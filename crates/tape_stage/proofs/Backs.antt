@@ -1,4 +1,4 @@
--- What is left after a crash.
+-- The remains of a stage after a crash.
 use Rattle.std.proofs.Common.{◌≡◌, ◌⊎◌, inl, inr, ℕ, ◌+◌, ◌≤◌, Bool, false, not, List}
 use Rattle.std.proofs.Common.{sym, ◌∙◌, subst}
 use Rattle.tape_stage.specs.declared.disk.Disk.{Ghosts}
@@ -19,7 +19,7 @@ use Rattle.tape_stage.proofs.Tears.{staged_named}
 use Rattle.tape_stage.proofs.SlotSteps.{ready_each}
 use Rattle.tape_stage.proofs.Once.{staged_once}
 
--- something is there
+-- the bytes represent something
 pub in_stands : (second : Bool) (g : ℕ) (point : Point) (parts : List Portion) (bytes : List ℕ)
     → StagedIn second g point parts bytes → (h : ℕ) × (back : Point) × (there : List Portion)
     × Staged bytes h back there
@@ -34,7 +34,7 @@ either_stands second g point next parts more bytes (inl was) =
 either_stands second g point next parts more bytes (inr new) =
     in_stands (not second) (g + 1) next more bytes new
 
--- what was just opened, or created
+-- a stage that was just opened or created survives a crash
 pub ready_survives : (seen : List ℕ) (may_leave : List ℕ → Type 0) (second : Bool) (g : ℕ)
     (point : Point) (other_open : Bool) (parts : List Portion)
     → Ready second g point parts other_open seen may_leave
@@ -55,7 +55,7 @@ ready_returns seen may_leave second g point other_open parts ready back there r 
     (staged_named second g point parts r.0 each) in
     (same.1, same.2)
 
--- what crashes do to a stage on this disk
+-- the effect of crashes on a stage on the given disk
 abbrev pub crashes_on : {D : Type 0} → Ghosts D → D → Crashes
 crashes_on disk at = record {
   returns = λ back there. (bytes : List ℕ) × disk.may_leave at bytes
@@ -77,7 +77,7 @@ module _ {D : Type 0} {disk : Ghosts D} where
       subst (λ (c : Point). Returns stage c there) (sym points)
       (subst (λ (l : List Portion). Returns stage point l) (sym lists) is)
 
-  -- what is acknowledged may be left
+  -- the acknowledged data may be left
   acked_returns : (stage : Stage D disk) (acked parts : List Portion) → disk.may_leave stage.disk
       (disk.seen stage.disk) → IsStage stage acked parts → Returns stage stage.acknowledged acked
   acked_returns stage acked parts now is = (
@@ -90,7 +90,7 @@ module _ {D : Type 0} {disk : Ghosts D} where
     ),
   )
 
-  -- a file that represents what is acknowledged
+  -- a file that represents the acknowledged data
   pub returned_old : (old : Stage D disk) (acked parts : List Portion) (bytes : List ℕ) (g : ℕ)
       (back : Point) (there : List Portion) → disk.may_leave old.disk (disk.seen old.disk)
       → IsStage old acked parts
@@ -102,7 +102,7 @@ module _ {D : Type 0} {disk : Ghosts D} where
       returns_as old old.acknowledged back acked there same.1 same.2
       (acked_returns old acked parts now is)
 
-  -- or for the next checkpoint
+  -- a file that represents the acknowledged data, or the next checkpoint
   pub returned : (old : Stage D disk) (acked parts front : List Portion) (next : Point)
       (bytes : List ℕ) (g : ℕ) (back : Point) (there : List Portion) → disk.may_leave old.disk
       (disk.seen old.disk) → IsStage old acked parts
@@ -115,7 +115,7 @@ module _ {D : Type 0} {disk : Ghosts D} where
       (staged_named (not old.in_second) (old.generation + 1) next front bytes new) in
       inr (same.1, same.2)
 
-  -- nothing but what was kept is left
+  -- only the saved checkpoint may be left
   pub returned_kept : (stage : Stage D disk) (parts : List Portion) (point back : Point)
       (there : List Portion) → IsStage stage parts parts → stage.acknowledged ≡ point
       → Returns stage back there → (back ≡ point) × (there ≡ parts)
@@ -127,7 +127,7 @@ module _ {D : Type 0} {disk : Ghosts D} where
       (staged_named stage.in_second stage.generation stage.acknowledged parts r.0 each) in
       (same.1 ∙ kept, same.2)
 
-  -- what might come back since this moment may come back now
+  -- contents that might have returned since this moment may return now
   pub returned_now : (stage : Stage D disk) → disk.is_honest stage.disk
       → ((c : List ℕ) → disk.is_honest stage.disk
       → disk.left_since stage.disk (disk.moment stage.disk) c → disk.may_leave stage.disk c)
@@ -145,15 +145,15 @@ module _ {D : Type 0} {disk : Ghosts D} where
       survives bytes (only bytes honest left)
   survived_now stage honest only survives bytes (inr left) = survives bytes left
 
-  -- ---- what a call adds
+  -- ---- the contents that a call adds
 
-  -- what could come back now, could since a moment
+  -- contents that may return now might have returned since an earlier moment
   also_since : (stage : Stage D disk) (t : ℕ) (back : Point) (there : List Portion) (Q : Type 0)
       → Returns stage back there ⊎ Q → Returned stage t back there ⊎ Q
   also_since stage t back there Q (inl (bytes, left, is)) = inl (bytes, inr left, is)
   also_since stage t back there Q (inr q) = inr q
 
-  -- for each file that was left meanwhile it is known what it represents
+  -- if the meaning of each file left during a call is known, so are the contents that the call adds
   pub adds_passed : (old : Stage D disk) (new : D) (these : crash.Returns) (P : List ℕ → Type 0)
       → Passes disk old.disk new P
       → ((bytes : List ℕ) (g : ℕ) (back : Point) (there : List Portion) → P bytes
@@ -196,7 +196,7 @@ module _ {D : Type 0} {disk : Ghosts D} where
       survived t le before bytes (inl left) = stood t bytes before (passes.before t bytes le left)
       survived t le before bytes (inr left) = stood t bytes before (inr (passes.now bytes left))
 
-  -- a call that leaves what is acknowledged
+  -- a call that leaves the acknowledged data
   pub adds_nothing : (old new : Stage D disk) (acked parts : List Portion)
       → disk.may_leave old.disk (disk.seen old.disk) → IsStage old acked parts
       → Passes disk old.disk new.disk
@@ -209,7 +209,7 @@ module _ {D : Type 0} {disk : Ghosts D} where
       (λ before bytes was.
       in_stands old.in_second old.generation old.acknowledged acked bytes was)
 
-  -- or makes these acknowledged
+  -- a call that leaves the acknowledged data unchanged, or acknowledges the given data
   pub adds_this : (old new : Stage D disk) (acked parts front : List Portion) (next : Point)
       → disk.may_leave old.disk (disk.seen old.disk) → IsStage old acked parts
       → Passes disk old.disk new.disk
@@ -222,7 +222,7 @@ module _ {D : Type 0} {disk : Ghosts D} where
       (λ before bytes was.
       either_stands old.in_second old.generation old.acknowledged next acked front bytes was)
 
-  -- or only reads
+  -- a call that only reads
   pub adds_read : (old : Stage D disk) (new : D)
       → Passes disk old.disk new (disk.may_leave old.disk)
       → AddsNothing (crashes_of old) (crashes_on disk new)
@@ -230,7 +230,7 @@ module _ {D : Type 0} {disk : Ghosts D} where
       (λ bytes g back there left staged. inl (bytes, left, (g, staged)))
       (λ before bytes left. before bytes left)
 
-  -- or was refused
+  -- a call that was refused
   pub adds_refused : (old new : Stage D disk) (these : crash.Returns) (fault : StageFault)
       → HasRefused old new fault
       → (old.failed ≡ false → AddsOnly these (crashes_of old) (crashes_of new))

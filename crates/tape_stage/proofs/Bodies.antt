@@ -1,4 +1,4 @@
--- A body reads as what it was written from.
+-- A body that was written is read back.
 use Rattle.std.proofs.Common.{◌≡◌, ℕ, Bool, true, false, cond, List, ◌++◌, length}
 use Rattle.std.proofs.Common.{take, drop, replicate, Option, Some, None, refl, ap, ◌∙◌}
 use Rattle.std.proofs.Common.{arith, length-append}

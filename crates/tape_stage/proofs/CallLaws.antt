@@ -116,7 +116,7 @@ right_more true first worst worst' bytes bytes' calls calls' call is right fits 
     (subst (λ (l : List ℕ). IsRight first l (after bytes call) (calls ++ call ∷ [])) (sym w)
     (one_more first worst bytes calls call right fits)))
 
--- a call that only looks
+-- a call that only reads
 pub right_looked : (first worst bytes : List ℕ) (calls calls' : List Call) (call : Call)
     → (after bytes call ≡ bytes) → (worst_after bytes worst call ≡ worst) → Fits bytes call
     → IsRight first worst bytes calls → calls' ≡ calls ++ call ∷ []

@@ -3,14 +3,14 @@ use Rattle.std.proofs.Common.{ℕ, ◌≡◌, ◌≤◌, Result, Ok, Err, OnOk, 
 use Rattle.std.specs.Prelude.{OnErr}
 use Rattle.tape_core.specs.Weight.{Rose}
 
--- after a call of the disk, whatever it answered
+-- after a call of the disk, whatever its result
 pub caused_on : {A B : Type 0} (r : Result A B) (n old new : ℕ) → n ≤ 18446744073709551615
     → n ≤ old → OnErr r (Rose old new) → OnOk r (new ≡ old) → n ≤ new
 caused_on (Ok x) n old new small le cause calm = omega (arith, le, calm)
 caused_on (Err e) n old new small le (inl more) calm = omega (arith, le, more)
 caused_on (Err e) n old new small le (inr top) calm = omega (arith, small, top)
 
--- one more failure of the wrapper is one of the disk
+-- one more failure of the wrapper is a failure of the disk
 pub caused_rose : (n old new : ℕ) → n ≤ old → Rose old new → Rose n new
 caused_rose n old new le (inl more) = inl (omega (arith, le, more))
 caused_rose n old new le (inr top) = inr top

@@ -1,4 +1,4 @@
--- What a call on the content of a disk in memory does to what a crash may leave.
+-- The effect of a call on the contents that a crash may leave of a disk in memory.
 use Rattle.std.proofs.Common.{◌≡◌, ℕ, List, length, Vec, sym}
 use Rattle.std.proofs.Common.{subst}
 use Rattle.std.specs.declared.alloc.Global.{Global}

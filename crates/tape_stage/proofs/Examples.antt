@@ -1,4 +1,4 @@
--- The cases of disks and stages.
+-- Proofs of the examples for disks and stages.
 use Rattle.std.proofs.Common.{◌≡◌, ◌⊎◌, ◌∙◌, List, ℕ, [], ◌∷◌, refl, inl}
 use Rattle.std.proofs.Common.{inr, arith, get_or, ap, take, subst, Some, Ok}
 use Rattle.tape_blocks.specs.declared.parts.Span.TheVariants as spans
@@ -148,7 +148,7 @@ cases_of_files = record {
   staged_stays = λ old new g point parts k s.
       let cut = k g point parts s in (cut.front, cut.no_longer);
   frames_stay = λ old new k. (k.rest, k.long);
-  bad_place = λ bytes place b. (b.walked, b.none, b.slot);
+  bad_place = λ bytes place b. (b.inside, b.walked, b.none, b.slot);
   walked = λ bytes place w. (w.low, w.frames_are);
   a_frame = record {
     room = omega arith;

@@ -1,4 +1,4 @@
--- What a caller draws from the laws.
+-- Proofs of the conclusions that a caller can draw from the laws.
 use Rattle.std.proofs.Common.{true, false, inr}
 use Rattle.tape_stage.specs.CasesOfLaws.{CasesOfLaws}
 

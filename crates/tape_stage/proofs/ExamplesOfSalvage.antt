@@ -1,4 +1,4 @@
--- The examples of what remains of a stage.
+-- Proofs of the examples for the remains of a stage.
 use Rattle.std.proofs.Common.{◌≡◌, [], ◌∷◌, refl, ap, get_or, arith}
 use Rattle.tape_blocks.specs.declared.parts.Span.TheVariants as spans
 use Rattle.tape_stage.specs.CasesOfSalvage.{CasesOfSalvage, cut_frame, frame_and_none}
@@ -46,6 +46,8 @@ cases_of_salvage g = record {
     r.framed.breaks.none,
   );
   none_remains = λ bytes n point broken parts none r. none n point broken parts r;
+  none_said = λ bytes says. says;
+  bad_said = λ bytes place says. says;
   once = λ bytes n m point next broken other parts more law one two.
       law n m point next broken other parts more one two;
   holds_rest = λ s parts h. h;

@@ -1,4 +1,4 @@
--- The groups of fields, found and read again.
+-- The groups of fields, read from a text and written to it.
 use Rattle.std.proofs.Common.{◌≡◌, ℕ, ◌+◌, ◌-◌, ◌≤◌, List, []}
 use Rattle.std.proofs.Common.{◌∷◌, length, take, drop, replicate, Ok, refl}
 use Rattle.std.proofs.Common.{subst, arith}
@@ -17,7 +17,7 @@ use Rattle.tape_stage.proofs.Steps.{bind_ok, ok_is, HasDigits, number_found, num
 use Rattle.tape_stage.proofs.Steps.{flag_found, flag_again, format_found, format_again, tail_found}
 use Rattle.tape_stage.proofs.Steps.{tail_again}
 
--- the block and the part are there
+-- the text contains the block and the part
 abbrev pub HasPlace : Version → List ℕ → Place → Type 0
 HasPlace One text place = HasDigits text 20 25 place.block × (place.part ≡ 0)
 HasPlace Two text place = HasDigits text 20 29 place.block × HasDigits text 30 34 place.part

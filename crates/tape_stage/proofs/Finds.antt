@@ -1,4 +1,4 @@
--- What is found in the slots.
+-- The slots that are found on a disk.
 use Rattle.std.proofs.Common.{◌≡◌, ⊎_elim, ℕ, ◌+◌, ◌≤◌, Bool, true, false, not, List}
 use Rattle.std.proofs.Common.{take, length, Option, Some, None, ◌==◌, sym, ap, ◌∙◌}
 use Rattle.std.proofs.Common.{subst, arith}
@@ -49,7 +49,7 @@ slot_gate gate body found is =
     ⊎_elim (λ yes. (yes.1, sym (open_reads gate body yes.1) ∙ is)) (λ no. let none =
     closed_none gate body no.1 in cc (none, is)) (eqb_tells gate 79)
 
--- what was found, with frames after it, is staged
+-- the slot found, with intact frames after it, is staged
 pub found_staged : (found : Found) (parts : List Portion) (bytes : List ℕ) → IsFound found bytes
     → Holding found.point.staged parts bytes → StagedIn found.in_second found.generation found.point
     parts bytes
@@ -58,7 +58,7 @@ found_staged found parts bytes is holding =
     (found.generation, found.point) is.slot in
     record { is_open = slot.0; body = slot.1; other = is.other; parts_are = holding }
 
--- and is ready once it is all that a crash may leave
+-- the staged data are ready once a crash leaves only them
 pub found_ready : (found : Found) (parts : List Portion) (bytes : List ℕ) (may_leave : List ℕ
     → Type 0) → IsFound found bytes → Holding found.point.staged parts bytes
     → ((c : List ℕ) → may_leave c → c ≡ bytes)
@@ -79,7 +79,7 @@ best_of true g point bytes is loses =
     ap (λ (s : Option Slot). best (slot_at false bytes) s) is ∙ best_named true g point
     (slot_at false bytes) loses
 
--- what has the same bytes up to the staged end represents the same
+-- bytes that agree up to the staged end represent the same
 pub stands_like : (found : Found) (read c : List ℕ) (end : ℕ) → IsFound found read
     → end ≡ 256 + found.point.staged → end ≤ length read → take end c ≡ take end read
     → StandsLike read c
@@ -99,7 +99,7 @@ stands_like found read c end is at room same g point parts staged =
           staged.parts_are;
     }
 
--- what is left after the cut is ready
+-- the stage after the cut is ready
 pub cut_ready : (found : Found) (parts : List Portion) (read new : List ℕ) (may_leave : List ℕ
     → Type 0) (end : ℕ) → IsFound found read → end ≡ 256 + found.point.staged
     → Holding found.point.staged parts read

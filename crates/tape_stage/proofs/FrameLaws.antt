@@ -36,7 +36,7 @@ short_front : (xs ys : List Portion) → AllShort (xs ++ ys) → AllShort xs
 short_front [] ys all = tt
 short_front (x ∷ xs) ys all = (all.0, short_front xs ys all.1)
 
--- one part more
+-- one more part
 pub put_holding : (weight place : ℕ) (parts : List Portion) (part : Portion) (old new : List ℕ)
     → place ≡ 256 + weight → length part.bytes ≤ 99999
     → Holding weight parts old → IsPut place part old new
@@ -57,7 +57,7 @@ put_holding weight place parts part old new is short holding put =
       short = short_push parts part holding.short short;
     }
 
--- the first parts alone
+-- the first parts only
 pub front_holding : (weight staged : ℕ) (parts front : List Portion) (bytes : List ℕ)
     → staged ≤ weight → IsFront staged front parts → Holding weight parts bytes
     → Holding staged front bytes

@@ -1,4 +1,4 @@
--- Frames are read one way only.
+-- Frames can be read in only one way.
 use Rattle.std.proofs.Common.{◌≡◌, ℕ, ◌+◌, ◌-◌, ◌≤◌, ◌<◌, List, [], ◌∷◌, ◌++◌, length, take, drop}
 use Rattle.std.proofs.Common.{w32, refl, sym, ap, ◌∙◌, subst, arith, length-append}
 use Rattle.std.proofs.lemmas.List.{take-take, take_at, drop_at, drop-take, length-take-le}
@@ -44,7 +44,7 @@ size_same : (m n : ℕ) → m ≤ 99999 → n ≤ 99999 → to_be_bytes w32 m �
 size_same m n low high e = sym (from_be_bytes-to_be_bytes_4 m (omega arith)) ∙ ap
     (from_be_bytes w32) e ∙ from_be_bytes-to_be_bytes_4 n (omega arith)
 
--- There is at most one frame at a place.
+-- At most one frame begins at an offset.
 pub one_frame : (place end : ℕ) (bytes : List ℕ) (s t : Span) (c d : List ℕ)
     → IsFrameAt place end bytes s c → IsFrameAt place end bytes t d → (s ≡ t) × (c ≡ d)
 one_frame place end bytes s t c d a b =
@@ -60,7 +60,7 @@ one_frame place end bytes s t c d a b =
 length-frame : (part : Portion) → length (frame part) ≡ 5 + length part.bytes
 length-frame part = omega (arith, length-append (to_be_bytes w32 (length part.bytes)) part.bytes)
 
--- the first of what is ahead, and what is ahead after it
+-- the next part, and the parts after it
 pub record OneAhead (place end : ℕ) (bytes : List ℕ) (parts : List Portion) : Type 0 where
   pub part : Portion
   pub rest : List Portion
@@ -73,7 +73,7 @@ length-between : (place end : ℕ) (bytes : List ℕ) → place ≤ end → end 
 length-between place end bytes low high =
     length-take-le (end - place) (drop place bytes) (omega (arith, length-drop place bytes))
 
--- nothing is ahead at the end
+-- if no parts are to come, the offset is the end
 pub none_ends : (place end : ℕ) (bytes : List ℕ) → AheadIn place end bytes [] → end ≡ place
 none_ends place end bytes ahead =
     omega (
@@ -138,7 +138,7 @@ one_ahead place end bytes (part ∷ rest) low ahead =
     split_ahead place end bytes part rest ahead.low ahead.high ahead.frames_are ahead.short.0
     ahead.short.1
 
--- nothing is ahead of the end
+-- no parts are to come at or after the end
 pub none_ahead : (place end : ℕ) (bytes : List ℕ) (parts : List Portion) → end ≤ place
     → AheadIn place end bytes parts → parts ≡ []
 none_ahead place end bytes [] low ahead = refl
@@ -152,7 +152,7 @@ none_ahead place end bytes (part ∷ rest) low ahead =
       length-frame part,
     ))
 
--- and something is ahead of a place before it alone
+-- if a part is to come, the offset is before the end
 pub more_ahead : (place end : ℕ) (bytes : List ℕ) (part : Portion) (rest : List Portion)
     → AheadIn place end bytes (part ∷ rest) → place < end
 more_ahead place end bytes part rest ahead =
@@ -188,14 +188,14 @@ given walked end size old new span content parts low found long same ahead =
           (subst (λ (k : ℕ). AheadIn k end old one.rest) there one.next),
     )
 
--- nothing is ahead of the end, and that is so again from there on
+-- no parts are to come at the end, and none after that
 pub nothing_ahead : (place end : ℕ) (bytes : List ℕ) (parts : List Portion) → end ≤ place
     → AheadIn place end bytes parts → (parts ≡ []) × AheadIn place end bytes []
 nothing_ahead place end bytes parts low ahead =
     let none = none_ahead place end bytes parts low ahead in
     (none, subst (λ (ps : List Portion). AheadIn place end bytes ps) none ahead)
 
--- the contents are ahead at the beginning
+-- at the beginning all parts are to come
 pub held_ahead : (weight : ℕ) (parts : List Portion) (bytes : List ℕ) → Holding weight parts bytes
     → AheadIn (256 + 0) (256 + weight) bytes parts
 held_ahead weight parts bytes holding = record {
@@ -208,7 +208,7 @@ held_ahead weight parts bytes holding = record {
     less : (n : ℕ) → 256 + n - 256 ≡ n
     less n = omega arith
 
--- ---- a part that was not lent
+-- ---- a part that is not returned
 
 pub lends_none : {D : Type 0} (disk : Ghosts D) (failed : Bool) (walked weight : ℕ) (old new : D)
     (fault : SinkFault) → (fault ≡ Device) ⊎ (fault ≡ Failed)

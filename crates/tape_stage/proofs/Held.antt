@@ -1,4 +1,4 @@
--- The contents of a stage, as a sink.
+-- The contents of a stage as a sink.
 use Rattle.std.proofs.Common.{◌≡◌, ℕ, Bool, false, List, length}
 use Rattle.std.specs.Prelude.{Option, None}
 use Rattle.std.proofs.Common.{drop, refl, sym, ap, ◌∙◌, subst, arith}
@@ -34,7 +34,7 @@ module _ {D : Type 0} {disk : Ghosts D} where
     ready = λ alive. (acked, is);
   }
 
-  -- so does one that was just opened
+  -- a stage that was just opened contains its parts
   pub opened_holds : (at : D) (in_second : Bool) (g : ℕ) (point : Point) (other_open : Bool)
       (weight : ℕ) (parts : List Portion) → weight ≡ point.staged → disk.is_honest at
       → Ready in_second g point parts other_open (disk.seen at) (disk.may_leave at)
@@ -58,7 +58,7 @@ module _ {D : Type 0} {disk : Ghosts D} where
         );
       }
 
-  -- so does one that was refused, if the frames are unchanged
+  -- a stage that refused a call contains its parts, if the frames are unchanged
   pub refused_holds : (old new : Stage D disk) (parts : List Portion) (fault : StageFault)
       → HasRefused old new fault
       → (fault ≡ Device → new.pending ≡ None → disk.is_honest old.disk → disk.is_honest new.disk)

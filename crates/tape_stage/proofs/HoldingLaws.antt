@@ -1,4 +1,4 @@
--- What holding bytes before a disk does to what is read and to what a crash may leave.
+-- The effect of buffered bytes on the results of reads, and on the contents that a crash may leave.
 use Rattle.std.proofs.Common.{◌≡◌, inl, inr, ⊎_elim, ℕ, ◌+◌, ◌-◌, ◌≤◌, ◌<◌, List, [], ◌++◌}
 use Rattle.std.proofs.Common.{length, take, drop, refl, sym, ap, ◌∙◌, subst, arith}
 use Rattle.std.proofs.Common.{length-append, length-drop, append_assoc}
@@ -35,7 +35,7 @@ pub none_left : (leaves : List ℕ → Type 0) (p : ℕ) (bytes c : List ℕ) �
     → LeftTorn leaves p bytes c
 none_left leaves p bytes c left = (c, left, torn_same p (length bytes) c)
 
--- nothing was held, and nothing was done
+-- nothing was buffered, and nothing was done
 pub idle_elapses : (m : ℕ) (past : ℕ → List ℕ → Type 0) (leaves : List ℕ → Type 0) (s0 s1 : ℕ)
     (b : List ℕ) → b ≡ []
     → Elapses m m (LeftSince past leaves s0 b) (LeftSince past leaves s1 b) (LeftTorn leaves s1 b)
@@ -46,7 +46,7 @@ idle_elapses m past leaves s0 s1 b none = record {
       (λ now. inr (none_left leaves s1 b c (left_none leaves s0 b c none now))) was;
 }
 
--- what was held is written
+-- the buffered bytes are written
 pub passed_elapses : (m0 m1 : ℕ) (past0 past1 : ℕ → List ℕ → Type 0)
     (leaves0 leaves1 : List ℕ → Type 0) (s0 s1 : ℕ) (b0 b1 : List ℕ)
     → Allows (Torn s0 (length b0)) leaves0 leaves1
@@ -63,7 +63,7 @@ passed_elapses m0 m1 past0 past1 leaves0 leaves1 s0 s1 b0 b1 any counts time = r
       (λ held. inl (counts t c (omega (arith, le, time.later)) (any held.0 c held.1 held.2))) was;
 }
 
--- the same bytes are held on
+-- the same bytes remain buffered
 pub failed_elapses : (m0 m1 : ℕ) (past0 past1 : ℕ → List ℕ → Type 0)
     (leaves0 leaves1 : List ℕ → Type 0) (s : ℕ) (b : List ℕ) → NoMore leaves1 leaves0
     → Elapses m0 m1 past0 past1 leaves1
@@ -78,7 +78,7 @@ failed_elapses m0 m1 past0 past1 leaves0 leaves1 s b stays time = record {
       (λ held. inr (held.0, stays held.0 held.1, held.2)) was;
 }
 
--- passed on, and then a call of the disk
+-- the buffer is written, and then a call is made on the disk
 pub then_elapses : (m0 m1 m2 : ℕ) (past0 past1 past2 : ℕ → List ℕ → Type 0)
     (leaves0 leaves1 leaves2 : List ℕ → Type 0) (s0 s1 : ℕ) (b0 b1 : List ℕ) → b1 ≡ []
     → NoMore (LeftTorn leaves0 s0 b0) (LeftTorn leaves1 s1 b1)
@@ -106,7 +106,7 @@ then_elapses m0 m1 m2 past0 past1 past2 leaves0 leaves1 leaves2 s0 s1 b0 b1 none
           (first.keeps t c le was);
     }
 
--- what a crash may leave, where it was passed on and then a call of the disk was made
+-- the contents that a crash may leave after the buffer is written and a call is made on the disk
 module _ (old mid new : List ℕ → Type 0) (s : ℕ) (b : List ℕ) where
   pub then_follows : (step : List ℕ → List ℕ → Type 0) → b ≡ [] → NoMore old (LeftTorn mid s b)
       → Follows step mid new → Follows step old (LeftTorn new s b)
@@ -124,7 +124,7 @@ module _ (old mid new : List ℕ → Type 0) (s : ℕ) (b : List ℕ) where
   then_allows step none stays allows d c left torn = none_left new s b c
       (allows d c (left_none mid s b d none (stays d left)) torn)
 
--- two torn writes are one, one behind the other
+-- two torn writes, one after the other, are one torn write
 pub torn_one : (p m n : ℕ) (d e c : List ℕ) → Torn p m d e → Torn (p + m) n e c
     → Torn p (m + n) d c
 torn_one p m n d e c first second = record {
@@ -135,7 +135,7 @@ torn_one p m n d e c first second = record {
   no_longer = omega (arith, first.no_longer, second.no_longer);
 }
 
--- more bytes are held
+-- more bytes are buffered
 pub more_open : (leaves : List ℕ → Type 0) (p : ℕ) (bytes more : List ℕ) (d c : List ℕ)
     → LeftTorn leaves p bytes d → Torn (p + length bytes) (length more) d c
     → LeftTorn leaves p (bytes ++ more) c
@@ -162,7 +162,7 @@ more_elapses m past leaves s b more = record {
       (λ now. inr (more_stays leaves s b more c now)) was;
 }
 
--- one torn write is two, one behind the other
+-- one torn write is two torn writes, one after the other
 pub torn_two : (p m n : ℕ) (d c : List ℕ) → Torn p (m + n) d c
     → (e : List ℕ) × Torn p m d e × Torn (p + m) n e c
 torn_two p m n d c torn = ⊎_elim
@@ -207,7 +207,7 @@ torn_two p m n d c torn = ⊎_elim
     ))
     (cases_lt (length c) (p + m))
 
--- the held bytes with more behind them
+-- the buffered bytes with more bytes after them
 pub holds_more : (p : ℕ) (bytes more old : List ℕ) → p ≤ length old
     → Holds (with_held p bytes old) (p + length bytes) more (with_held p (bytes ++ more) old)
 holds_more p bytes more old le =
@@ -227,7 +227,7 @@ holds_more p bytes more old le =
     ∙ ap (λ (l : List ℕ). l ++ more ++ drop (p + length bytes + length more) old) (sym low)
     ∙ ap (λ (l : List ℕ). take (p + length bytes) w ++ more ++ l) (sym rest)
 
--- the same for what a crash may leave
+-- the same for the contents that a crash may leave
 pub left_more : (leaves : List ℕ → Type 0) (p : ℕ) (bytes more : List ℕ) (c : List ℕ)
     → LeftTorn leaves p (bytes ++ more) c
     → (e : List ℕ) × LeftTorn leaves p bytes e × Torn (p + length bytes) (length more) e c
@@ -236,7 +236,7 @@ left_more leaves p bytes more c left =
     (subst (λ (n : ℕ). Torn p n left.0 c) (length-append bytes more) left.2) in
     (e, (left.0, left.1, first), second)
 
--- the same state told twice
+-- the same state under other names
 pub same_left : {D : Type 0} (leaves : D → List ℕ → Type 0) (a b : D) (s t : ℕ) (x y c : List ℕ)
     → a ≡ b → s ≡ t → x ≡ y → LeftTorn (leaves a) s x c → LeftTorn (leaves b) t y c
 same_left leaves a b s t x y c disk start bytes left = (
@@ -246,7 +246,7 @@ same_left leaves a b s t x y c disk start bytes left = (
       (subst (λ (n : ℕ). Torn n (length x) left.0 c) start left.2),
 )
 
--- bytes were added to those that are held
+-- bytes were appended to the buffer
 module _ {D : Type 0} (leaves : D → List ℕ → Type 0) (a b : D) (s t place : ℕ)
     (x y more : List ℕ) (disk : b ≡ a) (start : t ≡ s) (bytes : y ≡ x ++ more)
     (end : s + length x ≡ place) where
@@ -267,7 +267,7 @@ module _ {D : Type 0} (leaves : D → List ℕ → Type 0) (a b : D) (s t place 
   pub added_stays : NoMore (LeftTorn (leaves b) t y) (LeftTorn (leaves a) s x)
   added_stays c left = added_allows c c left (torn_same place (length more) c)
 
--- it was passed on, and then bytes were held
+-- the buffer was written, and then bytes were buffered
 module _ {D : Type 0} (leaves : D → List ℕ → Type 0) (a b : D) (old : List ℕ → Type 0)
     (s t place : ℕ) (x y bytes : List ℕ) (none : x ≡ []) (disk : b ≡ a) (start : t ≡ place)
     (held : y ≡ x ++ bytes) (stays : NoMore (LeftTorn (leaves a) s x) old) where
@@ -316,7 +316,7 @@ part_of_part xs held out start from rest n is fits o =
     ∙ take-take n rest (drop from (drop start xs)) fits
     ∙ ap (take n) (drop-drop from start xs)
 
--- a part of the bytes from a place on is those from a later place on
+-- a slice of a slice is a slice from a later offset
 pub slice_of_slice : (xs held out : List ℕ) (start place n : ℕ)
     → take (start + length held - start) (drop start xs) ≡ held
     → start ≤ place → place - start ≤ length held → n ≤ length held - (place - start)
@@ -332,7 +332,7 @@ slice_of_slice xs held out start place n is from inside fits o =
     ∙ ap (λ k. take n (drop k xs)) there
     ∙ ap (λ k. take k (drop place xs)) many
 
--- one slice and the next are the slice of both
+-- two consecutive slices are a slice of both lengths
 pub slices_join : (xs front rest : List ℕ) (place n m size : ℕ) → n + m ≡ size
     → front ≡ take (place + n - place) (drop place xs)
     → rest ≡ take (place + n + m - (place + n)) (drop (place + n) xs)

@@ -1,4 +1,4 @@
--- What every answer of a call leaves alone.
+-- Bytes that a call leaves unchanged, whatever its result.
 use Rattle.std.proofs.Common.{◌≡◌, ℕ, ◌+◌, ◌≤◌, Bool, true, false, List, length, take, drop}
 use Rattle.std.proofs.Common.{ap, ◌∙◌, arith}
 use Rattle.tape_stage.specs.Disk.{Torn}

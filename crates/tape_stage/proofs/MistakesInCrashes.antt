@@ -1,6 +1,6 @@
--- Files that a crash inside a call of a stage never leaves, by the call's contract: each is one
--- that a wrong body would make possible, and that no crash before the call could leave. What is
--- assumed of a stage (`IsStage`, `Ready`) is what `create` and `save` promise of theirs.
+-- Files that a crash inside a call of a stage never leaves, according to the call's contract: each
+-- would be possible with a wrong body, and no crash before the call could leave it. The assumptions
+-- about a stage (`IsStage`, `Ready`) are guarantees of `create` and `save`.
 use Rattle.std.proofs.Common.{◌≡◌, ◌⊎◌, inl, inr, ℕ, ◌+◌, Bool, true, false, List, length}
 use Rattle.std.proofs.Common.{get_or, sym, ap, ◌∙◌, subst, arith}
 use Rattle.std.specs.Prelude.{not, Some, option_map, unwrap_or}
@@ -17,17 +17,17 @@ use Rattle.tape_stage.proofs.stage.Stage.restart.Reads as restart
 use Rattle.tape_stage.proofs.stage.Stage.save.Reads as save
 use Rattle.tape_stage.proofs.stage.putting.StagePartSink.keep.Reads as keep
 
--- if nothing was left before, what was left satisfies P
+-- if no contents were possible before, the contents left satisfy P
 since_then : {A P : Type 0} → (A → ⊥) → A ⊎ P → P
 since_then none (inl a) = absurd (none a)
 since_then none (inr p) = p
 
--- a slot with a later generation does not lose
+-- a slot with a later generation replaces the other
 wins : (second : Bool) (n : ℕ) (point : Point) → Loses second n (Some (n + 5, point)) → ⊥
 wins true n point lt = absurd (omega arith)
 wins false n point le = absurd (omega arith)
 
--- a slot with an open gate says what its body says
+-- the meaning of a slot with an open gate is that of its body
 body_read : (second : Bool) (n : ℕ) (point next other : Point) (parts more : List Portion)
     (c : List ℕ) → slot_at (not second) c ≡ Some (n + 5, other)
     → IsEither second n point next parts more c → ⊥
@@ -40,7 +40,7 @@ body_read second n point next other parts more c says (inr new) =
     omega arith)
 
 -- gate_before_sync_in_a_crash: inside a save the gate of the next slot is open over a body that is
--- not synced: it says a later generation and another checkpoint
+-- not synced, which has a later generation and another checkpoint
 gate_before_sync_in_a_crash : (D : _) (L : _) (g : _) (d : _) (κs : _) (a : _) (z : _) (s : _)
     (acked parts : List Portion) (c : List ℕ) (other : Point)
     → save.Learnt-named D L g d κs a z s → g.is_honest a.0.now.disk → IsStage a.0.now acked parts
@@ -52,8 +52,8 @@ gate_before_sync_in_a_crash D L g d κs a z s acked parts c other l honest stage
     c says (since_then before
     ((l.any_moment honest acked parts stage).before (g.moment a.0.now.disk) c (omega arith) left))
 
--- closed_gate_closed_again: the second slot counts, and the closed gate of the first is torn open
--- over a body that says a later generation
+-- closed_gate_closed_again: the second slot is current, and a torn write opens the closed gate of
+-- the first, over a body with a later generation
 closed_gate_closed_again : (D : _) (L : _) (g : _) (d : _) (κs : _) (a : _) (z : _) (s : _)
     (n : ℕ) (point other : Point) (parts : List Portion) (c : List ℕ)
     → close_gate.Learnt-named D L g d κs a z s → g.is_honest a.0.now
@@ -68,7 +68,7 @@ closed_gate_closed_again D L g d κs a z s n point other parts c l honest ready 
     = subst (λ b. StagedIn b n point parts c) second staged in
     wins true n other (subst (Loses true n) says e.other)
 
--- parts_taken_away_and_put_back: while a second part is put, the first byte of the first is 0
+-- parts_taken_away_and_put_back: while a second part is put, the first byte of the first part is 0
 parts_taken_away_and_put_back : (D : _) (L : _) (g : _) (d : _) (κs : _) (a : _) (z : _) (s : _)
     (c : List ℕ) → write_frame.Learnt-named D L g d κs a z s → g.is_honest a.0.now → a.1.0 ≡ 341
     → ((b : List ℕ) → g.may_leave a.0.now b → get_or b 256 0 ≡ 48)
@@ -81,7 +81,7 @@ parts_taken_away_and_put_back D L g d κs a z s c l honest place there left befo
     = alike_byte a.1.0 256 e.0 c (omega (arith, place)) e.2 in
     absurd (let m : 0 ≡ 48 = sym gone ∙ n ∙ there e.0 e.1 in omega arith)
 
--- a file that was cut to 85 bytes of parts, although 170 were acknowledged and no later slot is
+-- a file that was cut to parts of weight 85, although 170 were acknowledged and no later slot is
 -- valid
 cut_too_early : (second : Bool) (n : ℕ) (point next : Point) (parts more : List Portion)
     (c : List ℕ) → point.staged ≡ 170 → length c ≡ 341 → gate_at (not second) c ≡ 67
@@ -91,8 +91,8 @@ cut_too_early second n point next parts more c told size closed (inl old) =
 cut_too_early second n point next parts more c told size closed (inr new) =
     absurd (let m : 67 ≡ 79 = sym closed ∙ new.is_open in omega arith)
 
--- restart_cuts_before_saving: on the way back from 170 to 85 the parts are cut, and the older
--- checkpoint still counts
+-- restart_cuts_before_saving: in a roll-back from weight 170 to 85 the parts are removed while the
+-- older checkpoint is still current
 restart_cuts_before_saving : (D : _) (L : _) (g : _) (d : _) (κs : _) (a : _) (z : _) (s : _)
     (acked parts front : List Portion) (c : List ℕ)
     → restart.Learnt-named D L g d κs a z s → g.is_honest a.0.now.disk → IsStage a.0.now acked parts
@@ -107,8 +107,8 @@ restart_cuts_before_saving D L g d κs a z s acked parts front c l honest stage 
     told size closed (since_then before ((l.any_moment honest acked parts front stage first).before
     (g.moment a.0.now.disk) c (omega arith) left))
 
--- saved_checkpoint_removed_first: whatever a crash leaves represents something, and while a
--- checkpoint is saved a file is left that represents nothing
+-- saved_checkpoint_removed_first: a stage that survives every crash saves a checkpoint, and
+-- meanwhile a crash leaves a file that represents nothing
 saved_checkpoint_removed_first : (D : _) (L : _) (g : _) (d : _) (κs : _) (a : _) (z : _) (s : _)
     (parts : List Portion) (c : List ℕ) → keep.Learnt-named D L g d κs a z s → Holds a.0.now parts
     → Survived a.0.now (g.moment a.0.now.disk)

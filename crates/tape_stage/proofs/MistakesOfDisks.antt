@@ -1,4 +1,4 @@
--- Answers that the contracts of disks exclude: each is what a wrong body would give.
+-- Results that the contracts of disks exclude: each is the result of a wrong body.
 use Rattle.std.proofs.Common.{◌≡◌, ℕ, Option, ◌+◌, [], ◌∷◌, ◌++◌, length, take, drop, get_or}
 use Rattle.std.proofs.Common.{true, refl, inl, inr, sym, ap, ◌∙◌, subst, arith}
 use Rattle.std.specs.Prelude.{max, replicate, slice_range, Some, Ok, Err, IfSome}
@@ -25,8 +25,8 @@ use Rattle.tape_stage.proofs.disk.write_behind.WriteBehindDisk.write_at.Reads as
 
 -- ---- a disk in memory
 
--- crash_leaves_what_is_read: over the byte 1 the byte 2 was written and not synced, and the worst
--- that a crash leaves is the 2
+-- crash_leaves_what_is_read: the byte 2 was written over the byte 1 and not synced, but the worst
+-- contents that a crash leaves are the 2
 crash_leaves_what_is_read : (κs : _) (a : _) (z : _) (s : _) (two : _)
     → crash.Learnt-named κs a z s → first_of a.0.content ≡ 1 ∷ []
     → a.0.content.calls.items ≡ Write 0 two ∷ [] → two.items ≡ 2 ∷ [] → memory_bytes z ≡ 2 ∷ [] → ⊥
@@ -41,7 +41,7 @@ crash_leaves_what_is_read κs a z s two l first calls is w =
 none_left : (ok : Type 0) (n after : Option ℕ) → CountsDown ok n after → n ≡ Some 0 → ok → ⊥
 none_left ok n after counts none made = (subst (λ m. CountsDown ok m after) none counts).0 made
 
--- sync_of_a_stopped_disk: no call is left, and a sync succeeds
+-- sync_of_a_stopped_disk: no call is left, but a sync succeeds
 sync_of_a_stopped_disk : (κs : _) (a : _) (s : _) → memory_sync.Learnt-named κs a (Ok tt) s
     → a.0.now.left ≡ Some 0 → ⊥
 sync_of_a_stopped_disk κs a s l none = none_left _ _ _ l.stop none refl
@@ -50,16 +50,16 @@ none_rose : Rose 3 3 → ⊥
 none_rose (inl e) = absurd (omega (arith, e))
 none_rose (inr e) = absurd (omega (arith, e))
 
--- ---- bytes that are held before a disk
+-- ---- write buffers and read-ahead
 
--- held_bytes_not_written: what is held is passed over, and held on
+-- held_bytes_not_written: the call succeeds, but the bytes are still buffered
 held_bytes_not_written : (D : _) (L : _) (g : _) (d : _) (κs : _) (a : _) (s : _)
     → pass_on.Learnt-named D L g d κs a (Ok tt) s → s.0.now.bytes.items ≡ 1 ∷ [] → ⊥
 held_bytes_not_written D L g d κs a s l is =
     let e : 1 ∷ [] ≡ [] = sym is ∙ l.empty in
     absurd (let n : 1 ≡ 0 = ap length e in omega arith)
 
--- lost_where_it_fails: the byte 1 was held and could not be written, and is not read any more
+-- lost_where_it_fails: the byte 1 was buffered and could not be written, and is no longer read
 lost_where_it_fails : (D : _) (L : _) (g : _) (d : _) (κs : _) (a : _) (s : _)
     → pass_on.Learnt-named D L g d κs a (Err Device) s → g.is_honest a.0.now.disk
     → with_held a.0.now.start a.0.now.bytes.items (g.seen a.0.now.disk) ≡ 1 ∷ []
@@ -68,7 +68,7 @@ lost_where_it_fails D L g d κs a s l honest was is =
     let e : [] ≡ 1 ∷ [] = sym is ∙ l.looks.same honest ∙ was in
     absurd (let n : 0 ≡ 1 = ap length e in omega arith)
 
--- written_one_byte_off: 2 1 was read, with the 1 held, and once it is written 1 1 is
+-- written_one_byte_off: reads returned 2 1 with the buffered 1, but return 1 1 after it was written
 written_one_byte_off : (D : _) (L : _) (g : _) (d : _) (κs : _) (a : _) (s : _)
     → pass_on.Learnt-named D L g d κs a (Ok tt) s → g.is_honest a.0.now.disk
     → with_held a.0.now.start a.0.now.bytes.items (g.seen a.0.now.disk) ≡ 2 ∷ 1 ∷ []
@@ -77,7 +77,7 @@ written_one_byte_off D L g d κs a s l honest was is =
     let e : 1 ∷ 1 ∷ [] ≡ 2 ∷ 1 ∷ [] = sym is ∙ l.looks.same honest ∙ was in
     absurd (let n : 1 ≡ 2 = ap (λ t. get_or t 0 0) e in omega arith)
 
--- held_one_byte_off: over 1 2 the byte 7 is written at place 1, and 7 2 is read
+-- held_one_byte_off: the byte 7 is written at offset 1 of 1 2, but reads return 7 2
 held_one_byte_off : (D : _) (L : _) (g : _) (d : _) (κs : _) (a : _) (s : _)
     → held_write.Learnt-named D L g d κs a (Ok tt) s → g.is_honest a.0.now.disk
     → with_held a.0.now.start a.0.now.bytes.items (g.seen a.0.now.disk) ≡ 1 ∷ 2 ∷ []
@@ -91,7 +91,8 @@ held_one_byte_off D L g d κs a s l honest was at bytes is =
     ∙ ap (λ t. take 1 (1 ∷ 2 ∷ []) ++ t ++ drop (1 + length t) (1 ∷ 2 ∷ [])) bytes in
     absurd (let n : 7 ≡ 1 = ap (λ t. get_or t 0 0) e in omega arith)
 
--- write_elsewhere_added: behind two bytes from place 10 on, a write at 11 is taken for the next
+-- write_elsewhere_added: two bytes are buffered at offset 10, and a write at offset 11 is accepted
+-- as adjacent
 write_elsewhere_added : (D : _) (L : _) (g : _) (d : _) (κs : _) (a : _) (s : _)
     → continues.Learnt-named D L g d κs a true s
     → a.0.now.start ≡ 10 → length a.0.now.bytes.items ≡ 2 → a.1.0 ≡ 11 → ⊥
@@ -99,14 +100,14 @@ write_elsewhere_added D L g d κs a s l from size at =
     let e : a.0.now.start + length a.0.now.bytes.items ≡ a.1.0 = l.end in
     absurd (omega arith)
 
--- fails_where_the_disk_does_not: a write is refused, and the disk has not failed
+-- fails_where_the_disk_does_not: a write is refused although the disk has not failed
 fails_where_the_disk_does_not : (D : _) (L : _) (g : _) (d : _) (κs : _) (a : _) (s : _)
     → held_write.Learnt-named D L g d κs a (Err Device) s
     → g.faults a.0.now.disk ≡ 3 → g.faults s.0.now.disk ≡ 3 → ⊥
 fails_where_the_disk_does_not D L g d κs a s l was is =
     none_rose (subst (Rose 3) is (subst (λ n. Rose n (g.faults s.0.now.disk)) was l.cause))
 
--- sync_not_asked: the byte 1 was read, and behind a sync a crash may leave no byte
+-- sync_not_asked: the byte 1 was read, but after a sync a crash may leave an empty disk
 sync_not_asked : (D : _) (L : _) (g : _) (d : _) (κs : _) (a : _) (s : _)
     → sync.Learnt-named D L g d κs a (Ok tt) s → g.is_honest a.0.now.disk
     → with_held a.0.now.start a.0.now.bytes.items (g.seen a.0.now.disk) ≡ 1 ∷ []
@@ -115,12 +116,12 @@ sync_not_asked D L g d κs a s l honest was left =
     let e : [] ≡ 1 ∷ [] = l.durable honest [] left ∙ was in
     absurd (let n : 0 ≡ 1 = ap length e in omega arith)
 
--- counts_a_failure_of_nobody: one failure is counted, and the disk has not failed
+-- counts_a_failure_of_nobody: one failure is counted although the disk has not failed
 counts_a_failure_of_nobody : (D : Type 0) (g : Ghosts D) (h : ReadAhead D g) → h.failed ≡ 1
     → g.faults h.disk ≡ 0 → ⊥
 counts_a_failure_of_nobody D g h one none = absurd (omega (arith, h.caused))
 
--- window_read_from_its_start: of 1 2 3 a read of one byte at place 1 gives the 1
+-- window_read_from_its_start: a read of one byte at offset 1 of 1 2 3 returns the 1
 window_read_from_its_start : (D : _) (L : _) (g : _) (d : _) (κs : _) (a : _) (s : _)
     → give.Learnt-named D L g d κs a 1 s → g.is_honest a.0.now.disk
     → g.seen a.0.now.disk ≡ 1 ∷ 2 ∷ 3 ∷ [] → a.1.0 ≡ 1 → s.1.1.0.now ≡ 1 ∷ [] → ⊥
@@ -131,7 +132,7 @@ window_read_from_its_start D L g d κs a s l honest seen at w =
     ∙ ap (λ n. slice_range (1 ∷ 2 ∷ 3 ∷ []) n (n + 1)) at in
     absurd (let n : 1 ≡ 2 = ap (λ t. get_or t 0 0) (sym (ap (take 1) w) ∙ e) in omega arith)
 
--- more_held_than_was_read: of 1 2 a read of one byte at place 1 gives the 9 of another read
+-- more_held_than_was_read: a read of one byte at offset 1 of 1 2 returns the 9 of another read
 more_held_than_was_read : (D : _) (L : _) (g : _) (d : _) (κs : _) (a : _) (s : _)
     → look.Learnt-named D L g d κs a (Ok tt) s → g.is_honest a.0.now.disk
     → g.seen a.0.now.disk ≡ 1 ∷ 2 ∷ [] → a.1.0 ≡ 1 → length a.1.1.0.now ≡ 1
@@ -146,7 +147,8 @@ more_held_than_was_read D L g d κs a s l honest seen at size w =
 
 -- ---- a disk over a file
 
--- file_asked_for_its_start: of a file of two bytes the length is 0, the place of its start
+-- file_asked_for_its_start: for a file of two bytes the length 0 is returned, the offset of its
+-- start
 file_asked_for_its_start : (F : _) (L : _) (g : _) (d : _) (e : _) (κs : _) (a : _) (disk : _)
     (s : _)
     (at : _) → new.Learnt-named F L g d e κs a (Ok disk) s → g.stream_position a.0 ≡ Some at
@@ -168,7 +170,8 @@ file_failures_not_counted : (F : _) (L : _) (κs : _) (a : _) (z : _) (s : _)
 file_failures_not_counted F L κs a z s l three two =
     not_rose (subst (Rose 3) two (subst (λ n. Rose n s.0.now.failed) three l.counted))
 
--- file_length_at_the_last_write: after a write of two bytes at the start of ten, two are there
+-- file_length_at_the_last_write: after a write of two bytes at the start of a file of ten bytes,
+-- its length is reported as two
 file_length_at_the_last_write : (F : _) (L : _) (r : _) (dr : _) (w : _) (dw : _) (k : _) (dk : _)
     (o : _) (dp : _) (κs : _) (a : _) (s : _)
     → write_at.Learnt-named F L r dr w dw k dk o dp κs a (Ok tt) s → a.0.now.len ≡ 10 → a.1.0 ≡ 0

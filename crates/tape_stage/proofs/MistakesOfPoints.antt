@@ -1,5 +1,5 @@
--- Answers that the contracts of checkpoints, of their texts and of the faults exclude: each is what
--- a wrong body would give.
+-- Results that the contracts of checkpoints, of their texts and of the faults exclude: each is the
+-- result of a wrong body.
 use Rattle.std.proofs.Common.{◌≡◌, codes, sym, ap, ◌∙◌, arith}
 use Rattle.std.proofs.Common.{get_or, drop, take, false}
 use Rattle.std.specs.Prelude.{if◌then◌else◌, replicate, Some, Ok, Err}
@@ -24,39 +24,39 @@ use Rattle.tape_stage.proofs.point.write_point.Reads as write_point
 use Rattle.tape_stage.proofs.point.text.PointFault.number.Reads as point_number
 use Rattle.tape_stage.proofs.stage.StageFault.number.Reads as stage_number
 
--- point_fault_number_of_another: a text out of range has the number of a wrong field
+-- point_fault_number_of_another: the fault `Range` has the number of `Field`
 point_fault_number_of_another : (κs : _) (a : _) (s : _) → point_number.Learnt κs a 4 s
     → a.0.now ≡ faults.Range → ⊥
 point_fault_number_of_another κs a s h e = absurd
     (let d : 4 ≡ 5 = h ∙ ap point.number e in omega arith)
 
--- stage_fault_number_of_another: a full stage has the number of a stage that failed before
+-- stage_fault_number_of_another: the fault `Full` has the number of `Failed`
 stage_fault_number_of_another : (κs : _) (a : _) (s : _) → stage_number.Learnt κs a 5 s
     → a.0.now ≡ Full → ⊥
 stage_fault_number_of_another κs a s h e = absurd
     (let d : 5 ≡ 6 = h ∙ ap stage.number e in omega arith)
 
--- version_1_refused: a text of version 1 has none of the versions that are known
+-- version_1_refused: a text of version 1 is refused as having an unknown version
 version_1_refused : (κs : _) (a : _) (s : _) (c : Point)
     → read_point.Learnt-named κs a (Err faults.Version) s → IsPointText One a.0.now c → ⊥
 version_1_refused κs a s c l spelled =
     let d : Err faults.Version ≡ Ok c = l.only One c spelled in
     absurd (cc)
 
--- point_again_at_random: a checkpoint that was written is no checkpoint when it is read
+-- point_again_at_random: a checkpoint that was written is not read back
 point_again_at_random : (κs : _) (a : _) (s : _) → point_again.Learnt κs a (Err faults.Mark) s → ⊥
 point_again_at_random κs a s h =
     let d : Err faults.Mark ≡ Ok a.0.now = h in
     absurd (cc)
 
--- checkpoint_with_plus_sign: a plus sign passes for the first digit of a number
+-- checkpoint_with_plus_sign: a plus sign is accepted as the first digit of a number
 checkpoint_with_plus_sign : (κs : _) (text : _) (s : _)
     → number_at_reads.Learnt κs (text, (1, (4, tt))) (Ok 3) s → text.now ≡ codes "+003" → ⊥
 checkpoint_with_plus_sign κs text s h e =
     let d : Ok 3 ≡ Err (faults.Field 1) = h ∙ ap (λ t. number_at t 1 4) e in
     absurd (cc)
 
--- checkpoint_tail_not_judged: another character than a space passes at the end of a text
+-- checkpoint_tail_not_judged: a character other than a space is accepted at the end of a text
 checkpoint_tail_not_judged : (κs : _) (text : _) (s : _)
     → tail_at.Learnt κs (text, (78, tt)) (Ok tt) s → drop 77 text.now ≡ codes "  0" → ⊥
 checkpoint_tail_not_judged κs text s h e =
@@ -80,7 +80,7 @@ inside = record {
   staged = 14;
 }
 
--- part_written_as_block: two parts of block 3 were delivered, and the text says three parts
+-- part_written_as_block: two parts of block 3 were delivered, but the text states three parts
 part_written_as_block : (κs : _) (a : _) (text : _) (s : _) → write_point.Learnt κs a text s
     → a.0.now ≡ inside → take 5 (drop 29 text) ≡ codes "00003" → ⊥
 part_written_as_block κs a text s h e w =

@@ -1,11 +1,13 @@
--- Refusals that the contracts of a stage exclude, and what it keeps of a call that the disk failed:
--- each is what a wrong body would return.
+-- Refusals that the contracts of a stage exclude, and the state of a stage after its disk failed in
+-- a call: each is the result of a wrong body.
 use Rattle.std.proofs.Common.{◌≡◌, ℕ, ◌≤◌, true, false, refl, sym, ap, subst, ◌∙◌, arith}
 use Rattle.std.specs.Prelude.{Option, Some, None, Ok, Err, option_map, unwrap_or}
 use Rattle.tape_core.specs.Point.{Point}
 use Rattle.tape_stage.specs.declared.disk.DiskFault.TheVariants as disk_faults
 use Rattle.tape_stage.specs.declared.stage.StageFault.TheVariants.{Device, Full, NoPoint}
 use Rattle.tape_stage.specs.Faults.{SaysNone}
+use Rattle.tape_stage.specs.Found.{IsFaultOf}
+use Rattle.tape_stage.specs.Salvaged.{Remains}
 use Rattle.tape_stage.proofs.disk.file.FileDisk.sync_file.Reads as sync_file
 use Rattle.tape_stage.proofs.disk.file.FileDiskDisk.sync.Reads as sync
 use Rattle.tape_stage.proofs.stage.Stage.create.Reads as create
@@ -21,7 +23,7 @@ full_at_generation_1000 D L g d κs a s l w =
     let e : 999999999999999 ≤ a.0.now.generation = l.full refl in
     absurd (omega (arith, e, w))
 
--- good_stage_refused_as_full: a stage that is opened is reported as full, although nothing is added
+-- good_stage_refused_as_full: opening a stage is refused as full, although nothing is added
 good_stage_refused_as_full : (D : _) (L : _) (g : _) (d : _) (κs : _) (a : _) (refused : _) (s : _)
     → open_disk.Learnt-named D L g d κs a (Err refused) s → refused.fault ≡ Full → ⊥
 good_stage_refused_as_full D L g d κs a refused s l w = l.not_full w
@@ -31,19 +33,29 @@ create_told_as_full : (D : _) (L : _) (g : _) (d : _) (κs : _) (a : _) (refused
     → create.Learnt-named D L g d κs a (Err refused) s → refused.fault ≡ Full → ⊥
 create_told_as_full D L g d κs a refused s l w = l.not_full w
 
--- no_memory_told_as_no_stage: an empty disk, where a stage was to be created, is reported as having
--- none
+-- no_memory_told_as_no_stage: when a stage is created on an empty disk, the fault says that the
+-- disk contains no stage
 no_memory_told_as_no_stage : (D : _) (L : _) (g : _) (d : _) (κs : _) (a : _) (refused : _) (s : _)
     → create.Learnt-named D L g d κs a (Err refused) s → refused.fault ≡ NoPoint → ⊥
 no_memory_told_as_no_stage D L g d κs a refused s l w = l.not_none (subst SaysNone (sym w) tt)
 
+-- bad_frame_told_as_no_stage: a frame is damaged, and the fault says that no slot is valid
+bad_frame_told_as_no_stage : (D : _) (L : _) (g : _) (d : _) (κs : _) (a : _) (refused : _) (s : _)
+    (n : _) (point : _) (place : _) (parts : _)
+    → open_disk.Learnt-named D L g d κs a (Err refused) s → g.is_honest a.1.0
+    → Remains (g.seen a.1.0) n point (Some place) parts → refused.fault ≡ NoPoint → ⊥
+bad_frame_told_as_no_stage D L g d κs a refused s n point place parts l honest is w =
+    let says : IsFaultOf (g.seen a.1.0) NoPoint
+    = subst (IsFaultOf (g.seen a.1.0)) w (l.says honest) in
+    says n point (Some place) parts is
+
 -- ---- the checkpoint that was being saved
 
--- the weight of a pending checkpoint, and 1 if there is none
+-- the weight of a pending checkpoint, or 1 if there is none
 abbrev weight_pending : Option Point → ℕ
 weight_pending point = unwrap_or (option_map (λ p. p.staged) point) 1
 
--- pending_forgotten: the disk failed while a checkpoint was being saved, and none is returned as
+-- pending_forgotten: the disk failed while a checkpoint was being saved, but no checkpoint is
 -- pending
 pending_forgotten : (D : _) (L : _) (g : _) (d : _) (κs : _) (a : _) (s : _)
     → save.Learnt-named D L g d κs a (Err Device) s → s.0.now.pending ≡ None → ⊥
@@ -51,8 +63,8 @@ pending_forgotten D L g d κs a s l none =
     let e : None ≡ Some a.1.0.now = sym none ∙ l.pending refl in
     absurd (cc)
 
--- pending_is_the_acknowledged: a checkpoint with weight 85 was being saved, and the one with weight
--- 0 is returned, which was acknowledged before
+-- pending_is_the_acknowledged: a checkpoint of weight 85 was being saved, but the acknowledged one
+-- of weight 0 is returned as pending
 pending_is_the_acknowledged : (D : _) (L : _) (g : _) (d : _) (κs : _) (a : _) (s : _)
     → save.Learnt-named D L g d κs a (Err Device) s
     → a.1.0.now.staged ≡ 85 → a.0.now.acknowledged.staged ≡ 0
@@ -64,7 +76,7 @@ pending_is_the_acknowledged D L g d κs a s l heavy light older =
 
 -- ---- a disk over a file
 
--- sync_failure_forgotten: the file could not be synced, and later calls succeed
+-- sync_failure_forgotten: the file could not be synced, but later calls succeed
 sync_failure_forgotten : (F : _) (L : _) (r : _) (dr : _) (w : _) (dw : _) (k : _) (dk : _)
     (o : _) (dp : _) (κs : _) (a : _) (s : _)
     → sync_file.Learnt-named F L r dr w dw k dk o dp κs a (Err disk_faults.Device) s
@@ -73,7 +85,7 @@ sync_failure_forgotten F L r dr w dw k dk o dp κs a s l is =
     let e : false ≡ true = sym is ∙ l.lost in
     absurd (cc)
 
--- lost_disk_synced: after a failed sync the file is not synced again, and success is reported
+-- lost_disk_synced: after a failed sync the file is not synced again, but success is reported
 lost_disk_synced : (F : _) (L : _) (r : _) (dr : _) (w : _) (dw : _) (k : _) (dk : _)
     (o : _) (dp : _) (κs : _) (a : _) (s : _)
     → sync.Learnt-named F L r dr w dw k dk o dp κs a (Ok tt) s

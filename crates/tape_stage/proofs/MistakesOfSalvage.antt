@@ -1,5 +1,5 @@
--- Answers that the contract of opening what remains of a stage excludes: each is what a wrong body
--- would return.
+-- Results that the contract of opening a damaged stage excludes: each is the result of a wrong
+-- body.
 use Rattle.std.proofs.Common.{◌≡◌, ℕ, List, [], ◌∷◌, sym, ap, ◌∙◌, arith}
 use Rattle.std.specs.Prelude.{Option, Some, None, Ok, Err}
 use Rattle.tape_blocks.specs.Block.{Portion}
@@ -11,7 +11,7 @@ use Rattle.tape_stage.proofs.Held.{holding_weighs}
 use Rattle.tape_stage.proofs.Once.{remains_once}
 use Rattle.tape_stage.proofs.stage.salvage.Salvage.open_disk.Reads as open_disk
 
--- break_told_as_whole: frames are damaged at 262, and all of them are reported as intact
+-- break_told_as_whole: the frames are damaged at offset 262, but all of them are reported as intact
 break_told_as_whole : (D : _) (L : _) (g : _) (d : _) (κs : _) (a : _) (opened : _) (s : _)
     (n : ℕ) (point : Point) (parts : List Portion)
     → open_disk.Learnt-named D L g d κs a (Ok opened) s → g.is_honest a.1.0
@@ -23,7 +23,7 @@ break_told_as_whole D L g d κs a opened s n point parts l honest is whole =
     let e : None ≡ Some 262 = sym whole ∙ same.2 in
     absurd (cc)
 
--- part_before_break_left_out: two parts precede the damage, and only the first is returned
+-- part_before_break_left_out: two parts precede the damage, but only the first is returned
 part_before_break_left_out : (D : _) (L : _) (g : _) (d : _) (κs : _) (a : _) (opened : _) (s : _)
     (n : ℕ) (point : Point) (broken : Option ℕ) (first second : Portion)
     → open_disk.Learnt-named D L g d κs a (Ok opened) s → g.is_honest a.1.0
@@ -39,7 +39,7 @@ part_before_break_left_out D L g d κs a opened s n point broken first second l 
     holding_weighs opened.0.weight (first ∷ []) (g.seen opened.0.disk) holds.1 in
     omega (arith, both, one)
 
--- damaged_stage_told_as_none: something remains before the damage, and NoPoint is returned
+-- damaged_stage_told_as_none: parts remain before the damage, but NoPoint is returned
 damaged_stage_told_as_none : (D : _) (L : _) (g : _) (d : _) (κs : _) (a : _) (refused : _) (s : _)
     (n : ℕ) (point : Point) (parts : List Portion)
     → open_disk.Learnt-named D L g d κs a (Err refused) s → g.is_honest a.1.0
@@ -47,7 +47,7 @@ damaged_stage_told_as_none : (D : _) (L : _) (g : _) (d : _) (κs : _) (a : _) (
 damaged_stage_told_as_none D L g d κs a refused s n point parts l honest is w =
     l.none honest (rw w tt) n point (Some 262) parts is
 
--- damaged_stage_cut_by_reading: there are ten bytes, and none after the opening
+-- damaged_stage_cut_by_reading: the file had ten bytes, and has none after it was opened
 damaged_stage_cut_by_reading : (D : _) (L : _) (g : _) (d : _) (κs : _) (a : _) (opened : _)
     (s : _) → open_disk.Learnt-named D L g d κs a (Ok opened) s
     → g.length_of a.1.0 ≡ 10 → g.length_of opened.0.disk ≡ 0 → ⊥

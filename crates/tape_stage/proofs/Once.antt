@@ -1,4 +1,4 @@
--- A stage file represents one thing.
+-- A stage file has at most one meaning.
 use Rattle.std.proofs.Common.{◌≡◌, inl, inr, ℕ, not, ◌+◌, ◌-◌, ◌≤◌, ◌<◌, min, List}
 use Rattle.std.proofs.Common.{[], ◌∷◌, length, Some, refl, sym, ap, ◌∙◌, subst, arith}
 use Rattle.std.specs.Prelude.{Option, None, IfSome}
@@ -18,7 +18,7 @@ same_parts : (a b : Portion) (xs ys : List Portion) → a.span ≡ b.span → a.
     → a ∷ xs ≡ b ∷ ys
 same_parts a b xs ys first second rest = rw (first, second, rest) refl
 
--- a frame that ends early enough
+-- a frame that ends before a limit ends before a greater limit
 widen : (place end limit : ℕ) (bytes : List ℕ) (span : Span) (content : List ℕ) → end ≤ limit
     → IsFrameAt place end bytes span content → IsFrameAt place limit bytes span content
 widen place end limit bytes span content le frame = record {
@@ -28,7 +28,7 @@ widen place end limit bytes span content le frame = record {
   short = frame.short;
 }
 
--- frames that continue where there is none are not frames
+-- no frames begin at an offset at which no frame begins
 no_further : (place end limit : ℕ) (bytes : List ℕ) (part : Portion) (rest : List Portion)
     → end ≤ limit → AheadIn place end bytes (part ∷ rest) → NoFrameAt place limit bytes → ⊥
 no_further place end limit bytes part rest le ahead none =
@@ -37,7 +37,7 @@ no_further place end limit bytes part rest le ahead none =
     none one.part.span one.part.bytes
     (widen place end limit bytes one.part.span one.part.bytes le one.frame_is)
 
--- From a place on there are frames up to one end, after which there is no other, and in one way.
+-- The frames from an offset to an end after which no frame follows are unique.
 pub frames_once : (parts more : List Portion) (place a b limit : ℕ) (bytes : List ℕ)
     → a ≤ limit → b ≤ limit → AheadIn place a bytes parts → AheadIn place b bytes more
     → NoFrameAt a limit bytes → NoFrameAt b limit bytes → (a ≡ b) × (parts ≡ more)
@@ -72,12 +72,12 @@ frames_once (x ∷ xs) (y ∷ ys) place a b limit bytes le high first second non
 some_same : (a b : Slot) → Some a ≡ Some b → a ≡ b
 some_same a b e = cc
 
--- where frames of a given weight end
+-- the offset at which the frames of a given weight end, or at which they are damaged
 abbrev end_of : ℕ → Option ℕ → ℕ
 end_of staged None = 256 + staged
 end_of staged (Some place) = place
 
--- the parts are ahead up to there, and there is no frame that ends in time
+-- the given parts are to come up to that offset, and no frame begins there that ends in time
 ends : (staged : ℕ) (broken : Option ℕ) (parts : List Portion) (bytes : List ℕ)
     → FramedTo staged broken parts bytes
     → (end_of staged broken ≤ min (256 + staged) (length bytes))
@@ -96,7 +96,7 @@ ends staged (Some place) parts bytes framed =
       framed.breaks.none,
     )
 
--- two breaks at one end are one
+-- two offsets of damage are equal if the frames end at the same offset
 same_break : (staged : ℕ) (broken other : Option ℕ)
     → IfSome broken (λ place. place < 256 + staged) → IfSome other (λ place. place < 256 + staged)
     → end_of staged broken ≡ end_of staged other → broken ≡ other
@@ -124,7 +124,7 @@ framed_once staged broken other parts more bytes first second =
       same.1,
     )
 
--- what remains does so once
+-- the remains of a stage are unique
 pub remains_once : (bytes : List ℕ) → RemainsOnce bytes
 remains_once bytes g h point next broken other parts more first second =
     let slots = some_same (g, point) (h, next) (sym first.slot ∙ second.slot) in
@@ -142,7 +142,7 @@ staged_remains bytes g point parts staged = record {
   framed = record { holds = staged.parts_are; breaks = tt };
 }
 
--- so it is staged once
+-- so staged data are unique
 pub staged_once : (bytes : List ℕ) → StandsOnce bytes
 staged_once bytes g h point next parts more first second =
     let same = remains_once bytes g h point next None None parts more

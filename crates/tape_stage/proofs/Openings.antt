@@ -1,4 +1,4 @@
--- What is found is looked at, and what follows it is cut.
+-- Opening: the slots are found by reading, and then the bytes after the staged data are removed.
 use Rattle.std.proofs.Common.{◌≡◌, ◌⊎◌, inl, inr, ℕ, ◌+◌, List, take, ap, ◌∙◌, subst, arith}
 use Rattle.tape_blocks.specs.Block.{Portion}
 use Rattle.tape_stage.specs.declared.disk.Disk.{Ghosts}
@@ -13,7 +13,7 @@ use Rattle.tape_stage.proofs.Finds.{stands_like, cut_ready, found_read}
 use Rattle.tape_stage.proofs.Passing.{weaken, follow}
 use Rattle.tape_stage.proofs.Refusals.{same_keeps, cut_keeps}
 
--- it was looked at alone
+-- the disk was only read
 module _ {D : Type 0} (g : Ghosts D) (a b : D) (reads : OnlyReads g a b)
     (honest : g.is_honest a) where
   pub look_untouched : Untouched g a b
@@ -27,7 +27,7 @@ module _ {D : Type 0} (g : Ghosts D) (a b : D) (reads : OnlyReads g a b)
   look_passes P = weaken g a b (g.may_leave a)
       (λ x. g.may_leave a x ⊎ P x) (λ x left. inl left) (reads.any_moment honest)
 
--- and then cut after the weight that was found
+-- the bytes after the weight that was found were then removed
 module _ {D : Type 0} (g : Ghosts D) (a b c : D) (reads : OnlyReads g a b)
     (honest : g.is_honest a) (found : Found) (is : IsFound found (g.seen a)) (n : ℕ)
     (told : n ≡ found.point.staged) where

@@ -1,4 +1,4 @@
--- One call after another.
+-- Consecutive calls of a disk.
 use Rattle.std.proofs.Common.{inl, inr, ⊎_elim, ℕ, List, arith}
 use Rattle.tape_stage.specs.declared.disk.Disk.{Ghosts}
 use Rattle.tape_stage.specs.Disk.{IsLater}

@@ -1,4 +1,4 @@
--- Checkpoints and their fields: each determines the other, and which fields are valid.
+-- Checkpoints and their fields determine each other; and the fields that are valid.
 use Rattle.std.proofs.Common.{◌≡◌, ℕ, ◌^◌, ◌<◌, ◌≤◌, Bool, true, false}
 use Rattle.std.proofs.Common.{replicate, Option, None, Some, refl, sym, subst, arith, rules}
 use Rattle.std.specs.Prelude.{◌&&◌, ◌==◌, nat_le, not, if◌then◌else◌, is_some}
@@ -38,7 +38,7 @@ known_again (Some form) = refl
 pub point_again : (c : Point) → point_by (fields_of c) ≡ c
 point_again c = rw (position_again c.position, known_again c.known) refl
 
--- ---- a checkpoint's fields are right
+-- ---- a checkpoint's fields agree and are in range
 
 place_right : (p : Position) → PositionFits p
     → (if is_finished p then (sect_of p == 0) && (block_of p == 0) && (part_of p == 0) else nat_le
@@ -76,7 +76,7 @@ point_right v c w =
     three _ _ _ (place_right c.position w.right.stands.numbers) (form_right c.known w.known)
     (subst (λ (p : Point). in_range p ≡ true) (sym (point_again c)) (in_range_is c w.right))
 
--- ---- right fields are those of their checkpoint
+-- ---- such fields are those of their checkpoint
 
 record AreRight (f : Fields) : Type 0 where
   place : place_agrees f ≡ true
@@ -158,7 +158,7 @@ fields_again f right =
     let k = form_back f.form f.flags.known f.form.format refl r.form in
     rw (p.sect_is, p.block_is, p.part_is, p.done_is, k.0, k.1) refl
 
--- ---- right fields make a checkpoint that has a text
+-- ---- such fields give a checkpoint that has a text
 
 form_says : (format : Format) (rec_len offset : ℕ) → length_in_range format rec_len ≡ true
     → offset ≤ 99 → IsForm format rec_len offset

@@ -28,7 +28,7 @@ use Rattle.tape_stage.proofs.TextLaws.{Reads, text_found, text_again, reads_stan
 use Rattle.tape_stage.proofs.TextLaws.{reads_fit}
 use Rattle.tape_stage.proofs.PointFields.{point_again, point_right, fields_again, right_writable}
 
--- ---- the text of a checkpoint is read as it
+-- ---- the text of a checkpoint is read as that checkpoint
 
 known_says : (known : Option FileForm) → KnownFits known → ((form_of known).rec_len < 10 ^ 5)
     × ((form_of known).offset < 10 ^ 2)
@@ -55,7 +55,7 @@ tail_wide : (v : Version) → length (spaces (tail_width v)).text ≡ tail_width
 tail_wide One = refl
 tail_wide Two = refl
 
--- from the state on
+-- the widths of the pieces from the state to the end
 rest_wide : (v : Version) (f : Fields) → length f.form.file_id ≡ 17 → HaveWidths (rest_pieces v f)
 rest_wide v f file_id =
     (refl, (refl, (refl, (refl, (refl, (refl, (file_id, (refl, (tail_wide v, tt)))))))))
@@ -82,7 +82,7 @@ unfolding reading
 reads_only v c text is = rw (point_read v c text is, point_right v c is.writable, point_again c)
     refl
 
--- ---- the result is the checkpoint of its text
+-- ---- the result of reading is the checkpoint with that text
 
 id_length : (v : Version) (f : Fields) (text : List ℕ) → Reads v f text → length f.form.file_id ≡ 17
 id_length One f text r = ap length (sym r.fields.form.file_id) ∙ length-positions text 37 53

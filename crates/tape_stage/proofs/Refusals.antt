@@ -1,4 +1,4 @@
--- What a refusal to open leaves of a disk.
+-- The state of a disk after opening a stage was refused.
 use Rattle.std.proofs.Common.{◌≡◌, ℕ, ◌+◌, ◌≤◌, List, take, length, Some, Result, Ok, Err}
 use Rattle.std.proofs.Common.{OnErr, sym, ap, ◌∙◌, subst, arith}
 use Rattle.std.specs.Prelude.{IfErr}
@@ -32,7 +32,7 @@ module _ {D : Type 0} (g : Ghosts D) where
     crash = stands g a b (g.may_leave a) time no_more;
   }
 
-  -- and another one
+  -- another such call
   pub untouched_then : (a b c : D) → Untouched g a b → Untouched g b c → Untouched g a c
   untouched_then a b c first second = record {
     read = second.read ∙ first.read;
@@ -40,7 +40,7 @@ module _ {D : Type 0} (g : Ghosts D) where
         (weaken g b c (g.may_leave b) (g.may_leave a) first.crash.now second.crash);
   }
 
--- a cut that was done in full
+-- a cut that was completed
 pub cut_whole : (n : ℕ) (old new : List ℕ) → n ≤ length old → new ≡ take n old → CutShort n old new
 cut_whole n old new le is =
     let long : length new ≡ n = ap length is ∙ length-take-le n old le in
@@ -61,7 +61,7 @@ uncut n old new same = record {
 pub same_keeps : (old new : List ℕ) → new ≡ old → KeepsStaged old new
 same_keeps old new same g point parts staged = uncut (256 + point.staged) old new same
 
--- a cut after what was found preserves what is staged
+-- a cut after the staged data that were found preserves them
 pub cut_keeps : (found : Found) (old new : List ℕ) (end : ℕ) → IsFound found old
     → end ≡ 256 + found.point.staged → CutShort end old new → KeepsStaged old new
 cut_keeps found old new end is at cut g point parts staged =
@@ -71,7 +71,7 @@ cut_keeps found old new end is at cut g point parts staged =
     let weight : found.point.staged ≡ point.staged = ap (λ (p : Slot). p.1.staged) e in
     subst (λ (n : ℕ). CutShort n old new) (at ∙ ap (λ (n : ℕ). 256 + n) weight) cut
 
--- and the cut at an opening does not remove what is staged
+-- the cut at an opening preserves the staged data
 pub opened_keeps : (g : ℕ) (point : Point) (parts : List Portion) (old new : List ℕ)
     → Staged old g point parts → new ≡ take (256 + point.staged) old → KeepsStaged old new
 opened_keeps g point parts old new is cut h next more staged =

@@ -1,4 +1,4 @@
--- What remains of a damaged stage.
+-- The remains of a damaged stage.
 use Rattle.std.proofs.Common.{◌≡◌, ℕ, ◌+◌, ◌≤◌, ◌<◌, List, ◌∷◌, length, min, drop}
 use Rattle.std.proofs.Common.{w32, Some, sym, ap, ◌∙◌, subst, arith}
 use Rattle.std.specs.Prelude.{Option, None}
@@ -28,7 +28,7 @@ framed_whole staged place bytes is le walked = (
   },
 )
 
--- there is no frame at this place
+-- no frame begins at the offset
 pub framed_broken : (staged place limit : ℕ) (bytes : List ℕ)
     → limit ≡ min (256 + staged) (length bytes) → place ≤ limit → place < 256 + staged
     → WalkedTo place bytes → NoFrameAt place limit bytes
@@ -45,7 +45,7 @@ framed_broken staged place limit bytes is le high walked none = (
   },
 )
 
--- a header says one length
+-- a header states one length
 pub same_size : (header : List ℕ) (span other : Span) (size n : ℕ) → header ≡ indicator span
     ∷ to_be_bytes w32 size → header ≡ indicator other ∷ to_be_bytes w32 n → size ≤ 99999 → n ≤ 99999
     → size ≡ n
@@ -66,7 +66,7 @@ framed_as staged n broken other parts old new weighs breaks same framed =
 some_none : (place : ℕ) → Some place ≡ None → ⊥
 some_none place e = cc
 
--- what remains for the slot that was found
+-- the remains for the slot that was found
 pub found_remains : (found : Found) (broken : Option ℕ) (parts : List Portion) (bytes : List ℕ)
     → IsFound found bytes → FramedTo found.point.staged broken parts bytes
     → Remains bytes found.generation found.point broken parts
@@ -75,7 +75,7 @@ found_remains found broken parts bytes is framed = record {
   framed = framed;
 }
 
--- a slot that was found, with damage after it, is not a stage
+-- a slot with damaged frames is not a stage
 pub broken_none : (found : Found) (place : ℕ) (parts : List Portion) (bytes : List ℕ)
     → IsFound found bytes → FramedTo found.point.staged (Some place) parts bytes → HoldsNone bytes
 broken_none found place parts bytes is framed g point more staged =
@@ -84,7 +84,7 @@ broken_none found place parts bytes is framed g point more staged =
     (staged_remains bytes g point more staged) in
     absurd (some_none place same.2)
 
--- and the place of the break is a bad one
+-- the offset of the damage is that of a bad frame
 pub broken_bad : (found : Found) (place : ℕ) (parts : List Portion) (bytes : List ℕ)
     → IsFound found bytes → FramedTo found.point.staged (Some place) parts bytes
     → IsBadPlace bytes place
@@ -92,6 +92,7 @@ broken_bad found place parts bytes is framed = record {
   generation = found.generation;
   point = found.point;
   slot = best_of found.in_second found.generation found.point bytes is.slot is.other;
+  inside = omega (arith, framed.breaks.low, framed.holds.long);
   walked = record {
     low = framed.breaks.low;
     parts = parts;

@@ -18,7 +18,8 @@ use Rattle.tape_stage.proofs.Tears.{kept_holding, alike_staged, loses_gate, clos
 use Rattle.tape_stage.proofs.Tears.{none_loses}
 use Rattle.tape_stage.proofs.Bodies.{body_reads}
 
--- what preserves a slot and the frames preserves what is staged, if the other slot is still older
+-- a call that preserves a slot and the frames preserves the staged data, if the other slot remains
+-- older
 pub kept_staged : (second : Bool) (g : ℕ) (point : Point) (parts : List Portion) (old new : List ℕ)
     → KeptIn second old new → Loses second g (slot_at (not second) new)
     → StagedIn second g point parts old → StagedIn second g point parts new
@@ -39,7 +40,7 @@ body_kept : (second : Bool) (old new : List ℕ) → Torn (slot_place (not secon
 body_kept second old new torn = torn_other second (slot_place (not second) + 1) 127 old new
     (omega arith) (omega arith) torn
 
--- 1. the gate of the other slot, which was open, may be anything
+-- 1. the gate of the other slot, which was open, may contain any byte
 pub closing : (second : Bool) (g : ℕ) (point : Point) (parts : List Portion) (old new : List ℕ)
     → gate_at (not second) old ≡ 79
     → StagedIn second g point parts old → Torn (slot_place (not second)) 1 old new
@@ -55,7 +56,7 @@ closing second g point parts old new was_open staged torn =
     before) in
     kept_staged second g point parts old new (gate_kept second old new torn) loses staged
 
--- 2. after a closed gate there may be anything
+-- 2. the body after a closed gate may contain any bytes
 pub filling : (second : Bool) (g : ℕ) (point : Point) (parts : List Portion) (old new : List ℕ)
     → IsClosed second g point parts old → Torn (slot_place (not second) + 1) 127 old new
     → IsClosed second g point parts new
@@ -76,7 +77,7 @@ next_loses : (second : Bool) (g : ℕ) (point : Point) (bytes : List ℕ) → sl
 next_loses true g point bytes is = subst (Loses false (g + 1)) (sym is) (omega arith)
 next_loses false g point bytes is = subst (Loses true (g + 1)) (sym is) (omega arith)
 
--- 3. once it is open, the next generation counts
+-- 3. once the gate is open, the next generation is current
 pub opened : (second : Bool) (g : ℕ) (point next : Point) (parts more : List Portion)
     (old new : List ℕ) → FitBody (g + 1) next
     → IsFilled second g point next parts more old → Torn (slot_place (not second)) 1 old new
@@ -114,8 +115,8 @@ eq_from_test a b is = ⊎_elim (λ yes. yes.1) (λ no. absurd (cc)) (eqb_tells a
 alike_long : (n : ℕ) (old new : List ℕ) → n ≤ length old → take n new ≡ take n old → n ≤ length new
 alike_long n old new le same = omega (arith, ap length same, length-take n old, length-take n new)
 
--- each content that a crash may leave represents what is acknowledged, with the other gate as it is
--- read
+-- all contents that a crash may leave represent the acknowledged data, and have the other gate as
+-- it is read
 pub ready_each : (second : Bool) (g : ℕ) (point : Point) (parts : List Portion) (is_open : Bool)
     (seen : List ℕ) (may_leave : List ℕ → Type 0) (c : List ℕ)
     → Ready second g point parts is_open seen may_leave → may_leave c
@@ -144,7 +145,7 @@ place_in : (second : Bool) (old : List ℕ) → 256 ≤ length old → slot_plac
 place_in true old long = omega arith
 place_in false old long = omega arith
 
--- the gate once it is closed
+-- the slots after the gate was closed
 pub closed_done : (second : Bool) (g : ℕ) (point : Point) (parts : List Portion) (old new : List ℕ)
     (may_leave : List ℕ → Type 0)
     → Ready second g point parts true old may_leave → Holds old (slot_place (not second))
@@ -161,7 +162,7 @@ closed_done second g point parts old new may_leave ready holds =
       closed = λ open_now. absurd (omega (arith, gate, open_now));
     }
 
--- the slot once it is filled
+-- the slots after one was filled
 pub filled_done : (second : Bool) (g : ℕ) (point : Point) (parts : List Portion)
     (body old new : List ℕ) → length body ≡ 127 → Holds old (slot_place (not second) + 1) body new
     → IsClosed second g point parts old → IsClosed second g point parts new
@@ -178,7 +179,7 @@ filled_body second body old new size long holds =
     subst (λ (n : ℕ). take n (drop (slot_place second + 1) new) ≡ body) size
     (holds_piece (slot_place second + 1) body old new (omega arith) holds)
 
--- while it is filled
+-- the contents that a crash may leave while a slot is filled
 pub filled_after : (second : Bool) (g : ℕ) (point : Point) (parts : List Portion)
     (body seen : List ℕ) (may_leave : List ℕ → Type 0) (c : List ℕ) → length body ≡ 127
     → IsClosed second g point parts seen → Only seen may_leave
@@ -192,7 +193,7 @@ filled_after second g point parts body seen may_leave c size is only (inr step) 
     (filling second g point parts seen c is
     (subst (λ (n : ℕ). Torn (slot_place (not second) + 1) n seen c) size torn)).staged
 
--- the gate once it is open
+-- the slots after the gate was opened
 pub opened_done : (second : Bool) (g : ℕ) (point next : Point) (parts more : List Portion)
     (old new : List ℕ) → FitBody (g + 1) next
     → IsFilled second g point next parts more old → Holds old (slot_place (not second))
@@ -206,7 +207,7 @@ opened_done second g point next parts more old new fit is holds =
       gate = (gate_kept second old new torn).gate ∙ is.closed.staged.is_open;
     }
 
--- while it is opened
+-- the contents that a crash may leave while the gate is opened
 pub opened_after : (second : Bool) (g : ℕ) (point next : Point) (parts more : List Portion)
     (seen : List ℕ) (may_leave : List ℕ → Type 0) (c : List ℕ) → FitBody (g + 1) next
     → IsFilled second g point next parts more seen → Only seen may_leave

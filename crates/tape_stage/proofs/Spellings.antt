@@ -1,4 +1,4 @@
--- One text for a checkpoint in a version, and one checkpoint for a text.
+-- A checkpoint has one text in a version, and a text one checkpoint.
 use Rattle.std.proofs.Common.{◌≡◌, Result, Ok, refl, sym, ap, ◌∙◌, arith}
 use Rattle.tape_label.specs.Written.{text_of}
 use Rattle.tape_stage.specs.declared.point.text.PointFault.{PointFault}

@@ -1,4 +1,4 @@
--- What a call leaves of a stage that was ready.
+-- The effect of a call on a stage that was ready.
 use Rattle.std.proofs.Common.{◌≡◌, ℕ, ◌+◌, ◌≤◌, Bool, true, false, not, List, length, take}
 use Rattle.std.proofs.Common.{◌==◌, sym, ap, ◌∙◌, arith}
 use Rattle.std.proofs.lemmas.List.{length-take}
@@ -15,7 +15,7 @@ pub gate_test : (second : Bool) (bytes : List ℕ) → gate_at second bytes ≡ 
 gate_test true bytes is = sym (ap (λ (n : ℕ). n == 79) is)
 gate_test false bytes is = sym (ap (λ (n : ℕ). n == 79) is)
 
--- what may be left begins with what was acknowledged
+-- contents that may be left begin with the acknowledged data
 pub front_staged : (second : Bool) (g : ℕ) (point : Point) (parts : List Portion) (is_open : Bool)
     (place : ℕ) (seen : List ℕ) (may_leave : List ℕ → Type 0) (c : List ℕ)
     → 256 + point.staged ≤ place
@@ -31,7 +31,7 @@ front_staged second g point parts is_open place seen may_leave c le ready of =
     long : (old new : List ℕ) (n : ℕ) → n ≤ length old → take n new ≡ take n old → n ≤ length new
     long old new n le same = omega (arith, ap length same, length-take n old, length-take n new)
 
--- ready for the next call, after one that preserves the first bytes
+-- the stage is ready for the next call after a call that preserves the first bytes
 pub still_ready : (second : Bool) (g : ℕ) (point : Point) (parts : List Portion) (is_open : Bool)
     (place : ℕ) (old new : List ℕ) (left now : List ℕ → Type 0) → 256 + point.staged ≤ place
     → Ready second g point parts is_open old left → take place new ≡ take place old

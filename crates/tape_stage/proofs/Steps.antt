@@ -1,4 +1,5 @@
--- What a step of reading that does not fail says of the text, and the step from what the text says.
+-- The meaning of each reading step that does not fail, and conversely the step's result from the
+-- text.
 use Rattle.std.proofs.Common.{◌≡◌, ℕ, ◌-◌, ◌^◌, ◌<◌, ◌≤◌, Bool, true, false, cond, eqb, List}
 use Rattle.std.proofs.Common.{[], ◌∷◌, length, get_or, take, drop, replicate, Option, None, Some}
 use Rattle.std.proofs.Common.{Result, Ok, Err, refl, sym, subst, rules}
@@ -17,7 +18,7 @@ use Rattle.tape_stage.specs.declared.point.text.PointFault.TheVariants as faults
 use Rattle.tape_stage.specs.Text.{format_letter}
 use Rattle.tape_stage.specs.Reading.{◌>>=◌, number_at, flag_at, format_at, tail_at}
 
--- the value of a step that did not fail
+-- a step that did not fail, and the steps before it
 pub bind_ok : {A B : Type 0} (r : Result A PointFault) (f : A → Result B PointFault) (y : B)
     → (r >>= f) ≡ Ok y → (x : A) × (r ≡ Ok x) × (f x ≡ Ok y)
 bind_ok (Ok x) f y e = (x, refl, e)

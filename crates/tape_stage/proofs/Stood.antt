@@ -1,4 +1,4 @@
--- Pieces that follow one another are the text.
+-- Consecutive pieces are the text.
 use Rattle.std.proofs.Common.{◌≡◌, ℕ, ◌+◌, List, [], ◌∷◌, ◌++◌, drop, sym, ap}
 use Rattle.std.proofs.Common.{◌∙◌, arith}
 use Rattle.std.proofs.lemmas.List.{drop_all, drop-drop, take-append-drop}

@@ -1,4 +1,4 @@
--- What torn and finished writes leave of the slots.
+-- The effect of torn and of completed writes on the slots.
 use Rattle.std.proofs.Common.{◌≡◌, ℕ, ◌+◌, ◌≤◌, Bool, true, false, not}
 use Rattle.std.proofs.Common.{List, length, take, drop, Option, Some, None}
 use Rattle.std.proofs.Common.{if◌then◌else◌, ◌==◌, nat_lt, refl, sym, ap, ◌∙◌, subst, arith}
@@ -17,7 +17,7 @@ use Rattle.tape_stage.specs.Body.{Slot}
 le-ltb-false : (m n : ℕ) → n ≤ m → nat_lt m n ≡ false
 le-ltb-false m n le = grind (arith, nat_tests)
 
--- one slot and the frames are as before
+-- one slot and the frames are unchanged
 pub record KeptIn (second : Bool) (old new : List ℕ) : Type 0 where
   pub gate : gate_at second new ≡ gate_at second old
   pub body : body_at second new ≡ body_at second old
@@ -40,7 +40,7 @@ torn_other true p n old new low high torn = record {
   long = torn.no_shorter;
 }
 
--- a write of the gate keeps the body, and one of the body keeps the gate
+-- a write of the gate preserves the body, and a write of the body preserves the gate
 pub torn_gate_body : (second : Bool) (old new : List ℕ) → Torn (slot_place second) 1 old new
     → body_at second new ≡ body_at second old
 torn_gate_body false old new torn = ap (take 127) (torn_high 0 1 1 old new (omega arith) torn)
@@ -102,7 +102,7 @@ alike_staged second g point parts n old new le same long staged = record {
   parts_are = alike_holding n point.staged parts old new le same long staged.parts_are;
 }
 
--- a gate that may be anything counts no more than an open one
+-- a slot whose gate may contain any byte replaces the other at most as if it were open
 pub loses_gate : (second : Bool) (g gate : ℕ) (body : List ℕ) → Loses second g (body_of body)
     → Loses second g (read_slot gate body)
 loses_gate second g gate body loses = by_test (gate == 79)
@@ -115,7 +115,7 @@ loses_gate second g gate body loses = by_test (gate == 79)
         none true = tt
         none false = tt
 
--- a slot whose gate is closed doesn't count
+-- a slot whose gate is closed does not count
 pub closed_none : (gate : ℕ) (body : List ℕ) → (gate ≡ 79 → ⊥) → read_slot gate body ≡ None
 closed_none gate body closed = ap (λ (b : Bool). if b then body_of body else None)
     (ne_eqb gate 79 closed)
@@ -127,7 +127,7 @@ pub none_loses : (second : Bool) (g : ℕ) → Loses second g None
 none_loses true g = tt
 none_loses false g = tt
 
--- the slot that is named is the one that is taken
+-- the named slot is the current one
 pub best_named : (second : Bool) (g : ℕ) (point : Point) (other : Option Slot)
     → Loses second g other
     → (if second then best other (Some (g, point)) else best (Some (g, point)) other) ≡ Some

@@ -1,4 +1,4 @@
--- A text that is read is that of its fields, and the text of fields is read.
+-- A text that is read is that of its fields, and the text written for fields is read back.
 use Rattle.std.proofs.Common.{◌≡◌, ℕ, ◌+◌, ◌-◌, ◌++◌, Bool, true, false, cond, eqb, List}
 use Rattle.std.proofs.Common.{[], ◌∷◌, length, get_or, take, drop, replicate}
 use Rattle.std.proofs.Common.{Result, Ok, Err, refl, sym, subst, ap, ◌∙◌, arith}
@@ -19,7 +19,7 @@ use Rattle.tape_stage.specs.Reading.{◌>>=◌, state_position, version_by, fiel
 use Rattle.tape_stage.proofs.Steps.{HasDigits, bind_ok, done, ok_is}
 use Rattle.tape_stage.proofs.FieldLaws.{HasFields, fields_found, fields_again}
 
--- the text has these fields in this version
+-- the text has the given fields in the given version
 pub record Reads (version : Version) (f : Fields) (text : List ℕ) : Type 0 where
   pub size : length text ≡ 80
   pub mark : take 4 text ≡ codes "TPCK"
@@ -75,7 +75,7 @@ text_again text v f r =
     (bytes_eq-Decides (take 4 text) (codes "TPCK")).1 r.mark in
     rw (r.size, mark, digit, version_again v, fields_again v text f r.size r.fields) refl
 
--- ---- as pieces that follow one another
+-- ---- the text as consecutive pieces
 
 staged_stand : (v : Version) (f : Fields) (text : List ℕ) → Reads v f text
     → StandAt (state_position v + 27) (drop 7 (rest_pieces v f)) text
@@ -112,7 +112,7 @@ reads_stand v f text r =
     let h = r.fields in
     (r.mark, (r.digit, (h.set_id, (h.file.spelled, (h.sect.spelled, place_stand v f text r)))))
 
--- the tail is all that is left
+-- the tail is the rest of the text
 tail_is : (n i : ℕ) (text tail : List ℕ) → length text ≡ n + i → take n (drop i text) ≡ tail
     → drop i text ≡ tail
 tail_is n i text tail size e =

@@ -1,4 +1,4 @@
--- What a write that is cut short leaves outside its range.
+-- The bytes outside the range of a write that was interrupted.
 use Rattle.std.proofs.Common.{◌≡◌, ℕ, ◌+◌, ◌-◌, ◌≤◌, ◌<◌, List, [], ◌∷◌, ◌++◌, length}
 use Rattle.std.proofs.Common.{take, drop, get_or, refl, sym, ap, ◌∙◌, subst, arith}
 use Rattle.std.proofs.Common.{append_assoc}
@@ -58,7 +58,7 @@ torn_byte_high p n i old new le torn = later_byte (p + n) i old new le torn.afte
 pub torn_front : (p n m : ℕ) (old new : List ℕ) → m ≤ p → Torn p n old new → take m new ≡ take m old
 torn_front p n m old new le torn = alike_less p m old new le torn.before
 
--- a write that was done
+-- a write that was completed
 pub holds_torn : (p : ℕ) (bytes old new : List ℕ) → p ≤ length old → Holds old p bytes new
     → Torn p (length bytes) old new
 holds_torn p bytes old new le holds = subst (λ (l : List ℕ). Torn p (length bytes) old l)

@@ -1,4 +1,4 @@
--- One frame after another.
+-- Consecutive frames.
 use Rattle.std.proofs.Common.{◌≡◌, ℕ, ◌+◌, ◌-◌, ◌≤◌, List}
 use Rattle.std.proofs.Common.{[], ◌∷◌, ◌++◌, take, drop, length, w32, refl, sym, ap, ◌∙◌}
 use Rattle.std.proofs.Common.{subst, arith}

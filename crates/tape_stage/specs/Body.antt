@@ -22,24 +22,25 @@ Slot = ℕ × Point
 abbrev pub point_text : Point → List ℕ
 point_text c = text_of (pieces Two (fields_of c))
 
--- what is written after a gate: a generation of 15 digits, its checkpoint's text and 32 spaces
+-- the bytes written after a gate: a generation of 15 digits, the text of its checkpoint, and 32
+-- spaces
 unfoldable pub body_text : ℕ → Point → List ℕ
 body_text g point = digits 15 g ++ (point_text point ++ replicate 32 32)
 
--- this generation and the checkpoint, if there is one
+-- the given generation and its checkpoint, if there is one
 abbrev pub with_generation : ℕ → Option Point → Option Slot
 with_generation g None = None
 with_generation g (Some point) = Some (g, point)
 
--- what a body contains: its generation is digits, and its text that of a checkpoint; the rest is
--- ignored
+-- the contents of a body, if its generation consists of digits and its text is that of a
+-- checkpoint; the rest is ignored
 unfoldable pub body_of : List ℕ → Option Slot
 body_of body =
     if all_ascii_digits (take 15 body)
     then with_generation (number_of (take 15 body)) (point_in (take 80 (drop 15 body)))
     else None
 
--- the generation has 15 digits, and the checkpoint a text
+-- the generation has at most 15 digits, and the checkpoint has a text
 pub record FitBody (g : ℕ) (point : Point) : Type 0 where
   pub generation : g < 10 ^ 15
   pub text : IsPointText Two (point_text point) point

@@ -1,5 +1,5 @@
--- A disk as the calls that were made on it: what a read returns after them, and what a crash may
--- leave at each moment.
+-- A disk as the calls made on it: the bytes that a read returns after them, and the contents that a
+-- crash may leave at each moment.
 use Rattle.std.specs.Prelude.{◌≡◌, ◌⊎◌, ℕ, zero, suc, ◌+◌, ◌≤◌, Bool, true, false, List, [], ◌∷◌}
 use Rattle.std.specs.Prelude.{◌++◌, length, take, drop}
 use mathlib.Core.Logic.{inr}
@@ -12,12 +12,12 @@ use Rattle.tape_stage.specs.Disk.{Torn, CutShort}
 use Rattle.tape_stage.specs.declared.disk.content.Call.{Call}
 use Rattle.tape_stage.specs.declared.disk.content.Call.TheVariants.{Look, Write, Cut, Sync}
 
--- the original contents: saved once there was a change
+-- the original contents, which are saved before the first change
 abbrev pub kept_or : Bool → List ℕ → List ℕ → List ℕ
 kept_or true kept bytes = kept
 kept_or false kept bytes = bytes
 
--- what a read returns after a call
+-- the bytes that a read returns after a call
 abbrev pub after : List ℕ → Call → List ℕ
 after seen Look = seen
 after seen (Write place bytes) = take place seen ++ bytes.items ++ drop
@@ -25,7 +25,7 @@ after seen (Write place bytes) = take place seen ++ bytes.items ++ drop
 after seen (Cut len) = take len seen
 after seen Sync = seen
 
--- what a crash may leave after a call
+-- the contents that a crash may leave after a call
 abbrev pub left_after : List ℕ → (List ℕ → Type 0) → Call → List ℕ → Type 0
 left_after seen left Look c = left c
 left_after seen left (Write place bytes) c = (d : List ℕ) × left d
@@ -33,7 +33,7 @@ left_after seen left (Write place bytes) c = (d : List ℕ) × left d
 left_after seen left (Cut len) c = (d : List ℕ) × left d × CutShort len d c
 left_after seen left Sync c = c ≡ seen
 
--- the same after some calls
+-- the same after several calls
 abbrev pub seen_by : List ℕ → List Call → List ℕ
 seen_by seen [] = seen
 seen_by seen (call ∷ calls) = seen_by (after seen call) calls
@@ -42,7 +42,7 @@ abbrev pub left_by : List ℕ → (List ℕ → Type 0) → List Call → List �
 left_by seen left [] c = left c
 left_by seen left (call ∷ calls) c = left_by (after seen call) (left_after seen left call) calls c
 
--- at some moment from the t-th call on
+-- the same at some moment from call number t
 abbrev pub since_by : List ℕ → (List ℕ → Type 0) → List Call → ℕ → List ℕ → Type 0
 since_by seen left [] zero c = left c
 since_by seen left [] (suc t) c = ⊥
@@ -51,14 +51,14 @@ since_by seen left (call ∷ calls) zero c = left c
 since_by seen left (call ∷ calls) (suc t) c = since_by (after seen call)
     (left_after seen left call) calls t c
 
--- on a disk that began with these bytes, all of them durable
+-- the same on a disk that began with the bytes `first`, all of them durable
 abbrev pub IsImage : List ℕ → List Call → List ℕ → Type 0
 IsImage first calls c = left_by first (λ d. d ≡ first) calls c
 
 abbrev pub WasImage : List ℕ → List Call → ℕ → List ℕ → Type 0
 WasImage first calls t c = since_by first (λ d. d ≡ first) calls t c
 
--- each call is within the bytes of its time
+-- each call is within the bytes that exist at its time
 abbrev pub Fits : List ℕ → Call → Type 0
 Fits seen Look = Unit {0}
 Fits seen (Write place bytes) = place ≤ length seen
@@ -80,7 +80,8 @@ fit_one_way seen [] = Prim.hlevel props
 fit_one_way seen (call ∷ calls) = Prim.hlevel
     (props, fits_one_way seen call, fit_one_way (after seen call) calls)
 
--- the worst that a crash may leave: 255 wherever a byte is open, and nothing absent
+-- the worst contents that a crash may leave: 255 for every byte that is not durable, and no byte
+-- missing
 abbrev pub worst_after : List ℕ → List ℕ → Call → List ℕ
 worst_after seen worst Look = worst
 worst_after seen worst (Write place bytes) = take place worst ++ replicate (length bytes.items) 255
@@ -92,7 +93,7 @@ abbrev pub worst_by : List ℕ → List ℕ → List Call → List ℕ
 worst_by seen worst [] = worst
 worst_by seen worst (call ∷ calls) = worst_by (after seen call) (worst_after seen worst call) calls
 
--- a write as it is done
+-- a completed write
 pub over : (place : ℕ) (bytes old : List ℕ) → place ≤ length old
     → Torn place (length bytes) old (take place old ++ bytes ++ drop (place + length bytes) old)
 over place bytes old le =
@@ -117,7 +118,7 @@ over place bytes old le =
       no_longer = omega (arith, all);
     }
 
--- a cut as it is done
+-- a completed cut
 pub cut_short : (len : ℕ) (old more : List ℕ) → len ≤ length old → length more ≤ length old - len
     → CutShort len old (take len old ++ more)
 cut_short len old more le few =
@@ -206,13 +207,13 @@ worst_left seen left worst (Cut len ∷ calls) fit now le =
 worst_left seen left worst (Sync ∷ calls) fit now le = worst_left seen
     (left_after seen left Sync) seen calls fit.1 refl (omega arith)
 
--- what is read is what a crash may leave
+-- the bytes that reads return are a possible result of a crash
 pub seen_image : (first bytes : List ℕ) (calls : List Call) → AllFit first calls
     → seen_by first calls ≡ bytes → IsImage first calls bytes
 seen_image first bytes calls fit is = subst (λ (b : List ℕ). IsImage first calls b) is
     (seen_left first (λ d. d ≡ first) calls fit refl)
 
--- and so is the worst
+-- the worst contents are a possible result of a crash
 pub worst_image : (first worst : List ℕ) (calls : List Call) → AllFit first calls
     → worst_by first first calls ≡ worst → IsImage first calls worst
 worst_image first worst calls fit is = subst (λ (b : List ℕ). IsImage first calls b) is
@@ -232,18 +233,18 @@ only : (seen : List ℕ) (left : List ℕ → Type 0) (calls : List Call) (c : L
 only seen left [] c was = was
 only seen left (call ∷ calls) c was = only (after seen call) (left_after seen left call) calls c was
 
--- this moment is one of those since an earlier one
+-- the current moment is among those since an earlier moment
 pub counts_image : (first : List ℕ) (calls : List Call) (t : ℕ) (c : List ℕ) → t ≤ length calls
     → IsImage first calls c → WasImage first calls t c
 counts_image first calls t c le now = counts first (λ d. d ≡ first) calls t c le now
 
--- no later moment began since
+-- among the moments since the current one there is no later moment
 pub only_image : (first : List ℕ) (calls : List Call) (c : List ℕ)
     → WasImage first calls (length calls) c → IsImage first calls c
 only_image first calls c was = only first (λ d. d ≡ first) calls c was
 
--- The record of a disk in memory is right: its calls lead from the original contents to the current
--- ones, and to the worst that a crash may leave.
+-- The record of a disk in memory is correct: its calls lead from the original contents to the
+-- current ones, and to the worst that a crash may leave.
 pub record IsRight (first worst bytes : List ℕ) (calls : List Call) : Type 0 where
   pub seen : seen_by first calls ≡ bytes
   pub fit : AllFit first calls

@@ -1,5 +1,6 @@
--- Examples for the definitions of disks and stages, so that none of them says less than it should,
--- and no requirement asks for more. They are the contract of the call `laws::cases`.
+-- Examples for the definitions of disks and stages, which ensure that no definition says less than
+-- it should, and that no requirement asks for too much. They are the contract of the call
+-- `laws::cases`.
 use Rattle.std.specs.Prelude.{◌≡◌, ◌⊎◌, ◌≤◌, ◌+◌, ◌-◌, ◌==◌, ℕ, List, [], ◌∷◌, ◌++◌, take, drop}
 use Rattle.std.specs.Prelude.{length, min, replicate, codes, Some, None, Bool, true, false, not}
 use Rattle.std.specs.Prelude.{Option, Result, Ok, Err}
@@ -43,59 +44,60 @@ use Rattle.tape_stage.specs.Staged.{WalkedTo, Ready, StagedIn, slot_at, best, ga
 use Rattle.tape_stage.specs.Stages.{Holds, IsAhead, IsStage, Returns, Survives, HasRefused}
 use Rattle.tape_stage.specs.Stages.{EndsCall, OpensOver, Returned, Survived, crashes_of}
 
--- what a crash may leave of a write and of a cut
+-- the possible results of a crash after a write and after a cut
 pub record CasesOfCrashes : Type 0 where
-  -- of a write of four bytes after one: nothing of it,
+  -- after a write of four bytes at offset 1: no byte of the write,
   pub torn_nothing : Torn 1 4 (7 ∷ []) (7 ∷ [])
-  -- all of it,
+  -- all bytes of the write,
   pub torn_all : Torn 1 4 (7 ∷ []) (7 ∷ 1 ∷ 2 ∷ 3 ∷ 4 ∷ [])
-  -- or two of the bytes, even other ones than were written
+  -- or two bytes, even other bytes than were written
   pub torn_short : Torn 1 4 (7 ∷ []) (7 ∷ 1 ∷ 255 ∷ [])
   -- a write over the first two of three bytes may leave any bytes there
   pub torn_inside : Torn 0 2 (7 ∷ 8 ∷ 9 ∷ []) (0 ∷ 255 ∷ 9 ∷ [])
-  -- but no byte before or after it changes, and the file does not get shorter
+  -- no byte before or after the range changes, and the file does not get shorter
   pub front_stays : Torn 1 2 (7 ∷ 8 ∷ 9 ∷ []) (6 ∷ 1 ∷ 2 ∷ []) → ⊥
   pub rest_stays : Torn 0 1 (7 ∷ 8 ∷ []) (7 ∷ 9 ∷ []) → ⊥
   pub none_is_lost : Torn 0 1 (7 ∷ []) [] → ⊥
-  -- of a cut of four bytes to one: all of these, some, none, or others in their place
+  -- after a cut of four bytes to one: all of the bytes, some, only the first, or other bytes after
+  -- it
   pub cut_nothing : CutShort 1 (1 ∷ 2 ∷ 3 ∷ 4 ∷ []) (1 ∷ 2 ∷ 3 ∷ 4 ∷ [])
   pub cut_some : CutShort 1 (1 ∷ 2 ∷ 3 ∷ 4 ∷ []) (1 ∷ 255 ∷ [])
   pub cut_all : CutShort 1 (1 ∷ 2 ∷ 3 ∷ 4 ∷ []) (1 ∷ [])
-  -- but not the first, and no more than there were
+  -- the first byte does not change, and there are no more bytes than before
   pub cut_front_stays : CutShort 1 (1 ∷ 2 ∷ []) (9 ∷ 2 ∷ []) → ⊥
   pub cut_no_more : CutShort 1 (1 ∷ 2 ∷ []) [] → ⊥
   pub cut_no_longer : CutShort 1 (1 ∷ []) (1 ∷ 2 ∷ []) → ⊥
-  -- what is written is read, and no other byte changes
+  -- the bytes written are read, and no other byte changes
   pub written : (new : List ℕ) → disk.Holds (1 ∷ 2 ∷ 3 ∷ []) 1 (9 ∷ []) new → new ≡ 1 ∷ 9 ∷ 3 ∷ []
-  -- a crash may leave nothing else, and not only that file
+  -- `NoMore` excludes new results of a crash, and `Only` excludes other files
   pub more_is_more : NoMore (λ c. c ≡ []) (λ c. Unit {0}) → ⊥
   pub other_is_other : Only [] (λ c. Unit {0}) → ⊥
-  -- what may be left after a step is what the step makes of what might be left before
+  -- contents that are possible after a step come from the step on contents possible before it
   pub stepped : Follows (λ d c. (d ≡ []) × (c ≡ 7 ∷ [])) (λ c. c ≡ []) (λ c. c ≡ 7 ∷ [])
   pub not_stepped : Follows (λ d c. ⊥) (λ c. c ≡ []) (λ c. c ≡ []) → ⊥
-  -- and what a step allows may be left after it
+  -- contents that a step allows are possible after the step
   pub allowed : Allows (λ d c. (d ≡ []) × (c ≡ 7 ∷ [])) (λ c. c ≡ []) (λ c. c ≡ 7 ∷ [])
   pub not_allowed : Allows (λ d c. c ≡ 7 ∷ []) (λ c. c ≡ []) (λ c. c ≡ []) → ⊥
   pub allowed_of_nothing : Allows (λ d c. c ≡ 7 ∷ []) (λ c. ⊥) (λ c. ⊥)
-  -- buffered bytes are read at their place, even past the end,
+  -- buffered bytes are read at their offset, even past the end,
   pub held_over : with_held 1 (8 ∷ 9 ∷ []) (1 ∷ 2 ∷ 3 ∷ 4 ∷ []) ≡ 1 ∷ 8 ∷ 9 ∷ 4 ∷ []
   pub held_behind : with_held 2 (7 ∷ []) (1 ∷ 2 ∷ []) ≡ 1 ∷ 2 ∷ 7 ∷ []
-  -- a crash may leave none of them, or others in their place, but no other byte before them,
+  -- a crash may leave none of them, or other bytes instead, but changes no byte before them,
   pub held_lost : LeftTorn (λ c. c ≡ 1 ∷ []) 1 (7 ∷ []) (1 ∷ [])
   pub held_torn : LeftTorn (λ c. c ≡ 1 ∷ []) 1 (7 ∷ []) (1 ∷ 255 ∷ [])
   pub held_there : LeftTorn (λ c. c ≡ 1 ∷ []) 1 (7 ∷ []) (2 ∷ []) → ⊥
-  -- and nothing if the disk itself leaves nothing
+  -- and a crash leaves nothing if the disk itself leaves nothing
   pub held_of_nothing : LeftTorn (λ c. ⊥) 0 (7 ∷ []) [] → ⊥
-  -- of a disk in memory that was cut from two bytes to one: both, until it is synced, and then only
-  -- the one
+  -- a disk in memory that was cut from two bytes to one: a crash may leave both until a sync, and
+  -- then only the one
   pub cut_in_memory : IsImage (1 ∷ 2 ∷ []) (Cut 1 ∷ []) (1 ∷ 2 ∷ [])
   pub synced_in_memory : (c : List ℕ) → IsImage (1 ∷ 2 ∷ []) (Cut 1 ∷ Sync ∷ []) c → c ≡ 1 ∷ []
   pub before_it_was_synced : WasImage (1 ∷ 2 ∷ []) (Cut 1 ∷ Sync ∷ []) 1 (1 ∷ 2 ∷ [])
   pub since_it_was_synced : WasImage (1 ∷ 2 ∷ []) (Cut 1 ∷ Sync ∷ []) 2 (1 ∷ 2 ∷ []) → ⊥
-  -- and the worst has 255 where a byte is open
+  -- the worst contents have 255 for a byte that is not durable
   pub worst_in_memory : worst_by (1 ∷ 2 ∷ []) (1 ∷ 2 ∷ []) (Cut 1 ∷ []) ≡ 1 ∷ 255 ∷ []
-  -- without a call a crash leaves the original bytes, now and since then, and these are read while
-  -- nothing changes them
+  -- without a call a crash leaves the original bytes, now and since then; reads return them as long
+  -- as nothing changes
   pub left_in_memory : (d : MemoryDisk) (c : List ℕ) → d.content.calls.items ≡ []
       → memory_leaves d c → c ≡ first_of d.content
   pub left_since_then : (d : MemoryDisk) (c : List ℕ) → d.content.calls.items ≡ []
@@ -103,8 +105,8 @@ pub record CasesOfCrashes : Type 0 where
   pub began_with : (d : MemoryDisk) → d.content.changed ≡ false
       → first_of d.content ≡ memory_bytes d
 
--- a disk reduced to its moment: what a crash may leave of it then, and what one may have left since
--- an earlier moment
+-- a disk reduced to its moment, with the contents that a crash may leave then, or might have left
+-- since an earlier moment
 abbrev pub disk_of : (ℕ → List ℕ → Type 0) → (ℕ → ℕ → List ℕ → Type 0) → Ghosts ℕ
 disk_of may_leave left_since = record {
   is_honest = λ d. Unit {0};
@@ -117,32 +119,35 @@ disk_of may_leave left_since = record {
   calls_left = λ d. None;
 }
 
--- what a crash may have left at some moment
+-- contents that a crash may have left at some moment
 pub record CasesOfMoments : Type 0 where
-  -- a call during which a crash might have left the byte 7 is not one after which no byte is left,
+  -- a call during which a crash might have left the byte 7 is not a call after which no bytes are
+  -- left,
   pub not_in_between : Passes (disk_of (λ d c. ⊥) (λ d t c. (d ≡ 1) × (c ≡ 7 ∷ []))) 0 1
       (λ c. c ≡ []) → ⊥
-  -- nor one after which a crash may leave it,
+  -- nor is a call after which a crash may leave that byte,
   pub not_behind : Passes (disk_of (λ d c. (d ≡ 1) × (c ≡ 7 ∷ [])) (λ d t c. ⊥)) 0 1
       (λ c. c ≡ []) → ⊥
-  -- nor is one that goes back in time
+  -- nor is a call that goes back in time
   pub not_backwards : Passes (disk_of (λ d c. ⊥) (λ d t c. ⊥)) 1 0 (λ c. ⊥) → ⊥
-  -- but what might have been left before the call, it may have left
+  -- contents that might have been left before the call are allowed
   pub left_before : Passes (disk_of (λ d c. ⊥) (λ d t c. c ≡ 7 ∷ [])) 0 1 (λ c. ⊥)
-  -- so it is for buffered bytes: earlier what the disk itself left, now that with these torn in
+  -- the same for buffered bytes: earlier the contents left by the disk itself, now those with the
+  -- buffered bytes torn in
   pub held_before : LeftSince (λ t c. c ≡ 5 ∷ []) (λ c. ⊥) 0 (7 ∷ []) 0 (5 ∷ [])
   pub held_now : LeftSince (λ t c. ⊥) (λ c. c ≡ []) 0 (7 ∷ []) 0 (7 ∷ [])
   pub held_never : LeftSince (λ t c. ⊥) (λ c. ⊥) 0 (7 ∷ []) 0 [] → ⊥
-  -- as time passes, nothing that might have been left is forgotten,
+  -- as time passes, no contents that might have been left are forgotten,
   pub not_forgotten : Elapses 0 1 (λ t c. Unit {0}) (λ t c. ⊥) (λ c. ⊥) → ⊥
-  -- nothing else was left,
+  -- no other contents were left,
   pub not_invented : Elapses 0 1 (λ t c. ⊥) (λ t c. Unit {0}) (λ c. ⊥) → ⊥
-  -- and no moment comes again
+  -- and no moment occurs again
   pub not_again : Elapses 1 0 (λ t c. ⊥) (λ t c. ⊥) (λ c. ⊥) → ⊥
 
 -- ---- a checkpoint
 
--- inside a record that runs through block 7 of section 2, where a part of 80 bytes is staged
+-- a checkpoint inside a record that continues in block 7 of section 2; a part of 80 bytes of the
+-- record is staged
 abbrev pub worked_point : Point
 worked_point = record {
   set_id = codes "ABC001";
@@ -158,46 +163,46 @@ worked_point = record {
   staged = 85;
 }
 
--- its text
+-- the text of that checkpoint
 abbrev pub worked_text : List ℕ
 worked_text =
     codes "TPCK2ABC00100030002000000000700001R11S0000012PAYROLL          000000000000085   "
 
--- what bytes represent
+-- the meaning of bytes
 pub record CasesOfFiles : Type 0 where
-  -- no bytes represent nothing
+  -- an empty file represents nothing
   pub nothing_staged : HoldsNone []
-  -- a slot is valid if its gate, at 0 or at 128, is O
+  -- a slot is valid if its gate, at offset 0 or 128, is O
   pub first_gate : gate_at false (79 ∷ []) ≡ 79
   pub second_gate : gate_at true (replicate 128 32 ++ 79 ∷ []) ≡ 79
   pub closed_gate : (body : List ℕ) → read_slot 67 body ≡ None
-  -- the greater generation is current, and the first slot if both are equal
+  -- the slot with the greater generation is current, or the first slot if both are equal
   pub greater_counts : (a b : Point) → best (Some (3, a)) (Some (4, b)) ≡ Some (4, b)
   pub first_at_a_tie : (a b : Point) → best (Some (3, a)) (Some (3, b)) ≡ Some (3, a)
-  -- so at a tie the first slot does not lose by the second, and the second loses by the first
+  -- so if both are equal, the first slot is not replaced by the second, but the second by the first
   pub first_wins : (a : Point) → Loses false 3 (Some (3, a))
   pub second_loses : (a : Point) → Loses true 3 (Some (3, a)) → ⊥
-  -- the bytes determine which slot is current, and whether the other one is open
+  -- the bytes determine the current slot, and whether the other slot is open
   pub found : (f : Found) (bytes : List ℕ) → IsFound f bytes
       → (slot_at f.in_second bytes ≡ Some (f.generation, f.point))
       × Loses f.in_second f.generation (slot_at (not f.in_second) bytes)
       × (f.other_open ≡ (gate_at (not f.in_second) bytes == 79))
-  -- a checkpoint's text, and what is written after a gate
+  -- the text of a checkpoint, and the bytes written after a gate
   pub text : point_text worked_point ≡ worked_text
   pub body : body_text 9 worked_point ≡ codes "000000000000009" ++ (worked_text ++ replicate 32 32)
-  -- the current slot determines what is staged, and all its frames are intact,
+  -- the current slot determines the staged data, and all its frames are intact,
   pub staged_is_there : (bytes : List ℕ) (g : ℕ) (point : Point) (parts : List Portion)
       → Staged bytes g point parts
       → (best (slot_at false bytes) (slot_at true bytes) ≡ Some (g, point))
       × (256 + point.staged ≤ length bytes)
       × (take point.staged (drop 256 bytes) ≡ frames parts)
-  -- and no frame is where there is none
+  -- and no frames are staged if the bytes represent nothing
   pub none_holds : (bytes : List ℕ) (g : ℕ) (point : Point) (parts : List Portion)
       → HoldsNone bytes → Staged bytes g point parts → ⊥
-  -- bytes equal to others represent the same
+  -- equal bytes represent the same generation, checkpoint and parts
   pub stands_like : (read c : List ℕ) (g : ℕ) (point : Point) (parts : List Portion)
       → StandsLike read c → Staged read g point parts → Staged c g point parts
-  -- what is staged and kept is unchanged, and what follows may be cut
+  -- staged data that are kept do not change, but the bytes after them may be removed
   pub staged_stays : (old new : List ℕ) (g : ℕ) (point : Point) (parts : List Portion)
       → KeepsStaged old new → Staged old g point parts
       → (take (256 + point.staged) new ≡ take (256 + point.staged) old)
@@ -205,35 +210,37 @@ pub record CasesOfFiles : Type 0 where
   -- frames that are kept are all intact
   pub frames_stay : (old new : List ℕ) → KeepsFrames old new
       → (drop 256 new ≡ drop 256 old) × (length old ≤ length new)
-  -- if a frame is bad, the current slot counts parts, those before it are intact, and it is not
+  -- if a frame is bad, the current slot counts parts, the frames before the bad one are intact, and
+  -- it is not
   pub bad_place : (bytes : List ℕ) (place : ℕ) (b : IsBadPlace bytes place)
-      → WalkedTo place bytes
+      → (place ≤ length bytes) × WalkedTo place bytes
       × NoFrameAt place (min (256 + b.point.staged) (length bytes)) bytes
       × (best (slot_at false bytes) (slot_at true bytes) ≡ Some (b.generation, b.point))
   pub walked : (bytes : List ℕ) (place : ℕ) (w : WalkedTo place bytes) → (256 ≤ place)
       × (take (place - 256) (drop 256 bytes) ≡ frames w.parts)
-  -- a frame of one byte, A, has six bytes; there is none in five, and none after another digit
+  -- a frame with one byte, A, has six bytes; five bytes contain no frame, and neither do six with
+  -- another digit
   pub a_frame : IsFrameAt 0 6 (48 ∷ 0 ∷ 0 ∷ 0 ∷ 1 ∷ 65 ∷ []) Whole (65 ∷ [])
   pub no_room : NoFrameAt 0 5 (48 ∷ 0 ∷ 0 ∷ 0 ∷ 1 ∷ 65 ∷ [])
   pub no_digit : NoFrameAt 0 6 (52 ∷ 0 ∷ 0 ∷ 0 ∷ 1 ∷ 65 ∷ [])
   pub no_frame : (bytes : List ℕ) (place end : ℕ) (span : Span) (content : List ℕ)
       → NoFrameAt place end bytes → IsFrameAt place end bytes span content → ⊥
-  -- the same frame is that of one part, of weight 6, the first of two
+  -- the same frame belongs to one part of weight 6, which is the first of two
   pub frame_of : frames (record { span = Whole; bytes = 65 ∷ [] } ∷ [])
       ≡ 48 ∷ 0 ∷ 0 ∷ 0 ∷ 1 ∷ 65 ∷ []
-  -- each part of a frame is short enough
+  -- each part in a frame is short enough
   pub all_short : (a b : Portion) → AllShort (a ∷ b ∷ []) → (length a.bytes ≤ longest_block)
       × (length b.bytes ≤ longest_block)
   pub front_of_two : (a b : Portion) → length a.bytes ≡ 1 → IsFront 6 (a ∷ []) (a ∷ b ∷ [])
 
--- what calls leave of any disk, and what is left of a stage on it
+-- the effect of calls on any disk, and on a stage on it
 pub record CasesOfStages {D : Type 0} (g : Ghosts D) : Type 0 where
-  -- of what was untouched, reads return what they did, and a crash leaves what it might have
+  -- if nothing was written, reads return the same bytes, and a crash leaves no new contents
   pub untouched_stays : (old new : D) → Untouched g old new
       → (g.seen new ≡ g.seen old) × ((c : List ℕ) → g.may_leave new c → g.may_leave old c)
       × ((c : List ℕ) → g.left_since new (g.moment old) c
       → g.left_since old (g.moment old) c ⊎ g.may_leave old c)
-  -- so it is for what was only read of an honest disk,
+  -- the same holds after calls that only read an honest disk,
   pub only_read_stays : (old new : D) → OnlyReads g old new → g.is_honest old
       → (g.seen new ≡ g.seen old) × ((c : List ℕ) → g.may_leave new c → g.may_leave old c)
   -- and any disk keeps its length, and does not become honest
@@ -242,13 +249,14 @@ pub record CasesOfStages {D : Type 0} (g : Ghosts D) : Type 0 where
   -- a disk is as honest as another if each is honest exactly if the other is
   pub as_honest : (old new : D) → disk.SameFact (g.is_honest old) (g.is_honest new)
       → (g.is_honest old → g.is_honest new) × (g.is_honest new → g.is_honest old)
-  -- all parts of a stage are framed, the first of them are acknowledged, and it has not failed
+  -- all parts of a stage have frames, the first of them are acknowledged, and the stage has not
+  -- failed
   pub is_stage : (stage : Stage D g) (acked parts : List Portion) → IsStage stage acked parts
       → (stage.failed ≡ false) × (stage.acknowledged.staged ≤ stage.weight)
       × Holding stage.weight parts (g.seen stage.disk)
       × Ready stage.in_second stage.generation stage.acknowledged acked stage.other_open
       (g.seen stage.disk) (g.may_leave stage.disk)
-  -- it contains what it would read, on a disk that is honest unless a save failed
+  -- a stage contains the parts that it would read, on a disk that is honest unless a save failed
   pub holds : (stage : Stage D g) (parts : List Portion) → Holds stage parts
       → (stage.pending ≡ None → g.is_honest stage.disk)
       × Holding stage.weight parts (g.seen stage.disk)
@@ -257,13 +265,13 @@ pub record CasesOfStages {D : Type 0} (g : Ghosts D) : Type 0 where
   pub ahead : (stage : Stage D g) (parts : List Portion) → IsAhead stage parts
       → (stage.pending ≡ None → g.is_honest stage.disk)
       × AheadIn (256 + stage.walked) (256 + stage.weight) (g.seen stage.disk) parts
-  -- what is ready is acknowledged, and the same in all that a crash may leave
+  -- a stage that is ready has its acknowledged data in all contents that a crash may leave
   pub ready : (second : Bool) (n : ℕ) (point : Point) (parts : List Portion) (other_open : Bool)
       (disk : D) → Ready second n point parts other_open (g.seen disk) (g.may_leave disk)
       → StagedIn second n point parts (g.seen disk)
       × (other_open ≡ (gate_at (not second) (g.seen disk) == 79)) × ((c : List ℕ)
       → g.may_leave disk c → take (256 + point.staged) c ≡ take (256 + point.staged) (g.seen disk))
-  -- a reader of parts has the stage that it had, which returned its next part
+  -- after a read, a reader of parts has the same stage, which returned its next part
   pub has_read : (old new : PartReader D g) (result : Result (Option Part) SinkFault)
       → HasRead old result new → (new.stage.ghost_name ≡ old.stage.ghost_name)
       × StageGave old.stage.now result new.stage.now
@@ -273,19 +281,19 @@ pub record CasesOfStages {D : Type 0} (g : Ghosts D) : Type 0 where
   pub part_given : (old new : Stage D g) (part : Part) (p : Portion) (parts : List Portion)
       → StageGave old (Ok (Some part)) new → IsAhead old (p ∷ parts)
       → (view part ≡ p) × IsAhead new parts
-  -- whatever a crash may leave now that represents a checkpoint and parts comes back,
+  -- contents that a crash may leave now and that represent a checkpoint and parts may return,
   pub what_is_left_returns : (stage : Stage D g) (bytes : List ℕ) (n : ℕ) (back : Point)
       (there : List Portion) → g.may_leave stage.disk bytes → Staged bytes n back there
       → Returns stage back there
-  -- nothing else does,
+  -- no other contents may return,
   pub what_returns_is_left : (stage : Stage D g) (back : Point) (there : List Portion)
       → Returns stage back there → (bytes : List ℕ) × g.may_leave stage.disk bytes
       × ((n : ℕ) × Staged bytes n back there)
-  -- and something represents the contents of a stage that survives, whatever a crash leaves
+  -- and if a stage survives, all contents that a crash may leave represent something
   pub something_returns : (stage : Stage D g) (bytes : List ℕ) → Survives stage
       → g.may_leave stage.disk bytes
       → (back : Point) × (there : List Portion) × Returns stage back there
-  -- the same for what a crash left since a moment, and for what it may leave now
+  -- the same for contents that a crash left since a moment, or may leave now
   pub what_was_left_returned : (stage : Stage D g) (t : ℕ) (bytes : List ℕ) (n : ℕ) (back : Point)
       (there : List Portion) → g.left_since stage.disk t bytes ⊎ g.may_leave stage.disk bytes
       → Staged bytes n back there → Returned stage t back there
@@ -302,36 +310,37 @@ pub record CasesOfStages {D : Type 0} (g : Ghosts D) : Type 0 where
       × ((crashes_of stage).survives → Survives stage)
       × ((crashes_of stage).survived t → Survived stage t)
       × ((crashes_of stage).moment ≡ g.moment stage.disk)
-  -- a stage that failed does not change, and neither does one that is full
+  -- a stage that failed does not change, and neither does a full stage
   pub failed_stays : (old new : Stage D g) → HasRefused old new Failed
       → (new ≡ old) × (old.failed ≡ true)
   pub full_stays : (old new : Stage D g) → HasRefused old new Full → new ≡ old
-  -- one whose disk fails had not failed, and has as many parts
+  -- a stage fails when its disk fails, if it had not failed before, and keeps its weight
   pub device_ends : (old new : Stage D g) → HasRefused old new Device
       → (old.failed ≡ false) × (new.failed ≡ true) × (new.weight ≡ old.weight)
-  -- a call succeeds only on a stage that had not failed, and its disk is as honest as before,
+  -- a call succeeds only on a stage that had not failed, and its disk remains as honest as before,
   pub end_ok : (old new : Stage D g) → EndsCall {A = Unit {0}} old (Ok tt) new
       → (old.failed ≡ false) × (new.refused ≡ old.refused)
       × (g.is_honest old.disk → g.is_honest new.disk)
-  -- and one is refused with Device if the disk failed, which did not become honest
+  -- and is refused with Device only if the disk failed, which did not become honest
   pub end_refused : (old new : Stage D g) → EndsCall {A = Unit {0}} old (Err Device) new
       → HasRefused old new Device × Rose (g.faults old.disk) (g.faults new.disk)
       × (g.is_honest new.disk → g.is_honest old.disk)
-  -- a crash while a stage is opened left what it might have before, or what represents the same
+  -- a crash while a stage is opened left contents that were possible before, or contents that
+  -- represent the same
   pub opened_over : (old new : D) (c : List ℕ) → OpensOver g old new
       → g.left_since new (g.moment old) c
       → g.left_since old (g.moment old) c ⊎ (g.may_leave old c ⊎ StandsLike (g.seen old) c)
-  -- and no other fault is possible
+  -- no other fault is possible
   pub no_other : (old new : Stage D g) → (HasRefused old new NoPoint → ⊥)
       × (HasRefused old new OutOfMemory → ⊥) × (HasRefused old new (BadFrame 300) → ⊥)
 
--- what faults say
+-- the meaning of faults
 pub record CasesOfFaults : Type 0 where
   pub none_said : SaysNone NoPoint × SaysNone (BadFrame 300)
   pub not_said : (SaysNone Device → ⊥) × (SaysNone OutOfMemory → ⊥)
   pub is_no_device : IsNotDevice OutOfMemory × IsNotDevice NoPoint × IsNotDevice (BadFrame 300)
   pub is_device : IsNotDevice Device → ⊥
   pub of_its_place : (place n : ℕ) → OnBadFrame (BadFrame place) (λ p. p ≡ n) → place ≡ n
-  -- as faults of a sink
+  -- the faults of a stage as faults of a sink
   pub as_of_sinks : (sink_fault_of Device ≡ sink.Device) × (sink_fault_of Full ≡ sink.Full)
       × (sink_fault_of OutOfMemory ≡ sink.OutOfMemory) × (sink_fault_of Failed ≡ sink.Failed)

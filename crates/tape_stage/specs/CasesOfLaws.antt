@@ -1,6 +1,6 @@
--- What a caller can conclude from each law of texts and stages, so that no law has a premise that
--- is never true; and what bytes of a generation or the next one are. They are the contract of the
--- call `laws::cases`, too.
+-- The conclusions that a caller can draw from each law of texts and stages, which ensure that no
+-- law has a premise that is never true; and the bytes of a generation or the next one. They are
+-- also part of the contract of the call `laws::cases`.
 use Rattle.std.specs.Prelude.{◌≡◌, ◌⊎◌, ◌≤◌, ℕ, List, length, false, true}
 use Rattle.tape_blocks.specs.Block.{Portion}
 use Rattle.tape_set.specs.Position.{block_of, part_of}
@@ -13,9 +13,9 @@ use Rattle.tape_stage.specs.Staged.{Staged, StagedIn, IsEither}
 use Rattle.tape_stage.specs.StageLaws.{StandsOnce, ReadsOneOf, NamedStands, EitherStands}
 use Rattle.tape_stage.specs.Text.{IsPointText, KnownFits}
 
--- of laws, and of two generations
+-- laws, and two consecutive generations
 pub record CasesOfLaws : Type 0 where
-  -- what was acknowledged is in its slot, or the next generation is in the other
+  -- either the acknowledged generation is in its slot, or the next generation is in the other slot
   pub of_either : (point next : Point) (parts more : List Portion) (bytes : List ℕ)
       → IsEither false 3 point next parts more bytes
       → StagedIn false 3 point parts bytes ⊎ StagedIn true 4 next more bytes
@@ -35,7 +35,8 @@ pub record CasesOfLaws : Type 0 where
   pub either : (bytes : List ℕ) (point next : Point) (parts more : List Portion)
       → EitherStands bytes → IsEither false 3 point next parts more bytes
       → ((g : ℕ) × Staged bytes g point parts) ⊎ ((g : ℕ) × Staged bytes g next more)
-  -- a text belongs to one checkpoint in one version, which has no other text
+  -- a text belongs to one checkpoint in one version, and the checkpoint has no other text in that
+  -- version
   pub text_of_one : (bytes : List ℕ) (v w : Version) (a b : Point) → IsTextOfOne
       → IsPointText v bytes a → IsPointText w bytes b → (v ≡ w) × (a ≡ b)
   pub one_text : (version : Version) (a b : List ℕ) (c : Point) → IsTextOnce

@@ -6,7 +6,7 @@ use Rattle.tape_stage.specs.declared.stage.StageFault.TheVariants.{OutOfMemory, 
 use Rattle.tape_core.specs.declared.sink.SinkFault.{SinkFault}
 use Rattle.tape_core.specs.declared.sink.SinkFault.TheVariants as sink
 
--- in the order of their list
+-- the numbers of the faults, in the order of their list
 abbrev pub number : StageFault → ℕ
 number NoPoint = 1
 number (BadFrame place) = 2
@@ -21,7 +21,7 @@ SaysNone NoPoint = Unit {0}
 SaysNone (BadFrame place) = Unit {0}
 SaysNone _ = ⊥
 
--- the same fault, of a sink
+-- the fault as a fault of a sink
 abbrev pub sink_fault_of : StageFault → SinkFault
 sink_fault_of OutOfMemory = sink.OutOfMemory
 sink_fault_of Device = sink.Device
@@ -33,7 +33,7 @@ abbrev pub IsNotDevice : StageFault → Type 0
 IsNotDevice Device = ⊥
 IsNotDevice _ = Unit {0}
 
--- what is true of the offset of a bad frame, if the fault has one
+-- P holds for the offset of a bad frame, if the fault has one
 abbrev pub OnBadFrame : StageFault → (ℕ → Type 0) → Type 0
 OnBadFrame (BadFrame place) P = P place
 OnBadFrame _ P = Unit {0}

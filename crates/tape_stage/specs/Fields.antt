@@ -15,15 +15,15 @@ use Rattle.tape_stage.specs.declared.point.Fields.{Fields}
 
 -- ---- the fields of a checkpoint
 
--- the numbers of the block and the part; zeros if the file is complete
+-- the numbers of the block and the part, or zeros if the file is complete
 abbrev pub place_of : Position → Place
 place_of p = record { block = block_of p; part = part_of p }
 
--- the state, and whether a record is unfinished and the form is known
+-- whether the file is complete, a record is unfinished, and the form is known
 abbrev pub flags_of : Position → Bool → Option FileForm → Flags
 flags_of p begun known = record { done = is_finished p; begun = begun; known = is_some known }
 
--- the fields of the file's form; if it is not known, spaces and zeros
+-- the fields of the file's form, or spaces and zeros if the form is unknown
 abbrev pub form_of : Option FileForm → Form
 form_of None = record { format = None; rec_len = 0; offset = 0; file_id = replicate 17 32 }
 form_of (Some form) =
@@ -49,7 +49,7 @@ fields_of c = record {
 
 -- ---- the checkpoint of fields
 
--- the end of the file, or what is expected next
+-- the end of the file, or the part expected next
 abbrev pub position_by : Fields → Position
 position_by f = if f.flags.done then Finished else Awaits f.sect f.place.block f.place.part
 
@@ -58,16 +58,16 @@ abbrev pub form_as : Form → Format → FileForm
 form_as form format =
     record { file_id = form.file_id; format = format; rec_len = form.rec_len; offset = form.offset }
 
--- what is known, by the format in the text
+-- the form of the file, with the format in the text, or `None`
 abbrev pub known_as : Form → Option Format → Option FileForm
 known_as form None = None
 known_as form (Some format) = Some (form_as form format)
 
--- what is known of the file
+-- the form of the file, or `None` if it is unknown
 abbrev pub known_by : Form → Option FileForm
 known_by form = known_as form form.format
 
--- the checkpoint in these fields
+-- the checkpoint with the given fields
 abbrev pub point_by : Fields → Point
 point_by f = record {
   set_id = f.set_id;

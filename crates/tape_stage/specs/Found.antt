@@ -1,22 +1,33 @@
 -- The contents of the slots of a stage file.
-use Rattle.std.specs.Prelude.{◌≡◌, ℕ, ◌+◌, min, length, true, false, not, List, Some, ◌==◌}
+use Rattle.std.specs.Prelude.{◌≡◌, ℕ, ◌+◌, ◌≤◌, min, length, true, false, not, List, Some, ◌==◌}
 use Rattle.tape_stage.specs.Staged.{best, WalkedTo}
 use Rattle.tape_stage.specs.Frames.{NoFrameAt}
 use Rattle.tape_core.specs.Point.{Point}
 use Rattle.tape_stage.specs.Staged.{gate_at, slot_at, Loses}
+use Rattle.tape_stage.specs.Salvaged.{RemainsNone}
 use Rattle.tape_stage.specs.declared.stage.Found.{Found}
+use Rattle.tape_stage.specs.declared.stage.StageFault.{StageFault}
+use Rattle.tape_stage.specs.declared.stage.StageFault.TheVariants.{NoPoint, BadFrame}
 
--- the current slot, and the other one's gate
+-- the slot found is the current one, and `other_open` is the state of the other slot's gate
 pub record IsFound (found : Found) (bytes : List ℕ) : Type 0 where
   pub slot : slot_at found.in_second bytes ≡ Some (found.generation, found.point)
   pub other : Loses found.in_second found.generation (slot_at (not found.in_second) bytes)
   pub gate : found.other_open ≡ (gate_at (not found.in_second) bytes == 79)
 
--- The frames that the current slot counts are those of some parts up to this place, and there is no
--- frame there that ends by the staged end and the file's end.
+-- The frames that the current slot counts are intact up to the offset `place`; at that offset there
+-- is no frame that ends within the staged weight and the file.
 pub record IsBadPlace (bytes : List ℕ) (place : ℕ) : Type 0 where
   pub generation : ℕ
   pub point : Point
   pub slot : best (slot_at false bytes) (slot_at true bytes) ≡ Some (generation, point)
+  pub inside : place ≤ length bytes
   pub walked : WalkedTo place bytes
   pub none : NoFrameAt place (min (256 + point.staged) (length bytes)) bytes
+
+-- What a fault of opening says about the bytes: NoPoint, that no slot is valid; BadFrame, where the
+-- first bad frame is.
+abbrev pub IsFaultOf : List ℕ → StageFault → Type 0
+IsFaultOf bytes NoPoint = RemainsNone bytes
+IsFaultOf bytes (BadFrame place) = IsBadPlace bytes place
+IsFaultOf bytes _ = Unit {0}

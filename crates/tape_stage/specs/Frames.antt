@@ -7,14 +7,14 @@ use Rattle.tape_blocks.specs.Block.{Portion}
 use Rattle.tape_stage.specs.Parts.{frames, longest_part, AllShort}
 use Rattle.tape_blocks.specs.Block.{indicator}
 
--- From the place to the end are the frames of these parts.
+-- The bytes from `place` to `end` are the frames of the given parts.
 pub record AheadIn (place end : ℕ) (bytes : List ℕ) (parts : List Portion) : Type 0 where
   pub low : place ≤ end
   pub high : end ≤ length bytes
   pub frames_are : take (end - place) (drop place bytes) ≡ frames parts
   pub short : AllShort parts
 
--- A part's frame is at a place, and ends at the end or before.
+-- A part's frame begins at `place`, and ends at or before `end`.
 pub record IsFrameAt (place end : ℕ) (bytes : List ℕ) (span : Span)
     (content : List ℕ) : Type 0 where
   pub room : place + (5 + length content) ≤ end
@@ -22,7 +22,7 @@ pub record IsFrameAt (place end : ℕ) (bytes : List ℕ) (span : Span)
   pub content_is : take (length content) (drop (place + 5) bytes) ≡ content
   pub short : length content ≤ longest_part
 
--- There is no frame of at most 99,999 bytes.
+-- No frame of at most 99,999 bytes begins at `place` and ends at or before `end`.
 abbrev pub NoFrameAt : ℕ → ℕ → List ℕ → Type 0
 NoFrameAt place end bytes = (span : Span) (content : List ℕ)
     → IsFrameAt place end bytes span content → ⊥

@@ -5,15 +5,16 @@ use Rattle.std.proofs.lemmas.List.{length-take-le}
 use Rattle.tape_stage.specs.Disk.{Torn}
 use Rattle.tape_stage.specs.Calls.{over}
 
--- what a read returns with the buffered bytes written over it
+-- the bytes that a read returns: those of the disk, with the buffered bytes written over them
 abbrev pub with_held : ℕ → List ℕ → List ℕ → List ℕ
 with_held start bytes old = take start old ++ bytes ++ drop (start + length bytes) old
 
--- what a crash may leave, with the buffered write torn in
+-- the contents that a crash may leave, with the buffered bytes torn in
 abbrev pub LeftTorn : (List ℕ → Type 0) → ℕ → List ℕ → List ℕ → Type 0
 LeftTorn leaves start bytes c = (d : List ℕ) × leaves d × Torn start (length bytes) d c
 
--- what a crash since then might have left, or may leave now with the buffered write torn in
+-- the contents that a crash since then might have left, or may leave now with the buffered bytes
+-- torn in
 abbrev pub LeftSince : (ℕ → List ℕ → Type 0) → (List ℕ → Type 0) → ℕ → List ℕ → ℕ → List ℕ → Type 0
 LeftSince left leaves start bytes t c = left t c ⊎ LeftTorn leaves start bytes c
 
@@ -41,13 +42,13 @@ pub held_over : (start : ℕ) (bytes old : List ℕ) (long : ℕ) → long ≡ l
     → Torn start (length bytes) old (with_held start bytes old)
 held_over start bytes old long same le = over start bytes old (omega (arith, same, le))
 
--- what may be left now is among what was left since an earlier moment
+-- contents that may be left now are among those left since an earlier moment
 pub held_counts : (left : ℕ → List ℕ → Type 0) (leaves : List ℕ → Type 0) (start : ℕ)
     (bytes : List ℕ) (t : ℕ) (c : List ℕ) → LeftTorn leaves start bytes c
     → LeftSince left leaves start bytes t c
 held_counts left leaves start bytes t c now = inr now
 
--- no later moment began since
+-- among the moments since the current one there is no later moment
 pub held_only : (left : ℕ → List ℕ → Type 0) (leaves : List ℕ → Type 0) (start : ℕ)
     (bytes : List ℕ) (t : ℕ) (c : List ℕ) → (left t c → leaves c)
     → LeftSince left leaves start bytes t c → LeftTorn leaves start bytes c

@@ -8,17 +8,17 @@ use Rattle.tape_stage.specs.declared.point.Version.TheVariants.{One, Two}
 use Rattle.tape_stage.specs.Fields.{form_of}
 use Rattle.tape_stage.specs.Text.{IsPointText, KnownFits}
 
--- if bytes are the text of two checkpoints, these are the same checkpoint in the same version
+-- if bytes are the text of two checkpoints, the checkpoints and the versions are the same
 abbrev pub IsTextOfOne : Type 0
 IsTextOfOne = (bytes : List ℕ) (v w : Version) (a b : Point)
     → IsPointText v bytes a → IsPointText w bytes b → (v ≡ w) × (a ≡ b)
 
--- a checkpoint has one text in each version, of 80 characters
+-- a checkpoint has at most one text in each version, of 80 characters
 abbrev pub IsTextOnce : Type 0
 IsTextOnce = (version : Version) (a b : List ℕ) (c : Point)
     → IsPointText version a c → IsPointText version b c → (a ≡ b) × (length a ≡ 80)
 
--- a checkpoint up to block 999,999 and at part 0 has a text in each version
+-- a checkpoint with a block up to 999,999 and part 0 has a text in each version
 abbrev pub HasBothTexts : Type 0
 HasBothTexts = (c : Point) → IsPoint c → KnownFits c.known → length c.set_id ≡ 6
     → length (form_of c.known).file_id ≡ 17 → block_of c.position ≤ 999999 → part_of c.position ≡ 0

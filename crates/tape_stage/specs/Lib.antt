@@ -4,7 +4,7 @@ pub mod Text
 pub mod Range
 pub mod Reading
 pub mod PointFaults
--- disks, and the one in memory:
+-- disks, and the disk in memory:
 pub mod Disk
 pub mod Calls
 pub mod Memory
@@ -18,17 +18,17 @@ pub mod Found
 pub mod Frames
 pub mod Faults
 pub mod Reads
--- stages that are only read, and what remains of damaged ones:
+-- stages that are only read, and the remains of damaged stages:
 pub mod OnlyReading
 pub mod Salvaged
 -- write buffers:
 pub mod Holding
--- laws of these, which are proved:
+-- laws about these definitions, which are proved:
 pub mod Laws
 pub mod StageLaws
--- examples, which keep the definitions from saying too little:
+-- examples, which ensure that the definitions do not say too little:
 pub mod Cases
 pub mod CasesOfLaws
 pub mod CasesOfSalvage
--- of private code:
+-- definitions about private code:
 pub mod Same

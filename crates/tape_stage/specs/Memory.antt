@@ -1,4 +1,4 @@
--- What a disk in memory contains.
+-- The contents of a disk in memory.
 use Rattle.std.specs.Prelude.{ℕ, List}
 use Rattle.tape_stage.specs.Calls.{kept_or, worst_by, IsImage, WasImage}
 use Rattle.tape_stage.specs.declared.disk.content.Content.{Content}
@@ -10,15 +10,15 @@ first_of content = kept_or content.changed content.first.items content.bytes.ite
 abbrev pub memory_bytes : MemoryDisk → List ℕ
 memory_bytes disk = disk.content.bytes.items
 
--- what a crash may leave
+-- the contents that a crash may leave
 abbrev pub memory_leaves : MemoryDisk → List ℕ → Type 0
 memory_leaves disk c = IsImage (first_of disk.content) disk.content.calls.items c
 
--- what a crash since then may have left
+-- the contents that a crash since then may have left
 abbrev pub memory_left : MemoryDisk → ℕ → List ℕ → Type 0
 memory_left disk t c = WasImage (first_of disk.content) disk.content.calls.items t c
 
--- 255 wherever a byte is open, and nothing absent
+-- the worst contents: 255 for every byte that is not durable, and no byte missing
 abbrev pub memory_worst : MemoryDisk → List ℕ
 memory_worst disk = worst_by (first_of disk.content)
     (first_of disk.content) disk.content.calls.items

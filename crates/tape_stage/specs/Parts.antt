@@ -1,4 +1,4 @@
--- Frames of parts, and first parts of a given weight.
+-- Frames of parts, and the first parts up to a given weight.
 use Rattle.std.specs.Prelude.{◌≡◌, ℕ, ◌≤◌, List, [], ◌∷◌, ◌++◌, length}
 use Rattle.std.specs.List.{flat_map}
 use Rattle.std.specs.Int.{to_be_bytes}
@@ -11,7 +11,7 @@ use Rattle.tape_core.specs.Stands.{weight_of}
 abbrev pub frame : Portion → List ℕ
 frame part = indicator part.span ∷ to_be_bytes w32 (length part.bytes) ++ part.bytes
 
--- frames one after another
+-- the frames of the parts, one after another
 abbrev pub frames : List Portion → List ℕ
 frames parts = flat_map frame parts
 
@@ -24,7 +24,7 @@ abbrev pub AllShort : List Portion → Type 0
 AllShort [] = Unit {0}
 AllShort (part ∷ parts) = (length part.bytes ≤ longest_part) × AllShort parts
 
--- the first parts of this weight
+-- `front` are the first parts, with the given weight
 pub record IsFront (weight : ℕ) (front parts : List Portion) : Type 0 where
   pub rest : List Portion
   pub whole : parts ≡ front ++ rest

@@ -3,7 +3,7 @@ use Rattle.std.specs.Prelude.{ℕ}
 use Rattle.tape_stage.specs.declared.point.text.PointFault.{PointFault}
 use Rattle.tape_stage.specs.declared.point.text.PointFault.TheVariants as faults
 
--- in the order in which the tests are made
+-- the numbers of the faults, in the order of the tests
 abbrev pub number : PointFault → ℕ
 number faults.Length = 1
 number faults.Mark = 2

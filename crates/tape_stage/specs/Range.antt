@@ -9,8 +9,8 @@ use Rattle.tape_stage.specs.declared.point.Form.{Form}
 use Rattle.tape_stage.specs.declared.point.Fields.{Fields}
 use Rattle.tape_stage.specs.Fields.{form_as, point_by}
 
--- if the file is complete, no section, block or part is expected; otherwise the block is possible
--- in a section
+-- if the file is complete, the section, block and part are 0; otherwise the block number is
+-- possible in a section
 abbrev pub place_agrees : Fields → Bool
 place_agrees f =
     if f.flags.done then (f.sect == 0) && (f.place.block == 0) && (f.place.part == 0)
@@ -20,13 +20,12 @@ place_agrees f =
 abbrev pub is_blank : Form → Bool
 is_blank form = (form.rec_len == 0) && (form.offset == 0) && bytes_eq form.file_id (replicate 17 32)
 
--- a known form has numbers that are possible in its format, and the fields of an unknown one are
--- empty
+-- a known form has numbers that are possible in its format; the fields of an unknown form are empty
 abbrev pub form_agrees : Form → Bool → Option Format → Bool
 form_agrees form known None = not known && is_blank form
 form_agrees form known (Some format) = known && form_in_range (form_as form format)
 
--- the fields agree with one another, and are in the range of checkpoints
+-- the fields agree with one another, and are in the ranges of a checkpoint
 abbrev pub is_right : Fields → Bool
 is_right f = place_agrees f && form_agrees f.form f.flags.known f.form.format && in_range
     (point_by f)

@@ -1,5 +1,5 @@
 -- The result of reading a checkpoint's text, as a function of the text: the checkpoint, or the
--- first of the tests that fails, in the order of the lines.
+-- fault of the first test that fails, in the order of the lines.
 use Rattle.std.specs.Prelude.{ℕ, ◌+◌, ◌-◌, ◌==◌, List, length, codes, replicate, drop}
 use Rattle.std.specs.Prelude.{slice_range, slice_index, Bool, true, false, if◌then◌else◌, Option}
 use Rattle.std.specs.Prelude.{Some, None, Result, Ok, Err}
@@ -21,26 +21,26 @@ use Rattle.tape_stage.specs.declared.point.Fields.{Fields}
 use Rattle.tape_stage.specs.Fields.{point_by}
 use Rattle.tape_stage.specs.Range.{is_right}
 
--- the next step, if none has failed yet
+-- the next step, unless a step has failed already
 infixl 10 ◌>>=◌
 abbrev pub ◌>>=◌ : {A B : Type 0} → Result A PointFault → (A → Result B PointFault)
     → Result B PointFault
 (Ok x) >>= f = f x
 (Err e) >>= f = Err e
 
--- the number in digits at these positions
+-- the decimal number at the positions `first` to `last`
 abbrev pub number_at : List ℕ → ℕ → ℕ → Result ℕ PointFault
 number_at text first last =
     if all_ascii_digits (positions text first last)
     then Ok (number_of (positions text first last)) else Err (faults.Field first)
 
--- which of two characters is at this position
+-- which of two characters is at the position
 abbrev pub flag_at : List ℕ → ℕ → ℕ → ℕ → Result Bool PointFault
 flag_at text position one other =
     let c = slice_index text (position - 1)
     in if c == one then Ok true else (if c == other then Ok false else Err (faults.Field position))
 
--- the record format at this position, or a space
+-- the record format at the position, or `None` for a space
 abbrev pub format_at : List ℕ → ℕ → Result (Option Format) PointFault
 format_at text position =
     let c = slice_index text (position - 1)
@@ -49,7 +49,7 @@ format_at text position =
     else (if c == 83 then Ok (Some Spanned)
     else (if c == 32 then Ok None else Err (faults.Field position))))
 
--- spaces from this position on
+-- spaces from the position `first` to the end
 abbrev pub tail_at : List ℕ → ℕ → Result (Unit {0}) PointFault
 tail_at text first =
     if bytes_eq (drop (first - 1) text) (replicate (81 - first) 32) then Ok tt else Err
@@ -65,7 +65,7 @@ place_at Two text = do
   part ← number_at text 30 34
   Ok record { block = block; part = part }
 
--- the state and the next two digits
+-- the letter for the state, and the two digits after it
 unfoldable pub flags_at : List ℕ → ℕ → Result Flags PointFault
 flags_at text first = do
   done ← flag_at text first 68 82
@@ -93,7 +93,7 @@ staged_at text first = do
   _ ← tail_at text (first + 15)
   Ok staged
 
--- the position of the state
+-- the position of the letter for the state
 abbrev pub state_position : Version → ℕ
 state_position One = 26
 state_position Two = 35
@@ -117,11 +117,11 @@ fields_at version text = do
     staged = staged;
   }
 
--- the version by its digit
+-- the version with the given digit
 abbrev pub version_by : ℕ → Result Version PointFault
 version_by c = if c == 49 then Ok One else (if c == 50 then Ok Two else Err faults.Version)
 
--- which version, and the fields
+-- the version and the fields
 unfoldable pub text_at : List ℕ → Result (Version × Fields) PointFault
 text_at text =
     if length text == 80
@@ -131,16 +131,16 @@ text_at text =
     else Err faults.Mark)
     else Err faults.Length
 
--- ---- the whole answer
+-- ---- the complete result
 
--- the checkpoint of the fields, if they are those of one
+-- the checkpoint with the given fields, if there is one
 abbrev pub right_point : Fields → Result Point PointFault
 right_point f = if is_right f then Ok (point_by f) else Err faults.Range
 
--- what reading answers
+-- the result of reading a text
 unfoldable pub reading : List ℕ → Result Point PointFault
 reading text = text_at text >>= λ read. right_point read.1
 
--- the checkpoint with this text, in either version; none if there is no such checkpoint
+-- the checkpoint with the given text, in either version, or `None`
 abbrev pub point_in : List ℕ → Option Point
 point_in text = result_ok (reading text)

@@ -1,4 +1,4 @@
--- What a reader of parts leaves once its part is no longer borrowed.
+-- The state of a reader of parts, once its part is no longer borrowed.
 use Rattle.std.specs.Prelude.{◌≡◌, ◌-◌, [], Option, Result}
 use Rattle.std.specs.Borrow.{Fml, RattleType, MutBor}
 use Rattle.std.specs.Io.BufRead.{Rests}
@@ -12,14 +12,14 @@ use Rattle.tape_stage.specs.declared.stage.Stage.{Stage}
 use Rattle.tape_stage.specs.declared.stage.part_reader.PartReader.{PartReader}
 use Rattle.tape_stage.specs.contracts.stage.part_reader.PartReader.{the_row}
 
--- the stage returned its next part, or was refused
+-- the stage returned its next part, or refused the call
 abbrev pub StageGave : {D : Type 0} {disk : Ghosts D} → Stage D disk
     → Result (Option Part) SinkFault → Stage D disk → Type 0
 StageGave {D} {disk} old result new = HasGiven (λ s parts. Holds s parts) (λ s. s.weight) (λ s. s.refused)
     (λ s. crashes_of s) (λ s parts. IsAhead s parts) (λ s. s.weight - s.walked)
     (λ s fault t. LendsNone disk s.failed s.walked s.weight s.disk fault t.disk) old result new
 
--- the reader reads the same stage, which returned its next part
+-- the reader reads the same stage, which returned its next part or refused the call
 pub record HasRead {D : Type 0} {disk : Ghosts D} (old : PartReader D disk)
     (result : Result (Option Part) SinkFault) (new : PartReader D disk) : Type 0 where
   pub same_stage : new.stage.ghost_name ≡ old.stage.ghost_name

@@ -1,4 +1,4 @@
--- What remains of a damaged stage.
+-- The remains of a damaged stage.
 use Rattle.std.specs.Prelude.{◌≡◌, ℕ, ◌+◌, ◌-◌, ◌≤◌, ◌<◌, min, length, true, false, List}
 use Rattle.std.specs.Prelude.{Option, Some, None, IfSome}
 use Rattle.tape_blocks.specs.Block.{Portion}
@@ -8,26 +8,26 @@ use Rattle.tape_stage.specs.Staged.{Holding, best, slot_at}
 use Rattle.tape_stage.specs.declared.disk.Disk.{Ghosts}
 use Rattle.tape_stage.specs.declared.stage.salvage.Salvage.{Salvage}
 
--- After 256 bytes there should be frames of this weight, and they are damaged: at this place there
--- is no frame that ends where they should, and where the file does, or before.
+-- The frames after the first 256 bytes should have the weight `staged`, but they are damaged: no
+-- frame begins at `place` and ends within that weight and the file.
 pub record BreaksAt (staged place : ℕ) (bytes : List ℕ) : Type 0 where
   pub low : 256 ≤ place
   pub high : place < 256 + staged
   pub none : NoFrameAt place (min (256 + staged) (length bytes)) bytes
 
--- the weight of the intact frames: the full weight, or that of the frames before the damage
+-- the weight of the intact frames: the full weight, or the weight of the frames before the damage
 abbrev pub standing : ℕ → Option ℕ → ℕ
 standing staged None = staged
 standing staged (Some place) = place - 256
 
--- The frames are those of these parts up to where they should end, or up to the damage.
+-- The frames are those of the given parts, up to the staged end or up to the damage.
 pub record FramedTo (staged : ℕ) (broken : Option ℕ) (parts : List Portion)
     (bytes : List ℕ) : Type 0 where
   pub holds : Holding (standing staged broken) parts bytes
   pub breaks : IfSome broken (λ place. BreaksAt staged place bytes)
 
--- What remains of a stage: the checkpoint of the current slot, and the parts with intact frames,
--- all that it counts or those before the damage.
+-- The remains of a stage: the checkpoint of the current slot, and the parts with intact frames,
+-- either all parts that it counts or those before the damage.
 pub record Remains (bytes : List ℕ) (g : ℕ) (point : Point) (broken : Option ℕ)
     (parts : List Portion) : Type 0 where
   pub slot : best (slot_at false bytes) (slot_at true bytes) ≡ Some (g, point)
@@ -38,26 +38,25 @@ abbrev pub RemainsNone : List ℕ → Type 0
 RemainsNone bytes = (g : ℕ) (point : Point) (broken : Option ℕ) (parts : List Portion)
     → Remains bytes g point broken parts → ⊥
 
--- at most one generation and checkpoint, one place of damage and one list of parts remain of the
--- bytes
+-- the bytes have at most one generation, checkpoint, offset of damage and list of parts that remain
 abbrev pub RemainsOnce : List ℕ → Type 0
 RemainsOnce bytes = (g h : ℕ) (point next : Point) (broken other : Option ℕ)
     (parts more : List Portion) → Remains bytes g point broken parts
     → Remains bytes h next other more
     → (g ≡ h) × (point ≡ next) × (broken ≡ other) × (parts ≡ more)
 
--- on any disk: a walk found all frames within a limit, or ended at a place within it and the end of
--- the file
+-- on any disk: a walk found all frames within a limit, or ended at an offset within the limit and
+-- the staged weight
 abbrev pub WalkedIn : ℕ → ℕ → Option ℕ → Type 0
 WalkedIn staged limit None = 256 + staged ≤ limit
 WalkedIn staged limit (Some place) = (256 ≤ place) × (place ≤ limit) × (place < 256 + staged)
 
--- these parts remain on an honest disk
+-- the given parts remain on an honest disk
 abbrev pub HoldsRest : {D : Type 0} {disk : Ghosts D} → Salvage D disk → List Portion → Type 0
 HoldsRest {D} {disk} salvage parts = disk.is_honest salvage.disk
     × Holding salvage.weight parts (disk.seen salvage.disk)
 
--- these of them are still to come
+-- the given parts are still to come
 abbrev pub RestAhead : {D : Type 0} {disk : Ghosts D} → Salvage D disk → List Portion → Type 0
 RestAhead {D} {disk} salvage parts = disk.is_honest salvage.disk
     × AheadIn (256 + salvage.walked) (256 + salvage.weight) (disk.seen salvage.disk) parts

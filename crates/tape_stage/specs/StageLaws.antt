@@ -1,4 +1,4 @@
--- A stage's bytes represent one thing only.
+-- Laws about the bytes of a stage: they have at most one meaning.
 use Rattle.std.specs.Prelude.{◌≡◌, ◌⊎◌, ℕ, Bool, List}
 use Rattle.tape_blocks.specs.Block.{Portion}
 use Rattle.tape_stage.specs.Staged.{Staged, StagedIn, IsEither}
@@ -15,19 +15,19 @@ abbrev pub StandsForOne : Point → List Portion → Point → List Portion → 
 StandsForOne point parts next more bytes = ((g : ℕ) × Staged bytes g point parts)
     ⊎ ((g : ℕ) × Staged bytes g next more)
 
--- what is read of such bytes is one of the two
+-- reading such bytes gives one of the two checkpoints, with its parts
 abbrev pub ReadsOneOf : List ℕ → Type 0
 ReadsOneOf bytes = (point next : Point) (parts more : List Portion)
     → StandsForOne point parts next more bytes
     → (g : ℕ) (read : Point) (there : List Portion) → Staged bytes g read there
     → ((read ≡ point) × (there ≡ parts)) ⊎ ((read ≡ next) × (there ≡ more))
 
--- bytes with a given slot that represents a checkpoint and its parts represent these
+-- if a named slot of the bytes represents a checkpoint and its parts, so do the bytes
 abbrev pub NamedStands : List ℕ → Type 0
 NamedStands bytes = (second : Bool) (g : ℕ) (point : Point) (parts : List Portion)
     → StagedIn second g point parts bytes → Staged bytes g point parts
 
--- bytes of a generation or the next one represent one of the two
+-- bytes with one generation or the next represent one of the two checkpoints
 abbrev pub EitherStands : List ℕ → Type 0
 EitherStands bytes = (second : Bool) (g : ℕ) (point next : Point) (parts more : List Portion)
     → IsEither second g point next parts more bytes → StandsForOne point parts next more bytes

@@ -1,4 +1,4 @@
--- What the bytes of a stage file represent.
+-- The meaning of the bytes of a stage file.
 use Rattle.std.specs.Prelude.{◌≡◌, ◌⊎◌, ℕ, ◌+◌, ◌≤◌, ◌<◌, ◌-◌, Bool, true, false, not, List, ◌∷◌}
 use Rattle.std.specs.Prelude.{length, take, drop, get_or, ◌++◌, replicate, Option, Some, None}
 use Rattle.std.specs.Prelude.{if◌then◌else◌, ◌==◌, nat_lt}
@@ -13,7 +13,7 @@ use Rattle.tape_stage.specs.Body.{body_text, body_of}
 use Rattle.tape_core.specs.Point.{Point}
 use Rattle.tape_stage.specs.Body.{Slot}
 
--- the first slot or the second
+-- the offset of the first or the second slot
 abbrev pub slot_place : Bool → ℕ
 slot_place false = 0
 slot_place true = 128
@@ -24,20 +24,20 @@ gate_at second bytes = get_or bytes (slot_place second) 0
 abbrev pub body_at : Bool → List ℕ → List ℕ
 body_at second bytes = take 127 (drop (slot_place second + 1) bytes)
 
--- a slot is valid if its gate is open and its body can be read
+-- the contents of a slot, which is valid if its gate is open and its body can be read
 abbrev pub read_slot : ℕ → List ℕ → Option Slot
 read_slot gate body = if gate == 79 then body_of body else None
 
 abbrev pub slot_at : Bool → List ℕ → Option Slot
 slot_at second bytes = read_slot (gate_at second bytes) (body_at second bytes)
 
--- the greater generation, the first at a tie
+-- the slot with the greater generation, or the first if both are equal
 abbrev pub best : Option Slot → Option Slot → Option Slot
 best None b = b
 best (Some a) None = Some a
 best (Some a) (Some b) = if nat_lt a.0 b.0 then Some b else Some a
 
--- the frames of this weight are those of the parts
+-- the frames of total weight `weight` are those of the given parts
 pub record Holding (weight : ℕ) (parts : List Portion) (bytes : List ℕ) : Type 0 where
   pub long : 256 + weight ≤ length bytes
   pub frames_are : take weight (drop 256 bytes) ≡ frames parts
@@ -48,13 +48,13 @@ pub record Staged (bytes : List ℕ) (g : ℕ) (point : Point) (parts : List Por
   pub slot : best (slot_at false bytes) (slot_at true bytes) ≡ Some (g, point)
   pub parts_are : Holding point.staged parts bytes
 
--- a slot that doesn't replace generation g in the other one
+-- the other slot does not replace generation g
 abbrev pub Loses : Bool → ℕ → Option Slot → Type 0
 Loses second g None = Unit {0}
 Loses false g (Some other) = other.0 ≤ g
 Loses true g (Some other) = other.0 < g
 
--- the same, with the slot named
+-- the same, for a named slot
 pub record StagedIn (second : Bool) (g : ℕ) (point : Point) (parts : List Portion)
     (bytes : List ℕ) : Type 0 where
   pub is_open : gate_at second bytes ≡ 79
@@ -62,20 +62,20 @@ pub record StagedIn (second : Bool) (g : ℕ) (point : Point) (parts : List Port
   pub other : Loses second g (slot_at (not second) bytes)
   pub parts_are : Holding point.staged parts bytes
 
--- and the other slot's gate is closed
+-- the same, and the other slot's gate is closed
 pub record IsClosed (second : Bool) (g : ℕ) (point : Point) (parts : List Portion)
     (bytes : List ℕ) : Type 0 where
   pub staged : StagedIn second g point parts bytes
   pub closed : gate_at (not second) bytes ≡ 79 → ⊥
 
--- and the next generation follows it, for parts that are there
+-- the same, and the other slot contains the next generation, for parts that are on the disk
 pub record IsFilled (second : Bool) (g : ℕ) (point next : Point) (parts more : List Portion)
     (bytes : List ℕ) : Type 0 where
   pub closed : IsClosed second g point parts bytes
   pub body : body_at (not second) bytes ≡ body_text (g + 1) next
   pub holds : Holding next.staged more bytes
 
--- Between two calls: what is acknowledged is on the disk, the same in all that a crash may leave.
+-- Between two calls: the acknowledged data are on the disk, in all contents that a crash may leave.
 pub record Ready (second : Bool) (g : ℕ) (point : Point) (parts : List Portion) (other_open : Bool)
     (seen : List ℕ) (may_leave : List ℕ → Type 0) : Type 0 where
   pub staged : StagedIn second g point parts seen
@@ -83,47 +83,51 @@ pub record Ready (second : Bool) (g : ℕ) (point : Point) (parts : List Portion
   pub alike : (c : List ℕ) → may_leave c → take (256 + point.staged) c ≡ take
       (256 + point.staged) seen
 
--- the other slot is current now, and the older one's gate is open
+-- the other slot is current now, and the older slot's gate is open
 pub record IsNext (second : Bool) (g : ℕ) (next : Point) (parts : List Portion)
     (bytes : List ℕ) : Type 0 where
   pub staged : StagedIn (not second) g next parts bytes
   pub gate : gate_at second bytes ≡ 79
 
--- a generation or the next one
+-- the bytes have one generation or the next
 abbrev pub IsEither : Bool → ℕ → Point → Point → List Portion → List Portion → List ℕ → Type 0
 IsEither second g point next parts more bytes = StagedIn second g point parts bytes
     ⊎ StagedIn (not second) (g + 1) next more bytes
 
--- a part's frame is at a place now
+-- a part's frame was written at the offset `place`
 pub record IsPut (place : ℕ) (part : Portion) (old new : List ℕ) : Type 0 where
   pub front : take place new ≡ take place old
   pub frame_is : take (5 + length part.bytes) (drop place new) ≡ frame part
   pub long : place + (5 + length part.bytes) ≤ length new
 
--- the first bytes of what might have been left
+-- the first bytes are those of contents that were possible before
 abbrev pub FrontOf : ℕ → (List ℕ → Type 0) → List ℕ → Type 0
 FrontOf place may_leave c = (d : List ℕ) × may_leave d × (take place c ≡ take place d)
 
--- the frames from 256 up to a place are those of some parts
+-- the frames from offset 256 to the offset `place` are those of some parts
 pub record WalkedTo (place : ℕ) (bytes : List ℕ) : Type 0 where
   pub low : 256 ≤ place
   pub parts : List Portion
   pub frames_are : take (place - 256) (drop 256 bytes) ≡ frames parts
   pub short : AllShort parts
 
--- represents what the other represents
+-- the bytes c represent whatever the bytes `read` represent
 abbrev pub StandsLike : List ℕ → List ℕ → Type 0
 StandsLike read c = (g : ℕ) (point : Point) (parts : List Portion) → Staged read g point parts
     → Staged c g point parts
 
--- what is staged is unchanged, and at most what follows it was cut
+-- the staged data are unchanged, and at most the bytes after them were removed
 abbrev pub KeepsStaged : List ℕ → List ℕ → Type 0
 KeepsStaged old new = (g : ℕ) (point : Point) (parts : List Portion) → Staged old g point parts
     → CutShort (256 + point.staged) old new
 
--- a slot that was never written, after its gate
+-- the bytes after the gate of a slot that was never written
 abbrev pub blank : List ℕ
 blank = replicate 15 48 ++ replicate 112 32
+
+-- the slots of a new stage before its first gate is opened
+abbrev pub new_slots : Point → List ℕ
+new_slots point = 67 ∷ (body_text 1 point ++ 67 ∷ blank)
 
 -- the five bytes are not the header of a part of at most 99,999 bytes
 abbrev pub IsNoHeader : List ℕ → Type 0
@@ -139,7 +143,7 @@ pub record KeepsFrames (old new : List ℕ) : Type 0 where
   pub rest : drop 256 new ≡ drop 256 old
   pub long : length old ≤ length new
 
--- the bytes before a place are unchanged
+-- the bytes before the offset `place` are unchanged
 pub record KeepsFront (place : ℕ) (old new : List ℕ) : Type 0 where
   pub front : take place new ≡ take place old
   pub long : length old ≤ length new

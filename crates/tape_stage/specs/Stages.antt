@@ -1,4 +1,4 @@
--- The contents and the states of a stage.
+-- The contents and states of a stage.
 use Rattle.std.specs.Prelude.{◌≡◌, ◌⊎◌, ℕ, ◌+◌, ◌≤◌, Bool, true, false, List, Option, None}
 use Rattle.std.specs.Prelude.{Result, OnOk, IfErr, IsErrOf}
 use Rattle.tape_stage.specs.declared.disk.Disk.{Ghosts}
@@ -17,7 +17,7 @@ use Rattle.tape_stage.specs.declared.stage.Stage.{Stage}
 use Rattle.tape_stage.specs.declared.stage.StageFault.{StageFault}
 use Rattle.tape_stage.specs.declared.stage.StageFault.TheVariants.{Device, Full, Failed}
 
--- these parts are staged, and the first of them are acknowledged
+-- the parts are staged, and the first of them are acknowledged
 pub record IsStaged {D : Type 0} (disk : Ghosts D) (at : D) (in_second : Bool) (generation : ℕ)
     (point : Point) (other_open : Bool) (weight : ℕ) (failed : Bool)
     (acked parts : List Portion) : Type 0 where
@@ -32,8 +32,8 @@ IsStage {D} {disk} stage acked parts =
     IsStaged disk stage.disk stage.in_second stage.generation stage.acknowledged
     stage.other_open stage.weight stage.failed acked parts
 
--- These parts are framed on an honest disk, unless it failed while a checkpoint was being saved;
--- and the acknowledged parts are ready unless the stage failed.
+-- The parts have frames on an honest disk, unless it failed while a checkpoint was being saved; and
+-- the acknowledged parts are ready, unless the stage failed.
 pub record AreHeld {D : Type 0} (disk : Ghosts D) (at : D) (in_second : Bool) (generation : ℕ)
     (point : Point) (other_open : Bool) (weight : ℕ) (failed : Bool) (pending : Option Point)
     (parts : List Portion) : Type 0 where
@@ -43,26 +43,26 @@ pub record AreHeld {D : Type 0} (disk : Ghosts D) (at : D) (in_second : Bool) (g
   pub ready : failed ≡ false → (acked : List Portion)
       × IsStaged disk at in_second generation point other_open weight failed acked parts
 
--- the stage contains these parts
+-- the stage contains the given parts
 abbrev pub Holds : {D : Type 0} {disk : Ghosts D} → Stage D disk → List Portion → Type 0
 Holds {D} {disk} stage parts =
     AreHeld disk stage.disk stage.in_second stage.generation stage.acknowledged
     stage.other_open stage.weight stage.failed stage.pending parts
 
--- these parts are still to come
+-- the given parts are still to come
 abbrev pub IsAhead : {D : Type 0} {disk : Ghosts D} → Stage D disk → List Portion → Type 0
 IsAhead {D} {disk} stage parts = (stage.pending ≡ None → disk.is_honest stage.disk)
     × AheadIn (256 + stage.walked) (256 + stage.weight) (disk.seen stage.disk) parts
 
--- Why a disk yields no part after frames of this weight: it failed in the call or before it, or
--- there is no frame.
+-- Why no part is returned after frames of weight `walked`: the disk failed, in the call or earlier,
+-- or there is no frame.
 abbrev pub LendsNone : {D : Type 0} → Ghosts D → Bool → ℕ → ℕ → D → SinkFault → D → Type 0
 LendsNone disk failed walked weight old sink.Device new = Rose (disk.faults old) (disk.faults new)
 LendsNone disk failed walked weight old sink.Failed new = (failed ≡ true)
     ⊎ (disk.is_honest old → NoFrameAt (256 + walked) (256 + weight) (disk.seen old))
 LendsNone disk failed walked weight old _ new = ⊥
 
--- the state of a stage after a call was refused: failed by the disk, or unchanged
+-- the state of a stage after a call was refused: failed if the disk failed, otherwise unchanged
 abbrev pub HasRefused : {D : Type 0} {disk : Ghosts D} → Stage D disk → Stage D disk → StageFault
     → Type 0
 HasRefused old new Device = (old.failed ≡ false) × (new.failed ≡ true) × (new.weight ≡ old.weight)
@@ -70,9 +70,9 @@ HasRefused old new Full = new ≡ old
 HasRefused old new Failed = (new ≡ old) × (old.failed ≡ true)
 HasRefused old new _ = ⊥
 
--- How a call ends: Ok only if the stage had not failed, and on a disk as honest as before;
--- otherwise refused as above, with Device only if the disk failed. No disk becomes honest, and the
--- count of refusals to the stage as a sink is unchanged.
+-- How a call ends: with Ok only if the stage had not failed, and on a disk as honest as before;
+-- otherwise refused as in `HasRefused`, with Device only if the disk failed. No disk becomes
+-- honest, and the count of refused calls of the sink is unchanged.
 pub record EndsCall {A D : Type 0} {disk : Ghosts D} (old : Stage D disk)
     (result : Result A StageFault) (new : Stage D disk) : Type 0 where
   pub was_alive : OnOk result (old.failed ≡ false)
@@ -82,8 +82,8 @@ pub record EndsCall {A D : Type 0} {disk : Ghosts D} (old : Stage D disk)
   pub honest : OnOk result (disk.is_honest old.disk → disk.is_honest new.disk)
   pub back : disk.is_honest new.disk → disk.is_honest old.disk
 
--- How opening or creating one ends: never with Full or Failed, with Device only if the disk failed,
--- and with Ok on a disk as honest as before. No disk becomes honest.
+-- How opening or creating a stage ends: never with Full or Failed, with Device only if the disk
+-- failed, and with Ok on a disk as honest as before. No disk becomes honest.
 pub record EndsFinding {A D : Type 0} (disk : Ghosts D) (old : D) (result : Result A StageFault)
     (new : D) : Type 0 where
   pub not_full : IsErrOf result Full → ⊥
@@ -92,28 +92,28 @@ pub record EndsFinding {A D : Type 0} (disk : Ghosts D) (old : D) (result : Resu
   pub honest : OnOk result (disk.is_honest old → disk.is_honest new)
   pub back : disk.is_honest new → disk.is_honest old
 
--- a crash now may leave a file that represents this checkpoint and these parts
+-- a crash now may leave a file that represents the given checkpoint and parts
 abbrev pub Returns : {D : Type 0} {disk : Ghosts D} → Stage D disk → Point → List Portion → Type 0
 Returns {D} {disk} stage back there = (bytes : List ℕ) × disk.may_leave stage.disk bytes
     × ((g : ℕ) × Staged bytes g back there)
 
--- each file that a crash now may leave represents something
+-- each file that a crash now may leave represents some checkpoint and parts
 abbrev pub Survives : {D : Type 0} {disk : Ghosts D} → Stage D disk → Type 0
 Survives {D} {disk} stage = (bytes : List ℕ) → disk.may_leave stage.disk bytes → (g : ℕ)
     × (point : Point) × (parts : List Portion) × Staged bytes g point parts
 
--- a crash now, or at a moment from t on, may have left these bytes
+-- a crash now, or at any moment since t, may have left the given bytes
 abbrev pub WasLeft : {D : Type 0} {disk : Ghosts D} → Stage D disk → ℕ → List ℕ → Type 0
 WasLeft {D} {disk} stage t bytes =
     disk.left_since stage.disk t bytes ⊎ disk.may_leave stage.disk bytes
 
--- it may have left a file that represents this checkpoint and these parts
+-- such a crash may have left a file that represents the given checkpoint and parts
 abbrev pub Returned : {D : Type 0} {disk : Ghosts D} → Stage D disk → ℕ → Point → List Portion
     → Type 0
 Returned {D} {disk} stage t back there = (bytes : List ℕ) × WasLeft stage t bytes
     × ((g : ℕ) × Staged bytes g back there)
 
--- each file that it may have left represents something
+-- each file that such a crash may have left represents some checkpoint and parts
 abbrev pub Survived : {D : Type 0} {disk : Ghosts D} → Stage D disk → ℕ → Type 0
 Survived {D} {disk} stage t = (bytes : List ℕ) → WasLeft stage t bytes → (g : ℕ)
     × (point : Point) × (parts : List Portion) × Staged bytes g point parts
@@ -128,14 +128,14 @@ crashes_of {D} {disk} stage = record {
   survived = λ t. Survived stage t;
 }
 
--- what was found is what is read, with its parts, and is ready
+-- the disk represents the slot found, with its parts, and the stage is ready
 pub record IsOpened {D : Type 0} (disk : Ghosts D) (found : Found) (old new : D) : Type 0 where
   pub parts : List Portion
   pub read : Staged (disk.seen old) found.generation found.point parts
   pub ready : Ready found.in_second found.generation found.point parts found.other_open
       (disk.seen new) (disk.may_leave new)
 
--- A crash at any moment between the two disks left bytes that it might have left before, or bytes
+-- A crash at any moment between the two disks left contents that were possible before, or contents
 -- that represent the same as those that were read.
 abbrev pub OpensOver : {D : Type 0} → Ghosts D → D → D → Type 0
 OpensOver disk old new = Passes disk old new

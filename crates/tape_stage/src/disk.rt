@@ -21,8 +21,8 @@ pub enum DiskFault {
 }
 
 pub trait Disk {
-    /// Whether the contract of each call holds, apart from the length and the count. A failed sync
-    /// may end that.
+    /// Whether the contract of each call holds in full; on other disks only the contracts about
+    /// lengths and counts hold. A failed sync may end this.
     ghost is_honest: { Self → Type 0 };
 
     /// The length in bytes.
@@ -31,19 +31,20 @@ pub trait Disk {
     /// The bytes that reads return.
     ghost seen: { Self → List ℕ };
 
-    /// What a crash at this moment may leave.
+    /// The contents that a crash at this moment may leave.
     ghost may_leave: { Self → List ℕ → Type 0 };
 
-    /// The current moment, a number that never falls.
+    /// The current moment, a number that never decreases.
     ghost moment: { Self → ℕ };
 
-    /// What a crash at any moment since `t` might have left, during a call or between two calls.
+    /// The contents that a crash at any moment since `t` might have left, during a call or between
+    /// two calls.
     ghost left_since: { Self → ℕ → List ℕ → Type 0 };
 
     /// The number of failures so far.
     ghost faults: { Self → ℕ };
 
-    /// After how many more calls each call fails, if that was decided.
+    /// The number of further calls after which each call fails, if a limit was set.
     ghost calls_left: { Self → Option ℕ } = { λ _. None };
 
     /// Returns the length in bytes.
@@ -63,7 +64,7 @@ pub trait Disk {
         ensures honest { SameFact (is_honest self.old) (is_honest self.new) }
         ensures stays { is_honest self.old → NoMore (may_leave self.new) (may_leave self.old) };
 
-    /// Reads bytes from an offset on, and fills the buffer.
+    /// Fills the buffer with the bytes at offset `place`.
     ///
     /// # Errors
     ///
@@ -81,13 +82,13 @@ pub trait Disk {
         ensures stop { CountsDown (IsOk result) (calls_left self.old) (calls_left self.new) }
         ensures honest { SameFact (is_honest self.old) (is_honest self.new) };
 
-    /// Overwrites bytes, and extends the disk if needed. Until a sync, a crash may leave any bytes
-    /// in the range.
+    /// Writes `bytes` at offset `place`, and extends the disk if needed. Until a sync, a crash may
+    /// leave any bytes in that range.
     ///
     /// # Errors
     ///
-    /// Returns `Device` on failure. The range may then contain any bytes; what precedes and follows
-    /// it is unchanged.
+    /// Returns `Device` on failure. The range may then contain any bytes; all other bytes are
+    /// unchanged.
     fn write_at(&mut self, place: u64, bytes: &[u8]) -> Result<(), DiskFault>
         requires { place ≤ length_of self.old }
         ensures written { is_honest self.old
@@ -111,12 +112,12 @@ pub trait Disk {
             → OnOk result (Allows (Torn place (length bytes.now)) (may_leave self.old)
             (may_leave self.new)) };
 
-    /// Cuts to a length.
+    /// Truncates the disk to length `len`.
     ///
     /// # Errors
     ///
-    /// Returns `Device` on failure. Any bytes, or none, may then follow that length; before it
-    /// nothing changes.
+    /// Returns `Device` on failure. Any bytes, or none, may then follow that length; the bytes
+    /// before it are unchanged.
     fn cut(&mut self, len: u64) -> Result<(), DiskFault>
         requires { len ≤ length_of self.old }
         ensures cut { is_honest self.old → OnOk result (seen self.new ≡ take len (seen self.old)) }
@@ -131,12 +132,12 @@ pub trait Disk {
         ensures stop { CountsDown (IsOk result) (calls_left self.old) (calls_left self.new) }
         ensures honest { SameFact (is_honest self.old) (is_honest self.new) };
 
-    /// After a sync, a crash leaves what a read returns.
+    /// Makes all bytes durable: after a sync, a crash leaves the bytes that reads return.
     ///
     /// # Errors
     ///
     /// Returns `Device` on failure. From then on the disk need not be honest: a system may have
-    /// dropped what it could not write, and answer the next sync with Ok.
+    /// dropped bytes that it could not write, and may return Ok from the next sync.
     fn sync(&mut self) -> Result<(), DiskFault>
         ensures durable { is_honest self.old
             → OnOk result (Only (seen self.old) (may_leave self.new)) }
@@ -150,17 +151,17 @@ pub trait Disk {
         ensures honest { OnOk result (is_honest self.old → is_honest self.new) }
         ensures back { is_honest self.new → is_honest self.old };
 
-    /// The count of bytes is that of what is read.
+    /// The length is the number of bytes that reads return.
     ghost long_as_seen: { (disk : Self) → is_honest disk → length_of disk ≡ length (seen disk) };
 
-    /// What is read is what a crash may leave.
+    /// The bytes that reads return are a possible result of a crash.
     ghost seen_now: { (disk : Self) → is_honest disk → may_leave disk (seen disk) };
 
-    /// The current moment is one of those since an earlier one.
+    /// The current moment is among those since an earlier moment.
     ghost counts_now: { (disk : Self) (t : ℕ) (c : List ℕ) → is_honest disk → t ≤ moment disk
         → may_leave disk c → left_since disk t c };
 
-    /// No later moment began since.
+    /// Among the moments since the current one there is no later moment.
     ghost only_now: { (disk : Self) (c : List ℕ) → is_honest disk → left_since disk (moment disk) c
         → may_leave disk c };
 }

@@ -14,7 +14,7 @@ use crate::point::text::PointFault;
 use crate::point::{read_point, write_point};
 use tape_core::Checkpoint;
 
-/// A checkpoint that was written is read again.
+/// A checkpoint that was written is read back.
 pub fn point_again(point: &Checkpoint) -> Result<Checkpoint, PointFault>
     ensures { result ≡ Ok point.now }
 {
@@ -26,13 +26,13 @@ pub fn points_have_texts_of_their_own()
     ensures { IsTextOfOne }
 {}
 
-/// A version has one text of 80 characters for each checkpoint.
+/// Each checkpoint has at most one text in a version, of 80 characters.
 pub fn points_are_spelled_once()
     ensures { IsTextOnce }
 {}
 
-/// A checkpoint before the millionth block of a section, with no part delivered, has a text in each
-/// version.
+/// A checkpoint before the millionth block of a section, with no parts delivered, has a text in
+/// each version.
 pub fn early_points_have_both_texts()
     ensures { HasBothTexts }
 {}
@@ -42,18 +42,18 @@ pub fn stands_once()
     ensures { (bytes : List ℕ) → StandsOnce bytes }
 {}
 
-/// At most one generation, checkpoint and list of parts remain of a damaged stage, and the damage
-/// is at one place.
+/// Of a damaged stage at most one generation, checkpoint and list of parts remain, with at most one
+/// offset of the damage.
 pub fn remains_once()
     ensures { (bytes : List ℕ) → RemainsOnce bytes }
 {}
 
-/// Bytes with a given slot that represents a checkpoint and its parts represent these.
+/// If a named slot of the bytes represents a checkpoint and its parts, so do the bytes.
 pub fn named_slots_stand()
     ensures { (bytes : List ℕ) → NamedStands bytes }
 {}
 
-/// Bytes of one generation or the next represent one of the two checkpoints, with its parts.
+/// Bytes with one generation or the next represent one of the two checkpoints, with its parts.
 pub fn either_stands()
     ensures { (bytes : List ℕ) → EitherStands bytes }
 {}
@@ -63,9 +63,9 @@ pub fn reads_one_of()
     ensures { (bytes : List ℕ) → ReadsOneOf bytes }
 {}
 
-/// Examples for the definitions of disks and stages: what a crash may leave, at which moments, what
-/// bytes represent, what is left of a stage, which number a fault has, the use of the laws, and
-/// what remains of a damaged stage.
+/// Examples for the definitions of disks and stages: results of a crash and their moments, the
+/// meaning of bytes, the contents of a stage after a call, the numbers of faults, the use of the
+/// laws, and the contents of a damaged stage.
 pub fn cases<D: Disk>()
     ensures crashes { CasesOfCrashes }
     ensures moments { CasesOfMoments }

@@ -1,4 +1,4 @@
-//! Reading and writing checkpoints: their fields, and the rules that connect these.
+//! Reading and writing checkpoints: their fields, and the rules that connect the fields.
 
 pub mod text;
 
@@ -22,9 +22,9 @@ use tape_set::Position;
 /// The versions of the text.
 #[derive(Clone, Copy)]
 pub enum Version {
-    /// With a block of six digits, and no part. It is read, but no longer written.
+    /// With a block number of six digits, and without a part. It is read, but no longer written.
     One,
-    /// With a block of ten digits and a part.
+    /// With a block number of ten digits, and a part number.
     Two,
 }
 
@@ -33,11 +33,11 @@ pub enum Version {
 pub struct Place {
     /// The number of the block in its section, counted from 0.
     pub block: u64,
-    /// How many of its parts were delivered.
+    /// How many parts of the block were delivered.
     pub part: u64,
 }
 
-/// `D` or `R`, and the next two digits.
+/// The letter `D` or `R`, and the two digits after it.
 #[derive(Clone, Copy)]
 pub struct Flags {
     /// Whether the whole file was delivered.
@@ -51,7 +51,7 @@ pub struct Flags {
 /// The fields of the file's form.
 #[derive(Clone, Copy)]
 pub struct Form {
-    /// F, D or S, or a space.
+    /// F, D or S, or `None` for a space.
     pub format: Option<Format>,
     /// The record length of format F.
     pub rec_len: u64,
@@ -61,7 +61,7 @@ pub struct Form {
     pub file_id: Field<17>,
 }
 
-/// All fields after the version, which are the same in both versions.
+/// All fields after the version; both versions have the same fields.
 #[derive(Clone, Copy)]
 pub struct Fields {
     /// The file set identifier.
@@ -72,7 +72,7 @@ pub struct Fields {
     pub sect: u64,
     /// The block and the part.
     pub place: Place,
-    /// The state, and whether a record is unfinished and the form is known.
+    /// Whether the file is complete, a record is unfinished, and the form is known.
     pub flags: Flags,
     /// The fields of the file's form.
     pub form: Form,
@@ -84,22 +84,22 @@ pub struct Fields {
 ///
 /// # Errors
 ///
-/// Returns `Length` if the text does not have 80 characters; then `Mark` and `Version` by its first
+/// Returns `Length` if the text does not have 80 characters; then `Mark` or `Version` for the first
 /// five characters; then `Field` with the first position of the first field that has a wrong
-/// character; then `Range` if the fields are not those of a checkpoint.
+/// character; then `Range` if no checkpoint has these fields.
 pub fn read_point(text: &[u8]) -> Result<Checkpoint, PointFault>
-    // The result has this text in one of the versions,
+    // A text that is read is the text of the result, in one of the versions,
     ensures found { IfOk result (λ c. (version : Version) × IsPointText version text.now c) }
-    // each text in one of the versions is read,
+    // every text of a checkpoint in one of the versions is read,
     ensures only { (version : Version) (c : Point) → IsPointText version text.now c → result
         ≡ Ok c }
-    // and anything else has the first fault.
+    // and for any other text the first fault is returned.
     ensures exact { result ≡ reading text.now }
 {
     point_at(text)
 }
 
-/// Returns the checkpoint of the text, or the first test that fails.
+/// Returns the checkpoint of the text, or the fault of the first test that fails.
 #[tactic(auto, unfolding(crate::specs::Reading::reading))]
 fn point_at(text: &[u8]) -> Result<Checkpoint, PointFault>
     ensures { result ≡ reading text.now }
@@ -118,10 +118,10 @@ pub fn write_point(point: &Checkpoint) -> [u8; 80]
     fields_text(&fields_of(point))
 }
 
-/// A file identifier of spaces, which means none.
+/// A file identifier of spaces, which represents an unknown file.
 const SPACES: [u8; 17] = [b' '; 17];
 
-/// Returns the state, and whether a record is unfinished and the form is known.
+/// Returns whether the file is complete, a record is unfinished, and the form is known.
 fn flags_of(position: Position, begun: bool, known: &Option<Known>) -> Flags
     ensures { result ≡ flags_of position begun known.now }
 {
@@ -203,7 +203,7 @@ pub(crate) fn fields_of(point: &Checkpoint) -> Fields
 /// The greatest number of a block.
 const MOST_BLOCKS: u64 = 4_294_967_295;
 
-/// Returns whether the section, the block and the part are possible in this state.
+/// Returns whether the section, the block and the part are possible in the state.
 fn place_agrees(fields: &Fields) -> bool
     ensures { result ≡ place_agrees fields.now }
 {
@@ -220,7 +220,7 @@ fn is_blank(form: &Form) -> bool
     form.rec_len == 0 && form.offset == 0 && form.file_id.bytes() == SPACES.as_slice()
 }
 
-/// Returns the position in these fields.
+/// Returns the position in the given fields.
 fn position_by(fields: &Fields) -> Position
     requires agrees { place_agrees fields.now ≡ true }
     requires fits { Fit Two fields.now }
@@ -236,7 +236,8 @@ fn position_by(fields: &Fields) -> Position
     }
 }
 
-/// Returns the form in these fields, which may be none; `None` if the fields do not agree.
+/// Returns the form in the given fields, or `Some(None)` if no form is given, or `None` if the
+/// fields do not agree.
 fn known_by(form: &Form, known: bool) -> Option<Option<Known>>
     requires rec_len { form.now.rec_len < 100000 }
     requires offset { form.now.offset < 100 }
@@ -258,7 +259,7 @@ fn known_by(form: &Form, known: bool) -> Option<Option<Known>>
     }
 }
 
-/// Returns the checkpoint with these fields, if there is one.
+/// Returns the checkpoint with the given fields, or `None` if there is none.
 pub(crate) fn checkpoint_of(fields: &Fields) -> Option<Checkpoint>
     requires { Fit Two fields.now }
     ensures right { is_some result ≡ is_right fields.now }

@@ -1,4 +1,4 @@
-//! A stage: parts on a disk, and the checkpoint that was acknowledged last.
+//! A stage: parts on a disk, and the last acknowledged checkpoint.
 //!
 //! The bytes of the disk, from 0:
 //!
@@ -11,7 +11,7 @@
 //! | from 256 | frames, one for each part: its span (1 byte), its length (4 bytes), its bytes |
 //!
 //! If both slots are valid, the one with the greater generation is current. Saving writes the other
-//! one, in an order that leaves at least one of the two intact at any moment:
+//! slot, in an order that leaves at least one of the two intact at any moment:
 //!
 //! 1. its gate is closed if it is open; sync, which also makes the frames durable
 //! 2. its generation and its checkpoint are written; sync
@@ -47,7 +47,7 @@ pub(crate) const MOST_STAGED: u64 = 999_999_999_999_999;
 /// The byte in the gate of a valid slot. Any other byte means that the gate is closed.
 pub(crate) const OPEN: u8 = b'O';
 
-/// The byte that is written to close a gate.
+/// The byte written to close a gate.
 pub(crate) const CLOSED: u8 = b'C';
 
 /// Why a stage refused a call.
@@ -56,20 +56,20 @@ pub enum StageFault {
     /// The disk does not contain a stage: it is too short, or no slot is valid.
     #[error("the disk contains no stage")]
     NoPoint,
-    /// One of the parts that the checkpoint counts has no valid frame; the frame should be at this
-    /// byte offset.
+    /// A part that the checkpoint counts has no valid frame; its frame should be at this byte
+    /// offset.
     #[error("no valid frame at byte {0}")]
     BadFrame(u64),
     /// The disk failed in this call.
     #[error("the disk failed")]
     Device,
-    /// There was no memory for the buffer or for the first slots.
+    /// There was no memory for the buffer.
     #[error("out of memory")]
     OutOfMemory,
     /// The disk failed in an earlier call. The stage must be opened again.
     #[error("the stage failed before")]
     Failed,
-    /// The weight or the generation would be above 999,999,999,999,999. Nothing was changed.
+    /// The weight or the generation would exceed 999,999,999,999,999. Nothing was changed.
     #[error("the stage is full")]
     Full,
 }
@@ -110,7 +110,7 @@ impl From<AllocError> for StageFault {
 #[derive(Drop)]
 pub struct Stage<D: Disk> {
     pub(crate) disk: D,
-    /// The acknowledged generation, and whether it is in the second slot.
+    /// The acknowledged generation; `in_second` says whether it is in the second slot.
     pub(crate) generation: u64,
     pub(crate) in_second: bool,
     /// Whether the gate of the other slot is open.
@@ -123,11 +123,11 @@ pub struct Stage<D: Disk> {
     pub(crate) weight: u64,
     /// Whether the disk failed.
     pub(crate) failed: bool,
-    /// A buffer for the part that is lent.
+    /// A buffer for the part that is returned.
     pub(crate) buffer: Vec<u8>,
-    /// The weight of the parts that a walk has lent.
+    /// The weight of the parts that a walk has returned.
     pub(crate) walked: u64,
-    /// How many calls to it as a sink were refused.
+    /// The number of refused calls to the stage as a sink.
     pub(crate) refused: u64,
     ghost long: { failed ≡ false → 256 + weight ≤ D.length_of disk },
     ghost settled: { failed ≡ false → pending ≡ None },
@@ -137,7 +137,7 @@ pub struct Stage<D: Disk> {
     ghost bounded_generation: { generation ≤ most_generation },
 }
 
-/// The current slot, its generation and its checkpoint, and whether the other slot's gate is open.
+/// The current slot, its generation and checkpoint, and whether the other slot's gate is open.
 #[derive(Clone, Copy)]
 pub(crate) struct Found {
     pub(crate) in_second: bool,

@@ -1,4 +1,4 @@
-//! A disk in memory: what its calls do, where it stops, and what a crash leaves.
+//! A disk in memory: the effect of its calls, stops, and the contents that a crash leaves.
 
 use crate::fixtures::disk_of;
 use std::alloc::{AllocError, Global};
@@ -38,7 +38,7 @@ fn takes(disk: &mut MemoryDisk, step: Step) -> bool {
     }
 }
 
-/// Returns whether all of these calls succeed.
+/// Returns whether all of the calls succeed.
 fn takes_all(disk: &mut MemoryDisk, steps: &[Step]) -> bool {
     for step in steps {
         if !takes(disk, *step) {
@@ -48,12 +48,12 @@ fn takes_all(disk: &mut MemoryDisk, steps: &[Step]) -> bool {
     true
 }
 
-/// Returns whether the call succeeds, and leaves these bytes.
+/// Returns whether the call succeeds, after which the disk contains `seen`.
 fn becomes(disk: &mut MemoryDisk, step: Step, seen: &[u8]) -> bool {
     takes(disk, step) && disk.bytes() == seen && disk.len() == Ok(seen.len() as u64)
 }
 
-/// Consecutive calls, and the bytes after each.
+/// Consecutive calls, and the contents after each.
 const CALLS: &[(Step, &[u8])] = &[
     (Step::Write(0, b"abcdef"), b"abcdef"),
     (Step::Write(4, b"XYZ"), b"abcdXYZ"),
@@ -79,15 +79,15 @@ fn a_read_fills_its_buffer(rt: HostRuntime) -> Result<(), AllocError> {
     Ok(())
 }
 
-/// Returns whether a disk that contained `abcdef` has these bytes after these calls, and a crash
-/// leaves those.
+/// Returns whether a disk that contained `abcdef` contains `seen` after the calls, and a crash
+/// leaves `left`.
 fn leaves(alloc: Global, steps: &[Step], seen: &[u8], left: &[u8]) -> Result<bool, AllocError> {
     let mut disk = disk_of(alloc, b"abcdef")?;
     let stands = takes_all(&mut disk, steps) && disk.bytes() == seen;
     Ok(stands && disk.crash().bytes() == left)
 }
 
-/// Calls, the contents after them, and what a crash leaves.
+/// Calls, the contents after them, and the contents that a crash leaves.
 const CRASHES: &[(&[Step], &[u8], &[u8])] = &[
     (&[], b"abcdef", b"abcdef"),
     (
@@ -116,7 +116,8 @@ fn a_crash_leaves_writes_and_cuts_open_until_a_sync(rt: HostRuntime) -> Result<(
     Ok(())
 }
 
-/// Returns whether each call of the disk fails, and leaves its bytes and the buffer of a read.
+/// Returns whether each call of the disk fails, and leaves the disk and the buffer of a read
+/// unchanged.
 fn stands_still(disk: &mut MemoryDisk) -> bool {
     let mut two = *b"..";
     let fails = disk.sync() == Err(DiskFault::Device)
@@ -127,13 +128,13 @@ fn stands_still(disk: &mut MemoryDisk) -> bool {
     fails && &two == b".." && disk.bytes() == b"Xbcdef".as_slice()
 }
 
-/// Returns whether a disk that should stop after two calls, one of them a write, does.
+/// Returns whether a disk that must stop after two calls, one of them a write, does so.
 fn stops(disk: &mut MemoryDisk) -> bool {
     disk.stop_after(2);
     disk.len() == Ok(6) && write(disk, 0, b"X") && stands_still(disk)
 }
 
-/// Returns whether what a crash left is another disk, which has not stopped, and can.
+/// Returns whether the disk that a crash left is running, and can be stopped.
 fn goes_on(mut disk: MemoryDisk) -> bool {
     let stands = disk.bytes() == b"\xffbcdef".as_slice() && disk.len() == Ok(6);
     disk.stop_after(0);

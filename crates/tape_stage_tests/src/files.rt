@@ -8,14 +8,14 @@ use std::{fs, io};
 use tape_core::Checkpoint;
 use tape_stage::{BufferedFile, Disk, DiskFault, FileDisk, Stage, buffered_file};
 
-/// An existing file, or a new one, for reading and writing.
+/// Opens a file for reading and writing, creating it if necessary.
 fn open(rt: &HostRuntime, path: &str) -> io::Result<File> {
     let mut options = OpenOptions::new();
     options.read(true).write(true).create(true);
     options.open(rt, path)
 }
 
-/// A new stage in a file.
+/// Creates a stage in a new file.
 fn made_in(rt: &HostRuntime, path: &str) -> Option<Stage<BufferedFile<File>>> {
     let Ok(mut disk) = buffered_file(rt.alloc(), open(rt, path).ok()?) else {
         return None;
@@ -26,7 +26,7 @@ fn made_in(rt: &HostRuntime, path: &str) -> Option<Stage<BufferedFile<File>>> {
     }
 }
 
-/// The stage of a file that was created earlier.
+/// Opens the stage in a file that was created earlier.
 fn opened_in(rt: &HostRuntime, path: &str) -> Option<(Stage<BufferedFile<File>>, Checkpoint)> {
     let Ok(disk) = buffered_file(rt.alloc(), open(rt, path).ok()?) else {
         return None;
@@ -34,13 +34,13 @@ fn opened_in(rt: &HostRuntime, path: &str) -> Option<(Stage<BufferedFile<File>>,
     Stage::open_disk(rt.alloc(), disk).ok()
 }
 
-/// Returns how many bytes the file has.
+/// Returns the size of the file in bytes.
 fn size_of(rt: &HostRuntime, path: &str) -> io::Result<usize> {
     Ok(fs::read(rt, path)?.len())
 }
 
-/// Leaves a file with one acknowledged part, and one after it that is not. Returns its length while
-/// the second part is buffered, and after the parts were read.
+/// Leaves a file with one acknowledged part, followed by one that is not acknowledged. Returns its
+/// length while the second part is buffered, and after the parts were read.
 fn leave_two_parts(
     rt: &HostRuntime,
     path: &str,
@@ -57,7 +57,8 @@ fn leave_two_parts(
     Ok(if done && read { Some(sizes) } else { None })
 }
 
-/// Returns whether the file opens with this checkpoint, and returns the part that it counts.
+/// Returns whether the file opens with the checkpoint `one`, and returns the one part that it
+/// counts.
 fn opens_with_one_part(rt: &HostRuntime, path: &str, one: &Checkpoint) -> bool {
     match opened_in(rt, path) {
         Some((mut stage, point)) => point == *one && holds(&mut stage, b"a"),
@@ -85,9 +86,11 @@ fn a_stage_in_a_file(rt: HostRuntime) -> Result<(), Fail> {
     Ok(())
 }
 
-/// Four bytes that are moved one per call, this many times; every later call is interrupted.
+/// Four bytes beginning at offset `from`, of which each call moves one until no move is left; every
+/// later call is interrupted.
 #[derive(Drop)]
 struct Slow {
+    from: u64,
     bytes: [u8; 4],
     at: usize,
     left: u8,
@@ -136,10 +139,10 @@ impl Seek for Slow {
     fn seek(&mut self, to: SeekFrom) -> io::Result<u64> {
         match to {
             SeekFrom::Start(at) => {
-                self.at = at.min(4) as usize;
+                self.at = at.saturating_sub(self.from).min(4) as usize;
                 Ok(at)
             }
-            SeekFrom::End(_) => Ok(4),
+            SeekFrom::End(_) => Ok(self.from.saturating_add(4)),
             SeekFrom::Current(_) => Err(io::Error::from(ErrorKind::Unsupported)),
         }
     }
@@ -169,25 +172,26 @@ impl OpenFile for Slow {
     }
 }
 
-fn four_bytes(left: u8) -> Slow {
+fn four_bytes(from: u64, left: u8) -> Slow {
     Slow {
+        from,
         bytes: *b"abcd",
         at: 0,
         left,
     }
 }
 
-/// The first bytes of such a file, if this many moves are left.
+/// Reads the first bytes of such a file, with `left` moves left. Returns whether the read succeeds.
 fn read_slowly(left: u8, buf: &mut [u8]) -> bool {
-    match FileDisk::new(four_bytes(left)) {
+    match FileDisk::new(four_bytes(0, left)) {
         Ok(mut disk) => read(&mut disk, 0, buf),
         Err(_) => false,
     }
 }
 
-/// The file after a write to its second byte and a sync, if this many moves are left.
+/// Returns the file after a write to its second byte and a sync, with `left` moves left.
 fn write_slowly(left: u8, bytes: &[u8]) -> Option<[u8; 4]> {
-    let Ok(mut disk) = FileDisk::new(four_bytes(left)) else {
+    let Ok(mut disk) = FileDisk::new(four_bytes(0, left)) else {
         return None;
     };
     let kept = write(&mut disk, 1, bytes) && disk.sync().is_ok();
@@ -211,13 +215,13 @@ fn interruptions_and_ends_are_failures(rt: HostRuntime) {
     let mut three = [0; 3];
     assert!(rt; !read_slowly(2, &mut three));
     assert!(rt; write_slowly(1, b"XY").is_none());
-    // The fifth byte is not accepted.
+    // The fifth byte cannot be written.
     assert!(rt; write_slowly(9, b"WXYZ").is_none());
 }
 
 #[test]
 fn the_length_and_a_sync_take_no_move(rt: HostRuntime) {
-    let Ok(mut disk) = FileDisk::new(four_bytes(1)) else {
+    let Ok(mut disk) = FileDisk::new(four_bytes(0, 1)) else {
         assert!(rt; false);
         return;
     };
@@ -227,13 +231,28 @@ fn the_length_and_a_sync_take_no_move(rt: HostRuntime) {
 
 #[test]
 fn the_length_is_counted(rt: HostRuntime) {
-    let Ok(mut disk) = FileDisk::new(four_bytes(9)) else {
+    let Ok(mut disk) = FileDisk::new(four_bytes(0, 9)) else {
         assert!(rt; false);
         return;
     };
     assert!(rt; disk.len() == Ok(4));
-    // This file cuts to nothing alone.
+    // This file can only be cut to length 0.
     assert!(rt; !cut(&mut disk, 3) && disk.len() == Ok(4));
     assert!(rt; cut(&mut disk, 0) && disk.len() == Ok(0));
     assert!(rt; write(&mut disk, 0, b"ab") && disk.len() == Ok(2));
+}
+
+/// An offset that 32 bits cannot express.
+const FAR: u64 = 5_000_000_000;
+
+#[test]
+fn a_file_of_five_gigabytes(rt: HostRuntime) {
+    let Ok(mut disk) = FileDisk::new(four_bytes(FAR, 9)) else {
+        assert!(rt; false);
+        return;
+    };
+    let mut two = [0; 2];
+    assert!(rt; disk.len() == Ok(FAR + 4) && read(&mut disk, FAR + 1, &mut two));
+    assert!(rt; &two == b"bc");
+    assert!(rt; write(&mut disk, FAR + 2, b"XY") && disk.into_file().bytes == *b"abXY");
 }

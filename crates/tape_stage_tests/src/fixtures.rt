@@ -11,7 +11,7 @@ use tape_label::{Field, Format};
 use tape_set::Position;
 use tape_stage::{Disk, MemoryDisk, Stage};
 
-// All 25 records of 80 bytes, in three blocks, were delivered, and the end of the section was not
+// All 25 records of 80 bytes, in three blocks, were delivered, but the end of the section was not
 // found.
 pub const PAYROLL_1: &[u8; 80] =
     b"TPCK1ABC00100010001000003R01F0008000PAYROLL          000000000002125            ";
@@ -25,7 +25,7 @@ pub const START_1: &[u8; 80] =
 pub const START_2: &[u8; 80] =
     b"TPCK2ABC00100010001000000000000000R00 0000000                 000000000000000   ";
 
-/// The whole file of 25 records, all of them staged.
+/// The checkpoint of the complete file of 25 records, all of them staged.
 pub const WHOLE_2: &[u8; 80] =
     b"TPCK2ABC00100010000000000000000000D01F0008000PAYROLL          000000000002125   ";
 
@@ -87,7 +87,7 @@ pub fn start() -> Checkpoint
     }
 }
 
-/// The checkpoint before a block of section 1, with this weight staged.
+/// Returns the checkpoint before block `block` of section 1, with weight `staged`.
 pub fn in_front(block: u32, staged: u64) -> Option<Checkpoint> {
     let position = awaits(1, block, 0);
     Checkpoint::from_parts(
@@ -100,18 +100,18 @@ pub fn in_front(block: u32, staged: u64) -> Option<Checkpoint> {
     )
 }
 
-/// A stage on an empty disk.
+/// Returns a stage on an empty disk.
 pub fn made(alloc: Global) -> Option<Stage<MemoryDisk>> {
     Stage::create(alloc, MemoryDisk::new(alloc), &start()).ok()
 }
 
-/// A disk with these bytes.
+/// Returns a disk with the given bytes.
 pub fn disk_of(alloc: Global, bytes: &[u8]) -> Result<MemoryDisk, AllocError> {
     Ok(MemoryDisk::from_bytes(alloc, bytes.to_vec(alloc)?))
 }
 
-/// A stage file whose first slot has this gate, generation 1 and this checkpoint, and whose second
-/// slot never counted.
+/// Returns a stage file whose first slot has the given gate and checkpoint and generation 1, and
+/// whose second slot was never valid.
 pub fn first_slot(
     alloc: Global,
     gate: u8,
@@ -129,7 +129,7 @@ pub fn first_slot(
     Ok(bytes)
 }
 
-/// A record of 80 bytes, staged.
+/// Stages a record of 80 bytes.
 pub fn put<D: Disk>(stage: &mut Stage<D>, record: u8) -> bool {
     let part = Part {
         span: Span::Whole,
@@ -138,12 +138,12 @@ pub fn put<D: Disk>(stage: &mut Stage<D>, record: u8) -> bool {
     stage.put(part).is_ok()
 }
 
-/// The checkpoint, saved if it has the weight of what is staged.
+/// Saves the checkpoint, if it has the weight of the staged parts.
 pub fn save<D: Disk>(stage: &mut Stage<D>, point: &Checkpoint) -> bool {
     point.staged == stage.weight() && stage.save(point).is_ok()
 }
 
-/// Returns whether the stage returns these records of 80 bytes, each of one character, and no
+/// Returns whether the stage returns the given records of 80 bytes, each of one character, and no
 /// others.
 pub fn holds<D: Disk>(stage: &mut Stage<D>, records: &[u8]) -> bool {
     let mut parts = stage.parts();
@@ -160,7 +160,7 @@ pub fn holds<D: Disk>(stage: &mut Stage<D>, records: &[u8]) -> bool {
     matches!(parts.next(), Ok(None))
 }
 
-/// The bytes of each row are at its offset.
+/// Checks that the bytes of each row are at its offset.
 pub fn stand(rt: &impl Abort, bytes: &[u8], rows: &[(usize, &[u8])]) {
     for (place, there) in rows {
         let from = bytes.get(*place..).unwrap_or_default();
@@ -194,7 +194,7 @@ pub fn cut<D: Disk>(disk: &mut D, to: u64) -> bool {
     }
 }
 
-/// Returns whether the disk returns these bytes from an offset on, at most 12.
+/// Returns whether the disk returns the given bytes, at most 12, at offset `place`.
 pub fn gives<D: Disk>(disk: &mut D, place: u64, bytes: &[u8]) -> bool {
     let mut buf = [0; 12];
     let size = bytes.len().min(12);

@@ -1,4 +1,4 @@
-//! A disk whose system forgets: it silently drops what a failed sync should have written.
+//! A disk whose system forgets: it silently drops the bytes that a failed sync should have written.
 
 ghost use Rattle.std.specs.Prelude.{◌≡◌, false};
 ghost use Rattle.tape_core.specs.Weight.{Rose};
@@ -9,8 +9,8 @@ use std::test::*;
 use tape_core::Checkpoint;
 use tape_stage::{Disk, DiskFault, MemoryDisk, Stage};
 
-/// A disk on which one sync fails, and each later one returns Ok and writes nothing. It satisfies
-/// the contract of `Disk`, and is honest up to that sync.
+/// A disk on which one sync fails, and each later sync returns Ok and writes nothing. It satisfies
+/// the contract of `Disk`, and is honest up to the failed sync.
 #[derive(Drop)]
 struct Forgetful<D: Disk> {
     disk: D,
@@ -20,7 +20,7 @@ struct Forgetful<D: Disk> {
 }
 
 impl<D: Disk> Forgetful<D> {
-    /// After this many syncs one fails.
+    /// Creates a disk on which a sync fails after `syncs` others.
     fn new(disk: D, syncs: u64) -> Forgetful<D> {
         Forgetful {
             disk,
@@ -30,7 +30,7 @@ impl<D: Disk> Forgetful<D> {
         }
     }
 
-    /// Counts a call that failed.
+    /// Counts a failed call.
     fn fail(&mut self) -> DiskFault
         ensures disk { self.new.disk ≡ self.old.disk }
         ensures has_failed { self.new.has_failed ≡ self.old.has_failed }
@@ -108,10 +108,10 @@ impl<D: Disk> Disk for Forgetful<D> {
     }
 }
 
-/// A record saved on a disk that fails in the save's last sync, and the stage opened again: the
-/// checkpoint that is acknowledged then, and the disk.
+/// Saves a record on a disk that fails in the last sync of the save, and opens the stage again.
+/// Returns the checkpoint acknowledged then, and the disk.
 fn saved_and_forgotten(alloc: Global) -> Option<(Checkpoint, MemoryDisk)> {
-    // Opening makes two syncs, and a save three.
+    // Opening makes two syncs, and saving three.
     let disk = Forgetful::new(made(alloc)?.into_disk(), 4);
     let (mut stage, _) = Stage::open_disk(alloc, disk).ok()?;
     if !put(&mut stage, b'a') || save(&mut stage, &in_front(1, 85)?) {
@@ -121,7 +121,7 @@ fn saved_and_forgotten(alloc: Global) -> Option<(Checkpoint, MemoryDisk)> {
     Some((point, stage.into_disk().disk))
 }
 
-/// What remains if a crash leaves the worst of an opened stage's disk.
+/// Returns the checkpoint that remains after the worst crash of an opened stage's disk.
 fn behind_a_crash(alloc: Global, disk: MemoryDisk) -> Option<Checkpoint> {
     let (_, point) = Stage::open_disk(alloc, disk.crash()).ok()?;
     Some(point)

@@ -10,11 +10,11 @@ use tape_stage::{
     BufferedFile, Disk, DiskFault, FileDisk, MemoryDisk, ReadAhead, WriteBehind, buffered_file,
 };
 
-/// The most bytes that such a file returns or accepts in one call.
+/// The maximum number of bytes that such a file returns or accepts in one call.
 const AT_ONCE: usize = 5_000;
 
-/// A file of a fixed length, in memory. It counts its reads and its writes, and one of its writes
-/// fails, or each of its syncs.
+/// A file of a fixed length, in memory. It counts reads and writes, and can be made to fail one
+/// write or every sync.
 #[derive(Drop)]
 struct Counting {
     bytes: Vec<u8>,
@@ -26,7 +26,7 @@ struct Counting {
 }
 
 impl Counting {
-    /// This many bytes, all of them `.`.
+    /// Creates a file of `size` bytes, all of them `.`.
     fn new(alloc: Global, size: usize, failing: u32) -> Result<Counting, AllocError> {
         let mut bytes = Vec::new(alloc);
         bytes.resize(size, b'.')?;
@@ -105,20 +105,20 @@ impl OpenFile for Counting {
     }
 }
 
-/// A disk over such a file.
+/// Returns a disk over such a file.
 fn disk_counting(alloc: Global, size: usize, failing: u32) -> Option<BufferedFile<Counting>> {
     buffered_file(alloc, Counting::new(alloc, size, failing).ok()?).ok()
 }
 
-/// The file of a disk with buffers.
+/// Returns the file of a disk with buffers.
 fn file_of(disk: BufferedFile<Counting>) -> Counting {
     disk.into_disk().into_disk().into_file()
 }
 
-/// How many bytes a small window has room for: fewer than some calls move.
+/// The size of a small buffer: fewer bytes than some calls move.
 const SMALL: usize = 1_000;
 
-/// A disk over a new file, with small buffers.
+/// Returns a disk over a new file, with small buffers.
 fn made_in(rt: &HostRuntime, path: &str) -> Option<BufferedFile<File>> {
     let _ = fs::remove_file(rt, path);
     let mut options = OpenOptions::new();
@@ -129,12 +129,12 @@ fn made_in(rt: &HostRuntime, path: &str) -> Option<BufferedFile<File>> {
     Some(ReadAhead::over(WriteBehind::over(disk, behind), ahead))
 }
 
-/// A record of 85 bytes, all of them the last byte of its number.
+/// Returns a record of 85 bytes, all of them the last byte of its number.
 fn record_of(number: u64) -> [u8; 85] {
     [number.to_be_bytes()[7]; 85]
 }
 
-/// Returns whether the disk returns such a record at its offset.
+/// Returns whether the disk returns record number `number` at its offset.
 fn gives_record<D: Disk>(disk: &mut D, number: u64) -> bool {
     let mut bytes = [0; 85];
     number < 1_200 && read(disk, number * 85, &mut bytes) && bytes == record_of(number)
@@ -156,13 +156,13 @@ fn small_calls_are_put_together(rt: HostRuntime) {
     for record in 0..1_200u64 {
         assert!(rt; gives_record(&mut disk, record), "{record}");
     }
-    // In 32,768 bytes there are 385 records of 85: three times that many, which take seven calls of
-    // the file, and the rest.
+    // 32,768 bytes contain 385 records of 85 bytes: three times that many take seven calls of the
+    // file each; the rest follows.
     let file = file_of(disk);
     assert_eq!(rt; (file.writes, file.reads), (22, 22));
 }
 
-/// Returns whether the disk has a frame of 20,005 bytes of this number: five bytes are read, and
+/// Returns whether the disk has frame number `number`, of 20,005 bytes: five bytes are read, and
 /// then the others.
 fn has_frame<D: Disk>(disk: &mut D, number: u64) -> bool {
     let (mut header, mut content) = ([0; 5], [0; 20_000]);
@@ -192,11 +192,11 @@ fn a_write_elsewhere_comes_behind_what_is_held(rt: HostRuntime) {
     assert!(rt; write(&mut disk, 0, b"abc") && write(&mut disk, 3, b"de"));
     assert!(rt; write(&mut disk, 8, b"XY") && write(&mut disk, 1, b"BC"));
     assert!(rt; gives(&mut disk, 0, b"aBCde...XY.."));
-    // A write over what was read ahead.
+    // A write over bytes that were read ahead.
     assert!(rt; write(&mut disk, 5, b"fg") && gives(&mut disk, 0, b"aBCdefg.XY.."));
     assert!(rt; write(&mut disk, 11, b"Z"));
     let file = file_of(disk);
-    // The last one was not written: no sync promised to keep it.
+    // The last write did not reach the file: no sync promised to keep it.
     assert!(rt; file.bytes.as_slice() == b"aBCdefg.XY..".as_slice() && file.writes == 4);
 }
 
@@ -207,7 +207,7 @@ fn what_could_not_be_written_is_held_on(rt: HostRuntime) {
         return;
     };
     assert!(rt; write(&mut disk, 0, b"ab") && disk.sync() == Err(DiskFault::Device));
-    // It is read, and the next sync writes it before it reports success.
+    // The byte is read, and the next sync writes it before it reports success.
     assert!(rt; gives(&mut disk, 0, b"ab..") && disk.sync() == Ok(()));
     let file = file_of(disk);
     assert!(rt; file.bytes.as_slice() == b"ab..........".as_slice() && file.writes == 2);
@@ -221,13 +221,13 @@ fn behind_a_failed_sync_nothing_is_kept(rt: HostRuntime) -> Result<(), Fail> {
         return Err(Fail::from("a disk"));
     };
     assert!(rt; disk.sync() == Err(DiskFault::Device));
-    // The system may answer the next sync Ok: it is not asked.
+    // The system might return Ok from the next sync, but it is not called.
     let kept = disk.sync().is_ok() || cut(&mut disk, 0) || read(&mut disk, 6, &mut [0; 2]);
     assert!(rt; !kept && disk.len() == Ok(12));
     Ok(())
 }
 
-/// Returns whether a cut makes the disk, which was empty, drop what it read ahead.
+/// Returns whether a cut makes the disk, which was empty, drop the bytes read ahead.
 fn forgets<D: Disk>(disk: &mut D) -> bool {
     let ahead = write(disk, 0, b"abcdef") && gives(disk, 0, b"ab");
     ahead && cut(disk, 3) && write(disk, 3, b"XYZ") && gives(disk, 0, b"abcXYZ")
@@ -247,7 +247,7 @@ fn a_cut_forgets_what_was_read_ahead(rt: HostRuntime) {
     assert!(rt; gives(&mut disk, 5, b"Zg"));
 }
 
-/// Returns whether both disks read the same.
+/// Returns whether a read of both disks has equal results.
 fn reads_agree<A: Disk, B: Disk>(one: &mut A, two: &mut B, place: u64, size: usize) -> bool {
     let (mut left, mut right) = ([1; 9_000], [1; 9_000]);
     let size = size.min(9_000);
@@ -255,7 +255,7 @@ fn reads_agree<A: Disk, B: Disk>(one: &mut A, two: &mut B, place: u64, size: usi
     first == read(two, place, &mut right[..size]) && left == right
 }
 
-/// Returns whether both disks answer the same to a write of this many bytes.
+/// Returns whether a write to both disks has equal results.
 fn writes_agree<A: Disk, B: Disk>(
     one: &mut A,
     two: &mut B,
@@ -270,7 +270,7 @@ fn writes_agree<A: Disk, B: Disk>(
     write(one, place, bytes) == write(two, place, bytes)
 }
 
-/// Returns whether both disks answer the same to a call encoded by these bytes.
+/// Returns whether a call encoded by the given bytes has equal results on both disks.
 fn calls_agree<A: Disk, B: Disk>(one: &mut A, two: &mut B, told: [u8; 8]) -> bool {
     let size = if told[0] < 12 {
         9_000

@@ -1,4 +1,4 @@
-//! Tests of `tape_stage`: checkpoints, disks and stages with bytes that were written out from the
+//! Tests of `tape_stage`: checkpoints, disks and stages, with bytes written out from the
 //! description of the formats.
 #![tactic(auto)]
 

@@ -8,8 +8,8 @@ use tape_label::{Field, Format};
 use tape_set::Position;
 use tape_stage::{PointFault, read_point, write_point};
 
-/// A text, a position in it, counted from 1, the characters that replace those from there on, and
-/// the fault of the result, if it is not the text of a checkpoint.
+/// A text, a position in it (counted from 1), the characters written at that position, and the
+/// fault of the resulting text, if it is not that of a checkpoint.
 type Row<'r> = (&'r [u8; 80], usize, &'r str, Option<PointFault>);
 
 const RANGE: Option<PointFault> = Some(PointFault::Range);
@@ -18,7 +18,7 @@ const MARK: Option<PointFault> = Some(PointFault::Mark);
 
 const VERSION: Option<PointFault> = Some(PointFault::Version);
 
-/// The text with other characters from a position on, which is counted from 1.
+/// Returns the text with other characters at a position, counted from 1.
 fn with(text: &[u8; 80], position: usize, characters: &str) -> [u8; 80] {
     let mut other = *text;
     let old = other.iter_mut().skip(position.saturating_sub(1));
@@ -28,7 +28,7 @@ fn with(text: &[u8; 80], position: usize, characters: &str) -> [u8; 80] {
     other
 }
 
-/// Each row has its fault, or none.
+/// Checks that each row has its fault, or none.
 fn answers(rt: &impl Abort, name: &str, rows: &[Row<'_>]) {
     for (text, position, characters, fault) in rows {
         let read = read_point(&with(text, *position, characters));
@@ -36,16 +36,16 @@ fn answers(rt: &impl Abort, name: &str, rows: &[Row<'_>]) {
     }
 }
 
-/// Returns whether the checkpoint has this text in version 2, and is read from it.
+/// Returns whether the checkpoint has the given text in version 2, and is read back from it.
 fn is_text(point: &Checkpoint, text: &[u8; 80]) -> bool {
     write_point(point) == *text && read_point(text) == Ok(*point)
 }
 
-/// The whole file, in version 1.
+/// The checkpoint of the complete file, in version 1.
 const WHOLE_1: &[u8; 80] =
     b"TPCK1ABC00100010000000000D01F0008000PAYROLL          000000000002125            ";
 
-/// Returns whether the checkpoint is read of both texts.
+/// Returns whether the checkpoint is read from both texts.
 fn is_read(point: &Checkpoint, one: &[u8; 80], two: &[u8; 80]) -> bool {
     read_point(one) == Ok(*point) && is_text(point, two)
 }
@@ -97,7 +97,7 @@ fn greatest_numbers_and_any_identifiers(rt: HostRuntime) {
     assert!(rt; is_text(&point, text));
 }
 
-/// The text does not have 80 characters.
+/// Checks that the text is refused because it does not have 80 characters.
 fn has_another_length(rt: &impl Abort, text: &[u8]) {
     let length = text.len();
     assert!(rt; read_point(text) == Err(PointFault::Length), "{length}");
@@ -112,7 +112,7 @@ fn any_other_length(rt: HostRuntime) {
     has_another_length(&rt, &longer);
 }
 
-/// Rows by what they show.
+/// Groups of rows, each with a name.
 const ROWS: &[(&str, &[Row<'_>])] = &[
     (
         "length, then mark, then version",
@@ -122,7 +122,7 @@ const ROWS: &[(&str, &[Row<'_>])] = &[
             (PAYROLL_1, 5, "0", VERSION),
             (PAYROLL_1, 5, "3", VERSION),
             (PAYROLL_2, 5, " ABC001+", VERSION),
-            // The same characters after the other version's digit are another text.
+            // The same characters after the digit of the other version are not a valid text.
             (PAYROLL_1, 5, "2", Some(PointFault::Field(20))),
             (PAYROLL_2, 5, "1", Some(PointFault::Field(26))),
         ],
@@ -190,7 +190,8 @@ const ROWS: &[(&str, &[Row<'_>])] = &[
             (WHOLE_2, 19, "1", RANGE),
             (WHOLE_2, 29, "1", RANGE),
             (WHOLE_2, 34, "1", RANGE),
-            // No record is unfinished after it, not even in format S, and its file is known.
+            // At the end of a file no record is unfinished, not even in format S, and the form is
+            // known.
             (WHOLE_2, 36, "11S00000", RANGE),
             (START_2, 16, "0000000000000000000D", RANGE),
         ],
@@ -202,22 +203,22 @@ const ROWS: &[(&str, &[Row<'_>])] = &[
             (PAYROLL_2, 20, "0000000000", RANGE),
             (START_1, 20, "000001", RANGE),
             (START_2, 19, "2", RANGE),
-            // One part of the first block is not the start.
+            // A position after one part of the first block is not the start.
             (START_2, 34, "1", RANGE),
         ],
     ),
     (
         "what is said of a file",
         &[
-            // No form although the form is not known,
+            // A form is not allowed if the form is not known,
             (START_1, 29, "F", RANGE),
             (START_1, 34, "1", RANGE),
             (START_1, 36, "1", RANGE),
             (START_1, 53, "X", RANGE),
-            // a format if the form is known,
+            // a format is needed if the form is known,
             (PAYROLL_1, 28, "0", RANGE),
             (PAYROLL_1, 29, " ", RANGE),
-            // and a record length in format F alone.
+            // and a record length is allowed only in format F.
             (PAYROLL_1, 30, "00000", RANGE),
             (PAYROLL_1, 29, "D", RANGE),
             (PAYROLL_1, 29, "S", RANGE),
@@ -244,18 +245,18 @@ fn what_is_read_of_a_text(rt: HostRuntime) {
     }
 }
 
-/// A text, a position in it, the characters that replace those from there on, and the position of
-/// such a checkpoint: section, block and part; or none.
+/// A text, a position in it, the characters written at that position, and the position of the
+/// resulting checkpoint (section, block and part), or `None`.
 const GOES_ON: &[(&[u8; 80], usize, &str, Option<(u16, u32, u32)>)] = &[
     (PAYROLL_2, 20, "4294967295", Some((1, 4_294_967_295, 0))),
-    // Six digits are all of version 1.
+    // In version 1 block numbers have six digits.
     (PAYROLL_1, 20, "999999", Some((1, 999_999, 0))),
     (PAYROLL_2, 20, "000000000000001", Some((1, 0, 1))),
     (WHOLE_2, 1, "", None),
     (WHOLE_2, 38, "S00000", None),
 ];
 
-/// Returns whether such a text has that position.
+/// Returns whether the text has the expected position.
 fn goes_on(
     text: &[u8; 80],
     position: usize,

@@ -1,4 +1,4 @@
-//! What remains of damaged stages.
+//! The remains of damaged stages.
 
 use crate::fixtures::*;
 use std::alloc::{AllocError, Global};
@@ -7,12 +7,12 @@ use tape_blocks::{Part, Span};
 use tape_core::{PartSink, PartWalk, SinkFault};
 use tape_stage::{MemoryDisk, Salvage, StageFault};
 
-// Two whole records of two bytes each, of format D, are staged.
+// Two complete records of two bytes each, of format D, are staged.
 const FOURTEEN_2: &[u8; 80] =
     b"TPCK2ABC00100010001000000000000002R01D0000000PAYROLL          000000000000014   ";
 
-/// Returns whether the walk returns these parts, each a complete record, and no others; and does so
-/// again.
+/// Returns whether the walk returns the given parts, each a complete record, and no others, and
+/// whether a second walk does the same.
 fn gives_parts(salvage: &mut Salvage<MemoryDisk>, parts: &[&[u8]]) -> bool {
     for _ in 0..2 {
         salvage.rewind();
@@ -98,7 +98,8 @@ const ROWS: &[Row] = &[
     },
 ];
 
-/// Returns whether this remains of a stage with these frames, and its bytes are unchanged.
+/// Returns whether the expected parts remain of a stage with the frames of the row, and its bytes
+/// are unchanged.
 fn remains(alloc: Global, row: &Row) -> Result<bool, AllocError> {
     let bytes = first_slot(alloc, b'O', FOURTEEN_2, row.frames)?;
     let Ok((mut salvage, point)) = Salvage::open_disk(alloc, disk_of(alloc, &bytes)?) else {
@@ -137,7 +138,7 @@ fn nothing_remains_where_no_slot_counts(rt: HostRuntime) -> Result<(), AllocErro
 fn each_failing_call_of_the_disk_is_told(rt: HostRuntime) -> Result<(), AllocError> {
     let alloc = rt.alloc();
     let bytes = first_slot(alloc, b'O', FOURTEEN_2, b"0\x00\x00\x00\x02AB")?;
-    // A sync, the length, the slots, the length again, and the header of the frame.
+    // The calls are a sync, the length, the slots, the length again, and the header of the frame.
     for count in 0..5 {
         let mut disk = disk_of(alloc, &bytes)?;
         disk.stop_after(count);

@@ -7,17 +7,17 @@ use tape_blocks::{Part, Span};
 use tape_core::{Checkpoint, PartSink, PartWalk};
 use tape_stage::{MemoryDisk, Stage};
 
-/// The checkpoint, kept by the sink if it has the weight of what is staged.
+/// Makes the sink keep the checkpoint, if it has the weight of the staged parts.
 fn keep(stage: &mut Stage<MemoryDisk>, point: &Checkpoint) -> bool {
     point.staged == stage.weight() && stage.keep(point).is_ok()
 }
 
-/// The sink cut to the checkpoint, with this weight staged.
+/// Cuts the sink to the checkpoint, if its weight is at most the sink's own.
 fn cut_to(stage: &mut Stage<MemoryDisk>, point: &Checkpoint) -> bool {
     point.staged <= stage.weight() && stage.cut_to(point).is_ok()
 }
 
-/// A sink with two records, kept under the checkpoint, and a third after them.
+/// Returns a sink with two records, kept under the checkpoint `two`, and a third record after them.
 fn with_three(alloc: Global, two: &Checkpoint) -> Option<Stage<MemoryDisk>> {
     let mut stage = made(alloc)?;
     let put_two = put(&mut stage, b'a') && put(&mut stage, b'b');
@@ -32,7 +32,7 @@ fn has_generations(bytes: &[u8]) -> bool {
         && bytes.get(128..144) == Some(b"O000000000000002".as_slice())
 }
 
-/// Returns whether the sink is cut at once to the first two of its three records.
+/// Returns whether the sink is cut immediately to the first two of its three records.
 fn is_cut(stage: &mut Stage<MemoryDisk>, two: &Checkpoint) -> bool {
     stage.weight() == 255
         && cut_to(stage, two)
@@ -61,7 +61,7 @@ fn a_sink_cuts_at_once_down_to_what_was_saved(rt: HostRuntime) {
     assert!(rt; has_generations(stage.into_disk().bytes()));
 }
 
-/// Returns whether a walk from the first part returns the part `AB` and then, twice, none.
+/// Returns whether a walk from the first part returns the part `AB` and then `None` twice.
 fn walks_one_part(stage: &mut Stage<MemoryDisk>) -> bool {
     stage.rewind();
     let given = matches!(stage.next_part(), Ok(Some(part)) if part.bytes == b"AB".as_slice());

@@ -1,4 +1,4 @@
-//! The bytes of stages, and the answers to other bytes.
+//! The bytes of stages, and the results of opening other bytes.
 
 use crate::fixtures::*;
 use std::alloc::{AllocError, Global};
@@ -8,7 +8,7 @@ use tape_blocks::{Part, Span};
 use tape_core::{Checkpoint, PartSink};
 use tape_stage::{MemoryDisk, Stage, StageFault};
 
-/// The stage of this many records, saved under a checkpoint.
+/// Returns the stage of `records` records, saved under a checkpoint.
 fn saved(alloc: Global, records: u32, point: &Checkpoint) -> Option<Stage<MemoryDisk>> {
     let mut stage = made(alloc)?;
     for _ in 0..records {
@@ -23,7 +23,7 @@ fn saved(alloc: Global, records: u32, point: &Checkpoint) -> Option<Stage<Memory
     }
 }
 
-/// The slots of a stage of the whole file.
+/// The slots of a stage with the complete file.
 const SLOTS: &[(usize, &[u8])] = &[
     (0, b"O000000000000001"),
     (16, START_2),
@@ -36,7 +36,7 @@ const SLOTS: &[(usize, &[u8])] = &[
 /// The span and the length of a part of 80 bytes.
 const FRAME: &[u8] = b"0\x00\x00\x00\x50";
 
-/// These are the bytes of a stage of 25 records.
+/// Checks that the bytes are those of a stage of 25 records.
 fn are_whole(rt: &impl Abort, bytes: &[u8]) {
     assert!(rt; bytes.len() == 2381);
     stand(rt, bytes, SLOTS);
@@ -108,7 +108,7 @@ fn spans_and_lengths_in_frames(rt: HostRuntime) {
     assert!(rt; stage.into_disk().bytes().get(256..) == Some(FRAMES));
 }
 
-/// The fault at which bytes open as no stage.
+/// Returns the fault with which opening the bytes fails.
 fn fault_of(alloc: Global, bytes: &[u8]) -> Result<Option<StageFault>, AllocError> {
     match Stage::open_disk(alloc, disk_of(alloc, bytes)?) {
         Ok(_) => Ok(None),
@@ -116,7 +116,7 @@ fn fault_of(alloc: Global, bytes: &[u8]) -> Result<Option<StageFault>, AllocErro
     }
 }
 
-// One whole record of two bytes, of format D, is staged.
+// One complete record of two bytes, of format D, is staged.
 const SEVEN_2: &[u8; 80] =
     b"TPCK2ABC00100010001000000000000001R01D0000000PAYROLL          000000000000007   ";
 
@@ -134,7 +134,8 @@ fn bytes_that_are_no_stage(rt: HostRuntime) -> Result<(), AllocError> {
     Ok(())
 }
 
-/// The fault at which a stage of seven bytes of parts opens with this gate and these frames.
+/// Returns the fault with which opening a stage of seven bytes of parts fails, with the given gate
+/// and frames.
 fn fault_of_seven(
     alloc: Global,
     gate: u8,
@@ -144,7 +145,7 @@ fn fault_of_seven(
     fault_of(alloc, &bytes)
 }
 
-/// A name, the gate and the frames of such a stage, and the fault with which it opens, or none.
+/// A name, the gate and the frames of such a stage, and the fault of opening it, if there is one.
 const SEVENS: &[(&str, u8, &[u8], Option<StageFault>)] = &[
     ("an open gate", b'O', b"0\x00\x00\x00\x02AB", None),
     (
@@ -185,7 +186,7 @@ fn gates_and_frames_of_a_stage(rt: HostRuntime) -> Result<(), AllocError> {
     Ok(())
 }
 
-/// The contents of such a stage that was saved.
+/// The contents of such a stage after a save.
 const SAVED_AGAIN: &[(usize, &[u8])] = &[(16, START_1), (128, b"O000000000000002"), (144, START_2)];
 
 #[test]
@@ -203,8 +204,8 @@ fn a_stage_of_version_1_is_saved_in_version_2(rt: HostRuntime) -> Result<(), All
     Ok(())
 }
 
-/// The weight that opens, of a stage file whose slots count both: the first with generation 2 and
-/// nothing staged, the second with this generation and seven bytes.
+/// Returns the weight of the stage that opens, from a file with two valid slots: the first with
+/// generation 2 and no parts, the second with the given generation and seven bytes of parts.
 fn opened_of_two(alloc: Global, second: &[u8; 16]) -> Result<Option<u64>, AllocError> {
     let mut bytes = b"O000000000000002".to_vec(alloc)?;
     bytes.extend_from_slice(START_2)?;
@@ -219,12 +220,12 @@ fn opened_of_two(alloc: Global, second: &[u8; 16]) -> Result<Option<u64>, AllocE
     }
 }
 
-/// The gate and the generation of the second slot, and the weight that opens.
+/// The gate and the generation of the second slot, and the weight of the stage that opens.
 const SECONDS: &[(&[u8; 16], u64)] = &[
     (b"O000000000000001", 0),
     (b"O000000000000002", 0),
     (b"O000000000000003", 7),
-    // A closed gate, and a generation that is no number, don't count.
+    // A slot with a closed gate, or with a generation that is not a number, does not count.
     (b"C000000000000003", 0),
     (b"O+00000000000003", 0),
 ];

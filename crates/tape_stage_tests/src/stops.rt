@@ -1,4 +1,4 @@
-//! Disks that stop at each of their calls, and what is opened afterwards.
+//! Disks that stop at each of their calls, and the stages opened afterwards.
 
 use crate::fixtures::*;
 use std::alloc::{AllocError, Global};
@@ -7,14 +7,14 @@ use tape_blocks::{Part, Span};
 use tape_core::{Checkpoint, PartSink, PartWalk, SinkFault};
 use tape_stage::{MemoryDisk, Stage, StageFault};
 
-/// A new stage whose disk stops after this many calls of its opening and what follows.
+/// Returns a new stage whose disk stops after `calls` calls, counted from its opening.
 fn stopping(alloc: Global, calls: u64) -> Option<(Stage<MemoryDisk>, Checkpoint)> {
     let mut disk = made(alloc)?.into_disk();
     disk.stop_after(calls);
     Stage::open_disk(alloc, disk).ok()
 }
 
-/// Returns whether a stage whose disk stops refuses one call for that, and every later one.
+/// Returns whether a stage whose disk stops refuses that call and every later one.
 fn refuses(stage: &mut Stage<MemoryDisk>) -> bool {
     let part = Part {
         span: Span::Whole,
@@ -36,7 +36,7 @@ fn a_failed_stage_refuses_until_it_is_opened_again(rt: HostRuntime) {
     assert!(rt; Stage::open_disk(rt.alloc(), stage.into_disk().crash()).is_ok());
 }
 
-/// Returns whether a save that its disk refuses is pending, and the stage then returns no part.
+/// Returns whether a save refused by the disk is pending, and the stage then returns no part.
 fn is_pending(stage: &mut Stage<MemoryDisk>, point: &Checkpoint) -> bool {
     stage.pending().is_none()
         && !save(stage, point)
@@ -53,7 +53,7 @@ fn what_was_being_saved_when_the_disk_stopped(rt: HostRuntime) {
     assert!(rt; is_pending(&mut stage, &point));
 }
 
-/// The number of parts with this weight, in the run of `day`.
+/// Returns the parts of total weight `staged` in the run of `day`.
 fn records_of(staged: u64) -> &'static [u8] {
     match staged {
         0 => b"",
@@ -63,12 +63,13 @@ fn records_of(staged: u64) -> &'static [u8] {
     }
 }
 
-/// Rolls back to the checkpoint, with this weight staged.
+/// Rolls back to the checkpoint, if its weight is at most that of the staged parts.
 fn restart(stage: &mut Stage<MemoryDisk>, point: &Checkpoint) -> bool {
     point.staged <= stage.weight() && stage.restart(point).is_ok()
 }
 
-/// A run with three saves, and a restart after the second. It ends at the first refusal.
+/// Makes a run with three saves, and a roll-back after the second. The run ends at the first
+/// refusal.
 fn day(stage: &mut Stage<MemoryDisk>) -> bool {
     let (Some(two), Some(three), Some(four)) = (
         in_front(1, 170),
@@ -83,7 +84,7 @@ fn day(stage: &mut Stage<MemoryDisk>) -> bool {
     saved && put(stage, b'd') && put(stage, b'e') && save(stage, &four)
 }
 
-/// What may be left of a disk: the checkpoint that was acknowledged, or the one that was being
+/// The checkpoints that may be left on a disk: the acknowledged one, or the one that was being
 /// saved.
 #[derive(Drop)]
 struct Saved {
@@ -98,7 +99,8 @@ impl Saved {
     }
 }
 
-/// The run on a disk that stops after this many of its calls: the disk, and what may be left of it.
+/// Makes the run on a disk that stops after `calls` calls. Returns the disk, and the checkpoints
+/// that may be left on it.
 fn stopped_after(alloc: Global, calls: u64) -> Option<(MemoryDisk, Saved)> {
     let mut disk = made(alloc)?.into_disk();
     disk.stop_after(calls);
@@ -121,7 +123,7 @@ fn stopped_after(alloc: Global, calls: u64) -> Option<(MemoryDisk, Saved)> {
     })
 }
 
-/// Returns whether a disk that a crash left opens with a checkpoint that may be left, and its
+/// Returns whether a disk that a crash left opens with a checkpoint that may be left, and with its
 /// parts.
 fn comes_back(alloc: Global, disk: MemoryDisk, saved: &Saved) -> bool {
     let Ok((mut stage, point)) = Stage::open_disk(alloc, disk) else {
@@ -130,7 +132,7 @@ fn comes_back(alloc: Global, disk: MemoryDisk, saved: &Saved) -> bool {
     saved.has(point) && holds(&mut stage, records_of(point.staged))
 }
 
-/// The disk with these bytes, after an opening that stopped after this many calls.
+/// Returns the disk with the given bytes after an opening that stopped after `calls` calls.
 fn opened_until(alloc: Global, bytes: &[u8], calls: u64) -> Result<MemoryDisk, AllocError> {
     let mut disk = disk_of(alloc, bytes)?;
     disk.stop_after(calls);
@@ -140,8 +142,8 @@ fn opened_until(alloc: Global, bytes: &[u8], calls: u64) -> Result<MemoryDisk, A
     })
 }
 
-/// At how many of the stops of an opening, of what a crash left at a stop of the run, the rest can
-/// be opened.
+/// Returns the number of stops of an opening after which a crash leaves a disk that can be opened;
+/// the disk has the bytes that a crash left at a stop of the run.
 fn openings(alloc: Global, left: &[u8], saved: &Saved) -> Result<u64, AllocError> {
     let mut count = 0u64;
     for calls in 0..11 {
@@ -166,7 +168,7 @@ fn a_stop_at_each_call(rt: HostRuntime) {
 
 #[test]
 fn a_stop_at_each_call_of_opening_behind_each_stop(rt: HostRuntime) -> Result<(), AllocError> {
-    // Opening makes 10 calls at most: it walks up to 4 frames.
+    // Opening makes at most 10 calls: it walks over up to 4 frames.
     for calls in 0..41 {
         let Some((disk, saved)) = stopped_after(rt.alloc(), calls) else {
             assert!(rt; false);
@@ -181,17 +183,17 @@ fn a_stop_at_each_call_of_opening_behind_each_stop(rt: HostRuntime) -> Result<()
     Ok(())
 }
 
-/// The weight acknowledged last, if the run stops after this many calls.
+/// Returns the weight acknowledged last, if the run stops after `calls` calls.
 fn acknowledged_after(alloc: Global, calls: u64) -> Option<u64> {
     let (_, saved) = stopped_after(alloc, calls)?;
     Some(saved.acknowledged.staged)
 }
 
-/// The calls after which the disk stops, and the weight acknowledged then.
+/// The number of calls after which the disk stops, and the weight acknowledged then.
 ///
-/// Opening makes 6: a sync, the length, both slots, the length, a cut and its sync. A part is put
-/// by 2. The first save makes 5, 3 of them syncs; each later one 6, since it closes a gate first.
-/// Rolling back makes 7, with its cut.
+/// Opening makes 6 calls: a sync, the length, both slots, the length, a cut and its sync. Putting a
+/// part makes 2 calls. The first save makes 5 calls, of which 3 are syncs; each later save makes 6,
+/// since it closes a gate first. Rolling back makes 7 calls, including its cut.
 const WEIGHTS: &[(u64, u64)] = &[
     (14, 0),
     (15, 170),

@@ -37,20 +37,20 @@ named_back verbs.Compare = refl
 same_verb : (one two : Verb) → name_of one ≡ name_of two → one ≡ two
 same_verb one two e = sym (named_back one) ∙ ap named e ∙ named_back two
 
--- a command that does not refuse its words is not refused by its name
+-- a command that does not refuse its arguments is not refused for its name
 pub known : (verb : Verb) (rows : List Row) → (IsNoOrder verb rows → ⊥)
     → IsNoOrderOf (name_of verb) rows → ⊥
 known verb rows lawful (inl none) = none verb refl
 known verb rows lawful (inr why) =
     lawful (subst (λ v. IsNoOrder v rows) (sym (same_verb verb why.0 why.1)) why.2)
 
--- what the parser found: its name, and its rows
+-- the parser's result: the name of a command, and its rows
 abbrev met_by : {X : Type 0} → (X → List ℕ) → (X → List Row) → Option X
     → Option (List ℕ × List Row)
 met_by named_by found_by met =
     option_map {U = List ℕ × List Row} (λ x. (named_by x, found_by x)) met
 
--- it is known by both
+-- both determine it
 pub is_met : {X : Type 0} (named_by : X → List ℕ) (found_by : X → List Row) (met : Option X)
     (name : List ℕ) (rows : List Row) → Some name ≡ option_map named_by met
     → Some rows ≡ option_map (λ (p : List ℕ × List Row). p.1) (met_by named_by found_by met)
@@ -62,7 +62,7 @@ is_met named_by found_by (Some x) name rows same_name same_rows =
     subst (λ t. met_by named_by found_by (Some x) ≡ Some (t, rows)) n
     (subst (λ f. met_by named_by found_by (Some x) ≡ Some (named_by x, f)) r refl)
 
--- and one of this name
+-- and the one with this name
 pub known_by : (verb : Verb) (name : List ℕ) (rows : List Row) → name ≡ name_of verb
     → (IsNoOrder verb rows → ⊥) → IsNoOrderOf name rows → ⊥
 known_by verb name rows is lawful why =

@@ -1,4 +1,4 @@
--- The cases of the words of a command line.
+-- The test cases for the arguments of a command line.
 use Rattle.std.proofs.Common.{◌≡◌, ◌≢◌, ◌≤◌, ◌<◌, ℕ, Bool, true, false, List, [], ◌∷◌, length}
 use Rattle.std.proofs.Common.{Bor, Option, Some, None, refl, sym, ap, ◌∙◌, subst, inl, inr, arith}
 use Rattle.std.proofs.Common.{codes, get_or, lit<, zero, suc, cond, drop, ne_eqb}
@@ -25,6 +25,7 @@ use Rattle.tape_tool.specs.declared.words.Order.TheVariants as orders
 use Rattle.tape_tool.specs.CasesOfWords.{CasesOfWords, CasesOfOrders, shelf}
 use Rattle.tape_tool.specs.Words.{AsksToExtract, AsksToInit, AsksToSalvage, AsksToUnpack}
 use Rattle.tape_tool.specs.Words.{IsDashOrMore, IsFlag}
+use Rattle.tape_tool.proofs.Sizing.{letter_found, size_is}
 use Rattle.tape_tool.specs.Words.{IsNoExtract, IsNoInit, IsNoSet, IsNoUnpack, IsOrderIn}
 use Rattle.tape_tool.specs.Words.{NamesImages, NamesInput}
 use Rattle.tape_tool.specs.Words.{RefusedFor, is_in_rows, texts_of_one}
@@ -45,7 +46,7 @@ abbrev first : List (List ℕ) → Option (List ℕ)
 first [] = None
 first (x ∷ xs) = Some x
 
--- the one text of a word that has just one
+-- the text of an argument that has only one
 one_text : (found : Option (Bor (List ℕ))) (text : List ℕ) → text ∷ [] ≡ texts_of_one found
     → option_map (λ t. t.now) found ≡ Some text
 one_text None text e = absurd (let n : 1 ≡ 0 = ap length e in omega arith)
@@ -56,7 +57,7 @@ no_text : (found : Option (Bor (List ℕ))) → [] ≡ texts_of_one found
 no_text None e = refl
 no_text (Some t) e = absurd (let n : 0 ≡ 1 = ap length e in omega arith)
 
--- a stream is never the one
+-- the only text is never a stream
 pub never_dash : (found : Option (Bor (List ℕ))) → codes "-" ∷ [] ≡ texts_of_one found
     → IfSome found (λ t. t.now ≢ codes "-") → ⊥
 never_dash None e named = absurd (let n : 1 ≡ 0 = ap length e in omega arith)
@@ -98,12 +99,12 @@ missing e = cc
 text_is : {one two : List ℕ} → Some one ≡ Some two → one ≡ two
 text_is e = cc
 
--- a word of one byte, which is no equals sign
+-- an argument of one byte, which is not an equals sign
 lacks : (byte : ℕ) → byte ≢ 61 → Contains (byte ∷ []) 61 → ⊥
 lacks byte other (zero, _, e) = other e
 lacks byte other (suc k, within, _) = absurd (let n : suc k < 1 = within in omega (arith, n))
 
--- the value of digits, behind a plus sign too
+-- the value of digits, possibly after a plus sign
 abbrev value_of : List ℕ → ℕ
 value_of text = digits_value 10 (without_leading_plus text)
 
@@ -201,7 +202,7 @@ no_salvage order rows asked (inl (inl none)) = asked.set none
 no_salvage order rows asked (inl (inr dash)) = asked.named dash
 no_salvage order rows asked (inr many) = absurd (omega (arith, asked.images.few, many))
 
--- the names of two commands that begin otherwise
+-- the names of two commands that begin differently
 other : (one two : List ℕ) (m n : ℕ) → one ≡ two → get_or one 0 0 ≡ m → get_or two 0 0 ≡ n → m ≡ n
 other one two m n same at_one at_two = sym at_one ∙ ap (λ t. get_or t 0 0) same ∙ at_two
 
@@ -272,7 +273,8 @@ cases_of_orders = record {
   write = λ order a. (
     a.folder,
     a.prefix,
-    a.capacity 9000 (codes "9000", refl, four, refl, lit< tt),
+    (size_is (codes "9K") (codes "9") 1024 order.capacity
+        (letter_found (codes "9K") (codes "9") 75 1024 refl (inl (refl, refl))) a.capacity).1,
     a.files,
     a.counted refl,
     a.block 2048 (codes "2048", refl, other_four, refl, lit< tt),

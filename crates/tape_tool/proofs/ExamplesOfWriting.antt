@@ -1,4 +1,4 @@
--- The cases of the words of `write`.
+-- The test cases for the arguments of `write`.
 use Rattle.std.proofs.Common.{◌≡◌, ℕ, suc, Bool, true, false, refl, ap, inl, inr, arith}
 use Rattle.tape_label.specs.declared.values.Format.{Format}
 use Rattle.tape_label.specs.declared.values.Format.TheVariants.{Fixed, Counted, Spanned}

@@ -26,7 +26,7 @@ lines_append [] ys = refl
 lines_append (x ∷ xs) ys = ap (λ l. volume_line x ++ l) (lines_append xs ys)
     ∙ sym (append_assoc (volume_line x) (volume_lines xs) (volume_lines ys))
 
--- all lines are those up to a place, the next, and more
+-- all lines are those up to an index, the next one, and the others
 pub lines_split : (xs : List Ended) (i : ℕ) (d : Ended) → i < length xs
     → volume_lines xs ≡ (volume_lines (take i xs) ++ volume_line (get_or xs i d))
     ++ volume_lines (drop (i + 1) xs)

@@ -1,4 +1,4 @@
--- Answers that the contracts of the commands' words exclude: each is what a wrong body would give.
+-- Wrong answers that the contracts of the commands' arguments exclude.
 use Rattle.std.proofs.Common.{◌≡◌, ℕ, Bool, true, false, List, [], ◌∷◌, length, ap, sym, ◌∙◌}
 use Rattle.std.proofs.Common.{Option, Some, None, subst, arith, codes}
 use Rattle.std.specs.Prelude.{Ok, IfSome, map, option_map, slice_index, unwrap_or}
@@ -27,7 +27,7 @@ abbrev first : Option (List ℕ) → ℕ
 first None = 0
 first (Some text) = slice_index text 0
 
--- prefix_taken_for_folder: DIR is out, and the images go into a folder ABC
+-- prefix_taken_for_folder: DIR is out, but the images go into a directory ABC
 prefix_taken_for_folder : (κs : _) (a : _) (o : _) (s : _) → init_order.Learnt-named κs a (Ok o) s
     → text_in (rows_of (found_of a.1.0.now)) (codes "DIR") ≡ codes "out"
     → o.folder.now ≡ codes "ABC" → ⊥
@@ -35,14 +35,14 @@ prefix_taken_for_folder κs a o s l asked got =
     absurd (let n : 65 ≡ 111 = ap (λ t. slice_index t 0) (sym got ∙ l.ok.folder ∙ asked) in
     omega arith)
 
--- offsets_inverted: offsets are requested, and not printed
+-- offsets_inverted: offsets are requested, but not printed
 offsets_inverted : (κs : _) (a : _) (o : _) (s : _) → list_order.Learnt-named κs a (Ok o) s
     → one_of (codes "offsets") (rows_of (found_of a.1.0.now)) ≡ Some (codes "true")
     → o.offsets ≡ false → ⊥
 offsets_inverted κs a o s l asked none =
     absurd (let n : 0 ≡ 1 = ap (λ b. bit b) (sym none ∙ l.ok.offsets.given asked) in omega arith)
 
--- second_image_passed_over: two images are named, and one is looked at
+-- second_image_passed_over: two images are specified, but only one is read
 second_image_passed_over : (κs : _) (a : _) (o : _) (s : _)
     → check_order.Learnt-named κs a (Ok o) s
     → all_of (codes "IMAGE") (rows_of (found_of a.1.0.now))
@@ -52,7 +52,7 @@ second_image_passed_over κs a o s l asked one =
     absurd (let n : 1 ≡ 2 = ap length (sym one ∙ l.ok.images.words
     ∙ ap (λ ts. unwrap_or ts []) asked) in omega arith)
 
--- nulls_forgotten: the names of a list end with NULs, and are taken for lines
+-- nulls_forgotten: the names in a list end with NULs, but are read as lines
 nulls_forgotten : (κs : _) (a : _) (o : _) (s : _) (list : _)
     → check_order.Learnt-named κs a (Ok o) s
     → one_of (codes "null") (rows_of (found_of a.1.0.now)) ≡ Some (codes "true")
@@ -63,7 +63,7 @@ nulls_forgotten κs a o s list l asked named none =
     named l.ok.images.list.null in
     absurd (let n : 0 ≡ 1 = ap (λ b. bit b) (sym none ∙ null.given asked) in omega arith)
 
--- rows_forgotten: a survey is requested in rows, and printed in words
+-- rows_forgotten: a survey is requested in rows, but printed in words
 rows_forgotten : (κs : _) (a : _) (o : _) (s : _) → survey_order.Learnt-named κs a (Ok o) s
     → one_of (codes "tsv") (rows_of (found_of a.1.0.now)) ≡ Some (codes "true")
     → o.wording ≡ wordings.Words → ⊥
@@ -79,20 +79,20 @@ output_taken_for_stage : (κs : _) (a : _) (o : _) (s : _)
 output_taken_for_stage κs a o s l asked got =
     absurd (let n : 111 ≡ 107 = ap first (sym got ∙ l.ok.task.stage ∙ asked) in omega arith)
 
--- again_forgotten: the images are to be read round by round, and are read once
+-- again_forgotten: the images should be read in passes, but are read once
 again_forgotten : (κs : _) (a : _) (o : _) (s : _) → extract_order.Learnt-named κs a (Ok o) s
     → one_of (codes "again") (rows_of (found_of a.1.0.now)) ≡ Some (codes "true")
     → o.task.again ≡ false → ⊥
 again_forgotten κs a o s l asked none =
     absurd (let n : 0 ≡ 1 = ap (λ b. bit b) (sym none ∙ l.ok.task.again.given asked) in omega arith)
 
--- dash_taken_for_a_file: records are asked for on standard output, and go into a file
+-- dash_taken_for_a_file: records are requested on standard output, but go into a file
 dash_taken_for_a_file : (κs : _) (a : _) (o : _) (s : _)
     → extract_order.Learnt-named κs a (Ok o) s
     → text_in (rows_of (found_of a.1.0.now)) (codes "OUT") ≡ codes "-" → ⊥
 dash_taken_for_a_file κs a o s l asked = l.ok.task.named asked
 
--- form_of_files_forgotten: raw records are asked for, and each gets a line feed
+-- form_of_files_forgotten: raw records are requested, but each gets a line feed
 form_of_files_forgotten : (κs : _) (a : _) (o : _) (s : _)
     → unpack_order.Learnt-named κs a (Ok o) s
     → first_of (codes "form") (rows_of (found_of a.1.0.now)) ≡ Some (codes "raw")
@@ -100,7 +100,7 @@ form_of_files_forgotten : (κs : _) (a : _) (o : _) (s : _)
 form_of_files_forgotten κs a o s l asked lines =
     absurd (let n : 0 ≡ 1 = ap (λ f. kind f) (sym lines ∙ l.ok.form.raw asked) in omega arith)
 
--- damaged_forgotten: a stage that breaks off is asked for, and is refused as one that does
+-- damaged_forgotten: a damaged stage is requested, but is refused because it is damaged
 damaged_forgotten : (κs : _) (a : _) (o : _) (s : _) → stage_order.Learnt-named κs a (Ok o) s
     → one_of (codes "damaged") (rows_of (found_of a.1.0.now)) ≡ Some (codes "true")
     → o.damaged ≡ false → ⊥

@@ -45,7 +45,7 @@ module _ {D : Type 0} {disk : Ghosts D} where
           → (back ≡ point) × (there ≡ parts)
       this back there both = (both.0 ∙ is, both.1)
 
--- a look at the disk's length, and then what opens it
+-- the length of the disk is read, and then the stage is opened or created
 pub looked : {D : Type 0} (disk : Ghosts D) (a b : D) → disk.seen b ≡ disk.seen a
     → ((c : List ℕ) → disk.may_leave b c → disk.may_leave a c)
     → IsLater disk.moment disk.left_since disk.may_leave a b → OpensOver disk a b

@@ -1,4 +1,4 @@
--- What was written and printed of a stage, put together.
+-- The text that is written and printed for a stage, put together.
 use Rattle.std.proofs.Common.{ℕ, List, [], Option, None, Result, Ok, Err}
 use Rattle.std.proofs.Common.{OnErr, IfErr, sym, subst, append-nil}
 use Rattle.tape_blocks.specs.Block.{Portion}
@@ -26,7 +26,7 @@ gives_front point ending records form out written said says parts all told = rec
   told = subst (λ (n : ℕ). AppendsFront said says (told_with point ending n)) all.0 told;
 }
 
--- what is true if a stage was opened, and a fault came
+-- the consequences if a stage was opened and a fault occurred
 pub stops_in_part : (read : List ℕ) (generation : ℕ) (point : Point) (parts : List Portion)
     (form : Form) (out written said says : Option (List ℕ))
     (result : Result (Option Want) ToolFault) → Staged read generation point parts
@@ -37,7 +37,7 @@ stops_in_part read generation point parts form out written said says (Ok want) s
 stops_in_part read generation point parts form out written said says (Err fault) staged front ends =
     in_part generation point parts staged front ends
 
--- the same of a stage that may break off
+-- the same for a stage that may be damaged
 pub stops_salvaging : (read : List ℕ) (generation : ℕ) (point : Point) (broken : Option ℕ)
     (parts : List Portion) (form : Form) (out written said says : Option (List ℕ))
     (result : Result StageEnding ToolFault) → Remains read generation point broken parts
@@ -48,7 +48,7 @@ stops_salvaging read generation point broken parts form out written said says (O
 stops_salvaging read generation point broken parts form out written said says (Err fault) remains
     front ends = salvaged_in_part generation point broken parts remains front ends
 
--- a fact that follows of each list of parts, for one that is held
+-- a fact that follows for each list of parts, applied to one that the sink contains
 pub of_held_err : {T E : Type 0} (result : Result T E) (H P : List Portion → Type 0)
     (parts : List Portion) → H parts → OnErr result ((ps : List Portion) → H ps → P ps)
     → OnErr result (P parts)

@@ -1,4 +1,4 @@
--- What the words of `write` are, over the rows of what the parser found, and what is at odds.
+-- The arguments of `write`, from the rows that the parser found, and their contradictions.
 use Rattle.std.proofs.Common.{◌≡◌, ◌≢◌, ◌<◌, ◌^◌, ℕ, List, map, Option}
 use Rattle.std.proofs.Common.{Some, None, refl, sym, ◌∙◌, subst, inl, inr, codes, length}
 use Rattle.std.proofs.Common.{◌⊎◌, true, false, [], ◌+◌, get_or, take, take_all, ◌≤◌}
@@ -14,11 +14,12 @@ use Rattle.tape_label.specs.declared.values.Format.{Format}
 use Rattle.tape_label.specs.declared.values.Format.TheVariants.{Fixed, Counted, Spanned}
 use Rattle.tape_blocks.specs.declared.parts.Form.{Form}
 use Rattle.tape_blocks.specs.declared.parts.Form.TheVariants.{Raw}
-use Rattle.tape_tool.specs.Words.{AreAtOdds, IsSomeNumber, HavePaths, IsForm, IsNoWrite}
-use Rattle.tape_tool.specs.Words.{text_in, texts_in}
+use Rattle.tape_tool.specs.Words.{AreAtOdds, IsSomeNumber, HavePaths, IsForm, IsNoWrite, IsSize}
+use Rattle.tape_tool.specs.Words.{IsAtOdds, text_in, texts_in}
+use Rattle.tape_tool.specs.declared.write.words.WriteOrder.{WriteOrder}
 use Rattle.tape_writer.specs.Blank.{IsPrefix}
 
--- a number that is read stands there, and one that stands there is read
+-- a number that is read is in the text, and one that is in the text is read
 pub number_given : (found : Found) (word : List ℕ) (bits : ℕ) (read : Option ℕ)
     → (one_text found word ≡ None → read ≡ None)
     → ((t : List ℕ) → one_text found word ≡ Some t
@@ -71,12 +72,12 @@ is_counted Fixed f s = absurd (f refl)
 is_counted Counted f s = refl
 is_counted Spanned f s = absurd (s refl)
 
--- what is at odds in an order
+-- the contradictions in a request
 abbrev Odd : Format → Option ℕ → Form → Type 0
 Odd format read form = ((format ≡ Fixed) × (read ≡ None))
     ⊎ ((format ≡ Spanned) × (read ≢ None)) ⊎ ((format ≡ Counted) × (form ≡ Raw))
 
--- an order is at odds where its words are
+-- a request contains a contradiction if its arguments do
 pub at_odds : (rows : List Row) (text : List ℕ) (format : Format) (read : Option ℕ) (form : Form)
     → text ≡ text_in rows (codes "format")
     → ((format ≡ Fixed) ↔ (text ≡ codes "F")) → ((format ≡ Spanned) ↔ (text ≡ codes "S"))
@@ -101,7 +102,7 @@ at_odds rows text format read form is fixed spanned given of_form = (there, back
       of_form.raw h.2,
     ))
 
--- one more word with an equals sign
+-- one more argument with an equals sign
 pub one_more_path : {X : Type 0} (view : X → List ℕ) (words : List X) (i : ℕ) (d : X)
     → i < length words → HavePaths (map view (take i words))
     → Contains (view (get_or words i d)) 61 → HavePaths (map view (take (i + 1) words))
@@ -118,17 +119,26 @@ path_lacks view words i d within none all =
     none (subst (λ word. Contains word 61) (get_or-map view words i d [] within)
     (all i [] (subst (λ n. i < n) (sym (length-map words view)) within)))
 
--- all words, at the end
+-- all arguments, at the end
 pub all_paths : {X : Type 0} (view : X → List ℕ) (words : List X) (i : ℕ) → length words ≤ i
     → HavePaths (map view (take i words)) → HavePaths (map view words)
 all_paths view words i end all =
     subst (λ ws. HavePaths (map view ws)) (take_all i words end) all
 
--- words that nothing is wrong with
+-- options that exclude each other, or no directory
+pub wrong_options : (rows : List Row) (order : WriteOrder)
+    → order.folder.now ≡ text_in rows (codes "DIR") → (IsAtOdds order → AreAtOdds rows)
+    → (order.folder.now ≡ []) ⊎ IsAtOdds order → IsNoWrite rows
+wrong_options rows order folder odds (inl none) = inr (inr (inl (sym folder ∙ none)))
+wrong_options rows order folder odds (inr odd) = inr (inr (inr (inl (odds odd))))
+
+-- arguments without an error
 pub lawful : (rows : List Row) → IsPrefix (text_in rows (codes "PRE"))
     → HavePaths (texts_in rows (codes "ID=PATH")) → (text_in rows (codes "DIR") ≡ [] → ⊥)
-    → (AreAtOdds rows → ⊥) → IsNoWrite rows → ⊥
-lawful rows prefix paths folder fit (inl none) = none prefix
-lawful rows prefix paths folder fit (inr (inl none)) = none paths
-lawful rows prefix paths folder fit (inr (inr (inl none))) = folder none
-lawful rows prefix paths folder fit (inr (inr (inr odd))) = fit odd
+    → (AreAtOdds rows → ⊥) → (n : ℕ) → IsSize (text_in rows (codes "CAPACITY")) n
+    → IsNoWrite rows → ⊥
+lawful rows prefix paths folder fit n size (inl none) = none prefix
+lawful rows prefix paths folder fit n size (inr (inl none)) = none paths
+lawful rows prefix paths folder fit n size (inr (inr (inl none))) = folder none
+lawful rows prefix paths folder fit n size (inr (inr (inr (inl odd)))) = fit odd
+lawful rows prefix paths folder fit n size (inr (inr (inr (inr none)))) = none n size

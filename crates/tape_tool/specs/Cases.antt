@@ -1,8 +1,7 @@
--- Examples for the definitions of ends, faults, lines, names and sessions over stages, so that none
--- of them says less, or requires more, than it should. They are the contract of the call
--- `laws::cases`.
+-- Examples for the definitions of ends, faults, lines, names and sessions over stages, which show
+-- that none of them is too weak or too strict. They are the contract of the call `laws::cases`.
 use Rattle.std.specs.Prelude.{◌≡◌, ℕ, Bool, true, false, List, [], ◌∷◌, map, replicate}
-use Rattle.std.specs.Prelude.{codes, Some, None, Ok, Err}
+use Rattle.std.specs.Prelude.{codes, Option, Some, None, Ok, Err}
 use Rattle.std.specs.Borrow.{Bor}
 use Rattle.std.specs.List.{join_with_byte}
 use Rattle.clap.specs.declared.error.kind.ErrorKind.TheVariants as kinds
@@ -27,6 +26,8 @@ use Rattle.tape_run.specs.declared.fault.RunFault.TheVariants as runs
 use Rattle.tape_run.specs.declared.fault.EngineFault.TheVariants as engine
 use Rattle.tape_run.specs.declared.fault.ListFault.TheVariants as list
 use Rattle.tape_run.specs.SessionState.{SessionState}
+use Rattle.tape_stage.specs.Found.{IsBadPlace}
+use Rattle.tape_stage.specs.Salvaged.{Remains, RemainsNone}
 use Rattle.tape_stage.specs.Staged.{Staged, HoldsNone, Holding}
 use Rattle.tape_stage.specs.Stages.{Returns, Returned}
 use Rattle.tape_stage.specs.declared.disk.Disk.{Ghosts}
@@ -46,7 +47,7 @@ use Rattle.tape_tool.specs.Fault.{of_list}
 use Rattle.tape_tool.specs.Names.{end_byte, pieces_of, names_in}
 use Rattle.tape_tool.specs.Report.{report}
 use Rattle.tape_tool.specs.Staging.{IsOfFile, first_point, StandsAt, GoesOn, Says, IsUnopened}
-use Rattle.tape_tool.specs.Staging.{SaysNoStage}
+use Rattle.tape_tool.specs.Staging.{SaysNoStage, IsUnmade}
 use Rattle.tape_tool.specs.Diagnostics.{fault_line}
 
 -- how runs end
@@ -54,15 +55,15 @@ pub record CasesOfEnds : Type 0 where
   -- 0 success, 1 an error, 2 a usage error, 3 something is missing
   pub statuses : (fault : ToolFault)
       → map exit_status (Done ∷ Faulted fault ∷ WrongWords ∷ Incomplete ∷ []) ≡ 0 ∷ 1 ∷ 2 ∷ 3 ∷ []
-  -- a command succeeds, or ends by its fault
+  -- a command succeeds, or ends with its fault
   pub commands : (fault : ToolFault)
       → (end_of (Ok tt) ≡ Done) × (end_of (Err fault) ≡ Faulted fault)
-  -- `check` found all sections, misses one, or ends by the fault of the library
+  -- `check` finds all sections, finds one missing, or ends with the fault of the library
   pub checks : (fault : RunFault) → (check_end (Ok true) ≡ Done)
       × (check_end (Ok false) ≡ Incomplete)
       × (check_end (Err (engine.Run fault)) ≡ Faulted (Run fault))
       × (check_end (Err engine.WriteFailed) ≡ Faulted (File WriteFailed))
-  -- `extract` needs nothing more, or something, or ends by the fault of the library
+  -- `extract` needs nothing more, needs something, or ends with the fault of the library
   pub extracts : (want : Want) (fault : RunFault) → (extract_end (Ok None) ≡ Done)
       × (extract_end (Ok (Some want)) ≡ Incomplete)
       × (extract_end (Err (engine.Run fault)) ≡ Faulted (Run fault))
@@ -74,8 +75,8 @@ pub record CasesOfEnds : Type 0 where
   pub not_printed : map (λ kind. words_end kind false)
       (kinds.DisplayHelp ∷ kinds.DisplayVersion ∷ [])
       ≡ replicate 2 (Faulted (File WriteFailed))
-  -- out of memory for the arguments is a fault, and all else that can be wrong with them a usage
-  -- error
+  -- out of memory for the arguments is a fault, and anything else that can be wrong with them a
+  -- usage error
   pub no_memory : (printed : Bool)
       → (words_end kinds.OutOfMemory printed ≡ Faulted (Run runs.OutOfMemory))
       × (no_words_end io_kinds.OutOfMemory ≡ Faulted (Run runs.OutOfMemory))
@@ -88,7 +89,7 @@ pub record CasesOfEnds : Type 0 where
   -- arguments that are not text, or that could not be obtained
   pub no_words : map no_words_end (io_kinds.InvalidData ∷ io_kinds.InvalidInput ∷ io_kinds.Other
       ∷ []) ≡ replicate 3 WrongWords
-  -- a command that is not started ends by its fault, or as a usage error: never as done, or as
+  -- a command that is not started ends with its fault, or as a usage error: never as done, or as
   -- incomplete
   pub not_begun : (fault : ToolFault) (end : End) → IsRefusalEnd (unfits.Faulted fault) end
       → end ≡ Faulted fault
@@ -100,7 +101,7 @@ pub record CasesOfEnds : Type 0 where
 
 -- the names in a list
 pub record CasesOfNames : Type 0 where
-  -- no part of a text is left out, and none comes twice
+  -- no part of a text is left out, and none occurs twice
   pub joined : (null : Bool) (text : List ℕ)
       → join_with_byte (end_byte null) (pieces_of null text) ≡ text
   -- spaces are part of a name, an empty line is not a name, and the last line counts without a line
@@ -121,10 +122,11 @@ pub record CasesOfFaults : Type 0 where
       ∷ writes.RecordLength ∷ writes.NoFile ∷ writes.FileBegun ∷ writes.OutOfVolumes
       ∷ writes.TooMany ∷ writes.Device ∷ writes.OutOfMemory ∷ writes.Failed ∷ writes.Finished
       ∷ []) ≡ 1 ∷ 2 ∷ 3 ∷ 4 ∷ 5 ∷ 6 ∷ 7 ∷ 8 ∷ 9 ∷ 10 ∷ 11 ∷ 12 ∷ []
-  -- a file's fault stays one, and so does the writer's
+  -- a file's fault remains one, and so does the writer's
   pub of_sets : (fault : WriteFault) → of_system (system.Write fault) ≡ Write fault
   pub of_files_written : (fault : FileFault) → of_system (system.File fault) ≡ File fault
-  -- output that could not be written is a file's fault, and all else the run's or the image's
+  -- output that could not be written is a fault of a file, and any other fault one of the run or
+  -- the image
   pub of_engines : (fault : RunFault) → (of_engine (engine.Run fault) ≡ Run fault)
       × (of_engine engine.WriteFailed ≡ File WriteFailed)
   pub of_lists : (fault : ImageFault) → (of_list (list.Image fault) ≡ Image fault)
@@ -140,7 +142,7 @@ pub record CasesOfLines : Type 0 where
   pub file : fault_line (File WriteFailed) ≡ codes "tape: file fault 4\n"
   pub run : fault_line (Run runs.OtherFile) ≡ codes "tape: run fault 5\n"
   pub stage : fault_line (OfStage (stages.BadFrame 300)) ≡ codes "tape: stage fault 2\n"
-  -- after those of a stage itself, which are 1 to 6
+  -- after the faults of a stage itself, which are 1 to 6
   pub in_use : fault_line StageInUse ≡ codes "tape: stage fault 7\n"
   -- out of memory for the arguments of the command line
   pub no_memory : fault_line no_memory ≡ codes "tape: run fault 4\n"
@@ -152,7 +154,7 @@ pub record CasesOfLines : Type 0 where
 
 -- sessions over stages
 pub record CasesOfStaging {D : Type 0} (disk : Ghosts D) : Type 0 where
-  -- a file's start, of a set: nothing is read, and nothing staged
+  -- the start of a file of a set: nothing was read, and nothing is staged
   pub first : first_point (codes "ABC001") 3 ≡ record {
     set_id = codes "ABC001";
     file = 3;
@@ -161,7 +163,7 @@ pub record CasesOfStaging {D : Type 0} (disk : Ghosts D) : Type 0 where
     known = None;
     staged = 0;
   }
-  -- a checkpoint is one of its file and set, and of no others
+  -- a checkpoint belongs to its file and set, and to no others
   pub own : (point : Point) → IsOfFile point.set_id point.file point
   pub other_set : IsOfFile (codes "ABC001") 3 (first_point (codes "XYZ001") 3) → ⊥
   pub other_file : IsOfFile (codes "ABC001") 3 (first_point (codes "ABC001") 4) → ⊥
@@ -173,15 +175,15 @@ pub record CasesOfStaging {D : Type 0} (disk : Ghosts D) : Type 0 where
   pub holds : (point : Point) (parts : List Portion) (session : SessionState (Stage D disk))
       → StandsAt point parts session
       → Holding session.sink.weight parts (disk.seen session.sink.disk)
-  -- whatever a crash leaves of it now represents something,
+  -- whatever a crash leaves of the stage now represents a checkpoint,
   pub survives : (point : Point) (parts : List Portion) (session : SessionState (Stage D disk))
       (bytes : List ℕ) → StandsAt point parts session → disk.may_leave session.sink.disk bytes
       → (back : Point) × (there : List Portion) × Returns session.sink back there
-  -- and nothing but this checkpoint and these parts
+  -- and that is always this checkpoint with these parts
   pub only : (point back : Point) (parts there : List Portion) (session : SessionState (Stage D disk))
       → StandsAt point parts session → Returns session.sink back there
       → (back ≡ point) × (there ≡ parts)
-  -- the same for what a crash leaves from this moment on
+  -- the same for every state that a crash leaves from this moment on
   pub survived : (point : Point) (parts : List Portion) (session : SessionState (Stage D disk))
       (bytes : List ℕ) → StandsAt point parts session
       → disk.left_since session.sink.disk (disk.moment session.sink.disk) bytes
@@ -191,19 +193,33 @@ pub record CasesOfStaging {D : Type 0} (disk : Ghosts D) : Type 0 where
       → StandsAt point parts session
       → Returned session.sink (disk.moment session.sink.disk) back there
       → (back ≡ point) × (there ≡ parts)
-  -- a session that continues is at the checkpoint that the bytes represent, which is of its file
+  -- a session that continues is at the checkpoint that the bytes represent, and this belongs to its
+  -- file
   pub goes_on : (set_id read : List ℕ) (file : ℕ) (session : SessionState (Stage D disk))
       (g : GoesOn set_id file read session) → Staged read g.generation g.point g.parts
       × (g.point.set_id ≡ set_id) × (g.point.file ≡ file) × StandsAt g.point g.parts session
-  -- nothing is staged in bytes that are not a stage
+  -- only zeros, or nothing, may be a new stage that was not completed, but no other byte in place
+  -- of the first gate; and no stage is one, not even a damaged one
+  pub unmade : (set_id : List ℕ) (file : ℕ) → IsUnmade set_id file []
+      × IsUnmade set_id file (0 ∷ 0 ∷ []) × IsUnmade set_id file (67 ∷ [])
+      × (IsUnmade set_id file (68 ∷ []) → ⊥)
+  pub unmade_size : (set_id : List ℕ) (file : ℕ) → IsUnmade set_id file (replicate 257 0) → ⊥
+  pub made : (set_id read : List ℕ) (file g : ℕ) (point : Point) (broken : Option ℕ)
+      (parts : List Portion) → Remains read g point broken parts → IsUnmade set_id file read → ⊥
+  -- bytes that are not a stage contain no staged data
   pub none_staged : (set_id read : List ℕ) (file : ℕ)
       → (Says set_id file read (staging.Stage stages.NoPoint) → HoldsNone read)
       × (Says set_id file read (staging.Stage (stages.BadFrame 300)) → HoldsNone read)
+  -- if no slot is valid, nothing remains; and the reported bad frame is one
+  pub fault_said : (set_id read : List ℕ) (file place : ℕ)
+      → (Says set_id file read (staging.Stage stages.NoPoint) → RemainsNone read)
+      × (Says set_id file read (staging.Stage (stages.BadFrame place)) → IsBadPlace read place)
   -- a stage of another file does not represent a checkpoint of this one
   pub of_another : (set_id read : List ℕ) (file n : ℕ) (point : Point) (parts : List Portion)
       → Says set_id file read staging.OtherFile → Staged read n point parts
       → point.set_id ≡ set_id → point.file ≡ file → ⊥
-  -- but it represents one: bytes without a stage are never reported as those of another file
+  -- but it represents one: bytes that are not a stage are never reported as the stage of another
+  -- file
   pub none_of_another : (set_id read : List ℕ) (file : ℕ) → HoldsNone read
       → Says set_id file read staging.OtherFile → ⊥
   -- stages of other sets and of other files belong to another file
@@ -213,13 +229,13 @@ pub record CasesOfStaging {D : Type 0} (disk : Ghosts D) : Type 0 where
   pub of_another_file : (set_id read : List ℕ) (file n : ℕ) (point : Point) (parts : List Portion)
       → Staged read n point parts → (point.file ≡ file → ⊥)
       → Says set_id file read staging.OtherFile
-  -- what is not a stage, or had no memory, was not opened
+  -- bytes that are not a stage, or a disk for which there was no memory, were not opened
   pub unopened : IsUnopened (staging.Stage stages.NoPoint)
       × IsUnopened (staging.Stage (stages.BadFrame 300))
       × IsUnopened (staging.Stage stages.OutOfMemory)
-  -- one whose disk failed may have been, and one of another file was
+  -- a stage whose disk failed may have been opened, and one of another file was
   pub opened : (IsUnopened (staging.Stage stages.Device) → ⊥) × (IsUnopened staging.OtherFile → ⊥)
-  -- NoPoint and BadFrame mean that it is not a stage, and no other fault does
+  -- NoPoint and BadFrame mean that the bytes are not a stage, and no other fault means that
   pub none_told : SaysNoStage (staging.Stage stages.NoPoint)
       × SaysNoStage (staging.Stage (stages.BadFrame 300))
   pub not_told : (SaysNoStage (staging.Stage stages.Device) → ⊥)

@@ -1,4 +1,4 @@
--- Examples for the definitions of `stage`, so that none of them says less than it should.
+-- Examples for the definitions of `stage`, which show that none of them is too weak.
 use Rattle.std.specs.Prelude.{◌≡◌, ◌≢◌, ◌⊎◌, ℕ, false, List, length}
 use Rattle.std.specs.Prelude.{Option, Some, None, Ok, Err}
 use Rattle.std.specs.Prelude.{codes}
@@ -13,6 +13,7 @@ use Rattle.tape_core.specs.Point.{Point}
 use Rattle.tape_image.specs.Written.{AppendsFront}
 use Rattle.tape_run.specs.RecordText.{output_of}
 use Rattle.tape_stage.specs.Faults.{OnBadFrame, SaysNone}
+use Rattle.tape_stage.specs.Found.{IsFaultOf}
 use Rattle.tape_stage.specs.Salvaged.{Remains, RemainsNone}
 use Rattle.tape_stage.specs.Staged.{Staged, HoldsNone}
 use Rattle.tape_stage.specs.declared.stage.StageFault.{StageFault}
@@ -45,22 +46,22 @@ point_at position = record {
   staged = 0;
 }
 
--- what a fault means: no stage was opened and nothing written, and NoPoint is reported only if
--- there is none; or a prefix of what is staged in these bytes was written, and the fault is a
+-- the meaning of a fault: no stage was opened and nothing written, and NoPoint and BadFrame are true
+-- of the bytes; or a prefix of the staged records in these bytes was written, and the fault is a
 -- failed write or the device
 abbrev pub StopSays : List ℕ → Form → Option (List ℕ) → Option (List ℕ) → Option (List ℕ)
     → Option (List ℕ) → ToolFault → Type 0
 StopSays read form out written said says fault = StopsShowing read form out written said says fault
     → ((cause : StageFault) × (fault ≡ Stage cause) × (SaysNone cause → HoldsNone read)
-    × (cause ≢ Full) × (cause ≢ Failed) × Keeps out written × Keeps said says)
+    × IsFaultOf read cause × (cause ≢ Full) × (cause ≢ Failed) × Keeps out written × Keeps said says)
     ⊎ ((g : ℕ) × (point : Point) × (parts : List Portion) × Staged read g point parts
     × AppendsFront out written (output_of form parts)
     × AppendsFront said says (told_of point None (length (join parts).records))
     × ((fault ≡ File WriteFailed) ⊎ (fault ≡ Stage Device)))
 
--- what a fault of a stage that may be damaged means: nothing was opened, and NoPoint is reported
--- only if nothing remains, and BadFrame never; or a prefix of what remains was written, and the
--- fault is a failed write or the device
+-- the meaning of a fault of a stage that may be damaged: nothing was opened, NoPoint is reported
+-- only if nothing remains, and BadFrame never; or a prefix of the remaining records was written,
+-- and the fault is a failed write or the device
 abbrev pub SalvageSays : List ℕ → Form → Option (List ℕ) → Option (List ℕ) → Option (List ℕ)
     → Option (List ℕ) → ToolFault → Type 0
 SalvageSays read form out written said says fault =
@@ -73,8 +74,9 @@ SalvageSays read form out written said says fault =
     × AppendsFront said says (told_of point broken (length (join parts).records))
     × ((fault ≡ File WriteFailed) ⊎ (fault ≡ Stage Device)))
 
--- Which faults can stop it: a stage is never reported as full, or as failed before; after
--- OutOfMemory nothing was written; a file's fault is a failed write, and none is a run's.
+-- The faults that can end it: a stage is never reported as full, or as failed before; after
+-- OutOfMemory nothing was written; a fault of a file is a failed write, and there are no faults of
+-- a run.
 abbrev pub StoppedOnlyBy : (ToolFault → Type 0) → Type 0 → Type 0
 StoppedOnlyBy stops untouched = (stops (Stage Full) → ⊥) × (stops (Stage Failed) → ⊥)
     × (stops (Stage OutOfMemory) → untouched)
@@ -98,20 +100,20 @@ pub record CasesOfShowing : Type 0 where
       → (damaged_end (Ok (Whole None)) ≡ Done) × (damaged_end (Ok (Whole (Some want))) ≡ Incomplete)
       × (damaged_end (Ok (Broken place)) ≡ Incomplete)
       × (damaged_end (Err fault) ≡ Faulted fault)
-  -- what was shown is what is staged: all records of its parts, and their number
+  -- the records of all staged parts were written, and their number is reported
   pub shown : (read : List ℕ) (form : Form) (out written said says : Option (List ℕ))
       (want : Option Want) (s : Shows read form out written said says want)
       → Staged read s.generation s.point s.parts
       × Appends out written (output_of form s.parts)
       × Appends said says (told_of s.point None (length (join s.parts).records))
-  -- and what remains of a damaged stage
+  -- and the same for what remains of a damaged stage
   pub salvaged : (read : List ℕ) (form : Form) (out written said says : Option (List ℕ))
       (ending : StageEnding) (s : ShowsDamaged read form out written said says ending)
       → Remains read s.generation s.point s.broken s.parts
       × (ending ≡ ending_of s.point s.broken)
       × Appends out written (output_of form s.parts)
       × Appends said says (told_with s.point ending (length (join s.parts).records))
-  -- after a fault nothing of that was written, or a prefix
+  -- after a fault none of these records was written, or a prefix
   pub stopped : (read : List ℕ) (form : Form) (out written said says : Option (List ℕ))
       (fault : ToolFault) → StopSays read form out written said says fault
   pub salvage_stopped : (read : List ℕ) (form : Form) (out written said says : Option (List ℕ))
@@ -120,7 +122,7 @@ pub record CasesOfShowing : Type 0 where
   pub good : (read : List ℕ) (form : Form) (out written said says : Option (List ℕ)) (g : ℕ)
       (point : Point) (parts : List Portion) (cause : StageFault) → Staged read g point parts
       → SaysNone cause → StopsShowing read form out written said says (Stage cause) → ⊥
-  -- nor one of which something remains, and BadFrame is not reported
+  -- nor is a stage of which something remains, and BadFrame is never reported
   pub remaining : (read : List ℕ) (form : Form) (out written said says : Option (List ℕ)) (g : ℕ)
       (point : Point) (broken : Option ℕ) (parts : List Portion) (cause : StageFault)
       → Remains read g point broken parts → SaysNone cause

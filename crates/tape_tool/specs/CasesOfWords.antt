@@ -27,7 +27,7 @@ use Rattle.tape_tool.specs.Words.{IsNoOrderOf, IsNoSet, IsNoUnpack, IsNoWrite, I
 use Rattle.tape_tool.specs.Words.{IsOrderOf, IsSomeNumber, NamesImages, NamesInput, RefusedFor}
 use Rattle.tape_tool.specs.Words.{padded_set, text_in, texts_in}
 
--- what the parser found of an argument or an option
+-- the parser's result for an argument or an option
 abbrev pub word : List ℕ → List (List ℕ) → Row
 word id texts = record {
   id = id;
@@ -47,22 +47,22 @@ file_of list = option_map (λ (l : ListFile). option_map (λ p. p.now) l.file) l
 
 -- single words
 pub record CasesOfWords : Type 0 where
-  -- a text is that of its own argument, and there is none without the argument
+  -- a text belongs to its own argument, and an absent argument has none
   pub text : text_in (word (codes "PRE") (codes "ABC" ∷ [])
       ∷ word (codes "DIR") (codes "out" ∷ []) ∷ []) (codes "DIR") ≡ codes "out"
   pub none : (text_in [] (codes "DIR") ≡ []) × (texts_in [] (codes "IMAGE") ≡ [])
-  -- texts come in their order
+  -- texts are in the order of the arguments
   pub texts : texts_in shelf (codes "IMAGE") ≡ codes "a.tap" ∷ codes "b.tap" ∷ []
-  -- a number is that of its own argument, and must be in range
+  -- a number belongs to its own argument, and must be in range
   pub number : IsNumber 16 (word (codes "FILE") (codes "12" ∷ []) ∷ []) (codes "FILE") 12
   pub fits : (rows : List Row) → IsNumber 16 rows (codes "FILE") 65536 → ⊥
-  -- it is the value of its digits, after a plus sign or zeros too, and no other
+  -- it is the value of its digits, possibly after a plus sign or zeros, and no other number
   pub plus : IsNumber 32 (word (codes "record") (codes "+80" ∷ []) ∷ []) (codes "record") 80
   pub plus_alone : (n : ℕ)
       → IsNumber 32 (word (codes "record") (codes "+80" ∷ []) ∷ []) (codes "record") n → n ≡ 80
   pub zeros : (n : ℕ)
       → IsNumber 8 (word (codes "offset") (codes "010" ∷ []) ∷ []) (codes "offset") n → n ≡ 10
-  -- and each is one in its plain digits
+  -- and each number can be written in plain digits
   pub plain : (bits n : ℕ) (rows : List Row) (word : List ℕ) → n < 2 ^ bits → n < 2 ^ 64
       → one_of word rows ≡ Some (decimal n) → IsNumber bits rows word n
   -- an option without a value is present, or is not
@@ -71,14 +71,14 @@ pub record CasesOfWords : Type 0 where
       → IsFlag (word (codes "null") (codes "false" ∷ []) ∷ []) (codes "null") is_given
       → is_given ≡ false
   pub not_there : (is_given : Bool) → IsFlag [] (codes "null") is_given → is_given ≡ false
-  -- a form is that of its name
+  -- a form is the one with this name
   pub form_raw : (form : Form) → IsForm (word (codes "form") (codes "raw" ∷ []) ∷ []) form
       → form ≡ Raw
   pub form_lines : (form : Form) → IsForm (word (codes "form") (codes "lines" ∷ []) ∷ []) form
       → form ≡ Lines
-  -- and raw is not a form if it was not named
+  -- and raw is not the form unless it was requested
   pub form_default : IsForm [] Raw → ⊥
-  -- a number is present in its digits, also after a plus sign; no other text is one
+  -- a number is present as its digits, possibly after a plus sign; no other text is a number
   pub has_number : IsSomeNumber 8 (word (codes "offset") (codes "4" ∷ []) ∷ []) (codes "offset")
       × IsSomeNumber 8 (word (codes "offset") (codes "+04" ∷ []) ∷ []) (codes "offset")
   pub no_number : (IsSomeNumber 8 [] (codes "offset") → ⊥)
@@ -87,7 +87,7 @@ pub record CasesOfWords : Type 0 where
   -- each argument for a file needs an equals sign
   pub paths : HavePaths (codes "A=a" ∷ codes "=b=" ∷ [])
   pub no_path : HavePaths (codes "A=a" ∷ codes "b" ∷ []) → ⊥
-  -- one name is correct, and so is none; a stream is a usage error, and so are two names
+  -- one name is correct, and so is no name; a stream is a usage error, and so are two names
   pub one : (IsDashOrMore [] → ⊥) × (IsDashOrMore (codes "a.tap" ∷ []) → ⊥)
   pub dash : IsDashOrMore (codes "-" ∷ [])
   pub two : IsDashOrMore (codes "a.tap" ∷ codes "b.tap" ∷ [])
@@ -95,17 +95,17 @@ pub record CasesOfWords : Type 0 where
   pub set : padded_set (codes "ABC1") ≡ codes "ABC1  "
   pub sets : (IsNoSet (codes "ABC001") → ⊥) × (IsNoSet (codes "A") → ⊥)
   pub no_sets : IsNoSet [] × IsNoSet (codes "ABC0001")
-  -- what is refused is so for lack of memory, or as a usage error with its own message
+  -- a command is refused for lack of memory, or as a usage error with its own message
   pub refused : (error : Error) → RefusedFor ⊥ error → kind_of error ≡ OutOfMemory
   pub wrong : (error : Error) → kind_of error ≡ ValueValidation → RefusedFor ⊥ error → ⊥
 
 -- what commands are asked for
 pub record CasesOfOrders : Type 0 where
-  -- images are those of the arguments, in their order, and those of the list in its file
+  -- the images are those in the arguments, in their order, and those of the list in its file
   pub images : (named : Named) → NamesImages shelf named
       → (map (λ w. w.now) named.words.items ≡ codes "a.tap" ∷ codes "b.tap" ∷ [])
       × (file_of named.list ≡ Some (Some (codes "names")))
-  -- NULs are reported in a list that is named
+  -- NULs are taken into account in a list that is specified
   pub nulls : (named : Named) (list : ListFile) → NamesImages shelf named
       → named.list ≡ Some list → list.null ≡ true
   -- a list on standard input has no file, and without the option there is no list
@@ -115,7 +115,7 @@ pub record CasesOfOrders : Type 0 where
   -- 257 arguments are too many
   pub few : (named : Named)
       → NamesImages (word (codes "IMAGE") (replicate 257 (codes "a")) ∷ []) named → ⊥
-  -- `list` lists the image that is named, or standard input, and its offsets if it is asked to
+  -- `list` lists the specified image, or standard input, and prints offsets if requested
   pub list : (order : Listing) → AsksToList (word (codes "IMAGE") (codes "a.tap" ∷ [])
       ∷ word (codes "offsets") (codes "true" ∷ []) ∷ []) order
       → (option_map (λ i. i.now) order.image ≡ Some (codes "a.tap")) × (order.offsets ≡ true)
@@ -123,13 +123,13 @@ pub record CasesOfOrders : Type 0 where
       → (option_map (λ i. i.now) order.image ≡ None) × (order.offsets ≡ false)
   pub list_dash : (order : Listing)
       → AsksToList (word (codes "IMAGE") (codes "-" ∷ []) ∷ []) order → ⊥
-  -- `survey` prints rows if it is asked to
+  -- `survey` prints rows if requested
   pub survey : (order : Survey) → AsksToSurvey (word (codes "tsv") (codes "true" ∷ []) ∷ shelf)
       order → (order.wording ≡ wordings.Rows)
       × (map (λ w. w.now) order.images.words.items ≡ codes "a.tap" ∷ codes "b.tap" ∷ [])
   pub survey_words : (order : Survey) → AsksToSurvey shelf order
       → order.wording ≡ wordings.Words
-  -- `extract` recovers the file of the set that is named, to its output, over its stage
+  -- `extract` recovers the specified file of the set, to its output, over its stage
   pub extract : (order : Extract) → AsksToExtract (word (codes "SET") (codes "ABC001" ∷ [])
       ∷ word (codes "FILE") (codes "2" ∷ []) ∷ word (codes "OUT") (codes "out" ∷ [])
       ∷ word (codes "form") (codes "raw" ∷ []) ∷ word (codes "stage") (codes "kept" ∷ [])
@@ -145,14 +145,14 @@ pub record CasesOfOrders : Type 0 where
   pub extract_no_set : (order : Extract) → AsksToExtract [] order → ⊥
   pub no_extract : (order : Extract) (rows : List Row) → AsksToExtract rows order
       → IsNoExtract rows → ⊥
-  -- `unpack` writes to its directory, which has a name
+  -- `unpack` writes to its directory, which must have a name
   pub unpack : (order : Unpack) → AsksToUnpack (word (codes "DIR") (codes "out" ∷ [])
       ∷ word (codes "form") (codes "raw" ∷ []) ∷ shelf) order
       → (order.folder.now ≡ codes "out") × (order.form ≡ Raw)
       × (map (λ w. w.now) order.images.words.items ≡ codes "a.tap" ∷ codes "b.tap" ∷ [])
   pub no_unpack : (order : Unpack) (rows : List Row) → AsksToUnpack rows order
       → IsNoUnpack rows → ⊥
-  -- `stage` shows the stage that is named, and its records go to the output
+  -- `stage` shows the specified stage, and its records go to the output
   pub stage : (order : StageOrder) → AsksForStage (word (codes "OUT") (codes "out" ∷ [])
       ∷ word (codes "PATH") (codes "kept" ∷ []) ∷ word (codes "form") (codes "raw" ∷ [])
       ∷ word (codes "damaged") (codes "true" ∷ []) ∷ []) order
@@ -169,14 +169,14 @@ pub record CasesOfOrders : Type 0 where
   pub no_init : (order : Init) (rows : List Row) → AsksToInit rows order → IsNoInit rows → ⊥
   -- `write` writes the files of its arguments to its directory
   pub write : (order : WriteOrder) → AsksToWrite (word (codes "DIR") (codes "out" ∷ [])
-      ∷ word (codes "PRE") (codes "ABC" ∷ []) ∷ word (codes "CAPACITY") (codes "9000" ∷ [])
+      ∷ word (codes "PRE") (codes "ABC" ∷ []) ∷ word (codes "CAPACITY") (codes "9K" ∷ [])
       ∷ word (codes "ID=PATH") (codes "A=a" ∷ codes "B=b" ∷ [])
       ∷ word (codes "format") (codes "D" ∷ []) ∷ word (codes "block") (codes "2048" ∷ [])
       ∷ word (codes "record") (codes "80" ∷ []) ∷ word (codes "offset") (codes "4" ∷ [])
       ∷ word (codes "pad-full") (codes "true" ∷ []) ∷ word (codes "form") (codes "lines" ∷ [])
       ∷ []) order
       → (order.folder.now ≡ codes "out") × (order.prefix.characters ≡ codes "ABC")
-      × (order.capacity ≡ 9000)
+      × (order.capacity ≡ 9216)
       × (map (λ w. w.now) order.files.items ≡ codes "A=a" ∷ codes "B=b" ∷ [])
       × (order.format ≡ Counted) × (order.block ≡ 2048) × (order.«record» ≡ Some 80)
       × (order.offset ≡ 4) × (order.pad_full ≡ true) × (order.form ≡ Lines)
@@ -186,7 +186,7 @@ pub record CasesOfOrders : Type 0 where
       → (order.«record» ≡ Some 80) × (order.offset ≡ 5)
   pub no_write : (order : WriteOrder) (rows : List Row) → AsksToWrite rows order
       → IsNoWrite rows → ⊥
-  -- a command's name selects its order, and no other
+  -- the name of a command selects its arguments, and no other command's
   pub names : (rows : List Row) (order : Listing) → IsOrderOf (codes "check") rows
       (orders.List order) → ⊥
   pub check : (rows : List Row) (order : Order) → IsOrderIn (Some (codes "check", rows)) order
@@ -196,14 +196,15 @@ pub record CasesOfOrders : Type 0 where
 -- arguments of `write`: its prefix, its directory, an argument for a file, and its options
 abbrev pub to_write : List ℕ → List ℕ → List ℕ → List Row → List Row
 to_write prefix folder file options = word (codes "PRE") (prefix ∷ [])
-    ∷ word (codes "DIR") (folder ∷ []) ∷ word (codes "ID=PATH") (file ∷ []) ∷ options
+    ∷ word (codes "DIR") (folder ∷ []) ∷ word (codes "ID=PATH") (file ∷ [])
+    ∷ word (codes "CAPACITY") (codes "9K" ∷ []) ∷ options
 
 -- a format, and one other option
 abbrev pub with_format : List ℕ → List ℕ → List ℕ → List Row
 with_format format option text = word (codes "format") (format ∷ [])
     ∷ word option (text ∷ []) ∷ []
 
--- these options of `write` are refused, although all else is right
+-- these options of `write` are refused, although everything else is correct
 abbrev pub AreRefused : List Row → Type 0
 AreRefused options = IsNoWrite (to_write (codes "ABC") (codes "out") (codes "A=a") options)
 
@@ -225,9 +226,9 @@ pub record CasesOfWrongWords : Type 0 where
       (with_format (codes "S") (codes "form") (codes "lines")))
   pub folder : IsNoWrite (to_write (codes "ABC") [] (codes "A=a")
       (with_format (codes "S") (codes "form") (codes "lines")))
-  -- a name that no command has is refused, whatever follows it
+  -- a name that belongs to no command is refused, whatever follows it
   pub unknown : (rows : List Row) → IsNoOrderOf (codes "lost") rows
-  -- and that of a command only for a usage error in its own arguments
+  -- and the name of a command only for a usage error in the command's own arguments
   pub list : IsNoOrderOf (codes "list") (word (codes "OUT") (codes "-" ∷ []) ∷ []) → ⊥
   pub check : IsNoOrderOf (codes "check") (word (codes "IMAGE") (codes "-" ∷ []) ∷ []) → ⊥
   pub survey : IsNoOrderOf (codes "survey") (word (codes "IMAGE") (codes "-" ∷ []) ∷ []) → ⊥

@@ -7,7 +7,7 @@ use Rattle.tape_tool.specs.Writing.{IsNoShape}
 pub record CasesOfWriting : Type 0 where
   -- blocks of D may be padded or not
   pub counted : (n : ℕ) (pad_full : Bool) → IsNoShape Counted n pad_full → ⊥
-  -- those of F and S may be written as they are, of F if a record has a byte
+  -- blocks of F and S are written without padding, those of F if a record has at least one byte
   pub fixed : (n : ℕ) → IsNoShape Fixed (suc n) false → ⊥
   pub spanned : (n : ℕ) → IsNoShape Spanned n false → ⊥
   -- and are not padded

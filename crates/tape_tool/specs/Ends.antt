@@ -59,7 +59,7 @@ abbrev pub help_end : Bool → End
 help_end true = Done
 help_end false = Faulted (File WriteFailed)
 
--- how a run ends for which the argument parser has only a text, which was printed or was not
+-- how a run ends if the argument parser has only a text for it, which was printed or not
 abbrev pub words_end : ErrorKind → Bool → End
 words_end kinds.OutOfMemory printed = Faulted no_memory
 words_end kinds.DisplayHelp printed = help_end printed

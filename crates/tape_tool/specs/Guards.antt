@@ -1,4 +1,4 @@
--- What is done if the system refuses something.
+-- What the program does if the system refuses something.
 use Rattle.std.specs.Prelude.{Bool, true, false, not, Result, Ok, Err}
 use Rattle.std.specs.declared.io.ErrorKind.{ErrorKind}
 use Rattle.std.specs.declared.io.ErrorKind.TheVariants.{NotFound, PermissionDenied}
@@ -11,8 +11,8 @@ use Rattle.tape_writer.specs.declared.system.fault.FileFault.TheVariants.{NotOpe
 use Rattle.tape_tool.specs.declared.fault.ToolFault.{ToolFault}
 use Rattle.tape_tool.specs.declared.fault.ToolFault.TheVariants.{File, StageInUse}
 
--- whether an output may be written in place although no new file could be created: in a directory
--- that accepts none, and in one that does not exist, where nothing can be lost
+-- whether an output may be written in place if no new file could be created: in a directory that
+-- accepts no new file, or in one that does not exist, where nothing can be lost
 abbrev pub is_written_in_place : ErrorKind → Bool → Bool
 is_written_in_place PermissionDenied there = true
 is_written_in_place ReadOnlyFilesystem there = true

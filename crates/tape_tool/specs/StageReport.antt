@@ -13,6 +13,7 @@ use Rattle.tape_image.specs.Written.{AppendsFront}
 use Rattle.tape_run.specs.RecordText.{output_of}
 use Rattle.tape_run.specs.ReelLine.{last_line}
 use Rattle.tape_stage.specs.Faults.{OnBadFrame, SaysNone}
+use Rattle.tape_stage.specs.Found.{IsFaultOf}
 use Rattle.tape_stage.specs.Salvaged.{Remains, RemainsNone}
 use Rattle.tape_stage.specs.Staged.{Staged, HoldsNone}
 use Rattle.tape_stage.specs.declared.stage.StageFault.{StageFault}
@@ -33,7 +34,8 @@ stage_line point records =
 abbrev pub break_line : ℕ → List ℕ
 break_line place = codes "TRUNCATED AT " ++ decimal place ++ codes "\n"
 
--- what follows the parts: the last line that `extract` would print, or where the frames are damaged
+-- the line after the parts: the last line that `extract` would print, or where the frames are
+-- damaged
 abbrev pub ending_line : StageEnding → ℕ → List ℕ
 ending_line (Whole want) records = last_line want records
 ending_line (Broken place) records = break_line place
@@ -42,24 +44,24 @@ ending_line (Broken place) records = break_line place
 abbrev pub told_with : Point → StageEnding → ℕ → List ℕ
 told_with point ending records = stage_line point records ++ ending_line ending records
 
--- what follows the parts of a stage: what is missing at this checkpoint, if all of them are intact
+-- the end of a stage: the part missing at this checkpoint, if all frames are intact
 abbrev pub ending_of : Point → Option ℕ → StageEnding
 ending_of point None = Whole (want_at point.file point.position)
 ending_of point (Some place) = Broken place
 
--- The records that the parts join to were written, all of them and complete, and both lines.
+-- The complete records that the parts join to were written, and both lines.
 pub record Gives (point : Point) (ending : StageEnding) (form : Form)
     (out written said says : Option (List ℕ)) (parts : List Portion) : Type 0 where
   pub wrote : Appends out written (output_of form parts)
   pub told : Appends said says (told_with point ending (length (join parts).records))
 
--- A prefix of them was, and of the lines.
+-- A prefix of these records was written, or all of them and a prefix of the lines.
 pub record GivesFront (point : Point) (ending : StageEnding) (form : Form)
     (out written said says : Option (List ℕ)) (parts : List Portion) : Type 0 where
   pub wrote : AppendsFront out written (output_of form parts)
   pub told : AppendsFront said says (told_with point ending (length (join parts).records))
 
--- The bytes that were read represent a checkpoint and its parts. What is missing of its file is
+-- The bytes that were read represent a checkpoint and its parts. The missing part of its file is
 -- printed, and the records of the parts were written.
 pub record Shows (read : List ℕ) (form : Form) (out written said says : Option (List ℕ))
     (want : Option Want) : Type 0 where
@@ -70,18 +72,18 @@ pub record Shows (read : List ℕ) (form : Form) (out written said says : Option
   pub wanted : want ≡ want_at point.file point.position
   pub gives : Gives point (ending_of point None) form out written said says parts
 
--- what is reported if a stage was opened: a failed write, or its device, since the parts are read
+-- the faults after a stage was opened: a failed write, or its device, since the parts are read
 -- again
 abbrev pub EndsInPart : ToolFault → Type 0
 EndsInPart fault = (fault ≡ File WriteFailed) ⊎ (fault ≡ Stage Device)
 
--- A fault ended it. Either no stage was opened and nothing was written; NoPoint is reported only if
--- there is no stage, and Full and Failed never. Or a prefix of what was to be written was, and the
--- fault is a failed write or the device.
+-- A fault ended the run. Either no stage was opened and nothing was written; NoPoint is reported
+-- only if no slot is valid, BadFrame with the offset of the bad frame, and Full and Failed never. Or a prefix of the output was written, and
+-- the fault is a failed write or the device.
 pub data StopsShowing (read : List ℕ) (form : Form) (out written said says : Option (List ℕ))
     (fault : ToolFault) : Type 0 where
   unopened : (cause : StageFault) → fault ≡ Stage cause → (SaysNone cause → HoldsNone read)
-      → cause ≢ Full → cause ≢ Failed
+      → IsFaultOf read cause → cause ≢ Full → cause ≢ Failed
       → Keeps out written → Keeps said says → StopsShowing read form out written said says fault
   in_part : (generation : ℕ) (point : Point) (parts : List Portion)
       → Staged read generation point parts
@@ -89,8 +91,8 @@ pub data StopsShowing (read : List ℕ) (form : Form) (out written said says : O
       → EndsInPart fault
       → StopsShowing read form out written said says fault
 
--- This remains of the bytes that were read: a checkpoint, and its parts up to the damage, if there
--- is any. The records of these parts were written, and what follows them was printed.
+-- The bytes that were read contain these remains: a checkpoint, and its parts up to the damage, if
+-- there is any. The records of these parts were written, and the line after them was printed.
 pub record ShowsDamaged (read : List ℕ) (form : Form) (out written said says : Option (List ℕ))
     (ending : StageEnding) : Type 0 where
   pub generation : ℕ
@@ -101,9 +103,9 @@ pub record ShowsDamaged (read : List ℕ) (form : Form) (out written said says :
   pub ends : ending ≡ ending_of point broken
   pub gives : Gives point ending form out written said says parts
 
--- A fault ended it. Either nothing was opened and nothing written; NoPoint is reported only if
--- nothing remains, and BadFrame, Full and Failed never. Or a prefix of what was to be written was,
--- and the fault is a failed write or the device.
+-- A fault ended the run. Either nothing was opened and nothing written; NoPoint is reported only if
+-- nothing remains, and BadFrame, Full and Failed never. Or a prefix of the output was written, and
+-- the fault is a failed write or the device.
 pub data StopsSalvaging (read : List ℕ) (form : Form) (out written said says : Option (List ℕ))
     (fault : ToolFault) : Type 0 where
   nothing : (cause : StageFault) → fault ≡ Stage cause → (SaysNone cause → RemainsNone read)

@@ -1,6 +1,6 @@
--- What the arguments of a command line ask for, by what the parser found: a row for each argument
--- and each option of a command, with its texts.
-use Rattle.std.specs.Prelude.{◌≡◌, ◌≢◌, ◌⊎◌, ◌<◌, ◌≤◌, ◌^◌, ℕ, Bool, true, false, codes}
+-- The requests in the arguments of a command line, according to what the parser found: a row for
+-- each argument and each option of a command, with its texts.
+use Rattle.std.specs.Prelude.{◌≡◌, ◌≢◌, ◌⊎◌, ◌↔◌, ◌<◌, ◌≤◌, ◌^◌, ◌*◌, ℕ, Bool, true, false, codes}
 use Rattle.std.specs.Prelude.{List, [], ◌∷◌, ◌++◌, map, length, replicate, if◌then◌else◌}
 use Rattle.std.specs.Prelude.{◌-◌, ⊤, Option, Some, None, IfSome, option_map, unwrap_or}
 use Rattle.std.specs.Borrow.{Bor}
@@ -36,7 +36,7 @@ use Rattle.tape_tool.specs.declared.merge.words.Merge.{Merge}
 
 -- ---- a word
 
--- the first text of an argument, and none if it is not present
+-- the first text of an argument, or none if the argument is absent
 abbrev pub text_in : List Row → List ℕ → List ℕ
 text_in rows word = unwrap_or (first_of word rows) []
 
@@ -44,14 +44,14 @@ text_in rows word = unwrap_or (first_of word rows) []
 abbrev pub texts_in : List Row → List ℕ → List (List ℕ)
 texts_in rows word = unwrap_or (all_of word rows) []
 
--- This number of so many bits is there: it is the value of decimal digits, with or without a plus
--- sign before them.
+-- The argument is present and is a number of at most `bits` bits: the value of decimal digits, with
+-- or without a plus sign before them.
 abbrev pub IsNumber : ℕ → List Row → List ℕ → ℕ → Type 0
 IsNumber bits rows word n = (text : List ℕ) × (one_of word rows ≡ Some text)
     × IsNumeral 10 (without_leading_plus text)
     × (digits_value 10 (without_leading_plus text) ≡ n) × (n < 2 ^ bits)
 
--- some number of so many bits is there
+-- the argument is present and is a number of at most `bits` bits
 abbrev pub IsSomeNumber : ℕ → List Row → List ℕ → Type 0
 IsSomeNumber bits rows word = (n : ℕ) × IsNumber bits rows word n
 
@@ -87,7 +87,7 @@ RefusedFor reason error =
 abbrev pub list_file : List ℕ → Option (List ℕ)
 list_file path = if bytes_eq path (codes "-") then None else Some path
 
--- the list that is named, if there is one
+-- the list that is specified, if any
 pub record IsListIn (rows : List Row) (list : Option ListFile) : Type 0 where
   pub file : option_map (λ (l : ListFile). option_map (λ p. p.now) l.file) list
       ≡ option_map list_file (first_of (codes "files-from") rows)
@@ -152,7 +152,7 @@ padded_set text = text ++ replicate (6 - length text) 32
 abbrev pub IsNoSet : List ℕ → Type 0
 IsNoSet text = (length text ≡ 0) ⊎ (6 < length text)
 
--- which file of which set is to be recovered, and how
+-- the file and the set from which it is to be recovered, and how
 pub record AsksForFile (rows : List Row) (task : Task) : Type 0 where
   pub set_id : task.set_id ≡ padded_set (text_in rows (codes "SET"))
   pub set : IsNoSet (text_in rows (codes "SET")) → ⊥
@@ -182,6 +182,7 @@ pub record AsksToUnpack (rows : List Row) (order : Unpack) : Type 0 where
   pub named : text_in rows (codes "DIR") ≢ []
   pub images : NamesImages rows order.images
   pub form : IsForm rows order.form
+  pub salvage : IsFlag rows (codes "salvage") order.salvage
 
 -- why `unpack` is refused
 abbrev pub IsNoUnpack : List Row → Type 0
@@ -194,9 +195,10 @@ pub record AsksToSalvage (rows : List Row) (order : SalvageOrder) : Type 0 where
   pub file : (n : ℕ) → IsNumber 16 rows (codes "FILE") n → order.task.file ≡ n
   pub out : order.out.now ≡ text_in rows (codes "OUT")
   pub named : text_in rows (codes "OUT") ≢ codes "-"
-  pub blocks : order.task.content ≡ Blocks
-      → first_of (codes "form") rows ≡ Some (codes "blocks")
+  pub blocks : (order.task.content ≡ Blocks)
+      ↔ (first_of (codes "form") rows ≡ Some (codes "blocks"))
   pub form : order.task.content ≡ Records → IsForm rows order.task.form
+  pub raw : order.task.content ≡ Blocks → order.task.form ≡ Raw
   pub images : NamesImages rows order.images
 
 -- what `stage` is asked for
@@ -239,18 +241,44 @@ IsAtOdds order = ((order.format ≡ Fixed) × (order.«record» ≡ None))
     ⊎ ((order.format ≡ Spanned) × (order.«record» ≢ None))
     ⊎ ((order.format ≡ Counted) × (order.form ≡ Raw))
 
+-- what a letter at the end of a size represents: K, M and G are 1,024, its square and its cube
+abbrev pub IsUnit : List ℕ → ℕ → Type 0
+IsUnit unit factor = ((unit ≡ []) × (factor ≡ 1)) ⊎ ((unit ≡ codes "K") × (factor ≡ 1024))
+    ⊎ ((unit ≡ codes "M") × (factor ≡ 1048576)) ⊎ ((unit ≡ codes "G") × (factor ≡ 1073741824))
+
+-- The text is a size of so many bytes: decimal digits, with or without a plus sign before them, and
+-- at most one such letter after them.
+pub record IsSize (text : List ℕ) (n : ℕ) : Type 0 where
+  pub digits : List ℕ
+  pub unit : List ℕ
+  pub factor : ℕ
+  pub text_is : text ≡ digits ++ unit
+  pub of_unit : IsUnit unit factor
+  pub numeral : IsNumeral 10 (without_leading_plus digits)
+  pub value : n ≡ digits_value 10 (without_leading_plus digits) * factor
+  pub few : n < 2 ^ 32
+
+-- the text ends with one of the letters
+abbrev pub EndsInLetter : List ℕ → Type 0
+EndsInLetter text = (front : List ℕ) × (c : ℕ) × (text ≡ front ++ c ∷ [])
+    × ((c ≡ 75) ⊎ (c ≡ 77) ⊎ (c ≡ 71))
+
+-- the capacity is not a size
+abbrev pub HasNoSize : List Row → Type 0
+HasNoSize rows = (n : ℕ) → IsSize (text_in rows (codes "CAPACITY")) n → ⊥
+
 -- why `write` is refused
 abbrev pub IsNoWrite : List Row → Type 0
 IsNoWrite rows = (IsPrefix (text_in rows (codes "PRE")) → ⊥)
     ⊎ (HavePaths (texts_in rows (codes "ID=PATH")) → ⊥)
-    ⊎ (text_in rows (codes "DIR") ≡ []) ⊎ AreAtOdds rows
+    ⊎ (text_in rows (codes "DIR") ≡ []) ⊎ AreAtOdds rows ⊎ HasNoSize rows
 
 -- What `write` is asked for: each part by its own argument.
 pub record AsksToWrite (rows : List Row) (order : WriteOrder) : Type 0 where
   pub folder : order.folder.now ≡ text_in rows (codes "DIR")
   pub prefix : order.prefix.characters ≡ text_in rows (codes "PRE")
   pub files : map (λ w. w.now) order.files.items ≡ texts_in rows (codes "ID=PATH")
-  pub capacity : (n : ℕ) → IsNumber 32 rows (codes "CAPACITY") n → order.capacity ≡ n
+  pub capacity : IsSize (text_in rows (codes "CAPACITY")) order.capacity
   pub fixed : first_of (codes "format") rows ≡ Some (codes "F") → order.format ≡ Fixed
   pub counted : first_of (codes "format") rows ≡ Some (codes "D") → order.format ≡ Counted
   pub spanned : first_of (codes "format") rows ≡ Some (codes "S") → order.format ≡ Spanned
@@ -266,11 +294,14 @@ pub record AsksToWrite (rows : List Row) (order : WriteOrder) : Type 0 where
 pub record AsksToMerge (rows : List Row) (order : Merge) : Type 0 where
   pub out : order.out.now ≡ text_in rows (codes "OUT")
   pub named : text_in rows (codes "OUT") ≢ codes "-"
+  pub log : option_map (λ t. t.now) order.log ≡ first_of (codes "log") rows
+  pub log_named : first_of (codes "log") rows ≢ Some (codes "-")
   pub images : NamesImages rows order.images
 
 -- why `merge` is refused
 abbrev pub IsNoMerge : List Row → Type 0
-IsNoMerge rows = (text_in rows (codes "OUT") ≡ codes "-") ⊎ AreTooMany rows
+IsNoMerge rows = (text_in rows (codes "OUT") ≡ codes "-")
+    ⊎ ((first_of (codes "log") rows ≡ Some (codes "-")) ⊎ AreTooMany rows)
 
 -- ---- a command line
 
@@ -288,7 +319,7 @@ name_of verbs.Write = codes "write"
 name_of verbs.Merge = codes "merge"
 name_of verbs.Compare = codes "compare"
 
--- The order is that of the command with this name, and asks for what its rows say.
+-- The request is that of the command with this name, and contains what its rows say.
 abbrev pub IsOrderOf : List ℕ → List Row → Order → Type 0
 IsOrderOf name rows (orders.List order) = (name ≡ codes "list") × AsksToList rows order
 IsOrderOf name rows (orders.Check named) = (name ≡ codes "check") × NamesInput rows named
@@ -302,7 +333,7 @@ IsOrderOf name rows (orders.Write order) = (name ≡ codes "write") × AsksToWri
 IsOrderOf name rows (orders.Merge order) = (name ≡ codes "merge") × AsksToMerge rows order
 IsOrderOf name rows (orders.Compare named) = (name ≡ codes "compare") × NamesImages rows named
 
--- what is to be done by the command that the parser found, if it found one
+-- the request of the command that the parser found, if it found one
 abbrev pub IsOrderIn : Option (List ℕ × List Row) → Order → Type 0
 IsOrderIn None order = ⊥
 IsOrderIn (Some met) order = IsOrderOf met.0 met.1 order

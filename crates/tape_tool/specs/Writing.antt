@@ -1,4 +1,5 @@
--- What `write` makes of its arguments: the shape of all files, each file's head, and its path.
+-- The values that `write` derives from its arguments: the shape of all files, each file's head, and
+-- its path.
 use Rattle.std.specs.Prelude.{◌≡◌, ◌≢◌, ◌⊎◌, ℕ, ◌-◌, min, Bool, true, List, codes, replicate}
 use Rattle.std.specs.Prelude.{Option, Some, None}
 use Rattle.tape_label.specs.declared.values.Format.{Format}
@@ -13,7 +14,8 @@ record_length Fixed None block offset = 0
 record_length Counted None block offset = min (block - offset) 9999
 record_length Spanned None block offset = 0
 
--- There is no such shape: only blocks of D are padded, and a record of format F has a byte.
+-- There is no such shape: only blocks of D are padded, and a record of format F has at least one
+-- byte.
 abbrev pub IsNoShape : Format → ℕ → Bool → Type 0
 IsNoShape format length pad_full =
     ((pad_full ≡ true) × (format ≢ Counted)) ⊎ ((format ≡ Fixed) × (length ≡ 0))

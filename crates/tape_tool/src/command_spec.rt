@@ -3,6 +3,7 @@ ghost use Rattle.std.specs.Prelude.{◌≡◌, ⊤, IfOk};
 ghost use Rattle.clap.specs.Words.{kind_of};
 ghost use Rattle.tape_tool.specs.Words.{RefusedFor};
 
+use crate::shown::Shown;
 use clap::builder::{ValueParser, ValueRange};
 use clap::error::ErrorKind;
 use clap::{Arg, ArgAction, Command, Error};
@@ -29,23 +30,23 @@ pub struct Word(pub &'static str, pub Kind, pub &'static str);
 pub enum Kind {
     /// A text, which is required.
     Text,
-    /// A number in a range, which is required.
+    /// A number in a range; it must be specified.
     Number(u64, u64),
     /// One or more texts.
     Texts,
-    /// One or more texts, unless this option is present.
+    /// One or more texts; none if a certain option is present.
     TextsOr(&'static str),
     /// Any number of texts.
     AnyTexts,
     /// An option without a value.
     Flag,
-    /// An option with a text, whose value help shows under this name.
+    /// An option with a text; help shows this name for the text.
     FlagOf(&'static str),
     /// An option with a text, which help calls so.
     TextOption(&'static str),
     /// An option with a number, up to this one, and its default.
     NumberOption(u64, &'static [&'static str]),
-    /// An option whose value help shows under this name, with one of these values, and its default.
+    /// An option with one of several values: the name that help shows, the values, and the default.
     NameOption(&'static str, &'static [&'static str], &'static [&'static str]),
 }
 
@@ -64,7 +65,7 @@ pub fn command_of<'a>(
     }
 }
 
-/// The command with only its texts.
+/// Returns the command with only its texts.
 fn bare<'a>(alloc: Global, command_spec: &CommandSpec) -> Result<Command<'a>, AllocError> {
     Command::new(alloc, command_spec.name)
         .about(command_spec.about)
@@ -72,7 +73,7 @@ fn bare<'a>(alloc: Global, command_spec: &CommandSpec) -> Result<Command<'a>, Al
         .bin_name(command_spec.called)
 }
 
-/// The parser's argument for an argument or an option.
+/// Returns the parser's argument for an argument or an option.
 fn argument<'a>(alloc: Global, word: &Word) -> Result<Arg<'a>, AllocError> {
     let Word(name, kind, help) = word;
     let arg = Arg::new(alloc, *name).help(*help);
@@ -88,7 +89,7 @@ fn argument<'a>(alloc: Global, word: &Word) -> Result<Arg<'a>, AllocError> {
     }
 }
 
-/// Whether a value follows a name.
+/// Returns whether a value follows a name.
 fn is_option(kind: Kind) -> bool {
     matches!(
         kind,
@@ -96,7 +97,7 @@ fn is_option(kind: Kind) -> bool {
     )
 }
 
-/// The parser's argument for a positional argument.
+/// Returns the parser's argument for a positional argument.
 fn word_argument<'a>(arg: Arg<'a>, kind: Kind) -> Arg<'a> {
     arg.required(!matches!(kind, Kind::AnyTexts))
         .num_args(count_of(kind))
@@ -111,7 +112,7 @@ fn option_argument<'a>(long: Arg<'a>, kind: Kind) -> Arg<'a> {
         .default_values(defaults_of(kind))
 }
 
-/// How many values an argument accepts.
+/// Returns how many values an argument accepts.
 fn count_of(kind: Kind) -> ValueRange {
     match kind {
         Kind::Texts => ValueRange::from(1..),
@@ -130,7 +131,7 @@ fn parser_of(kind: Kind) -> ValueParser<'static> {
     }
 }
 
-/// The name of an option's value in help.
+/// Returns the name of an option's value in help.
 fn value_name_of(kind: Kind) -> &'static str {
     match kind {
         Kind::TextOption(name) | Kind::NameOption(name, _, _) => name,
@@ -138,7 +139,7 @@ fn value_name_of(kind: Kind) -> &'static str {
     }
 }
 
-/// The default value of an option, if it has one.
+/// Returns the default value of an option, if it has one.
 fn defaults_of(kind: Kind) -> &'static [&'static str] {
     match kind {
         Kind::NumberOption(_, default) | Kind::NameOption(_, _, default) => default,
@@ -146,7 +147,7 @@ fn defaults_of(kind: Kind) -> &'static [&'static str] {
     }
 }
 
-/// A usage error of a command, with its usage line after the text; or out of memory for it.
+/// Returns a usage error of a command, with its usage line after the text; or out of memory for it.
 pub fn mistake(alloc: Global, command_spec: &CommandSpec, text: &str) -> Error
     ensures { RefusedFor ⊤ result }
 {
@@ -156,17 +157,18 @@ pub fn mistake(alloc: Global, command_spec: &CommandSpec, text: &str) -> Error
     }
 }
 
-/// Returns the same for a value that is not accepted, which the message names before the text.
+/// Returns the usage error for a value that is not accepted; the message shows the value before the
+/// text.
 pub fn wrong_value(alloc: Global, command_spec: &CommandSpec, value: &str, text: &str) -> Error
     ensures { RefusedFor ⊤ result }
 {
-    match format!(in alloc; "invalid value {value:?}: {text}") {
+    match format!(in alloc; "invalid value \"{}\": {text}", Shown(value)) {
         Ok(text) => mistake(alloc, command_spec, text.as_str()),
         Err(_) => Error::from(AllocError),
     }
 }
 
-/// The same, if there is memory for it.
+/// Returns the usage error, unless there is no memory for it.
 fn told(alloc: Global, command_spec: &CommandSpec, text: &str) -> Result<Error, AllocError>
     ensures { IfOk result (λ error. kind_of error ≡ ErrorKind.ValueValidation) }
 {

@@ -6,7 +6,7 @@ ghost use Rattle.tape_tool.specs.Diagnostics.{fault_line};
 use crate::fault::{ToolFault, number_of_file, number_of_write};
 use std::fmt;
 
-/// The line of a fault: its kind, its number, and for an image the byte offset.
+/// The line that reports a fault: its kind, its number and, for an image, the byte offset.
 #[derive(Clone, Copy)]
 pub struct FaultLine(pub ToolFault);
 

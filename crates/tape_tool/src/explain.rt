@@ -3,9 +3,10 @@ mod files;
 mod reason;
 
 use crate::fault::{ToolFault, number_of_file, number_of_write};
+use crate::shown::Shown;
 use files::{
     FILE_OF_FOLDER, FILE_OF_IMAGE, FILE_OF_IMAGES, FILE_OF_INPUT, FILE_OF_LINES, FILE_OF_LIST,
-    FILE_OF_NEW, FILE_OF_OUT, FILE_OF_STAGE, FILE_OF_VOLUME,
+    FILE_OF_LOG, FILE_OF_NEW, FILE_OF_OUT, FILE_OF_STAGE, FILE_OF_VOLUME,
 };
 pub use reason::reason_of;
 use std::{fmt, io};
@@ -22,22 +23,24 @@ pub enum FaultSite<'a> {
     Lines,
     /// The image on standard input.
     Stdin,
-    /// The image at this path.
+    /// The image at a path.
     Image(&'a str),
-    /// The image of the volume with this number in this directory.
+    /// The image of a volume, by its directory and number.
     Volume(&'a str, Prefix, u16),
-    /// The input that this argument of `write` names.
+    /// The input of `write` that an argument names.
     Input(&'a str),
-    /// The images that `write` writes into this directory.
+    /// The images that `write` writes into a directory.
     Images(&'a str),
-    /// The list of images in this file, or on standard input.
+    /// The list of images in a file, or on standard input.
     List(Option<&'a str>),
-    /// The image with this number in a list.
+    /// The image with a number in a list.
     Listed(usize),
     /// Where the records of a file go.
     Out(&'a str),
     /// Where the merged image goes.
     New(&'a str),
+    /// Where the log of a merge goes.
+    Log(&'a str),
     /// Where recovered data is saved.
     Stage(&'a str),
     /// The directory that files are unpacked into.
@@ -50,19 +53,20 @@ impl fmt::Display for FaultSite<'_> {
             FaultSite::Unknown => Ok(()),
             FaultSite::Volume(folder, prefix, number) => {
                 let [a, b, c] = prefix.characters.map(char::from);
+                let folder = Shown(*folder);
                 write!(f, "  Image: {folder}/{a}{b}{c}{number:03}.tap")
             }
             FaultSite::Listed(number) => write!(f, "  Image: name {number} in the list"),
             _ => {
                 let (kind, name) = self.named();
-                write!(f, "  {kind}: {name}")
+                write!(f, "  {kind}: {}", Shown(name))
             }
         }
     }
 }
 
 impl<'a> FaultSite<'a> {
-    /// The kind of the site, and its name.
+    /// Returns the kind of the site, and its name.
     fn named(&self) -> (&'static str, &'a str) {
         match *self {
             FaultSite::Unknown | FaultSite::Volume(_, _, _) | FaultSite::Listed(_) => ("", ""),
@@ -72,6 +76,7 @@ impl<'a> FaultSite<'a> {
             FaultSite::Input(word) => ("Input", word),
             FaultSite::List(path) => ("List", path.unwrap_or("standard input")),
             FaultSite::Out(path) | FaultSite::New(path) => ("OUT", path),
+            FaultSite::Log(path) => ("LOG", path),
             FaultSite::Stage(path) => ("Stage", path),
             FaultSite::Folder(path) | FaultSite::Images(path) => ("DIR", path),
         }
@@ -102,7 +107,7 @@ impl fmt::Display for Explanation<'_> {
     }
 }
 
-/// The site of a fault: the directory of `unpack` has a stage for each file.
+/// Returns the site of a fault: the directory of `unpack` has a stage for each file.
 fn site_of<'a>(fault: ToolFault, site: FaultSite<'a>) -> FaultSite<'a> {
     let is_stage = matches!(
         fault,
@@ -114,7 +119,7 @@ fn site_of<'a>(fault: ToolFault, site: FaultSite<'a>) -> FaultSite<'a> {
     }
 }
 
-/// Whether the fault is one of the file being worked on.
+/// Returns whether the fault is one of the file being worked on.
 fn is_at(fault: ToolFault, site: FaultSite<'_>) -> bool {
     match (fault, site) {
         (ToolFault::Run(_), FaultSite::Stage(_)) => true,
@@ -123,7 +128,7 @@ fn is_at(fault: ToolFault, site: FaultSite<'_>) -> bool {
     }
 }
 
-/// Returns the explanation: what happened, what was kept, and what to do next.
+/// Returns the explanation: what happened, what was saved, and what to do next.
 pub fn text_of(fault: ToolFault, site: FaultSite<'_>) -> &'static str {
     match fault {
         ToolFault::Image(_) if matches!(site, FaultSite::New(_) | FaultSite::Lines) =>
@@ -138,7 +143,7 @@ pub fn text_of(fault: ToolFault, site: FaultSite<'_>) -> &'static str {
     }
 }
 
-/// The text of an image's fault.
+/// Returns the explanation of an image's fault.
 fn image_text(fault: ImageFault) -> &'static str {
     let is_first = fault.place == 0;
     match fault.cause {
@@ -149,7 +154,7 @@ fn image_text(fault: ImageFault) -> &'static str {
     }
 }
 
-/// The texts for faults of a file, by its site.
+/// Returns the texts for faults of a file, by its site.
 fn files_at(site: FaultSite<'_>) -> &'static [&'static str] {
     match site {
         FaultSite::Stdin | FaultSite::Image(_) | FaultSite::Listed(_) => FILE_OF_IMAGE,
@@ -157,6 +162,7 @@ fn files_at(site: FaultSite<'_>) -> &'static [&'static str] {
         FaultSite::List(_) => FILE_OF_LIST,
         FaultSite::Out(_) => FILE_OF_OUT,
         FaultSite::New(_) => FILE_OF_NEW,
+        FaultSite::Log(_) => FILE_OF_LOG,
         FaultSite::Stage(_) => FILE_OF_STAGE,
         FaultSite::Folder(_) => FILE_OF_FOLDER,
         FaultSite::Lines => FILE_OF_LINES,
@@ -165,7 +171,7 @@ fn files_at(site: FaultSite<'_>) -> &'static [&'static str] {
     }
 }
 
-/// The text of the fault with this number, from 1.
+/// Returns the explanation of fault `number`, counted from 1.
 fn nth(texts: &'static [&'static str], number: u8) -> &'static str {
     match texts.get(usize::from(number).saturating_sub(1)) {
         Some(text) => *text,
@@ -173,7 +179,7 @@ fn nth(texts: &'static [&'static str], number: u8) -> &'static str {
     }
 }
 
-/// The stage of the file at which `unpack` ended, by the line of that file.
+/// The stage of the file at which `unpack` ended, from the line about that file.
 const STAGE_OF_FAILED: &str = "the path reported as FAILED, with .stage after it";
 
 // The texts for each kind of fault, in the order of its numbers.
@@ -310,6 +316,7 @@ pub const TEXTS: &[&[&str]] = &[
     FILE_OF_LIST,
     FILE_OF_OUT,
     FILE_OF_NEW,
+    FILE_OF_LOG,
     FILE_OF_STAGE,
     FILE_OF_FOLDER,
     RUN,

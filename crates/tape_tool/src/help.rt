@@ -17,8 +17,8 @@ pub use lists::{
     TOO_MANY_TO_SURVEY,
 };
 pub use merge::{
-    ABOUT_COMPARE, ABOUT_MERGE, AFTER_COMPARE, AFTER_MERGE, MERGED_OUT, MERGED_OUT_IS_DASH,
-    ONE_READING, READINGS, TOO_MANY_TO_COMPARE, TOO_MANY_TO_MERGE,
+    ABOUT_COMPARE, ABOUT_MERGE, AFTER_COMPARE, AFTER_MERGE, LOG, LOG_IS_DASH, MERGED_OUT,
+    MERGED_OUT_IS_DASH, ONE_READING, READINGS, TOO_MANY_TO_COMPARE, TOO_MANY_TO_MERGE,
 };
 pub use salvage::{
     ABOUT_SALVAGE, AFTER_SALVAGE, FORM_OF_SALVAGED, OUT_OF_SALVAGE, TOO_MANY_TO_SALVAGE,
@@ -26,13 +26,13 @@ pub use salvage::{
 pub use stage::{ABOUT_STAGE, AFTER_STAGE, DAMAGED, ONE_OUT, OUT_OF_STAGE, STAGE_READ};
 pub use survey::{ABOUT_SURVEY, AFTER_SURVEY, ROWS, SHELF};
 pub use unpack::{
-    ABOUT_UNPACK, AFTER_UNPACK, DIR_IS_NO_FOLDER, FOLDER_OF_FILES, FORM_OF_FILES,
+    ABOUT_UNPACK, AFTER_UNPACK, DIR_IS_NO_FOLDER, FOLDER_OF_FILES, FORM_OF_FILES, SALVAGE_FILES,
     TOO_MANY_TO_UNPACK,
 };
 pub use volumes::{
     ABOUT_INIT, ABOUT_WRITE, AFTER_INIT, AFTER_WRITE, BLOCK, CAPACITY, COUNT, FILES, FOLDER, FORM,
     FORMAT, INPUT_IS_IMAGE, NO_FOLDER, NO_PATH, NO_RECORD, OFFSET, PAD_FULL, PREFIX, RAW_COUNTED,
-    RECORD, RECORD_WANTED, WRONG_PREFIX,
+    RECORD, RECORD_WANTED, WRONG_CAPACITY, WRONG_PREFIX,
 };
 
 /// No command is named. The parser reports this itself.
@@ -179,6 +179,9 @@ or write './-' for a file of that name";
 /// `list` was called with several images.
 pub const ONE_IMAGE: &str = "list takes one image; to list several:
   for f in *.tap; do echo \"$f\"; tape list \"$f\"; done";
+
+/// The arguments are refused, for a reason that the parser does not name.
+pub const REFUSED: &str = "these arguments are not accepted";
 
 /// The arguments are not text.
 pub const NO_TEXT: &str = "error: a name on the command line is not valid UTF-8. Find it with

@@ -1,8 +1,7 @@
 //! The images that arguments and lists name, opened one at a time.
 
-ghost use Rattle.std.specs.Prelude.{⊤, length, ◌≡◌, ◌++◌, ◌∷◌, [], true, false, map, IfOk, OnOk};
-ghost use Rattle.std.specs.Prelude.{IfSome};
-ghost use Rattle.tape_tool.specs.Names.{end_byte, is_name, names_in, pieces_of as cut};
+ghost use Rattle.std.specs.Prelude.{⊤, length, ◌≡◌, ◌++◌, map, IfOk, IfSome};
+ghost use Rattle.tape_tool.specs.Names.{end_byte, names_in};
 
 use crate::explain::FaultSite;
 use crate::fault::{FileFault, OUT_OF_MEMORY};
@@ -29,7 +28,7 @@ pub struct Named<'a> {
 /// A list of names.
 #[derive(Clone, Copy)]
 pub struct List<'a> {
-    /// Its file, unless it is standard input.
+    /// The list's file, unless the list is standard input.
     pub file: Option<&'a str>,
     /// Whether each name ends with a NUL instead of a line feed.
     pub null: bool,
@@ -41,7 +40,7 @@ pub struct List<'a> {
 /// # Errors
 ///
 /// Returns `Faulted` with `NotOpened` or `ReadFailed` if the list could not be read to its end, or
-/// with `OutOfMemory`; `NoText` if it is not UTF-8; `Words` if a line contains a NUL, and if no
+/// with `OutOfMemory`; `NoText` if it is not UTF-8; `Words` if a line contains a NUL, or if no
 /// image is named.
 pub fn names_of<'t, 'a: 't, R: Runtime + AllocGlobal>(
     rt: &R,
@@ -62,7 +61,7 @@ pub fn names_of<'t, 'a: 't, R: Runtime + AllocGlobal>(
     }
 }
 
-/// The text of a list.
+/// Returns the text of a list.
 fn read_list<R: Runtime + AllocGlobal>(rt: &R, list: List<'_>) -> Result<String, Refusal> {
     match String::from_utf8(bytes_of(rt, list)?) {
         Err(error) => {
@@ -80,13 +79,13 @@ fn read_list<R: Runtime + AllocGlobal>(rt: &R, list: List<'_>) -> Result<String,
     }
 }
 
-/// Whether a list of lines begins with a byte order mark, or a line of it ends with a carriage
-/// return.
+/// Returns whether a list of lines begins with a byte order mark, or a line of it ends with a
+/// carriage return.
 fn is_of_windows(text: &str) -> bool {
     text.starts_with('\u{FEFF}') || text.contains("\r\n") || text.ends_with('\r')
 }
 
-/// The bytes of a list.
+/// Returns the bytes of a list.
 fn bytes_of<R: Runtime + AllocGlobal>(rt: &R, list: List<'_>) -> Result<Vec<u8>, Refusal> {
     let Some(path) = list.file else {
         return read_all(rt.alloc(), &mut rt.reader());
@@ -110,7 +109,7 @@ fn read_all<D: Read>(alloc: Global, device: &mut D) -> Result<Vec<u8>, Refusal>
     }
 }
 
-/// The number of the name at this offset of a list, from 1, counting empty ones.
+/// Returns the number, counted from 1, of the name at offset `place` of a list; empty names count.
 fn number_at(list: &[u8], null: bool, place: usize) -> usize {
     let end = end_of(null);
     let mut number = 1usize;
@@ -133,42 +132,22 @@ pub fn all_names<'a>(
         ≡ map (λ w. w.now) words.now ++ names_in null text.now) }
 {
     let mut names = Vec::from_slice(alloc, words)?;
-    let pieces = pieces_of(alloc, text, null)?;
-    for piece in pieces.as_slice() {
-        push_name(&mut names, *piece)?;
+    for piece in text.split(end_of(null)) {
+        if !piece.is_empty() {
+            names.push(piece)?;
+        }
     }
     Ok(names)
 }
 
-/// Appends a piece to the names, if it is not empty.
-fn push_name<'a>(names: &mut Vec<&'a str>, piece: &'a str) -> Result<(), AllocError>
-    ensures name { is_name piece.now ≡ true
-        → OnOk result (names.new.items ≡ names.old.items ++ piece.entry ∷ []) }
-    ensures none { is_name piece.now ≡ false
-        → OnOk result (names.new.items ≡ names.old.items) }
-{
-    if piece.is_empty() {
-        return Ok(());
-    }
-    names.push(piece)?;
-    Ok(())
-}
-
-/// The pieces between the terminators in the text of a list.
-fn pieces_of(alloc: Global, text: &str, null: bool) -> Result<Vec<&str>, AllocError>
-    ensures { IfOk result (λ pieces. map (λ p. p.now) pieces.items ≡ cut null text.now) }
-{
-    text.split(end_of(null)).collect(alloc)
-}
-
-/// The terminator of each name in a list.
+/// Returns the terminator of each name in a list.
 fn end_of(null: bool) -> char
     ensures { result ≡ end_byte null }
 {
     if null { '\0' } else { '\n' }
 }
 
-/// An allocation was refused.
+/// Returns the fault of an allocation that was refused.
 fn no_memory() -> Refusal {
     Refusal::Faulted(OUT_OF_MEMORY)
 }
@@ -236,7 +215,7 @@ pub struct Images<'a, R> {
 }
 
 impl<'a, R: Runtime + AllocGlobal> Images<'a, R> {
-    /// Creates the images with these names. None is opened yet.
+    /// Creates the source of the images named `names`. None is opened yet.
     pub fn new(rt: &'a R, names: &'a [&'a str]) -> Images<'a, R> {
         Images { rt, names }
     }
@@ -289,13 +268,13 @@ impl<R: Host> Read for ImageBytes<R> {
 pub struct ImagesOrInput<'a, R> {
     rt: &'a R,
     names: &'a [&'a str],
-    /// The number of the image that is standard input, if one is.
+    /// The number of the image that is standard input, if any.
     input: Option<usize>,
 }
 
 impl<'a, R: Host> ImagesOrInput<'a, R> {
-    /// Creates the images with these names, which begin with those of the arguments. The first `-`
-    /// among the arguments means standard input; in a list it is the name of a file.
+    /// Creates the source of the images named `names`, the first `named` of which are arguments.
+    /// The first `-` among the arguments means standard input; in a list it is the name of a file.
     pub fn new(rt: &'a R, names: &'a [&'a str], named: &Named<'_>) -> ImagesOrInput<'a, R> {
         ImagesOrInput {
             rt,
@@ -304,7 +283,7 @@ impl<'a, R: Host> ImagesOrInput<'a, R> {
         }
     }
 
-    /// Opens the image with this number, or standard input. Returns `None` if it cannot be opened.
+    /// Opens image `number`, or standard input. Returns `None` if it cannot be opened.
     fn open(&self, number: usize) -> Option<ImageBytes<R>> {
         let name = self.names.get(number)?;
         if self.input == Some(number) {

@@ -9,8 +9,8 @@ ghost use Rattle.tape_tool.specs.CasesOfWords.{CasesOfWords, CasesOfOrders, Case
 use tape_stage::Disk;
 
 /// Examples for the definitions of the program: how runs end, the numbers of faults, the lines that
-/// are printed, the names in a list, sessions over a stage, what is shown of one, which shapes are
-/// refused, what arguments ask for, and why they are refused.
+/// are printed, the names in a list, sessions over a stage, the report on a stage, refused shapes,
+/// what arguments ask for, and why they are refused.
 pub fn cases<D: Disk>()
     ensures ends { CasesOfEnds }
     ensures faults { CasesOfFaults }

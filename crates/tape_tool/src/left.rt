@@ -1,19 +1,20 @@
 //! Files of this program that are removed, or named on standard error if they cannot be.
 use crate::host::Host;
+use crate::shown::Shown;
 use std::fmt;
 use std::io::ErrorKind;
 
-/// The line of a file that could not be removed.
+/// The line about a file that could not be removed.
 #[derive(Clone, Copy, Drop)]
 struct Left<'a>(&'a str);
 
 impl fmt::Display for Left<'_> {
     fn fmt<W: fmt::Write>(&self, f: &mut fmt::Formatter<W>) -> fmt::Result {
-        write!(f, "tape: {:?} could not be removed\n", self.0)
+        write!(f, "tape: \"{}\" could not be removed\n", Shown(self.0))
     }
 }
 
-/// Removes a file of this program, if it exists, or reports that it remains.
+/// Removes a file of this program if it exists, or reports that it remains.
 pub fn remove<R: Host>(rt: &R, path: &str) {
     match rt.remove_file(path) {
         Err(error) if error.kind() != ErrorKind::NotFound => {

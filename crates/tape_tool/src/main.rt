@@ -10,6 +10,7 @@ mod diagnostics;
 mod fault;
 
 // Its texts.
+mod command_line;
 mod command_spec;
 mod explain;
 mod help;
@@ -33,6 +34,7 @@ mod laws;
 mod left;
 mod odd_word;
 mod refusal;
+mod shown;
 mod staging;
 mod streams;
 #[cfg(test)]

@@ -8,6 +8,7 @@ ghost use Rattle.tape_tool.specs.Ends.{stage_end, damaged_end};
 ghost use Rattle.tape_tool.specs.Fault.{no_memory};
 
 use crate::check::check;
+use crate::command_line::call_of;
 use crate::command_spec::{CommandSpec, mistake};
 use crate::diagnostics::FaultLine;
 use crate::explain::{Explanation, FaultSite, reason_of};
@@ -25,7 +26,7 @@ use crate::stage::{StageEnding, stage};
 use crate::streams::keep_numbers;
 use crate::survey::survey;
 use crate::unpack::unpack;
-use crate::words::{Call, Order, call_of};
+use crate::words::{Call, Order};
 use crate::write::run::write;
 use clap::error::ErrorKind;
 use std::alloc::AllocError;
@@ -42,12 +43,12 @@ pub enum End {
     Faulted(ToolFault),
     /// The command line is invalid.
     WrongWords,
-    /// It did what it was asked for, and something is missing.
+    /// It did what it was asked for, but something is missing.
     Incomplete,
 }
 
 impl End {
-    /// The exit status.
+    /// Returns the exit status.
     pub fn status(&self) -> u8
         ensures { result ≡ exit_status self.now }
     {
@@ -60,7 +61,7 @@ impl End {
     }
 }
 
-/// How a command ends with this result.
+/// Returns how a command ends that had this result.
 pub fn end_of(done: Result<(), ToolFault>) -> End
     ensures { result ≡ end_of done }
 {
@@ -70,7 +71,7 @@ pub fn end_of(done: Result<(), ToolFault>) -> End
     }
 }
 
-/// How a check ends that found all sections or did not.
+/// Returns how a check ends that found all sections, or did not.
 pub fn check_end(checked: Result<bool, EngineFault>) -> End
     ensures { result ≡ check_end checked }
 {
@@ -81,7 +82,7 @@ pub fn check_end(checked: Result<bool, EngineFault>) -> End
     }
 }
 
-/// How `extract` ends with this result: what is still missing of the file, if anything.
+/// Returns how `extract` ends, given the part of the file that is still missing, if any.
 pub fn extract_end(answer: Result<Option<Want>, EngineFault>) -> End
     ensures { result ≡ extract_end answer }
 {
@@ -92,7 +93,7 @@ pub fn extract_end(answer: Result<Option<Want>, EngineFault>) -> End
     }
 }
 
-/// How `stage` ends with this result: what is still missing of the file, if anything.
+/// Returns how `stage` ends, given the part of the file that is still missing, if any.
 pub fn stage_end(answer: Result<Option<Want>, ToolFault>) -> End
     ensures { result ≡ stage_end answer }
 {
@@ -103,7 +104,7 @@ pub fn stage_end(answer: Result<Option<Want>, ToolFault>) -> End
     }
 }
 
-/// How `stage --damaged` ends with this result: with success only if nothing is missing or damaged.
+/// Returns how `stage --damaged` ends: with success only if nothing is missing or damaged.
 pub fn damaged_end(answer: Result<StageEnding, ToolFault>) -> End
     ensures { result ≡ damaged_end answer }
 {
@@ -114,7 +115,7 @@ pub fn damaged_end(answer: Result<StageEnding, ToolFault>) -> End
     }
 }
 
-/// How a run ends for which the argument parser has only a text, which was printed or was not.
+/// Returns how a run ends if the argument parser has only a text for it, which was printed or not.
 pub fn words_end(kind: ErrorKind, printed: bool) -> End
     ensures { result ≡ words_end kind printed }
 {
@@ -125,7 +126,7 @@ pub fn words_end(kind: ErrorKind, printed: bool) -> End
     }
 }
 
-/// How a call for help ends: with success if it was printed.
+/// Returns how a call for help ends: with success if the help was printed.
 fn help_end(printed: bool) -> End
     ensures { result ≡ help_end printed }
 {
@@ -136,7 +137,7 @@ fn help_end(printed: bool) -> End
     }
 }
 
-/// How a run ends without its arguments, for this reason: out of memory, or arguments that are not
+/// Returns how a run ends that could not get its arguments, because memory ran out or they are not
 /// text.
 pub fn no_words_end(kind: io::ErrorKind) -> End
     ensures { result ≡ no_words_end kind }
@@ -171,8 +172,8 @@ pub fn run<R: Host>(rt: &R) -> u8 {
     }
 }
 
-/// Returns the arguments of the command line, beginning with the program's name; or how a run
-/// without them ends.
+/// Returns the arguments of the command line, beginning with the program's name; or, if there are
+/// none, how the run ends.
 fn words_of<R: Host>(rt: &R) -> Result<Vec<String>, End>
     ensures { IfErr result (λ end. end ≢ End.Done) }
 {
@@ -191,7 +192,7 @@ fn words_of<R: Host>(rt: &R) -> Result<Vec<String>, End>
     }
 }
 
-/// Returns the arguments, or how a run ends for which there was no memory.
+/// Returns the arguments, or how a run ends that had no memory for them.
 fn kept(words: Result<Vec<String>, AllocError>) -> Result<Vec<String>, End>
     ensures { IfErr result (λ end. end ≡ End.Faulted no_memory) }
 {
@@ -250,7 +251,7 @@ pub fn perform<'a, R: Host>(rt: &R, words: &'a [String]) -> Outcome<'a> {
     }
 }
 
-/// Whether the environment asks for explanations.
+/// Returns whether the environment asks for explanations.
 fn is_asked<R: Host>(rt: &R) -> bool {
     match env::var(rt, "TAPE_EXPLAIN") {
         Ok(value) => !value.as_str().is_empty(),
@@ -299,7 +300,7 @@ pub fn refuse<R: Print + Eprint>(rt: &R, error: &clap::Error) -> End
     words_end(kind, printed)
 }
 
-/// Ends a command that is not started, for this reason.
+/// Ends a command that is not started, for the given reason.
 pub fn end_refused<R>(rt: &R, command_spec: &CommandSpec, refusal: Refusal) -> End
 where
     R: Print + Eprint + AllocGlobal,

@@ -1,5 +1,5 @@
-//! Reasons for refusing to start a command: its arguments name files that it would destroy, or that
-//! do not exist. Also the files found under these names.
+//! Reasons for refusing to start a command: its arguments name files that it would destroy, or
+//! files that do not exist. Also the files found under these names.
 ghost use Rattle.std.specs.Prelude.{◌≡◌, ◌⊎◌, None, Some, Ok, Err, IfErr, IsOk};
 
 use crate::fault::{FileFault, ToolFault};
@@ -13,19 +13,18 @@ use tape_writer::system::found;
 pub enum Refusal {
     /// The arguments would destroy a file, or name nothing that exists.
     Words(&'static str),
-    /// The name with this number, from 1, in a list is not text. Whether it ends with a NUL, or is
-    /// a line.
+    /// A name in a list is not text: its number, counted from 1, and whether names end with a NUL.
     NoText(bool, usize),
-    /// The file with this name is unusable, or the lookup failed.
+    /// A file cannot be used, or looking it up failed.
     Faulted(ToolFault),
 }
 
-/// Returns the refusal with this fault of a file.
+/// Returns the refusal for a fault of a file.
 pub fn refused(fault: FileFault) -> Refusal {
     Refusal::Faulted(ToolFault::File(fault))
 }
 
-/// Returns the file that this path leads to, if there is one.
+/// Returns the file that `path` leads to, if any.
 ///
 /// # Errors
 ///
@@ -43,7 +42,7 @@ pub fn same_file(one: &Metadata, other: &Metadata) -> bool {
     one.ino() != 0 && one.dev() == other.dev() && one.ino() == other.ino()
 }
 
-/// Identifies a file, and for a plain file also its contents, by length and time.
+/// Identifies a file; for a regular file also its contents, by length and time.
 #[derive(Clone, Copy, PartialEq, Eq)]
 pub struct FileId {
     device: u64,
@@ -54,7 +53,7 @@ pub struct FileId {
 }
 
 impl FileId {
-    /// Identifies the file with this metadata.
+    /// Returns the identity of the file with this metadata.
     pub fn of(found: &Metadata) -> FileId {
         let (length, written) = if found.is_file() {
             (found.len(), (found.mtime(), found.mtime_nsec()))
@@ -69,12 +68,13 @@ impl FileId {
         }
     }
 
-    /// Returns whether it is this file, whose contents may have changed.
+    /// Returns whether `other` is the same file, possibly with other contents.
     pub fn is_same(&self, other: &FileId) -> bool {
         self.device == other.device && self.number == other.number
     }
 
-    /// Returns whether it contains nothing that could be lost: it is empty, or not a plain file.
+    /// Returns whether the file contains nothing that could be lost: it is empty, or not a regular
+    /// file.
     pub fn is_empty(&self) -> bool {
         self.length == 0
     }

@@ -1,4 +1,4 @@
-//! `salvage`: recovers what is readable of a file that no image has completely.
+//! `salvage`: recovers the readable parts of a file that no image has completely.
 
 mod run;
 pub mod words;

@@ -1,15 +1,18 @@
 //! Sessions over stages, on any disk and in a file.
 
-ghost use Rattle.std.specs.Prelude.{◌≡◌, ◌↔◌, [], IfOk, IfErr, IsTrue};
+ghost use Rattle.std.specs.Prelude.{◌≡◌, ◌↔◌, ◌⊎◌, ◌<◌, ◌≤◌, ℕ, [], IfOk, IfErr, IsTrue};
+ghost use Rattle.std.specs.Prelude.{length, slice_index};
+ghost use Rattle.std.specs.Bool.{OnTrue};
 ghost use Rattle.tape_core.specs.Known.{IsFileNumber};
 ghost use Rattle.tape_core.specs.Weight.{Rose};
 ghost use Rattle.tape_stage.specs.Moments.{Untouched};
+ghost use Rattle.tape_stage.specs.OnlyReading.{OnlyReads};
 ghost use Rattle.tape_stage.specs.Staged.{HoldsNone, KeepsStaged};
 ghost use Rattle.tape_stage.specs.Stages.{OpensOver};
 ghost use Rattle.tape_run.specs.Headline.{IsStart};
 ghost use Rattle.tape_tool.specs.Guards.{locked_stage};
 ghost use Rattle.tape_run.specs.Seen.{seen};
-ghost use Rattle.tape_tool.specs.Staging.{IsOfFile, StandsAt, GoesOn, Says, IsUnopened};
+ghost use Rattle.tape_tool.specs.Staging.{IsOfFile, StandsAt, GoesOn, Says, IsUnmade, IsUnopened};
 ghost use Rattle.tape_tool.specs.Staging.{SaysNoStage, as_sink, first_point};
 
 use crate::fault::{FileFault, ToolFault};
@@ -20,7 +23,7 @@ use tape_core::{Checkpoint, ReaderCore};
 use tape_label::Field;
 use tape_label::laws::same_field;
 use tape_run::{RunFault, Session};
-use tape_stage::{BufferedFile, Disk, MemoryDisk, Refused, Stage, StageFault, buffered_file};
+use tape_stage::{BufferedFile, Disk, Refused, Stage, StageFault, buffered_file, new_slots};
 use tape_writer::system::{LockFault, locked, sync_folder_of};
 
 /// Why there is no session over a stage.
@@ -33,9 +36,9 @@ pub enum StagingFault {
     OtherFile,
 }
 
-/// Opens a session for this file over the stage on a disk: it continues at the stage's checkpoint,
-/// with the parts before it. On an empty disk it creates a stage, and the session begins at the
-/// file's start.
+/// Opens a session for file `file` of the set over the stage on a disk: it continues at the stage's
+/// checkpoint, with the parts before it. On an empty disk it creates a stage, and the session
+/// begins at the file's start.
 ///
 /// # Errors
 ///
@@ -59,7 +62,7 @@ pub fn open_session<D: Disk + Drop>(
     // On any disk it is a session of this file.
     ensures file { IfOk result (λ session.
         (session.core.set_id ≡ set_id) × (session.core.file ≡ file)) }
-    // What a fault says of the bytes is true.
+    // If a fault says something about the bytes, that is true.
     ensures says { D.is_honest disk → (D.length_of disk ≡ 0 → ⊥)
         → IfErr result (λ refused. Says set_id file (D.seen disk) refused.fault) }
     ensures number { D.length_of disk ≡ 0 → IfErr result
@@ -188,48 +191,85 @@ fn resume<D: Disk>(
     }
 }
 
-/// Opens a session as `open_session` does. A disk without a stage that begins like an unfinished
-/// new stage of this file, for example after the disk was full, gets a new stage.
-fn open_or_make(
+/// Opens a session as `open_session` does. If the disk has the beginning of a new stage of this
+/// file, for example after the disk was full, the stage is created again.
+fn open_or_make<D: Disk + Drop>(
     alloc: Global,
-    disk: BufferedFile<File>,
+    disk: D,
     set_id: Field<6>,
     file: u16,
-) -> Result<FileSession, Refused<BufferedFile<File>, StagingFault>> {
-    let Refused { mut disk, fault } = match open_session(alloc, disk, set_id, file) {
-        Ok(session) => return Ok(session),
-        Err(refused) => refused,
-    };
-    let is_no_stage = fault == StagingFault::Stage(StageFault::NoPoint);
-    if is_no_stage && is_unmade(alloc, &mut disk, set_id, file) && disk.cut(0).is_ok() {
+) -> Result<Session<Stage<D>>, Refused<D, StagingFault>>
+    ensures file { IfOk result (λ session.
+        (session.core.set_id ≡ set_id) × (session.core.file ≡ file)) }
+    ensures begins { D.is_honest disk → IsUnmade set_id file (D.seen disk)
+        → IfOk result (StandsAt (first_point set_id file) []) }
+    // No other disk is emptied: what is staged is opened or unchanged, at any moment of the call,
+    // and what is not a stage is unchanged.
+    ensures says { D.is_honest disk → (IsUnmade set_id file (D.seen disk) → ⊥)
+        → IfErr result (λ refused. Says set_id file (D.seen disk) refused.fault) }
+    ensures goes_on { D.is_honest disk → (IsUnmade set_id file (D.seen disk) → ⊥)
+        → IfOk result (GoesOn set_id file (D.seen disk)) }
+    ensures any_moment { D.is_honest disk → (IsUnmade set_id file (D.seen disk) → ⊥)
+        → IfOk result (λ session. OpensOver D.Disk disk session.sink.disk) }
+    ensures any_moment_err { D.is_honest disk → (IsUnmade set_id file (D.seen disk) → ⊥)
+        → IfErr result (λ refused. OpensOver D.Disk disk refused.disk) }
+    ensures foreign { D.is_honest disk → (IsUnmade set_id file (D.seen disk) → ⊥)
+        → HoldsNone (D.seen disk) → IfErr result (λ refused. Untouched D.Disk disk refused.disk) }
+    ensures kept { D.is_honest disk → (IsUnmade set_id file (D.seen disk) → ⊥)
+        → IfErr result (λ refused. KeepsStaged (D.seen disk) (D.seen refused.disk)) }
+{
+    let mut disk = disk;
+    if !is_unmade(&mut disk, set_id, file) {
         return open_session(alloc, disk, set_id, file);
     }
-    Err(Refused { disk, fault })
+    match disk.cut(0) {
+        Ok(()) => begin(alloc, disk, set_id, file),
+        Err(_) => Err(Refused {
+            disk,
+            fault: StagingFault::Stage(StageFault::Device),
+        }),
+    }
 }
 
-/// Returns whether each byte on the disk is zero, or the byte at this offset of a new stage of this
-/// file before its first gate is opened. A file has zeros where its system lost written bytes.
-fn is_unmade<D: Disk>(alloc: Global, disk: &mut D, set_id: Field<6>, file: u16) -> bool {
+/// Returns whether the disk has at most 256 bytes, each of them zero or equal to the byte at the
+/// same offset of a new stage of the file, before its first gate is opened. A file has zeros where
+/// its system lost written bytes. The disk is only read.
+fn is_unmade<D: Disk>(disk: &mut D, set_id: Field<6>, file: u16) -> bool
+    ensures unmade { D.is_honest disk.old
+        → OnTrue result (IsUnmade set_id file (D.seen disk.old)) }
+    ensures reads { OnlyReads D.Disk disk.old disk.new }
+    ensures honest { D.is_honest disk.old → D.is_honest disk.new }
+{
     let Ok(core) = ReaderCore::new(set_id, file) else {
         return false;
     };
-    let Ok(made) = Stage::create(alloc, MemoryDisk::new(alloc), &core.save(0)) else {
-        return false;
-    };
-    let mut bytes = [0; 256];
     let len = match disk.len() {
         Ok(len) if len <= 256 => len as usize,
         _ => return false,
     };
-    if disk.read(0, &mut bytes[..len]).is_err() {
+    let mut bytes = [0; 256];
+    let bytes = &mut bytes[..len];
+    let Ok(()) = disk.read(0, bytes) else {
         return false;
-    }
-    let new = made.into_disk();
-    let mut body = bytes[1..].iter().zip(new.bytes().iter().skip(1));
-    matches!(bytes[0], 0 | b'C') && body.all(|(byte, due)| *byte == 0 || byte == due)
+    };
+    is_begun(bytes, &new_slots(&core.save(0)))
 }
 
-/// Returns whether the checkpoint is one of this file, of a set with this identifier.
+/// Returns whether each byte is zero, or the byte due at its offset.
+fn is_begun(bytes: &[u8], due: &[u8; 256]) -> bool
+    requires { length bytes.now ≤ 256 }
+    ensures { OnTrue result ((i : ℕ) → i < length bytes.now → (slice_index bytes.now i ≡ 0)
+        ⊎ (slice_index bytes.now i ≡ slice_index due.now i)) }
+{
+    for (byte, due) in bytes.iter().zip(due) {
+        if *byte != 0 && byte != due {
+            return false;
+        }
+    }
+    true
+}
+
+/// Returns whether the checkpoint belongs to file `file` of a set with identifier `set_id`.
 pub fn same_file(point: &Checkpoint, set_id: Field<6>, file: u16) -> bool
     ensures { IsTrue result ↔ IsOfFile set_id file point.now }
 {
@@ -239,8 +279,8 @@ pub fn same_file(point: &Checkpoint, set_id: Field<6>, file: u16) -> bool
 /// A session over the stage in a file.
 type FileSession = Session<Stage<BufferedFile<File>>>;
 
-/// Opens a session over the stage in the file at this path. If the file does not exist or is empty,
-/// a stage is created.
+/// Opens a session over the stage in the file at `path`. If the file does not exist or is empty,
+/// creates a stage.
 ///
 /// The file is locked before anything is read of it, for as long as it is open.
 ///
@@ -275,7 +315,7 @@ pub fn session_in<R: Host>(
     }
 }
 
-/// Opens the file at this path, creates it if it does not exist, and locks it.
+/// Opens the file at `path`, creates it if it does not exist, and locks it.
 fn locked_file<R: Host>(rt: &R, path: &str) -> Result<File, ToolFault> {
     let mut options = OpenOptions::new();
     options.read(true).write(true).create(true);

@@ -14,7 +14,7 @@ const EMFILE: i32 = 24;
 /// Keeps files open under the numbers of closed standard streams. Otherwise the next file that is
 /// opened would get such a number, and would receive what is printed.
 ///
-/// Reads from these files fail, and so do writes, as on a closed stream.
+/// Reading from these files fails, and so does writing, as on a closed stream.
 ///
 /// # Errors
 ///
@@ -30,7 +30,7 @@ pub fn keep_numbers<R: Host>(rt: &R) -> Result<Vec<File>, ToolFault> {
                     return Err(OUT_OF_MEMORY);
                 }
             }
-            // No number is free, so no file gets one.
+            // No number is free, so no file gets one of these.
             Err(error) if error.raw_os_error() == Some(EMFILE) => break,
             Err(_) => return Err(ToolFault::File(FileFault::NotOpened)),
         }

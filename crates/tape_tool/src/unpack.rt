@@ -2,6 +2,7 @@
 pub mod last_line;
 mod paths;
 mod run;
+mod salvaged;
 pub mod words;
 
 pub use run::unpack;

@@ -10,22 +10,23 @@ ghost use Rattle.tape_tool.specs.Words.{list_file, texts_of_one, IsNumber, IsFor
 ghost use Rattle.tape_tool.specs.Words.{NamesImages, NamesInput, IsNoInput, IsDashOrMore};
 ghost use Rattle.tape_tool.specs.Words.{ReadsTwice, dashes, inputs_beside};
 
-use crate::check::words::{CHECK, check_order};
-use crate::command_spec::{CommandSpec, command_of, mistake};
+use crate::check::words::check_order;
+use crate::command_line::TAPE;
+use crate::command_spec::{CommandSpec, mistake};
 use crate::extract::words::extract_order;
 pub use crate::extract::words::{EXTRACT, Extract, Task, set_id_of};
 use crate::help;
 use crate::images::{List, Named};
-use crate::init::words::{INIT, Init, init_order};
-use crate::list::words::{LIST, Listing, list_order};
-use crate::merge::words::{COMPARE, MERGE, Merge, compare_order, merge_order};
-use crate::salvage::words::{SALVAGE, SalvageOrder, salvage_order};
-use crate::stage::words::{STAGE, StageOrder, stage_order};
-use crate::survey::words::{SURVEY, Survey, survey_order};
-use crate::unpack::words::{UNPACK, Unpack, unpack_order};
-use crate::write::words::{WRITE, WriteOrder, write_order};
-use clap::{Arg, ArgAction, ArgMatches, Command, Error};
-use std::alloc::{AllocError, Global};
+use crate::init::words::{Init, init_order};
+use crate::list::words::{Listing, list_order};
+use crate::merge::words::{Merge, compare_order, merge_order};
+use crate::salvage::words::{SalvageOrder, salvage_order};
+use crate::stage::words::{StageOrder, stage_order};
+use crate::survey::words::{Survey, survey_order};
+use crate::unpack::words::{Unpack, unpack_order};
+use crate::write::words::{WriteOrder, write_order};
+use clap::{ArgMatches, Error};
+use std::alloc::Global;
 use tape_blocks::Form;
 
 /// The maximum number of images in the arguments of a run.
@@ -34,14 +35,14 @@ const MOST_IMAGES: usize = 256;
 /// The names of forms.
 pub const FORMS: &[&str] = &["lines", "raw"];
 
-/// Returns the value of the argument with this name, which the parser guarantees to be present.
+/// Returns the value of argument `name`, which the parser guarantees to be present.
 pub fn text_of<'a>(matches: &ArgMatches<'a>, name: &str) -> &'a str
     ensures { result.now ≡ text_in (rows_of (found_of matches.now)) name.now }
 {
     matches.get_str(name).unwrap_or("")
 }
 
-/// Returns the value of the option with this name, if it is present.
+/// Returns the value of option `name`, if it is present.
 pub fn option_of<'a>(matches: &ArgMatches<'a>, name: &str) -> Option<&'a str>
     ensures { option_map (λ t. t.now) result
         ≡ first_of name.now (rows_of (found_of matches.now)) }
@@ -49,22 +50,21 @@ pub fn option_of<'a>(matches: &ArgMatches<'a>, name: &str) -> Option<&'a str>
     matches.get_str(name)
 }
 
-/// Returns the number of the argument with this name, which the parser guarantees to be present and
-/// in range.
+/// Returns the number in argument `name`, which the parser guarantees to be present and in range.
 pub fn number_of(matches: &ArgMatches<'_>, name: &str) -> u16
     ensures { (n : ℕ) → IsNumber 16 (rows_of (found_of matches.now)) name.now n → result ≡ n }
 {
     matches.get_one::<u16>(name).unwrap_or(0)
 }
 
-/// Returns whether the option with this name is present.
+/// Returns whether option `name` is present.
 pub fn flag_of(matches: &ArgMatches<'_>, name: &str) -> bool
     ensures { IsFlag (rows_of (found_of matches.now)) name.now result }
 {
     matches.get_flag(name)
 }
 
-/// The form that was requested.
+/// Returns the form that was requested.
 pub fn form_of(matches: &ArgMatches<'_>) -> Form
     ensures { IsForm (rows_of (found_of matches.now)) result }
 {
@@ -74,7 +74,7 @@ pub fn form_of(matches: &ArgMatches<'_>) -> Form
     }
 }
 
-/// Whether the argument means a stream.
+/// Returns whether the argument means a stream.
 pub fn is_dash(word: &str) -> bool
     ensures value { result ≡ bytes_eq word.now (codes "-") }
     ensures is { IsTrue result ↔ (word.now ≡ codes "-") }
@@ -90,7 +90,7 @@ pub fn is_read_twice(matches: &ArgMatches<'_>) -> bool
     most < count_dashes(matches.get_strs("IMAGE").unwrap_or(&[]))
 }
 
-/// Returns how many images may be standard input, beside this list.
+/// Returns how many images may be standard input, given the list.
 fn inputs_beside(list: Option<&str>) -> usize
     ensures { result ≡ inputs_beside (option_map (λ l. l.now) list.entry) }
 {
@@ -107,8 +107,8 @@ fn count_dashes(words: &[&str]) -> usize
     words.iter().filter(|word| is_dash(**word)).count()
 }
 
-/// Returns the one text, if there is one. Several are a usage error, and so is a stream; each has
-/// its message.
+/// Returns the only text, if there is one. Several texts are a usage error, and so is a stream;
+/// each error has its own message.
 pub fn at_most_one<'a>(
     texts: &[&'a str],
     dash: &'static str,
@@ -126,8 +126,8 @@ pub fn at_most_one<'a>(
     }
 }
 
-/// Returns the source of image names: arguments, or a list. If there are too many arguments, this
-/// message is printed.
+/// Returns the source of image names: arguments, or a list. If there are too many arguments, prints
+/// `too_many`.
 pub fn named<'a>(
     alloc: Global,
     matches: &ArgMatches<'a>,
@@ -148,7 +148,8 @@ pub fn named<'a>(
     })
 }
 
-/// Returns the same for a command that may read standard input once, as an image named `-`.
+/// Returns the source of image names for a command that may read standard input once, as an image
+/// named `-`.
 pub fn named_once<'a>(
     alloc: Global,
     matches: &ArgMatches<'a>,
@@ -164,7 +165,7 @@ pub fn named_once<'a>(
     named(alloc, matches, command_spec, too_many)
 }
 
-/// The list that the arguments name, if they do.
+/// Returns the list that the arguments name, if any.
 fn list_of<'a>(matches: &ArgMatches<'a>) -> Option<List<'a>>
     ensures { IsListIn (rows_of (found_of matches.now)) result }
 {
@@ -195,7 +196,7 @@ pub struct Call<'a> {
 /// The command, with its arguments.
 #[derive(Drop)]
 pub enum Order<'a> {
-    /// List the image at this path, or that on standard input.
+    /// List the image at a path, or on standard input.
     List(Listing<'a>),
     /// Create images of volumes without files.
     Init(Init<'a>),
@@ -209,7 +210,7 @@ pub enum Order<'a> {
     Extract(Extract<'a>),
     /// Recover every file on images.
     Unpack(Unpack<'a>),
-    /// Recover what is readable of a file.
+    /// Recover the readable parts of a file.
     Salvage(SalvageOrder<'a>),
     /// Show a stage.
     Stage(StageOrder<'a>),
@@ -235,25 +236,8 @@ enum Verb {
     Compare,
 }
 
-/// The program. Its usage has the name that users know, whatever the file is called.
-const TAPE: CommandSpec = CommandSpec {
-    name: "tape",
-    called: "tape",
-    about: help::ABOUT,
-    after_help: help::AFTER,
-    usage: None,
-    words: &[],
-};
-
-/// Returns what the arguments ask for, the first of which is the program's name; or, with its text,
-/// a usage error, a call for help, or an allocation that was refused.
-pub fn call_of<'a>(alloc: Global, words: &'a [String]) -> Result<Call<'a>, Error> {
-    let matches = command(alloc)?.try_get_matches_from(words)?;
-    call_in(alloc, &matches)
-}
-
 /// Returns what the parsed arguments ask for.
-fn call_in<'a>(alloc: Global, matches: &ArgMatches<'a>) -> Result<Call<'a>, Error>
+pub fn call_in<'a>(alloc: Global, matches: &ArgMatches<'a>) -> Result<Call<'a>, Error>
     ensures order { IfOk result (λ call. IsOrderIn (subcommand_rows_of matches.now) call.order) }
     ensures explained { IfOk result (λ call.
         IsFlag (rows_of (found_of matches.now)) (codes "explain") call.explained) }
@@ -277,7 +261,7 @@ fn order_of<'a>(alloc: Global, matches: &ArgMatches<'a>) -> Result<Order<'a>, Er
     }
 }
 
-/// Returns what these arguments of the command with this name ask for.
+/// Returns what the arguments of command `name` ask for.
 fn order_by<'a>(alloc: Global, name: &str, words: &ArgMatches<'a>) -> Result<Order<'a>, Error>
     ensures ok { IfOk result (IsOrderOf name.now (rows_of (found_of words.now))) }
     ensures err { IfErr result (RefusedFor (IsNoOrderOf name.now (rows_of (found_of words.now)))) }
@@ -288,7 +272,7 @@ fn order_by<'a>(alloc: Global, name: &str, words: &ArgMatches<'a>) -> Result<Ord
     }
 }
 
-/// Returns what these arguments of this command ask for.
+/// Returns what the arguments of the command ask for.
 fn order_with<'a>(alloc: Global, verb: Verb, words: &ArgMatches<'a>) -> Result<Order<'a>, Error>
     ensures ok { IfOk result (IsOrderOf (name_of verb) (rows_of (found_of words.now))) }
     ensures err { IfErr result (RefusedFor (IsNoOrder verb (rows_of (found_of words.now)))) }
@@ -308,7 +292,7 @@ fn order_with<'a>(alloc: Global, verb: Verb, words: &ArgMatches<'a>) -> Result<O
     })
 }
 
-/// The command with this name.
+/// Returns the command named `name`.
 fn verb_of(name: &str) -> Option<Verb>
     ensures some { IfSome result (λ verb. name.now ≡ name_of verb) }
     ensures none { IfNone result ((verb : Verb) → name.now ≢ name_of verb) }
@@ -327,23 +311,4 @@ fn verb_of(name: &str) -> Option<Verb>
         "compare" => Some(Verb::Compare),
         _ => None,
     }
-}
-
-/// The program with its commands and their arguments.
-fn command<'a>(alloc: Global) -> Result<Command<'a>, AllocError> {
-    let explain = Arg::new(alloc, "explain")
-        .long("explain")
-        .action(ArgAction::SetTrue)
-        .global(true)
-        .help(help::EXPLAIN);
-    let bare = command_of(alloc, &TAPE)?.version("0.1.0");
-    let mut tape = bare.subcommand_required(true).arg(explain)?;
-    let outlines = [
-        &LIST, &CHECK, &SURVEY, &COMPARE, &MERGE, &EXTRACT, &UNPACK, &SALVAGE, &STAGE, &INIT,
-        &WRITE,
-    ];
-    for command_spec in &outlines {
-        tape = tape.subcommand(command_of(alloc, *command_spec)?)?;
-    }
-    Ok(tape)
 }

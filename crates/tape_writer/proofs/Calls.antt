@@ -38,7 +38,7 @@ not_nil : (xs : List Told) (x : Told) → xs ++ x ∷ [] ≡ [] → ⊥
 not_nil [] x e = cc
 not_nil (y ∷ xs) x e = cc
 
--- the current file is the last one passed
+-- the current file is the last of the files passed
 pub last_told : {T : Type 0} (H : Tapes → Type 0) (w : SetState T) (o : OpenFile) (told : List Told)
     → w.phase ≡ Filing o → IsWriting H w told
     → IsFilingLast H w.volumes w.capacity w.set_id w.course o told
@@ -200,7 +200,7 @@ stuck_told H H' w out vs course o told is v stuck k =
           last.records) (sym v) f.inside));
     }
 
--- the same of a record that was offered after them
+-- the same for a record that was offered after them
 pub stuck_put_told : {T : Type 0} (H H' : Tapes → Type 0) (w : SetState T) (out : T)
     (vs : List Vol1)
     (course : Course) (o : OpenFile) (told : List Told) (r : List ℕ)
@@ -233,7 +233,7 @@ pub if_filing : (x : Phase) (o : OpenFile) (Q : OpenFile → Type 0) → x ≡ F
     → IfFiling x Q
 if_filing x o Q e q = subst (λ z. IfFiling z Q) (sym e) q
 
--- a fault that ends the writer leaves it so
+-- a fault that ends the writer leaves a failed writer
 pub leaves_failed : {T : Type 0} (old new : SetState T) (fault : WriteFault) → new.phase ≡ Failed
     → IsEnding fault → Leaves old new fault
 leaves_failed old new faults.OutOfVolumes is e = is

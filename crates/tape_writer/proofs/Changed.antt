@@ -1,4 +1,4 @@
--- A change of the volume keeps what was written a draft of a valid, tight set.
+-- After a change of the volume the set written so far is still a draft of a valid, tight set.
 use Rattle.std.proofs.Common.{◌≡◌, ◌<◌, ◌≤◌, ℕ, ◌+◌, List, [], ◌∷◌, ◌++◌, length, Bool, true, false}
 use Rattle.std.proofs.Common.{Some, refl, sym, ap, ◌∙◌, subst, append_assoc, arith, length-append}
 use Rattle.std.specs.Prelude.{map, slice_get}
@@ -51,7 +51,7 @@ files_next file course d f s =
     ++ closing file course.volume course.sect d.blocks true ∷ []) (length d.files + 1) (omega arith)
     ∙ sects_next file course d true f s)
 
--- after one more section the last is that one
+-- after one more section, it is the last one
 pub last_is : (xs zs : List Placed) (y : Placed) (P : List Placed → Placed → Type 0)
     → zs ≡ xs ++ y ∷ [] → P xs y → OfLast zs P
 last_is xs zs y P e p ys x g =
@@ -136,27 +136,27 @@ ended_changed vs file course d f s v c =
     ∙ ap (λ z. ended_volumes vs d ++ z ∷ []) (map-append item_of (body vs (placed d ++ x ∷ [])
     d.past) (a_mark ∷ []) ∙ ap (λ z. z ++ mark ∷ []) (body_ended vs file course d false v c))))
 
--- a new volume has its label alone
+-- a new volume contains only its label
 pub body_new : (vs : List Volume) (xs : List Placed) (k : ℕ) (v : Vol1)
     → AllByRecursion (λ x. x.section.volume < k + 1) xs → slice_get vs k ≡ Some (labelled v)
     → map item_of (body vs xs k) ≡ block (volume_label v) ∷ []
 body_new vs xs k v h g = ap (λ z. map item_of (group_of z ++ all_entries (on (k + 1) xs))) g
     ∙ ap (λ z. block (volume_label v) ∷ map item_of (all_entries z)) (on_none (k + 1) xs h)
 
--- the volumes that a section is on are begun
+-- the volumes of the sections have begun
 below : (set_id : List ℕ) (n : ℕ) (xs : List Placed) → AllByRecursion (IsSection set_id n) xs
     → AllByRecursion (λ x. x.section.volume < n + 1) xs
 below set_id n xs h = all_weaken (IsSection set_id n)
     (λ x. x.section.volume < n + 1) (λ x k. omega (arith, k.volume.1)) xs h
 
--- after a section on volume n every section is before volume n + 1
+-- after a section on volume n, every section is before volume n + 1
 before_next : (set_id : List ℕ) (n : ℕ) (xs : List Placed) (x : Placed)
     → AllByRecursion (IsSection set_id n) xs → x.section.volume ≡ n
     → AllByRecursion (λ y. y.section.volume < n + 1) (xs ++ x ∷ [])
 before_next set_id n xs x h e =
     all_push (λ y. y.section.volume < n + 1) xs x (below set_id n xs h) (omega (arith, e))
 
--- **the volume is changed**: the next section is to begin with these blocks
+-- **the volume is changed**: the next section will begin with the given blocks
 pub changed : (vs : List Volume) (cap : ℕ) (set_id : List ℕ)
     (file : Opened) (course : Course) (d : Draft) (next : List Filled) (v : Vol1)
     → IsWideVolume v → length vs ≤ 9999 → 1024 ≤ cap → cap ≤ 4294967295
@@ -234,7 +234,7 @@ changed vs cap set_id file course d next v wide few capacity most w refused more
       room = omega (arith, capacity);
     }
 
--- what is current after a change
+-- the current volume after a change
 pub open_changed : (vs : List Volume) (set_id : List ℕ)
     (file : Opened) (course : Course) (d : Draft) (v : Vol1)
     → AllByRecursion (IsSection set_id (d.past + 1)) (placed d)

@@ -1,4 +1,4 @@
--- Tapes in memory: a volume ends, and one is looked up.
+-- Tapes in memory: ending a volume, and looking up volumes.
 use Rattle.std.proofs.Common.{◌≡◌, ◌≢◌, ◌≤◌, ℕ, zero, suc, List, [], ◌∷◌, ◌++◌, length, Option}
 use Rattle.std.proofs.Common.{Some, None, refl, sym, ap, ◌∙◌, arith}
 use Rattle.std.specs.Prelude.{map, slice_get}
@@ -22,14 +22,14 @@ closed old new current left items tapes some none more is =
     now ∙ (ap Ended (map-append volume_of old (items ∷ []))
     ∙ ap (λ z. Ended (all_volumes z)) before)
 
--- the element after the first list
+-- the element at the end of the first list
 get_behind : {A : Type 0} (xs ys : List A) (n : ℕ) → n ≡ length xs
     → slice_get (xs ++ ys) n ≡ slice_get ys 0
 get_behind [] ys n e = ap (slice_get ys) e
 get_behind (x ∷ xs) ys zero e = absurd (omega (arith, e))
 get_behind (x ∷ xs) ys (suc n) e = get_behind xs ys n (omega (arith, e))
 
--- and any other, where after it there is one at most
+-- any other element, if the second list has at most one
 get_other : {A : Type 0} (xs ys : List A) (n : ℕ) → length ys ≤ 1 → n ≢ length xs
     → slice_get (xs ++ ys) n ≡ slice_get xs n
 get_other [] [] n s e = refl
@@ -38,7 +38,7 @@ get_other [] (y ∷ ys) (suc n) s e = slice_get_past ys n (omega (arith, s))
 get_other (x ∷ xs) ys zero s e = refl
 get_other (x ∷ xs) ys (suc n) s e = get_other xs ys n s (λ i. e (omega (arith, i)))
 
--- ---- volumes looked up, where f makes a list of a volume
+-- ---- looking up volumes, if f makes a list from a volume
 
 both : {V : Type 0} (f : V → List Kept) (vs : List V)
     → map (λ v. volume_of (f v)) vs ≡ map volume_of (map f vs)

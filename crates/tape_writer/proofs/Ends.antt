@@ -1,4 +1,4 @@
--- Files and the set: beginnings and ends.
+-- The beginnings and ends of files and of the set.
 use Rattle.std.proofs.Common.{◌≡◌, ◌≢◌, ◌≤◌, ℕ, ◌+◌, List, [], ◌∷◌, ◌++◌, length, false, Some, refl}
 use Rattle.std.proofs.Common.{sym, ap, ◌∙◌, subst, arith}
 use Rattle.std.specs.Prelude.{map, OnOk, Result, Ok, Err, slice_get}

@@ -1,4 +1,4 @@
--- The cases of tapes, of the files passed to a writer and of its refusals.
+-- Proofs of the test cases for tapes, for the files passed to a writer, and for its refusals.
 use Rattle.std.proofs.Common.{◌≡◌, ℕ, List, [], refl, sym, ap, ◌∙◌, arith, subst, inl, inr, Some}
 use Rattle.std.proofs.Common.{◌≤◌, ◌⊎◌}
 use Rattle.tape_image.specs.Writer.{Writer, writing, broken}

@@ -1,4 +1,4 @@
--- The cases of sets that are being written.
+-- Proofs of the test cases for sets that are being written.
 use Rattle.std.proofs.Common.{◌≡◌, ◌≤◌, ℕ, ◌+◌, List, [], ◌∷◌, refl, sym, arith}
 use Rattle.std.proofs.Common.{inl, inr, false}
 use Rattle.tape_image.specs.Tape.{block}

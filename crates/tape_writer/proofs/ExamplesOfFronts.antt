@@ -1,4 +1,4 @@
--- The cases of what a refusal leaves on the tapes.
+-- Proofs of the test cases for the contents of the tapes after a refusal.
 use Rattle.std.proofs.Common.{◌≡◌, ◌≢◌, ◌⊎◌, ℕ, List, [], ◌∷◌, ◌++◌, Option, Some, IfSome}
 use Rattle.std.proofs.Common.{inl, inr, length, refl, sym, subst}
 use Rattle.std.specs.List.{AllByRecursion}
@@ -26,7 +26,7 @@ not_back u f =
     let same : [] ∷ [] ≡ (u ∷ b.more) ∷ b.rest = b.is in
     absurd (cc)
 
--- the one input of a set is the first of it
+-- the only input of a set is the first one
 first_of : (tapes : Tapes) (w : SetState ℕ) (id : List ℕ) (shape : Shape) (cut : Cut)
     (x : Head1 × List ℕ) (before after : List (Head1 × Option (List ℕ)))
     (input : Head1 × Option (List ℕ)) (fault : SetFault)
@@ -59,7 +59,7 @@ of_none tapes w id shape cut fault (inl g) =
 of_none tapes w id shape cut fault (inr h) =
     (h.0, λ e. h.1 (subst IsOfInput (sym e) tt), h.2)
 
--- one record was passed, and memory gave out
+-- one record was passed, and then memory ran out
 longer : (tapes : Tapes) (w : SetState ℕ) (told : List Told) (r : List ℕ) (records : List (List ℕ))
     (g : IsLeftOf (λ t. t ≡ tapes) w ⊥ (Write OutOfMemory) told (r ∷ records))
     → g.front ≡ r ∷ [] → IsFirstLong (length r) records

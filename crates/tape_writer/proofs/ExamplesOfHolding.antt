@@ -1,4 +1,4 @@
--- The cases of bytes held before a device.
+-- Proofs of the test cases for write buffers.
 use Rattle.std.proofs.Common.{◌≡◌, length, true, false, refl, sym, ap, ◌∙◌}
 use Rattle.std.proofs.Common.{arith}
 use Rattle.tape_writer.specs.CasesOfHolding.{CasesOfHolding}

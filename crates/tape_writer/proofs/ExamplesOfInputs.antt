@@ -1,4 +1,4 @@
--- The cases of sets written from inputs.
+-- Proofs of the test cases for sets written from inputs.
 use Rattle.std.proofs.Common.{◌≡◌, ◌⊎◌, ℕ, List, [], ◌∷◌, ◌++◌, length, Option, Some, IfSome}
 use Rattle.std.proofs.Common.{refl, inl, inr, subst, arith, ap}
 use Rattle.std.specs.Io.KnownBytes.{prepend_known}
@@ -19,7 +19,7 @@ use Rattle.tape_writer.specs.ToldFiles.{told_files, IfAllKnown}
 use Rattle.tape_writer.specs.WriteFaults.{OneIsOther, IsFileFault, IsFilesFault, IsWholeFault}
 use Rattle.tape_writer.specs.CasesOfInputs.{CasesOfInputs, CasesOfSetFaults}
 
--- the one input of a set is the first of it
+-- the only input of a set is the first one
 first_of : (tapes : Tapes) (w : SetState ℕ) (id : List ℕ) (shape : Shape) (cut : Cut)
     (x : Head1 × List ℕ) (before after : List (Head1 × Option (List ℕ)))
     (input : Head1 × Option (List ℕ))

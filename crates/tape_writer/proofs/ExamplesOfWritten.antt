@@ -1,4 +1,4 @@
--- The cases of what is written, of volumes that lack and of the laws of records.
+-- Proofs of the test cases for written sets, for missing volumes and for the laws of records.
 use Rattle.std.proofs.Common.{◌≡◌, ◌⊎◌, ℕ, List, [], ◌∷◌, length, Option, Some, IfSome}
 use Rattle.std.proofs.Common.{refl, subst, arith}
 use Rattle.tape_label.specs.declared.values.Head1.{Head1}

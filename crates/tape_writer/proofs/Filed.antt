@@ -64,7 +64,7 @@ plain file x r is =
           (second_is file (second_kind is.eof) r (second_kind_is is.eof));
     }
 
--- what holds of sections with their numbers, of the sections
+-- a property of sections with their numbers gives one of the sections
 unnumbered : (P : Placed → Type 0) (Q : Section → Type 0) → ((x : Placed) → P x → Q x.section)
     → (n j : ℕ) (ss : List Section) → AllByRecursion P (numbered n j ss) → AllByRecursion Q ss
 unnumbered P Q f n j [] h = tt
@@ -77,7 +77,7 @@ going_ends file n j [] s h e = e
 going_ends file n j (t ∷ []) s h e = (h.0.1, e)
 going_ends file n j (t ∷ u ∷ ss) s h e = (h.0.1, going_ends file n (j + 1) (u ∷ ss) s h.1 e)
 
--- blocks hold their parts in the form too, which has a record length in format F alone
+-- blocks contain their parts also in the form, whose record length matters only in format F
 held_by : (format : Format) (rec_len offset : ℕ) (bytes : List ℕ) (parts : List Portion)
     → Holds format rec_len offset bytes parts
     → Holds format (binding_len format rec_len) offset bytes parts

@@ -64,7 +64,7 @@ get_some [] k h = absurd (omega arith)
 get_some (v ∷ vs) zero h = (v, refl)
 get_some (v ∷ vs) (suc k) h = get_some vs k (omega arith)
 
--- ---- what was decided does not look at the volumes after
+-- ---- earlier decisions do not depend on later volumes
 
 used_taken : (vs : List Volume) (n : ℕ) (past : List Placed) (s : Section) → s.volume ≤ n
     → used_before (take n vs) past s ≡ used_before vs past s

@@ -1,4 +1,4 @@
--- The longest record of a shape.
+-- The longest record that a shape allows.
 use Rattle.std.proofs.Common.{◌≤◌, ℕ, refl, arith}
 use Rattle.tape_label.specs.declared.values.Format.{Format}
 use Rattle.tape_label.specs.declared.values.Format.TheVariants.{Fixed, Counted, Spanned}
@@ -18,12 +18,12 @@ has_by Fixed rec_len n has = refl
 has_by Counted rec_len n has = omega (arith, has)
 has_by Spanned rec_len n has = omega arith
 
--- no record that a shape has is longer
+-- no record of the shape is longer
 pub within_longest : (shape : Shape) (n : ℕ) → HasRecordLength shape.format shape.rec_len n
     → n ≤ longest shape
 within_longest shape n has = within_by shape.format shape.rec_len n has
 
--- a shape that has records has one of this length
+-- if the shape allows records, it allows records of this length
 pub has_longest : (shape : Shape) (n : ℕ) → HasRecordLength shape.format shape.rec_len n
     → HasRecordLength shape.format shape.rec_len (longest shape)
 has_longest shape n has = has_by shape.format shape.rec_len n has

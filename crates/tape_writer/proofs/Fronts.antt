@@ -1,4 +1,4 @@
--- A prefix of what a call was to write is what it leaves.
+-- An interrupted call leaves a prefix of the items that it was to write.
 use Rattle.std.proofs.Common.{◌≡◌, ◌≢◌, List, [], ◌∷◌, ◌++◌, refl, sym, ap, ◌∙◌}
 use Rattle.std.proofs.Common.{subst, append_assoc, inl, inr}
 use Rattle.std.specs.Prelude.{◌⊎◌, IfErr, Result, Ok, Err}
@@ -15,11 +15,11 @@ behind-append : (a b : List Step) (t : Tapes)
 behind-append [] b t = refl
 behind-append (s ∷ a) b t = behind-append a b (behind_step s t)
 
--- what is held is a prefix of itself
+-- contents are a prefix of themselves
 pub front_here : (H : Tapes → Type 0) (t : Tapes) → H t → HoldsFront H t
 front_here H t h = record { now = t; held = h; steps = []; leads = refl }
 
--- and of what further steps lead to
+-- contents are a prefix of the result of further steps
 pub front_on : (H : Tapes → Type 0) (t : Tapes) (more : List Step) → HoldsFront H t
     → HoldsFront H (behind_steps more t)
 front_on H t more f = record {
@@ -39,7 +39,7 @@ behind-items vs items [] = ap (UnderWay vs) (sym (append-nil items))
 behind-items vs items (x ∷ more) = behind-items vs (items ++ x ∷ []) more
     ∙ ap (UnderWay vs) (append_assoc items (x ∷ []) more)
 
--- items go after
+-- items that follow
 pub front_items : (H : Tapes → Type 0) (vs : List (List TapeItem)) (items more : List TapeItem)
     → HoldsFront H (UnderWay vs items) → HoldsFront H (UnderWay vs (items ++ more))
 front_items H vs items more f =
@@ -58,7 +58,7 @@ pub front_thrice : (H : Tapes → Type 0) (vs : List (List TapeItem)) (items a b
 front_thrice H vs items a b c f =
     front_assoc H vs items a (b ++ c) (front_assoc H vs (items ++ a) b c f)
 
--- some of them did
+-- only some of the items were written
 pub front_behind : (H : Tapes → Type 0) (vs : List (List TapeItem)) (items a b : List TapeItem)
     → HoldsFront H (UnderWay vs (items ++ a)) → HoldsFront H (UnderWay vs (items ++ (a ++ b)))
 front_behind H vs items a b f =
@@ -70,14 +70,14 @@ pub front_changed : (H : Tapes → Type 0) (t : Tapes) (first : List TapeItem)
 front_changed H t first f =
     front_items H (all_volumes t) [] first (front_on H t (Change ∷ []) f)
 
--- the last one ends
+-- the last volume ends
 pub front_closed : (H : Tapes → Type 0) (t : Tapes) → HoldsFront H t
     → HoldsFront H (Ended (all_volumes t))
 front_closed H t f = front_on H t (Close ∷ []) f
 
--- ---- at a call's answer
+-- ---- at the result of a call
 
--- items are taken or not
+-- items are accepted or not
 pub took : (H H' : Tapes → Type 0) (more : List TapeItem) (r : Result (Unit {0}) WriteFault)
     → Takes more H r H' → Keeps H r H' → (vs : List (List TapeItem)) (items : List TapeItem)
     → H (UnderWay vs items) → HoldsFront H' (UnderWay vs (items ++ more))
@@ -85,20 +85,20 @@ took H H' more (Ok x) takes keeps vs items h = front_here H' _ (takes vs items h
 took H H' more (Err e) takes keeps vs items h =
     front_items H' vs items more (front_here H' _ (keeps _ h))
 
--- of any fault
+-- a property of every fault
 pub err_any : (r : Result (Unit {0}) WriteFault) (P : WriteFault → Type 0)
     → ((f : WriteFault) → P f) → IfErr r P
 err_any (Ok x) P p = tt
 err_any (Err e) P p = p e
 
--- a fault is this one, or it is not
+-- a fault is `OutOfVolumes`, or it is not
 pub is_out : (f : WriteFault) → (f ≡ faults.OutOfVolumes) ⊎ (f ≢ faults.OutOfVolumes)
 is_out faults.OutOfVolumes = inl refl
 is_out _ = inr (λ e. absurd cc)
 
--- ---- the contents stay at the start
+-- ---- the first items do not change
 
--- the first volume begins with these items
+-- the first volume begins with the given items
 pub record BeginsWith (items : List TapeItem) (t : Tapes) : Type 0 where
   pub more : List TapeItem
   pub rest : List (List TapeItem)

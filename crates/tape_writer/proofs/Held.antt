@@ -1,4 +1,4 @@
--- The steps, with what the tapes hold.
+-- The steps of the writer, with the contents of the tapes.
 use Rattle.std.proofs.Common.{◌≡◌, ◌<◌, ◌≤◌, ℕ, zero, suc, ◌+◌, List, [], ◌∷◌, ◌++◌, length, true}
 use Rattle.std.proofs.Common.{false, Some, refl, sym, ap, ◌∙◌, subst, append_assoc, arith, get_or}
 use Rattle.std.specs.Prelude.{map, slice_get}
@@ -192,7 +192,7 @@ closed_next H vs cap set_id file course d v s due g wide few room most = (
       },
 )
 
--- the same at a call's answer
+-- the same at the result of a call
 pub write_here : (H H' : Tapes → Type 0) (vs : List Vol1) (cap : ℕ) (set_id : List ℕ)
     (file : Opened) (course course' : Course) (d : Draft) (b : Filled) (bytes : List ℕ)
     (r : Result (Unit {0}) WriteFault)

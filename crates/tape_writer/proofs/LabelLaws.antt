@@ -1,4 +1,4 @@
--- The labels that are written are labels of their fields.
+-- The labels that are written are labels with their fields.
 use Rattle.std.proofs.Common.{◌≡◌, ◌≤◌, ℕ, List, length, Bool, true, false, refl, arith}
 use Rattle.std.specs.Prelude.{◌%◌}
 use Rattle.tape_label.specs.declared.values.Vol1.{Vol1}

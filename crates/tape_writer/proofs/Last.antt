@@ -1,4 +1,4 @@
--- What calls keep, one after another.
+-- Properties that sequences of calls preserve.
 use Rattle.std.proofs.Common.{◌≡◌, ◌≤◌, ℕ, ◌+◌, List, [], ◌∷◌, ◌++◌, refl, sym, ◌∙◌, subst}
 use Rattle.std.proofs.Common.{append_assoc, arith, inl, inr}
 use Rattle.std.proofs.lemmas.List.{append-nil}
@@ -43,7 +43,7 @@ lasting_then H K L n m k u v w a b = record {
   count = (omega (arith, a.count.0, b.count.0), omega (arith, a.count.1, b.count.1));
 }
 
--- an item was taken
+-- an item was accepted
 pub lasting_item : (H K : Tapes → Type 0) (n m : Failures) (u v : ℕ) (x : TapeItem)
     → ((volumes : List (List TapeItem)) (items : List TapeItem) → H (UnderWay volumes items)
     → K (UnderWay volumes (items ++ x ∷ []))) → Grows n m → v ≡ u + item_size x → Lasting H n u K m
@@ -59,7 +59,7 @@ lasting_item H K n m u v x f le e = record {
   count = le;
 }
 
--- nothing was
+-- nothing was accepted
 pub lasting_err : (H K : Tapes → Type 0) (n m : Failures) (u v : ℕ) →
     ((tapes : Tapes) → H tapes → K tapes)
     → Grows n m → v ≡ u → Lasting H n u K m v
@@ -77,5 +77,5 @@ lasting_err H K n m u v f le e = record {
 pub lasting_self : (H : Tapes → Type 0) (n : Failures) (u : ℕ) → Lasting H n u H n u
 lasting_self H n u = lasting_same H n n u u (omega arith, omega arith) refl
 
--- what a row of calls needs of the calls
+-- the facts that a sequence of calls requires of each call
 pub ruleset kept = (lasting_then, lasting_self, rose_from)

@@ -1,4 +1,5 @@
--- What a refused call leaves on the tapes, as a function of what was passed to the writer.
+-- The contents of the tapes after a refused call, in terms of the files and records passed to the
+-- writer.
 use Rattle.std.proofs.Common.{◌≡◌, ◌≢◌, ◌≤◌, ℕ, ◌+◌, List, [], ◌∷◌, ◌++◌, length, refl, sym, ap}
 use Rattle.std.proofs.Common.{◌∙◌, subst, inl, inr, arith, drop}
 use Rattle.std.specs.Prelude.{IfErr, Result, Ok, Err}
@@ -34,7 +35,7 @@ use Rattle.tape_writer.proofs.Calls.{last_told, with_last}
 
 -- ---- inside a file
 
--- a block of the record was not written, or in part
+-- a block of the record was not written, or only in part
 pub mid_left : (H H' : Tapes → Type 0) (vs : List Vol1) (cap : ℕ) (set_id : List ℕ)
     (file : Opened) (course : Course) (old new : Packing) (fs : List (List Section))
     (records : List (List ℕ)) (whole rest : List ℕ) (n : ℕ) (fault : WriteFault)
@@ -73,7 +74,7 @@ mid_left H H' vs cap set_id file course old new fs records whole rest n fault ju
           )
     ]
 
--- the file's last block was not written, or in part
+-- the last block of the file was not written, or only in part
 pub last_left : (H H' : Tapes → Type 0) (vs : List Vol1) (cap : ℕ) (set_id : List ℕ)
     (file : Opened) (course : Course) (p : Packing) (fs : List (List Section))
     (records : List (List ℕ)) (r : Result (Unit {0}) WriteFault) (ps : List Portion)
@@ -105,7 +106,7 @@ last_left H H' vs cap set_id file course p fs records (Err e) (q ∷ ps) is none
           )
     ]
 
--- the file was not ended, or in part
+-- the end of the file was not written, or only in part
 pub end_left : (H H' : Tapes → Type 0) (vs : List Vol1) (cap : ℕ) (set_id : List ℕ)
     (file : Opened) (course : Course) (past : List Told) (fs : List (List Section))
     (records : List (List ℕ)) (r : Result (Unit {0}) WriteFault)
@@ -142,7 +143,7 @@ end_left H H' vs cap set_id file course past fs records (Err e) room out closed 
           )
     ]
 
--- before the first volume there is nothing, and nothing was passed
+-- before the first volume the tapes are empty, and no files were passed
 pub unbegun : (H : Tapes → Type 0) (vs : List Vol1) (cap : ℕ) (set_id : List ℕ) (course : Course)
     (told : List Told) → course.volume ≡ 0 → IsWaiting H vs cap set_id course told
     → H (Ended []) × (told ≡ [])

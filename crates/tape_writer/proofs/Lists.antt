@@ -1,4 +1,4 @@
--- One more at the end.
+-- Lists with one more element at the end.
 use Rattle.std.proofs.Common.{◌≡◌, ℕ, ◌+◌, List, [], ◌∷◌, ◌++◌, length, refl, sym, ap, ◌∙◌, subst}
 use Rattle.std.proofs.Common.{append_assoc, arith, length-append}
 use Rattle.std.specs.List.{AllByRecursion}
@@ -6,7 +6,7 @@ use Rattle.tape_set.specs.Layout.{Placed, Section, numbered, all_numbered}
 use Rattle.tape_blocks.specs.Tight.{Chain}
 use Rattle.tape_set.specs.Tight.{EachBehind, ChainBehind}
 
--- equal lists end alike
+-- equal lists have equal last elements
 pub snoc_same : {A : Type 0} (xs ys : List A) (x y : A) → xs ++ x ∷ [] ≡ ys ++ y ∷ []
     → (xs ≡ ys) × (x ≡ y)
 snoc_same [] [] x y e = (refl, cc)

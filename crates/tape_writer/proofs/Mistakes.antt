@@ -25,14 +25,14 @@ use Rattle.tape_writer.proofs.set.SetWriter.finish.Reads as finish
 made_or_not : {A B : Type 0} (a : A) (b : B) → Ok a ≡ Err b → ⊥
 made_or_not a b e = cc
 
--- set_without_a_volume: a set without a volume is begun
+-- set_without_a_volume: a writer is created without volumes
 set_without_a_volume : (T : _) (L : _) (g : _) (d : _) (e : _) (κs : _) (a : _) (w : _) (s : _)
     → new.Learnt-named T L g d e κs a (Ok w) s → IsText a.1.0 → a.1.1.0.items ≡ [] → ⊥
 set_without_a_volume T L g d e κs a w s l text none =
     made_or_not w _
     (l.none text (subst (λ vs. AllByRecursion IsTextVolume vs) (sym none) tt) (ap length none))
 
--- blocks_in_place_of_bytes: after three blocks, 2,292 bytes, the size returned is 3
+-- blocks_in_place_of_bytes: after three blocks of 2,292 bytes in all, the size returned is 3
 blocks_in_place_of_bytes : (T : _) (L : _) (g : _) (d : _) (e : _) (κs : _) (a : _) (s : _)
     → used.Learnt T L g d e κs a 3 s
     → a.0.now.course ≡ record { volume = 1; sect = 1; count = 3; used = 2292 } → ⊥
@@ -41,8 +41,8 @@ blocks_in_place_of_bytes T L g d e κs a s h c =
 
 -- ---- files
 
--- set_identifier_of_the_head: the file that is begun keeps its head's set identifier, which is not
--- the set's
+-- set_identifier_of_the_head: a file keeps the set identifier of its head, which is not that of the
+-- set
 set_identifier_of_the_head : (T : _) (L : _) (g : _) (d : _) (e : _) (κs : _) (a : _) (s : _)
     (o : OpenFile) → begin_file.Learnt-named T L g d e κs a (Ok tt) s
     → s.0.now.phase ≡ Filing o → o.file.head.set_id ≡ a.1.0.set_id
@@ -52,7 +52,7 @@ set_identifier_of_the_head T L g d e κs a s o l p own other =
     let f : o.file ≡ begun = subst (IsInFile begun) p l.opened in
     other (sym own ∙ ap (λ f. f.head.set_id) f)
 
--- section_of_the_head: the file that is begun keeps its head's section number, which is 7
+-- section_of_the_head: a file keeps the section number of its head, which is 7
 section_of_the_head : (T : _) (L : _) (g : _) (d : _) (e : _) (κs : _) (a : _) (s : _)
     (o : OpenFile) → begin_file.Learnt-named T L g d e κs a (Ok tt) s
     → s.0.now.phase ≡ Filing o → o.file.head.sect ≡ 7 → ⊥
@@ -61,8 +61,7 @@ section_of_the_head T L g d e κs a s o l p seven =
     let f : o.file ≡ begun = subst (IsInFile begun) p l.opened in
     absurd (let n : 7 ≡ 1 = sym seven ∙ ap (λ f. f.head.sect) f in omega arith)
 
--- shape_of_no_blocks: a file is begun in blocks of at most 17 bytes, which are too short for a
--- shape
+-- shape_of_no_blocks: a file begins with blocks of at most 17 bytes, which are too short
 shape_of_no_blocks : (T : _) (L : _) (g : _) (d : _) (e : _) (κs : _) (a : _) (s : _)
     → begin_file.Learnt-named T L g d e κs a (Ok tt) s → a.0.now.phase ≡ Between
     → IsTextHead a.1.0 → a.1.1.0.block_len ≡ 17 → ⊥
@@ -87,7 +86,7 @@ finished_at_file_end T L g d e κs a s l p =
 
 -- ---- records
 
--- empty_record_refused: an empty record is refused where the shape has room for it
+-- empty_record_refused: an empty record is refused although the shape allows it
 empty_record_refused : (T : _) (L : _) (g : _) (d : _) (e : _) (κs : _) (a : _) (s : _) (o : _)
     → put.Learnt-named T L g d e κs a (Err faults.RecordLength) s
     → a.0.now.phase ≡ Filing o → a.1.0.now ≡ [] → HasLength o [] → ⊥
@@ -95,7 +94,7 @@ empty_record_refused T L g d e κs a s o l p w has =
     subst (λ v. IfFiling v (λ o. IsPutFault o a.1.0.now faults.RecordLength)) p l.due
     (subst (HasLength o) (sym w) has)
 
--- goes_on_without_a_volume: there was no volume left, and the file stays open
+-- goes_on_without_a_volume: no volume was left, but the file remains open
 goes_on_without_a_volume : (T : _) (L : _) (g : _) (d : _) (e : _) (κs : _) (a : _) (s : _) (o : _)
     → put.Learnt-named T L g d e κs a (Err faults.OutOfVolumes) s
     → s.0.now.phase ≡ Filing o → ⊥
@@ -105,7 +104,7 @@ goes_on_without_a_volume T L g d e κs a s o l p =
 
 -- ---- the end of the set
 
--- volume_begun_for_no_file: a set without a file is ended
+-- volume_begun_for_no_file: a set without files is finished
 volume_begun_for_no_file : (T : _) (L : _) (g : _) (d : _) (e : _) (κs : _) (a : _) (s : _)
     → finish.Learnt-named T L g d e κs a (Ok tt) s → a.0.now.phase ≡ Between
     → a.0.now.course.volume ≡ 0 → ⊥
@@ -113,15 +112,15 @@ volume_begun_for_no_file T L g d e κs a s l between none =
     let r : Ok tt ≡ Err faults.NoFile = (l.no_file between none).0 in
     absurd (cc)
 
--- and a set with a file is not ended on its first volume
+-- set_on_one_volume_not_ended: a set with a file is not finished on its first volume
 set_on_one_volume_not_ended : (T : _) (L : _) (g : _) (d : _) (e : _) (κs : _) (a : _) (s : _)
     → finish.Learnt-named T L g d e κs a (Err faults.NoFile) s → a.0.now.phase ≡ Between
     → a.0.now.course.volume ≡ 1 → ⊥
 set_on_one_volume_not_ended T L g d e κs a s l between one =
     let due = l.due between in absurd (omega (arith, due, one))
 
--- last_volume_with_one_mark: after the end of the set its volume has no mark more than before. What
--- the tapes hold is one thing alone, as of tapes in memory (`one_in_memory` in MistakesOfTapes).
+-- last_volume_with_one_mark: after the end of the set its last volume has no further mark. The
+-- contents of the tapes are unique, as for tapes in memory (`one_in_memory` in MistakesOfTapes).
 last_volume_with_one_mark : (T : _) (L : _) (g : _) (d : _) (e : _) (κs : _) (a : _) (s : _)
     (items : List TapeItem) → finish.Learnt-named T L g d e κs a (Ok tt) s
     → g.holds a.0.now.out (UnderWay [] items) → g.holds s.0.now.out (Ended (items ∷ []))

@@ -1,5 +1,5 @@
--- Refusals of a set writer and of its images that their contracts exclude: each is returned without
--- its cause, as a wrong body would.
+-- Refusals by a set writer and by its images that their contracts exclude: each is returned without
+-- its cause, as a wrong body would do.
 use Rattle.std.proofs.Common.{◌≡◌, inl, inr, ℕ, ◌+◌, ◌%◌, ◌≤◌, List, [], ◌∷◌, ◌++◌, length}
 use Rattle.std.proofs.Common.{true, false, refl, sym, ap, ◌∙◌, subst, arith, length-append}
 use Rattle.std.specs.Prelude.{Ok, Err, ◌<◌, nat_le, slice_get, unwrap_or}
@@ -24,7 +24,7 @@ use Rattle.tape_writer.proofs.set.SetWriter.end_file.Reads as end_file
 
 -- ---- no volume is left
 
--- of one file that was passed the last one is this
+-- if one file was passed, the last file is that one
 last_is : (t : Told) (past : List Told) (last : Told) → t ∷ [] ≡ past ++ last ∷ [] → t ≡ last
 last_is t [] last e = ap (λ ts. unwrap_or (slice_get ts 0) t) e
 last_is t (x ∷ xs) last e =
@@ -34,7 +34,8 @@ taken : (capacity used size : ℕ) → used + size + 192 ≤ capacity
     → nat_le (used + size + 192) capacity ≡ false → ⊥
 taken capacity used size fits refused = absurd (grind (arith, nat_tests))
 
--- a volume with its label and the headers of a section has room for a block, and for a file end
+-- a volume with only its label and the headers of a section has room for a block, or for the end of
+-- a file
 has_room : (shape : Shape) (capacity used : ℕ) (next : List Filled)
     → AllByRecursion (packing.IsWritten shape) next
     → used ≡ 268 → least_capacity shape ≤ capacity → takes_next capacity used next ≡ false → ⊥
@@ -48,8 +49,8 @@ has_room shape capacity used (b ∷ bs) (w, ws) labels room refused =
     let within : n ≤ shape.block_len = w.within in
     taken capacity used (8 + n + n % 2) (omega (arith, labels, room, within)) refused
 
--- no_block_on_the_last_volume: on the last volume there are its label and the headers of a section
--- and nothing else, and a record is refused for lack of a volume
+-- no_block_on_the_last_volume: the last volume contains only its label and the headers of a
+-- section, but a record is refused because no volume is left
 no_block_on_the_last_volume : (T : _) (L : _) (g : _) (d : _) (e : _) (κs : _) (a : _) (s : _)
     (t : Told) → put.Learnt-named T L g d e κs a (Err faults.OutOfVolumes) s
     → IsWriting (g.holds a.0.now.out) a.0.now (t ∷ [])
@@ -65,8 +66,8 @@ no_block_on_the_last_volume T L g d e κs a s t l writing room labels =
     (all_back (packing.IsWritten w.last.file.shape) (open_blocks w.stuck.draft) w.stuck.next
     w.stuck.of_records.each) labels least w.stuck.due
 
--- third_volume_refused: nothing failed, there is a device for one more volume, and none
--- is reported
+-- third_volume_refused: nothing failed, and there is a device for one more volume, but the call
+-- says that there is none
 third_volume_refused : (S : _) (D : _) (L : _) (M : _) (g : _) (d : _) (h : _) (e : _) (f : _)
     (k : _) (κs : _) (a : _) (s : _)
     → has_next.Learnt-named S D L M g d h e f k κs a false s → a.0.now.failed ≡ 0
@@ -82,8 +83,8 @@ not_rose : Rose 3 3 → ⊥
 not_rose (inl e) = absurd (omega (arith, e))
 not_rose (inr e) = absurd (omega (arith, e))
 
--- put_gives_up_for_memory: a record is refused for lack of memory, and the tapes were refused no
--- growth
+-- put_gives_up_for_memory: a record is refused with `OutOfMemory`, although no allocation of the
+-- tapes failed
 put_gives_up_for_memory : (T : _) (L : _) (g : _) (d : _) (e : _) (κs : _) (a : _) (s : _)
     (before now : Failures) → put.Learnt-named T L g d e κs a (Err faults.OutOfMemory) s
     → g.failures a.0.now.out ≡ before → g.failures s.0.now.out ≡ now
@@ -93,8 +94,8 @@ put_gives_up_for_memory T L g d e κs a s before now l was is three same =
     (subst (λ f. Rose f.memory (g.failures s.0.now.out).memory) was (l.cause.1 refl)) in
     not_rose (subst (λ n. Rose 3 n) same (subst (λ n. Rose n now.memory) three rose))
 
--- failed_devices_told_as_memory: at the end of a file the device failed, and it is reported that
--- there was no memory
+-- failed_devices_told_as_memory: at the end of a file the device failed, but the fault is
+-- `OutOfMemory`
 failed_devices_told_as_memory : (T : _) (L : _) (g : _) (d : _) (e : _) (κs : _) (a : _) (s : _)
     → end_file.Learnt-named T L g d e κs a (Err faults.OutOfMemory) s
     → g.failures a.0.now.out ≡ record { device = 3; memory = 3 }
@@ -105,7 +106,7 @@ failed_devices_told_as_memory T L g d e κs a s l was is =
 
 -- ---- room
 
--- empty_record_passed_over: an empty record is reported as put, and the writer is as it was
+-- empty_record_passed_over: an empty record is reported as written, but the writer is unchanged
 empty_record_passed_over : (T : _) (L : _) (g : _) (d : _) (e : _) (κs : _) (a : _) (s : _)
     → put.Learnt-named T L g d e κs a (Ok tt) s → s.0.now ≡ a.0.now → ⊥
 empty_record_passed_over T L g d e κs a s l same =
@@ -113,8 +114,8 @@ empty_record_passed_over T L g d e κs a s l same =
     = subst (λ w. room_left w < room_left a.0.now) same l.room in
     absurd (omega (arith, less))
 
--- place_taken_behind_the_labels: a file is refused for lack of memory, and the tapes, which were
--- refused no growth, are not as they were
+-- place_taken_behind_the_labels: a file is refused with `OutOfMemory` although no allocation of the
+-- tapes failed, but the tapes have changed
 place_taken_behind_the_labels : (T : _) (L : _) (g : _) (d : _) (e : _) (κs : _) (a : _) (s : _)
     (before now : Failures) → begin_file.Learnt-named T L g d e κs a (Err faults.OutOfMemory) s
     → g.failures a.0.now.out ≡ before → g.failures s.0.now.out ≡ now

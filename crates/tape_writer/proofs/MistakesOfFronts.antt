@@ -1,4 +1,5 @@
--- What a refused call may not leave on the tapes: it is what a wrong body would.
+-- Contents of the tapes after a refused call that its contract excludes: they are the result of a
+-- wrong body.
 use Rattle.std.proofs.Common.{◌≡◌, ℕ, ◌+◌, ◌≤◌, List, [], ◌∷◌, ◌++◌, length, refl, sym, ap, ◌∙◌}
 use Rattle.std.proofs.Common.{subst, arith, length-append, inl, inr}
 use Rattle.std.specs.Prelude.{Err, map}
@@ -82,8 +83,8 @@ not_ended H v vs capacity set_id file course d x y z w one o none only =
     ≡ (x ∷ y ∷ z ∷ w ∷ mark ∷ b.more) ∷ b.rest = sym held ∙ b.is in
     no_mark d.blocks b.more cc
 
--- mark_behind_a_failed_record: the device failed in the first record of a set on one volume, and
--- there is a mark after the headers, as if the data had ended
+-- mark_behind_a_failed_record: the device failed in the first record of a set on one volume, but a
+-- mark follows the headers, as if the data had ended
 mark_behind_a_failed_record : (T : _) (L : _) (g : _) (d : _) (e : _) (κs : _) (a : _) (s : _)
     (t : Told) (v : Vol1) (x y z w : TapeItem)
     → put.Learnt-named T L g d e κs a (Err faults.Device) s

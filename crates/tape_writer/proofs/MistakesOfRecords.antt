@@ -1,4 +1,4 @@
--- An answer that the contract of putting records excludes: it is what a wrong body would give.
+-- A result that the contract of writing records excludes: it is the result of a wrong body.
 use Rattle.std.proofs.Common.{◌≡◌, ◌<◌, ◌≤◌, ℕ, ◌+◌, List, [], ◌∷◌, ◌++◌, length, ap, ◌∙◌}
 use Rattle.std.proofs.Common.{subst, arith, length-append}
 use Rattle.std.specs.Prelude.{Ok, None, replicate, ◌-◌}
@@ -16,7 +16,7 @@ use Rattle.tape_writer.specs.Draft.{open_blocks}
 use Rattle.tape_writer.specs.Inside.{IsInside}
 use Rattle.tape_writer.proofs.records.put_record.Reads as put_record
 
--- padding makes no block shorter
+-- padding does not make a block shorter
 not_shorter : (shape : Shape) (parts : List Portion) → size_of shape parts
     ≤ length (written shape parts)
 not_shorter shape parts =
@@ -28,7 +28,7 @@ not_shorter shape parts =
       length-replicate {A = ℕ} shape.offset 32,
     )
 
--- a block in format F is not full where nothing is to follow
+-- a block of format F is not full if nothing follows it
 not_full : (shape : Shape) (b : Filled) (bs : List Filled) → shape.format ≡ Fixed
     → AllByRecursion (IsWritten shape) (b ∷ bs) → AreClosed shape (b ∷ bs) 0 → ⊥
 not_full shape b [] fixed each closed =
@@ -37,7 +37,7 @@ not_full shape b [] fixed each closed =
     absurd (omega (arith, full, each.0.within, ap length each.0.text, not_shorter shape b.parts))
 not_full shape b (c ∷ bs) fixed each closed = not_full shape c bs fixed each.1 closed.1
 
--- all that was taken and nothing more is in format F no run of records
+-- in format F, a run with a further record does not consist of closed blocks only
 none_under_way : (taken : List Filled) (p : Packing) (records : List (List ℕ)) (r : List ℕ)
     → p.shape.format ≡ Fixed → p.parts ≡ [] → Run taken p (records ++ r ∷ []) None 0 → ⊥
 none_under_way [] p records r fixed none run =
@@ -47,8 +47,8 @@ none_under_way [] p records r fixed none run =
 none_under_way (b ∷ bs) p records r fixed none run = not_full p.shape b bs fixed run.each
     (subst (λ ps. AreClosed p.shape (b ∷ bs) (first_len ps 0)) none run.closed)
 
--- record_per_block: in format F a block is written after each record, and none is current, where
--- the tapes held what was passed
+-- record_per_block: in format F a block is written after each record, and no block is current,
+-- although the tapes contained the records passed
 record_per_block : (T : _) (L : _) (g : _) (d : _) (κs : _) (a : _) (s : _) (set_id : List ℕ)
     (fs : List (List Section)) (records : List (List ℕ))
     → put_record.Learnt-named T L g d κs a (Ok tt) s

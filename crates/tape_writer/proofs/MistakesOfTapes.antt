@@ -17,25 +17,25 @@ use Rattle.tape_writer.proofs.refusing.RefusingTapeOut.block.Reads as refusing_b
 
 -- ---- tapes in memory
 
--- what they hold is one thing alone
+-- the contents of tapes in memory are unique
 one_in_memory : (m : InMemory) (x y : Tapes) → m.tapes ≡ x → m.tapes ≡ y → x ≡ y
 one_in_memory m x y p q = sym p ∙ q
 
--- volume_under_way_not_counted: there is a current volume, and 0 volumes are reported
+-- volume_under_way_not_counted: there is a current volume, but the number of volumes returned is 0
 volume_under_way_not_counted : (κs : _) (a : _) (s : _) (items : List TapeItem)
     → count.Learnt κs a 0 s → a.0.now.tapes ≡ UnderWay [] items → ⊥
 volume_under_way_not_counted κs a s items h tapes =
     absurd (let n : 0 ≡ 1 = h ∙ ap (λ t. length (all_volumes t)) tapes in omega arith)
 
--- length_of_the_first_volume: the first volume has one item and the second none; 1 is said of the
--- second
+-- length_of_the_first_volume: the first volume has one item and the second none, but the length 1
+-- is returned for the second
 length_of_the_first_volume : (κs : _) (a : _) (s : _) → length_of.Learnt κs a 1 s
     → a.0.now.tapes ≡ Ended ((mark ∷ []) ∷ [] ∷ []) → a.1.0 ≡ 1 → ⊥
 length_of_the_first_volume κs a s h tapes second =
     absurd (let n : 1 ≡ 0 = h ∙ ap (λ t. length (volume_at t a.1.0)) tapes
     ∙ ap (λ k. length (volume_at (Ended ((mark ∷ []) ∷ [] ∷ [])) k)) second in omega arith)
 
--- mark_told_as_bad: a mark is returned as a block that cannot be given
+-- mark_told_as_bad: a mark is returned as a bad block
 mark_told_as_bad : (κs : _) (a : _) (s : _) → item.Learnt κs a (Some Bad) s
     → a.0.now.tapes ≡ Ended ((mark ∷ []) ∷ []) → a.1.0 ≡ 0 → a.1.1.0 ≡ 0 → ⊥
 mark_told_as_bad κs a s h tapes first place =
@@ -46,14 +46,14 @@ mark_told_as_bad κs a s h tapes first place =
 
 -- ---- images
 
--- no image is that of a volume
+-- an empty list of images has no image of a volume
 no_images_of : (items : List TapeItem) (bs : List (List ℕ)) → bs ≡ []
     → AreImagesOf (items ∷ []) bs → ⊥
 no_images_of items [] e a = a
 no_images_of items (b ∷ bs) e a = absurd (cc)
 
--- ended_image_dropped: the image of the first volume has ended, and the store was handed none. What
--- it was handed is one list alone, as of images in memory.
+-- ended_image_dropped: the image of the first volume has ended, but the store has received no
+-- image. The images that a store received are unique, as for images in memory.
 ended_image_dropped : (S : _) (D : _) (L : _) (M : _) (g : _) (d : _) (h : _) (e : _) (f : _)
     (k : _) (κs : _) (a : _) (s : _)
     (items : List TapeItem)
@@ -66,7 +66,8 @@ ended_image_dropped S D L M g d h e f k κs a s items l held none one =
     let (_, on) = l.ok (UnderWay [] items) held in
     no_images_of items on.images (one on.images [] on.held none) on.spelled
 
--- image_not_handed_on: the next volume is current, and the store was handed none of the first
+-- image_not_handed_on: the next volume is current, but the store has not received the image of the
+-- first
 image_not_handed_on : (S : _) (D : _) (L : _) (M : _) (g : _) (d : _) (h : _) (e : _) (f : _)
     (k : _) (κs : _) (a : _) (s : _)
     (items : List TapeItem)
@@ -78,8 +79,8 @@ image_not_handed_on S D L M g d h e f k κs a s items l held none one =
     let (_, on) = l.ok (UnderWay [] items) held in
     no_images_of items on.images (one on.images [] on.held none) on.spelled
 
--- store_asked_for_another_volume: the next volume is current, and the store was asked for another
--- one. It was asked by one label alone.
+-- store_asked_for_another_volume: the next volume is current, but the device was requested with
+-- another label. The label of a request is unique.
 store_asked_for_another_volume : (S : _) (D : _) (L : _) (M : _) (g : _) (d : _) (h : _) (e : _)
     (f : _) (k : _) (κs : _) (a : _) (s : _) (other : Vol1)
     → change_volume.Learnt-named S D L M g d h e f k κs a (Ok tt) s
@@ -89,8 +90,8 @@ store_asked_for_another_volume S D L M g d h e f k κs a s other l one not =
 
 -- ---- a call that is refused
 
--- refused_call_passed_on: a block is returned as written, and what it was to be passed on to is as
--- it was. What that holds is one thing alone, as of tapes in memory (`one_in_memory`).
+-- refused_call_passed_on: a block is reported as written, but the inner tapes are unchanged. Their
+-- contents are unique, as for tapes in memory (`one_in_memory`).
 refused_call_passed_on : (T : _) (L : _) (g : _) (d : _) (κs : _) (a : _) (s : _)
     (items : List TapeItem) → refusing_block.Learnt-named T L g d κs a (Ok tt) s
     → s.0.now.inner ≡ a.0.now.inner → g.holds a.0.now.inner (UnderWay [] items)

@@ -37,8 +37,8 @@ used_without_pad_byte T L g d κs a s l odd short =
     (ap (λ c. c.used) l.course) in
     absurd (omega (arith, u, short))
 
--- volume_end_left_out: a block of 400 bytes is written after 1,884, where the capacity is 2,400;
--- the closing labels, of 192 bytes, would exceed it
+-- volume_end_left_out: a block of 400 bytes is written after 1,884 bytes with a capacity of 2,400,
+-- although the closing labels of 192 bytes would exceed it
 volume_end_left_out : (T : _) (L : _) (g : _) (d : _) (κs : _) (a : _) (s : _)
     → write_block.Learnt-named T L g d κs a (Ok tt) s → a.1.1.1.0 ≡ 2400
     → s.0.now.course.used ≡ 2292 → ⊥
@@ -46,8 +46,8 @@ volume_end_left_out T L g d κs a s l capacity used =
     let fits : s.0.now.course.used + 192 ≤ a.1.1.1.0 = l.roomy.room in
     absurd (omega (arith, fits, used, capacity))
 
--- next_headers_left_out: the end of a file is written after 2,292 bytes, where the capacity is
--- 2,500; the headers of another file and the closing labels would exceed it
+-- next_headers_left_out: the end of a file is written after 2,292 bytes with a capacity of 2,500,
+-- although the headers of another file and the closing labels would exceed it
 next_headers_left_out : (T : _) (L : _) (g : _) (d : _) (κs : _) (a : _) (s : _)
     → end_file.Learnt-named T L g d κs a (Ok tt) s → a.1.1.1.1.0 ≡ 2500
     → s.0.now.course.used ≡ 2476 → ⊥
@@ -57,7 +57,7 @@ next_headers_left_out T L g d κs a s l capacity used =
 
 -- ---- changes
 
--- volume_per_block: the second block of the volume fits, and is refused for lack of another volume
+-- volume_per_block: the second block of the volume fits, but is refused because no volume is left
 volume_per_block : (T : _) (L : _) (g : _) (d : _) (κs : _) (a : _) (s : _)
     → write_block.Learnt-named T L g d κs a (Err faults.OutOfVolumes) s
     → a.0.now.course ≡ record { volume = 1; sect = 1; count = 1; used = 1076 }
@@ -68,7 +68,7 @@ volume_per_block T L g d κs a s l course capacity size =
     let used : a.0.now.course.used ≡ 1076 = ap (λ c. c.used) course in
     absurd (omega (arith, full, used, capacity))
 
--- sections of one file, the last of them apart
+-- the sections of a file, divided into the last one and those before it
 last_of : (file j : ℕ) (s : Section) (ss : List Section) → (ys : List Placed) × (x : Placed)
     × (numbered file j (s ∷ ss) ≡ ys ++ x ∷ []) × (x.file ≡ file)
 last_of file j s [] = ([], record { file = file; sect = j; section = s }, refl, refl)
@@ -77,7 +77,7 @@ last_of file j s (t ∷ ss) =
     let x : Placed = record { file = file; sect = j; section = s } in
     (x ∷ h.0, h.1, ap (λ v. x ∷ v) h.2, h.3)
 
--- where there are sections of this file, the last of all is one of them
+-- if a file has sections with blocks, the last section of the set belongs to it
 last_there : (before : List Placed) (file : ℕ) (ss : List Section) → (blocks_of_all ss ≡ [] → ⊥)
     → OfLast (before ++ numbered file 1 ss) (λ ys x. (x.file ≡ file) → ⊥) → ⊥
 last_there before file [] some other = some refl
@@ -90,7 +90,7 @@ nothing_in : {A : Type 0} (xs : List A) → 0 ≡ length xs → xs ≡ []
 nothing_in [] e = refl
 nothing_in (x ∷ xs) e = absurd (omega (arith, e))
 
--- after one block more the current section has a block
+-- after one more block the current section has a block
 one_there : (H : Tapes → Type 0) (vs : List Vol1) (capacity : ℕ) (set_id : List ℕ)
     (file : Opened) (course : Course) (d : Draft) (b : Filled)
     → Grew H vs capacity set_id file course d b → course.count ≡ 0 → ⊥
@@ -108,8 +108,8 @@ one_there H vs capacity set_id file course d b w none =
     ))
     (λ ys x e f. w.is_open.steady.begins empty ys x e (f ∙ sym in_it.sequence))
 
--- block_dropped_at_change: the volume is changed, and the block is not written on the next one,
--- where the tapes contained what was passed
+-- block_dropped_at_change: the volume is changed, but the block is not written on the next volume,
+-- although the tapes contained the data passed before
 block_dropped_at_change : (T : _) (L : _) (g : _) (d : _) (κs : _) (a : _) (s : _)
     (set_id : List ℕ) (dr : Draft) → write_block.Learnt-named T L g d κs a (Ok tt) s
     → IsOpen (g.holds a.0.now.out) a.1.1.0.now a.1.1.1.0 set_id a.1.0.now a.0.now.course dr
@@ -119,7 +119,7 @@ block_dropped_at_change T L g d κs a s set_id dr l stands changed =
     one_there (g.holds s.0.now.out) a.1.1.0.now a.1.1.1.0 set_id a.1.0.now s.0.now.course dr b
     (l.grew set_id dr b refl stands) (ap (λ c. c.count) changed)
 
--- section_number_not_raised: the section on the next volume has the number of the one before it
+-- section_number_not_raised: the section on the next volume has the number of the previous section
 section_number_not_raised : (T : _) (L : _) (g : _) (d : _) (κs : _) (a : _) (s : _)
     → change_to.Learnt-named T L g d κs a (Ok tt) s
     → s.0.now.course.sect ≡ a.0.now.course.sect → ⊥
@@ -127,8 +127,7 @@ section_number_not_raised T L g d κs a s l same =
     absurd (omega (arith, same, ap (λ c. c.sect) l.course))
 
 -- change_told_of_another_volume: at the change the tapes are asked for a volume with another label
--- than the one that is written on it. What they were asked for is one label alone, as of tapes that
--- keep it.
+-- than the one written on it. The label of a request is unique, as for tapes that record it.
 change_told_of_another_volume : (T : _) (L : _) (g : _) (d : _) (κs : _) (a : _) (s : _)
     (other : Vol1) → change_to.Learnt-named T L g d κs a (Ok tt) s → g.asked s.0.now.out other
     → ((x y : Vol1) → g.asked s.0.now.out x → g.asked s.0.now.out y → x ≡ y)
@@ -136,7 +135,8 @@ change_told_of_another_volume : (T : _) (L : _) (g : _) (d : _) (κs : _) (a : _
 change_told_of_another_volume T L g d κs a s other l wrong one differs =
     differs (one _ _ wrong l.asked)
 
--- count_of_the_file: the next section begins with the three blocks that the file has so far
+-- count_of_the_file: the count of the next section begins with the three blocks that the file has
+-- so far
 count_of_the_file : (T : _) (L : _) (g : _) (d : _) (κs : _) (a : _) (s : _)
     → begin_section.Learnt-named T L g d κs a (Ok tt) s → s.0.now.course.count ≡ 3 → ⊥
 count_of_the_file T L g d κs a s l three =
@@ -148,20 +148,20 @@ count_of_the_file T L g d κs a s l three =
 abbrev third : List ℕ → ℕ
 third xs = unwrap_or (slice_get xs 2) 0
 
--- EOF1 and EOV1 differ there
+-- EOF1 and EOV1 differ in this character
 two_trailers : (file : Opened) (sect count : ℕ)
     → trailer_label file sect count false ≡ trailer_label file sect count true → ⊥
 unfolding trailer_label
 two_trailers file sect count e = absurd (let d : 86 ≡ 70 = ap third e in omega arith)
 
--- the second block of a volume's rest
+-- the second block after the first item
 abbrev second_of_rest : List TapeItem → List ℕ
 second_of_rest (x ∷ block b ∷ xs) = b
 second_of_rest _ = []
 
--- eof_where_eov_is_due: the volume that is changed ends by EOF1 and EOF2, as if the file ended.
--- What the tapes hold is one thing alone, as of tapes in memory (`one_in_memory` in
--- MistakesOfTapes).
+-- eof_where_eov_is_due: the volume ends with EOF1 and EOF2, as if the file ended, although the file
+-- continues on the next volume. The contents of the tapes are unique, as for tapes in memory
+-- (`one_in_memory` in MistakesOfTapes).
 eof_where_eov_is_due : (T : _) (L : _) (g : _) (d : _) (κs : _) (a : _) (s : _)
     (items : List TapeItem) → change_to.Learnt-named T L g d κs a (Ok tt) s
     → g.holds a.0.now.out (UnderWay [] items)
@@ -183,8 +183,8 @@ eof_where_eov_is_due T L g d κs a s items l held wrong one =
     = append_cancel_right (items ++ eov) (items ++ eof) (mark ∷ []) q in
     two_trailers file sect count (ap second_of_rest (append_cancel_left items eov eof r))
 
--- A label counts the last six digits of the number of its section's blocks: after 1,000,003 blocks
--- EOF1 says 3.
+-- The count in a label consists of the last six digits of the number of blocks in its section:
+-- after 1,000,003 blocks EOF1 has the count 3.
 abbrev the_head : Head1
 the_head = record {
   file_id = codes "PAYROLL          ";

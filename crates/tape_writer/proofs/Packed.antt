@@ -1,4 +1,4 @@
--- A record's bytes, one block after another.
+-- The bytes of a record, in one block after another.
 use Rattle.std.proofs.Common.{◌≡◌, ◌≢◌, ◌<◌, ◌≤◌, ℕ, List, [], ◌∷◌, ◌++◌, length, false, None}
 use Rattle.std.proofs.Common.{refl, sym, ap, ◌∙◌, subst, inl, inr, arith, drop}
 use Rattle.std.specs.Prelude.{OnOk, IfErr, Result, Ok, Err, ◌⊎◌}
@@ -50,7 +50,7 @@ packing_first H vs cap set_id file course p fs records whole k = record {
   lengths = k.lengths;
 }
 
--- the block that is ready was written
+-- the closed block was written
 pub packing_with : (H H' : Tapes → Type 0) (vs : List Vol1) (cap : ℕ) (set_id : List ℕ)
     (file : Opened) (course course' : Course) (old new left : Packing) (fs : List (List Section))
     (records : List (List ℕ)) (whole rest : List ℕ) (n : ℕ)
@@ -147,9 +147,9 @@ pub flat_some : (H H' : Tapes → Type 0) (vs : List Vol1) (cap : ℕ) (set_id :
 flat_some H H' vs cap set_id file course course' p fs records f k =
     flat_with H H' vs cap set_id file course course' p fs records k (f k.draft k.is_open)
 
--- ---- what is judged
+-- ---- records of valid length
 
--- what remains of a record that was judged is judged
+-- the rest of a record of valid length is also valid
 pub judged_next : (old new left : Packing) (rest : List ℕ) (n : ℕ) → old.closed ≡ false
     → IsJudged old rest → Offers old rest (BlockReady n) new → left ≡ emptied new
     → IsJudged left (drop n rest)
@@ -196,7 +196,7 @@ flat_from H H' vs cap set_id file course course' p fs records [] is none some k 
 flat_from H H' vs cap set_id file course course' p fs records (q ∷ ps) is none some k =
     flat_some H H' vs cap set_id file course course' p fs records (some (λ e. absurd (cc))) k
 
--- all records are in blocks after the packer's block was written, or if it had none
+-- all records are in blocks after the packer's block, if it had one, was written
 pub flat_flushed : {T : Type 0} (G : T → Tapes → Type 0) (vs : List Vol1) (cap : ℕ)
     (set_id : List ℕ) (file : Opened) (old new : Tape T) (p : Packing) (fs : List (List Section))
     (records : List (List ℕ)) → (p.parts ≡ [] → new ≡ old)
@@ -209,7 +209,7 @@ flat_flushed G vs cap set_id file old new p fs records none some k =
     refl (λ e. subst (λ t. IsInside (G t.out) vs cap set_id file t.course p fs records)
     (sym (none e)) k) some k
 
--- what was judged of a record's first offer holds of the whole
+-- a record whose first offer was valid has a valid length
 pub judged_more : (shape : Shape) (first p : Packing) (whole rest : List ℕ) → first.shape ≡ shape
     → first.closed ≡ false → first.begun ≡ false → (Same : Type 0)
     → (Same × (p ≡ first) × (rest ≡ whole))

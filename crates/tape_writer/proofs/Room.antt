@@ -1,4 +1,4 @@
--- Each record takes room of the writer.
+-- Each record uses up room of the writer.
 use Rattle.std.proofs.Common.{◌≡◌, inl, inr, ℕ, ◌+◌, ◌-◌, ◌*◌, ◌<◌, ◌≤◌, List, [], ◌∷◌, ◌++◌}
 use Rattle.std.proofs.Common.{length, Bool, true, false, refl, sym, ap, subst, ◌∙◌, arith}
 use Rattle.std.proofs.Common.{length-append, replicate}
@@ -22,7 +22,7 @@ use Rattle.tape_writer.specs.declared.fault.WriteFault.{WriteFault}
 use Rattle.tape_writer.specs.Draft.{IsRoomy}
 use Rattle.tape_writer.specs.Room.{Passed, room_of}
 
--- a block has no fewer bytes than its parts
+-- a block is at least as long as its parts
 given_size : (p : Packing) (text : List ℕ) → Given p text → size_of p.shape p.parts ≤ length text
 given_size p text given =
     let front : List ℕ = replicate p.shape.offset 32 in
@@ -45,7 +45,7 @@ volume_less vs v w m e few =
     let product : 1 * m ≡ m = omega arith in
     ap (λ k. k * m) one ∙ add-mul (vs - w) 1 m ∙ ap (λ k. (vs - w) * m + k) product
 
--- a block that was written is room taken
+-- writing a block uses up room
 block_room : (vs cap : ℕ) (old new : Course) (p : Packing) (text : List ℕ) → Given p text
     → Passed old (item_size (block text)) new → IsRoomy cap vs new
     → room_of vs cap new (emptied p) ≤ room_of vs cap old p
@@ -58,7 +58,7 @@ block_room vs cap old new p text given (inr next) roomy =
     volume_less vs old.volume new.volume (cap + p.shape.block_len) next roomy.volume in
     omega (arith, product)
 
--- the same of a call that writes it
+-- the same for a call that writes a block
 pub flushed_room : (vs cap : ℕ) (old new : Course) (p q : Packing) (text : List ℕ)
     (r : Result (Unit {0}) WriteFault) → Given p text → q ≡ emptied p
     → OnOk r (Passed old (item_size (block text)) new) → OnOk r (IsRoomy cap vs new)
@@ -68,14 +68,14 @@ flushed_room vs cap old new p q text (Ok x) given is passed roomy =
     subst (λ z. room_of vs cap new z ≤ room_of vs cap old p) (sym is)
     (block_room vs cap old new p text given passed roomy)
 
--- nothing was current
+-- there was no current block
 pub none_room : (vs cap : ℕ) (course : Course) (p q : Packing) → p.parts ≡ [] → q ≡ emptied p
     → room_of vs cap course q ≤ room_of vs cap course p
 none_room vs cap course p q none is =
     let size : size_of p.shape p.parts ≡ size_of p.shape [] = ap (size_of p.shape) none in
     subst (λ z. room_of vs cap course z ≤ room_of vs cap course p) (sym is) (omega (arith, size))
 
--- an offer that closes the block gives no room back
+-- an offer that closes the block does not increase the room
 pub offered_room : (vs cap : ℕ) (course : Course) (p q : Packing) (rest : List ℕ) (n : ℕ)
     → Offers p rest (BlockReady n) q → room_of vs cap course q ≤ room_of vs cap course p
 offered_room vs cap course p q rest n (some, inl closed) =
@@ -94,7 +94,7 @@ offered_room vs cap course p q rest n (some, inr (inr fills)) =
     ap (λ l. (vs - course.volume) * (cap + l)) length_is in
     omega (arith, product, fills.filled)
 
--- a unit has a byte
+-- a unit has at least one byte
 unit_some : (format : Format) (rec_len block_len offset n : ℕ) (pad begun : Bool)
     → HasWritableRecords format rec_len block_len offset pad
     → (begun ≡ true → format ≡ Spanned)
@@ -106,7 +106,7 @@ unit_some Fixed rec_len block_len offset n pad false w spanned judged =
 unit_some Counted rec_len block_len offset n pad begun w spanned judged = omega arith
 unit_some Spanned rec_len block_len offset n pad begun w spanned judged = omega arith
 
--- one that takes the rest of a record does
+-- an offer that accepts the rest of a record uses up room
 pub taken_room : (vs cap : ℕ) (course : Course) (p q : Packing) (rest : List ℕ)
     → IsWritable p.shape → (p.begun ≡ true → p.shape.format ≡ Spanned) → IsJudged p rest
     → Offers p rest Taken q → room_of vs cap course q < room_of vs cap course p
@@ -123,7 +123,7 @@ taken_room vs cap course p q rest w spanned judged ends =
     ap (λ l. (vs - course.volume) * (cap + l)) length_is in
     omega (arith, product, size, size_push p.shape p.parts x, some, ends.within, length_is)
 
--- a record that is begun is in format S
+-- a record can be unfinished only in format S
 pub begun_spanned : (shape : Shape) (p q r : Packing) (rest : List ℕ) (n : ℕ) → p.shape ≡ shape
     → p.closed ≡ false → (p.begun ≡ true → shape.format ≡ Spanned)
     → Offers p rest (BlockReady n) q → r ≡ emptied q → r.begun ≡ true → shape.format ≡ Spanned

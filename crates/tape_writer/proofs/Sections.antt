@@ -1,4 +1,4 @@
--- A section that ends: its labels, its items and its size.
+-- A finished section: its labels, its items and its size.
 use Rattle.std.proofs.Common.{◌≡◌, ◌<◌, ◌≤◌, ℕ, ◌+◌, List, [], ◌∷◌, ◌++◌, length, Bool, true, false}
 use Rattle.std.proofs.Common.{refl, sym, ap, ◌∙◌, subst, arith, add-one}
 use Rattle.std.specs.Prelude.{map, slice_get, ◌%◌}
@@ -155,7 +155,7 @@ of_file file course bs eof p q = record {
   trailers = refl;
 }
 
--- **what the writer counts is what the rule of the change speaks of**
+-- **the size that the writer counts is the one in the rule for the change of volumes**
 pub used_is : (vs : List Volume) (xs : List Placed)
     (file : Opened) (course : Course) (bs : List Filled) (eof : Bool) (k : ℕ)
     → course.volume ≡ k + 1

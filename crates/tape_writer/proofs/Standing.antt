@@ -1,4 +1,4 @@
--- A writer that is as it was: what the tapes hold is a prefix of itself.
+-- An unchanged writer: the contents of the tapes are a prefix of themselves.
 use Rattle.std.proofs.Common.{◌≡◌, ℕ, List, inl, inr, subst}
 use Rattle.tape_label.specs.declared.values.Vol1.{Vol1}
 use Rattle.tape_blocks.specs.Packing.{Packing}
@@ -77,7 +77,7 @@ waiting_left H K vs cap set_id course told f (inr (k, some)) = inr (
   some,
 )
 
--- inside a file that is current all that was passed is held
+-- inside a file, the tapes contain everything that was passed
 pub all_writing : {T : Type 0} (H : Tapes → Type 0) (w : SetState T) (file : Opened)
     (told : List Told) → IsInFile file w.phase → IsWriting H w told
     → IsInLast H w.volumes w.capacity w.set_id told
@@ -97,7 +97,7 @@ all_writing H w file told is k = go w.phase is k.stands
     }
     go _ is s = absurd is
 
--- and so a prefix of it
+-- inside a file, the tapes contain a prefix of everything that was passed
 pub inside_writing : {T : Type 0} (H : Tapes → Type 0) (w : SetState T) (file : Opened)
     (told : List Told) → IsInFile file w.phase → IsWriting H w told → IsLeftInside H w told
 inside_writing H w file told is k = go w.phase is k.stands

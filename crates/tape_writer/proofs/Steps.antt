@@ -1,4 +1,4 @@
--- Each step of the writer keeps what was written a draft of a valid, tight set.
+-- After each step of the writer the set written so far is still a draft of a valid, tight set.
 use Rattle.std.proofs.Common.{◌≡◌, ◌<◌, ◌≤◌, ℕ, ◌+◌, List, [], ◌∷◌, ◌++◌, length, Bool, true, false}
 use Rattle.std.proofs.Common.{Some, refl, sym, ap, ◌∙◌, subst, inl, append_assoc, arith}
 use Rattle.std.proofs.Common.{length-append}
@@ -71,7 +71,8 @@ added vs cap set_id file course d b sized w fits = record {
   };
 }
 
--- a block after the ones of the current section: the change before it stays due
+-- if a block is appended to the current section, the change of volumes before the section was still
+-- required
 pub goes_on : (vs : List Volume) (cap : ℕ) (set_id : List ℕ)
     (file : Opened) (course : Course) (d : Draft) (b : Filled) → Steady vs cap set_id file course d
     → Within vs cap set_id file course (d.blocks ++ b ∷ []) d

@@ -1,4 +1,4 @@
--- What comes next of the records does not fit, and no volume is left.
+-- The next block of the records does not fit, and no volume is left.
 use Rattle.std.proofs.Common.{◌≡◌, ◌<◌, ◌≤◌, ℕ, ◌+◌, List, [], ◌∷◌, ◌++◌, length, false}
 use Rattle.std.proofs.Common.{None, refl, sym, ap, ◌∙◌, subst, arith, drop}
 use Rattle.std.specs.List.{AllByRecursion}
@@ -26,12 +26,12 @@ use Rattle.tape_writer.specs.Draft.{open_blocks}
 use Rattle.tape_writer.specs.Inside.{IsInside, IsPacking, IsFlat, IsStuck, IsLeftOut, Continues}
 use Rattle.tape_writer.proofs.Steps.{block_due, end_refused}
 
--- ---- what comes next
+-- ---- the next block
 
 abbrev the_joined : List (List ℕ) → Joined
 the_joined records = record { records = records; rest = None }
 
--- the block that is closed, and after it the rest of its record
+-- the closed block, followed by the rest of its record
 pub continues_put : (taken : List Filled) (p q : Packing) (records : List (List ℕ))
     (whole rest text : List ℕ) (n : ℕ) → Going taken p records whole rest → IsJudged p rest
     → Offers p rest (BlockReady n) q → Given q text
@@ -74,7 +74,7 @@ continues_last taken p records text run given ended =
       ends = λ e. refl;
     }
 
--- nothing, where all records are in blocks
+-- no block, if all records are in blocks
 pub continues_end : (shape : Shape) (taken : List Filled) (records : List (List ℕ))
     → packing.IsTight shape records taken → Continues shape records taken []
 continues_end shape taken records tight =
@@ -107,7 +107,7 @@ left_out n cap course p text given none due = record {
   due = block_due cap course.used (item_size (block text)) due;
 }
 
--- a record that is put
+-- a record that is being written
 pub stuck_put : (H : Tapes → Type 0) (vs : List Vol1) (cap : ℕ) (set_id : List ℕ)
     (file : Opened) (course : Course) (p q : Packing) (fs : List (List Section))
     (records : List (List ℕ)) (whole rest : List ℕ) (n : ℕ)

@@ -1,4 +1,4 @@
--- What one more section does to the volumes.
+-- The effect of one more section on the volumes.
 use Rattle.std.proofs.Common.{◌≡◌, ◌≢◌, ◌<◌, ℕ, zero, suc, ◌+◌, List, [], ◌∷◌, ◌++◌, Bool, true}
 use Rattle.std.proofs.Common.{false, cond, refl, sym, ap, ◌∙◌, append_assoc, arith, add-one}
 use Rattle.std.specs.Prelude.{map, ◌==◌, slice_get}
@@ -59,7 +59,7 @@ pub body_other : (vs : List Volume) (xs : List Placed) (x : Placed) (k : ℕ)
 body_other vs xs x k e =
     ap (λ v. group_of (slice_get vs k) ++ all_entries v) (on_other (k + 1) xs x e)
 
--- the volumes before the section's are as they were
+-- the volumes before that of the section are unchanged
 pub first_same : (vs : List Volume) (xs : List Placed) (x : Placed) (k : ℕ) → k < x.section.volume
     → first_volumes vs (xs ++ x ∷ []) k ≡ first_volumes vs xs k
 first_same vs xs x zero h = refl

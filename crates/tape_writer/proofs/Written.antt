@@ -22,7 +22,7 @@ use Rattle.tape_writer.specs.Tapes.{Tapes, Ended, UnderWay, all_volumes}
 use Rattle.tape_writer.specs.Images.{IsNext, IsImageSoFar, IsImageOf, AreImagesOf, IsUnderWay}
 use Rattle.tape_writer.specs.Images.{AreImages}
 
--- an open writer has written the items and no more
+-- an open writer has written exactly the items
 contents_open : (items : List TapeItem) (w : Writer) (s : IsImageSoFar items w)
     → w.standing ≡ writing → w.contents ≡ Some s.bytes
 contents_open items w s is =
@@ -31,7 +31,7 @@ contents_open items w s is =
 not_writing : (w : Writer) → w.standing ≡ writing → w.standing ≢ finished
 not_writing w a b = cc
 
--- the encoding that is written of a block has the block's size
+-- the encoding written for a block has the size of the block
 block_size : (content : List ℕ)
     → length (written (block content)) ≡ item_size (block content)
 block_size content =
@@ -101,7 +101,7 @@ ended items old new is put s =
       },
     )
 
--- an answer that is Ok comes from an open writer
+-- only an open writer returns Ok
 put_open : (s after : Standing) (bytes : List ℕ) (old new : Writer)
     → PutsFrom s bytes after old (Ok tt) new → s ≡ writing
 put_open writing after bytes old new h = refl
@@ -114,7 +114,7 @@ block_open writing content old new h = refl
 block_open finished content old new (e, _) = absurd (cc e)
 block_open broken content old new (e, _) = absurd (cc e)
 
--- the image that is here is the current one
+-- the image of the tapes is the current one
 under_way_is : (items : List TapeItem) (image : Option Writer) (u : Writer) → image ≡ Some u
     → IsUnderWay items image → IsImageSoFar items u
 under_way_is items image u e s = subst (IsUnderWay items) e s
@@ -135,7 +135,7 @@ one_image [] (b ∷ bs) items bytes a i = absurd a
 one_image (v ∷ vs) [] items bytes a i = absurd a
 one_image (v ∷ vs) (b ∷ bs) items bytes (x, a) i = (x, one_image vs bs items bytes a i)
 
--- an image with nothing in it
+-- an empty image
 started : (w : Writer) → w.standing ≡ writing → w.size ≡ 0 → w.contents ≡ Some []
     → IsImageSoFar [] w
 started w stands size contents = record {
@@ -150,7 +150,8 @@ started w stands size contents = record {
   front = nothing_more;
 }
 
--- a call that was refused: the items stay, and after them is a prefix of what it was to write
+-- a call that was refused: the items are unchanged, followed by a prefix of the bytes that it was
+-- to write
 put_refused : (bytes : List ℕ) (after s : Standing) (items : List TapeItem) (old new : Writer)
     (f : ImageWriteFault) → old.standing ≡ s → IsNext bytes
     → PutsFrom s bytes after old (Err f) new → IsImageSoFar items old → IsImageSoFar items new
@@ -190,11 +191,11 @@ block_refused content writing items old new f is put so = go _ (is_no_block cont
     go X false p = put_refused (written (block content)) writing writing items old new f is
         (inr (block content, refl)) p so
 
--- what a store holds of images that were handed on
+-- the relation between a store and the images that it received
 abbrev StoreHolds : Type 1
 StoreHolds = Bool → List (List ℕ) → Type 0
 
--- the image here, once it is another one
+-- the image of the tapes after a change
 become : (H : StoreHolds) (image other : Option Writer) (u w : Writer)
     (volumes : List (List TapeItem)) (items more : List TapeItem) → image ≡ Some u
     → other ≡ Some w → (IsImageSoFar items u → IsImageSoFar more w)
@@ -202,7 +203,7 @@ become : (H : StoreHolds) (image other : Option Writer) (u w : Writer)
 become H image other u w volumes items more there here step (s, h) =
     (subst (IsUnderWay more) (sym here) (step (under_way_is items image u there s)), h)
 
--- the image here, once an item was put
+-- the image of the tapes after an item was written
 put_at : (item : TapeItem) (H : StoreHolds) (image other : Option Writer) (u w : Writer)
     (volumes : List (List TapeItem)) (items : List TapeItem) → image ≡ Some u → other ≡ Some w
     → u.standing ≡ writing → length (written item) ≡ item_size item → PutItem item u w
@@ -229,7 +230,7 @@ mark_at H image other u w volumes items there here put a =
     put_at mark H image other u w volumes items there here
     (put_open u.standing writing (written mark) u w put) refl put a
 
--- the image here, once a call was refused
+-- the image of the tapes after a call was refused
 kept_at : (H : StoreHolds) (image other : Option Writer) (u w : Writer) (tapes : Tapes)
     → image ≡ Some u → other ≡ Some w
     → ((items : List TapeItem) → IsImageSoFar items u → IsImageSoFar items w)
@@ -254,7 +255,7 @@ put_kept bytes after H image other u w f tapes next there here put =
     kept_at H image other u w tapes there here
     (λ items so. put_refused bytes after u.standing items u w f refl next put so)
 
--- the image here, once its end-of-medium marker was put and it was handed on
+-- the image of the tapes after its end-of-medium marker was written and it was passed to the store
 pub end_at : (H H' : StoreHolds) (image other : Option Writer) (u w : Writer) (tapes : Tapes)
     → image ≡ Some u → other ≡ None
     → PutsFrom u.standing (little_bytes 4 end_word) finished u (Ok tt) w
@@ -274,7 +275,7 @@ end_at H H' image other u w (UnderWay volumes items) there gone put keep (s, h) 
       },
     )
 
--- the next image is begun
+-- the next image begins
 pub begun_at : (H H' : StoreHolds) (image : Option Writer) (w : Writer) (k : Option (List ℕ))
     (volumes : List (List TapeItem))
     → w ≡ record { size = 0; standing = writing; contents = k }

@@ -1,4 +1,4 @@
--- The meaning of the system's errors: only one kind of them says that nothing exists.
+-- The meaning of the system's errors: only one kind of error says that a file does not exist.
 use Rattle.std.specs.Prelude.{Option, Some, None, Result, Ok, Err, Bool, true, false, ◌||◌}
 use Rattle.std.specs.Prelude.{ℤ, pos, if◌then◌else◌}
 use Rattle.std.specs.Ordering.{int_eq}
@@ -14,22 +14,22 @@ use Rattle.tape_writer.specs.declared.system.answers.LockFault.TheVariants.{InUs
 use Rattle.tape_writer.specs.declared.system.fault.FileFault.{FileFault}
 use Rattle.tape_writer.specs.declared.system.fault.FileFault.TheVariants.{NotOpened}
 
--- only an error of this kind says that nothing exists
+-- only an error of the kind `NotFound` says that no file exists
 abbrev pub absent_of : ErrorKind → Result (Option Metadata) FileFault
 absent_of NotFound = Ok None
 absent_of _ = Err NotOpened
 
--- what a look found, if it could look
+-- the result of a lookup
 abbrev pub found_of : Result Metadata Error → Result (Option Metadata) FileFault
 found_of (Ok there) = Ok (Some there)
 found_of (Err error) = absent_of (error_kind error)
 
--- the error with number 37, ENOLCK, which is that of NFS without a service for locks
+-- the error number 37, ENOLCK, which NFS returns if the lock service is missing
 abbrev pub is_enolck : Option ℤ → Bool
 is_enolck (Some code) = int_eq code (pos 37)
 is_enolck None = false
 
--- an error of this kind
+-- an error of the kind `Unsupported`
 abbrev pub is_unsupported : ErrorKind → Bool
 is_unsupported Unsupported = true
 is_unsupported _ = false
@@ -38,7 +38,7 @@ is_unsupported _ = false
 abbrev pub has_no_locks : Error → Bool
 has_no_locks error = is_unsupported (error_kind error) || is_enolck (raw_os_error error)
 
--- whether a run may continue with a file that it tried to lock
+-- whether a run may continue with a file after trying to lock it
 abbrev pub locked_of : Result (Unit {0}) TryLockError → Result (Unit {0}) LockFault
 locked_of (Ok _) = Ok tt
 locked_of (Err attempts.WouldBlock) = Err InUse

@@ -1,4 +1,4 @@
--- Blank volumes: their labels, from a prefix and a number, and their images.
+-- Blank volumes: their labels, made from a prefix and a number, and their images.
 use Rattle.std.specs.Prelude.{◌≡◌, ◌⊎◌, ◌≤◌, ℕ, List, [], ◌∷◌, ◌++◌, length, replicate}
 use Rattle.std.specs.List.{AllByRecursion}
 use Rattle.tape_label.specs.declared.values.Vol1.{Vol1}
@@ -13,12 +13,12 @@ IsPrefixByte b = ((65 ≤ b) × (b ≤ 90)) ⊎ ((48 ≤ b) × (b ≤ 57))
 abbrev pub IsPrefix : List ℕ → Type 0
 IsPrefix text = (length text ≡ 3) × AllByRecursion IsPrefixByte text
 
--- the prefix, and the number in three digits
+-- the prefix, followed by the number in three digits
 abbrev pub volume_id : List ℕ → ℕ → List ℕ
 volume_id prefix n = prefix ++ digits 3 n
 
--- The volume with this number: its identifier, version 4, and spaces in all other fields. 32 is the
--- space and 52 the digit 4.
+-- The label of volume number n: its identifier, version 4, and spaces in all other fields. 32 is
+-- the space and 52 the digit 4.
 abbrev pub blank_volume : List ℕ → ℕ → Vol1
 blank_volume prefix n = record {
   volume = volume_id prefix n;
@@ -28,12 +28,12 @@ blank_volume prefix n = record {
   version = 52;
 }
 
--- the word of a block of 80 bytes
+-- the length word of a block of 80 bytes
 abbrev pub label_word : List ℕ
 label_word = 80 ∷ 0 ∷ 0 ∷ 0 ∷ []
 
--- Its image: the label between its two words, two tape marks of four zeros each, and the
--- end-of-medium marker.
+-- The image of a blank volume: the label between its two length words, two tape marks of four zeros
+-- each, and the end-of-medium marker.
 abbrev pub blank_image : Vol1 → List ℕ
 blank_image volume = label_word ++ text_of (vol1_pieces volume) ++ label_word
     ++ replicate 8 0 ++ replicate 4 255

@@ -1,5 +1,5 @@
 -- Test cases for the definitions of tapes, of the files passed to a writer, and of its refusals.
--- The function `laws::cases` has them as its contract.
+-- They are part of the contract of the function `laws::cases`.
 use Rattle.std.specs.Prelude.{◌≡◌, ◌≢◌, ◌≤◌, ◌+◌, ℕ, List, [], ◌∷◌, ◌++◌, length, map, take, Ok}
 use Rattle.std.specs.Prelude.{Err, Option, Some, None, true, false, ◌⊎◌, Result, codes}
 use Rattle.std.specs.List.{AllByRecursion}
@@ -52,7 +52,7 @@ use Rattle.tape_writer.specs.Tapes.{Failures, Grows, HasCause, WasAsked}
 use Rattle.tape_writer.specs.Told.{Told, opened_by, with_record, labelled, IsWithin, IsOfFile}
 use Rattle.tape_writer.specs.Told.{IsFiled, AreFiled, IsWrittenSet}
 
--- a model of tapes: their contents, their failures, and the last label asked for
+-- a model of tapes: their contents, their failures, and the label of the last volume requested
 abbrev pub Bare : Type 0
 Bare = Tapes × Failures × Vol1
 
@@ -61,7 +61,8 @@ bare = record { holds = λ s t. t ≡ s.0; failures = λ s. s.1; asked = λ s v.
 
 -- tapes, and the counts of their failures
 pub record CasesOfTapes : Type 0 where
-  -- an item is appended to the current volume, a volume begins after it, and closing ends it
+  -- an item is appended to the current volume, the next volume begins, and closing ends the current
+  -- volume
   pub takes : (after : Tapes) → Takes {E = ℕ} (bad ∷ []) (λ t. t ≡ UnderWay [] (mark ∷ []))
       (Ok tt) (λ t. t ≡ after) → UnderWay [] (mark ∷ bad ∷ []) ≡ after
   pub changes : (after : Tapes) → Changes {E = ℕ} [] (λ t. t ≡ UnderWay [] (mark ∷ [])) (Ok tt)
@@ -71,11 +72,11 @@ pub record CasesOfTapes : Type 0 where
   -- a refusal leaves the contents unchanged
   pub keeps : (after : Tapes) → Keeps {E = ℕ} (λ t. t ≡ Ended []) (Err 0) (λ t. t ≡ after)
       → Ended [] ≡ after
-  -- the volume with the number 2 was asked for with the second label, and before the first volume
-  -- none was
+  -- volume number 2 was requested with the second label; before the first volume no volume was
+  -- requested
   pub asked_second : (v w asked : Vol1) → WasAsked (λ u. u ≡ asked) (v ∷ w ∷ []) 2 → w ≡ asked
   pub none_asked : (volumes : List Vol1) → WasAsked (λ _. ⊥) volumes 0
-  -- the current volume is the last of all, and none follows it
+  -- the current volume is the last of all volumes
   pub last_of_all : all_volumes (UnderWay ((mark ∷ []) ∷ []) (bad ∷ []))
       ≡ (mark ∷ []) ∷ (bad ∷ []) ∷ []
   pub second : volume_at (UnderWay ((mark ∷ []) ∷ []) (bad ∷ [])) 1 ≡ bad ∷ []
@@ -95,8 +96,8 @@ pub record CasesOfTapes : Type 0 where
   -- and no count decreases
   pub no_count_falls : (old new : Failures) → Grows old new
       → (old.device ≤ new.device) × (old.memory ≤ new.memory)
-  -- volumes that ended are the first of the contents, and the counted size is that of the current
-  -- one
+  -- the volumes that have ended are the first of the contents, and the counted size is that of the
+  -- current volume
   pub ended_stay : (tapes : Tapes) (used : ℕ) (volumes : List (List TapeItem))
       (l : Lasts (λ t. t ≡ tapes) used volumes) → (UnderWay (volumes ++ l.more) l.items ≡ tapes)
       × (used ≡ items_size l.items)
@@ -106,7 +107,7 @@ pub record CasesOfTapes : Type 0 where
   pub writer_lasts : (old new : SetState Bare) → TapeLasts bare (tape_of old) (tape_of new)
       → Lasting (λ t. t ≡ old.out.0) old.out.1 old.course.used
       (λ t. t ≡ new.out.0) new.out.1 new.course.used
-  -- the current volume was asked for with its own label, and still was after a success
+  -- the current volume was requested with its own label, and a call that succeeds preserves this
   pub has_asked : (w : SetState Bare) → HasAsked bare w
       → WasAsked (λ v. v ≡ w.out.2) w.volumes w.course.volume
   pub stays_asked : (volumes : List Vol1) (old new : Tape Bare)
@@ -116,33 +117,33 @@ pub record CasesOfTapes : Type 0 where
 
 -- volumes as images
 pub record CasesOfImages : Type 0 where
-  -- the bytes of an image encode its volume, including the end-of-medium marker, and their number
-  -- is counted
+  -- the bytes of an image encode its volume, including the end-of-medium marker; the size counts
+  -- them
   pub its_spelling : (items : List TapeItem) (bytes : List ℕ) → IsImageOf items bytes
       → Spells bytes items × (length bytes ≡ items_size items + 4)
-  -- the bytes of a current image encode the items so far, and nothing follows them if nothing
-  -- failed
+  -- the bytes of a current image encode the items so far; nothing follows them if nothing failed
   pub spelled_so_far : (items : List TapeItem) (w : Writer) (i : IsImageSoFar items w)
       → w.standing ≡ writing
       → (w.contents ≡ Some (i.bytes ++ i.more)) × Leads i.bytes items [] × (i.more ≡ [])
       × (w.size ≡ items_size items)
-  -- and if it failed, a prefix of the next write follows
+  -- if the image failed, a prefix of the next write follows
   pub front_behind : (items : List TapeItem) (w : Writer) (i : IsImageSoFar items w)
       → (next : List ℕ) × (rest : List ℕ) × (next ≡ i.more ++ rest)
       × ((next ≡ little_bytes 4 end_word) ⊎ ((item : TapeItem) × (next ≡ written item)))
-  -- and its end-of-medium marker is not written yet
+  -- the end-of-medium marker is not written yet
   pub not_ended : (items : List TapeItem) (w : Writer) → IsImageSoFar items w
       → w.standing ≡ finished → ⊥
-  -- each volume that ended has its image, in order, and there are no other images
+  -- each volume that has ended has its image, in order, and there are no other images
   pub none_without_image : (v : List TapeItem) → AreImagesOf (v ∷ []) [] → ⊥
   pub no_image_besides : (b : List ℕ) → AreImagesOf [] (b ∷ []) → ⊥
   pub in_order : (v u : List TapeItem) (b c : List ℕ) → AreImagesOf (v ∷ u ∷ []) (b ∷ c ∷ [])
       → IsImageOf v b × IsImageOf u c
-  -- the store received exactly these
+  -- the store received exactly the images of the volumes
   pub handed : (given : List (List ℕ)) (volumes : List (List TapeItem))
       (h : HandedOn (λ images. images ≡ given) volumes)
       → (h.images ≡ given) × AreImagesOf volumes h.images
-  -- if all have ended there is no current image, and no device is lent; otherwise there is one
+  -- if all volumes have ended there is no current image, and no device is lent; otherwise there is
+  -- one
   pub all_handed : (w : Writer) (v : List (List TapeItem))
       → AreImages (λ lent images. Unit {0}) (Some w) (Ended v) → ⊥
   pub none_lent : (v : List (List TapeItem))
@@ -153,30 +154,30 @@ pub record CasesOfImages : Type 0 where
       → AreImages (λ lent images. Unit {0}) (Some w) (UnderWay v items) → IsImageSoFar items w
   pub under_way_is_here : (v : List (List TapeItem)) (items : List TapeItem)
       → AreImages (λ lent images. Unit {0}) None (UnderWay v items) → ⊥
-  -- an image accepts more while it is written and has room for the longest block
+  -- an image accepts further items while it is written and has room for the longest block
   pub takes_more : (w : Writer) → w.standing ≡ writing → w.size ≡ 4294867287
       → TakesNoMore (Some w) → ⊥
   pub has_failed : (w : Writer) → w.standing ≡ broken → TakesNoMore (Some w)
   pub is_full : (w : Writer) → w.size ≡ 4294867288 → TakesNoMore (Some w)
-  -- and a call of its tapes fails only if it does not, or if no device is left
+  -- a call of image tapes fails only if the image accepts no further items, or no device is left
   pub stopped : (left : ℕ) (image : Option Writer) → HasStopped left image
       → (left ≡ 0) ⊎ TakesNoMore image
   -- a writer of images has its own image, and the contents of its store
   pub of_the_writer : (t : Images ℕ) (v : List (List TapeItem))
       → Holds (λ n lent images. n ≡ 7) t (Ended v) → (t.image ≡ None) × (t.store ≡ 7)
-  -- in memory there is room for the lent one, too
+  -- images in memory also have room for the image whose device is lent
   pub room_for_the_lent : HoldsImages [] 2 2 true [] → ⊥
   pub kept_as_handed : (kept images : List (List ℕ)) → HoldsImages kept 5 1 false images
       → kept ≡ images
 
--- the files passed, and what is written
+-- the files passed, and the set written
 pub record CasesOfSets : Type 0 where
   -- a file has the identifier and the number of the writer, and its first section
   pub opened : (id : List ℕ) (head : Head1) (shape : Shape)
       → ((opened_by id 2 head shape).head.set_id ≡ id)
       × ((opened_by id 2 head shape).head.sequence ≡ 2)
       × ((opened_by id 2 head shape).head.sect ≡ 1) × ((opened_by id 2 head shape).shape ≡ shape)
-  -- a record is appended to the others of the last file
+  -- a record is appended to the records of the last file
   pub put_last : (t u : Told) (r : List ℕ) → with_record (t ∷ u ∷ []) r
       ≡ t ∷ record { file = u.file; records = u.records ++ r ∷ [] } ∷ []
   -- there are as many files on the volumes as were passed, in order
@@ -184,18 +185,19 @@ pub record CasesOfSets : Type 0 where
   pub none_besides : (capacity : ℕ) (f : List Section) → AreFiled capacity [] (f ∷ []) → ⊥
   pub in_order : (capacity : ℕ) (t u : Told) (f g : List Section)
       → AreFiled capacity (t ∷ u ∷ []) (f ∷ g ∷ []) → IsFiled capacity t f × IsFiled capacity u g
-  -- and they join to exactly the records passed, with none unfinished, tight in the shape passed
+  -- a file contains exactly the records passed, none of them unfinished, without unused space in
+  -- the shape passed
   pub its_records : (capacity : ℕ) (t : Told) (f : List Section) → IsFiled capacity t f
       → ((join (section_parts f)).records ≡ t.records) × ((join (section_parts f)).rest ≡ None)
       × IsTightFile capacity t.file.shape f
-  -- a section has the labels that are written for its file, and no others
+  -- a section has exactly the labels written for its file
   pub its_labels : (file : Opened) (x : Placed) (o : IsOfFile file x)
       → (x.section.hdr1 ≡ first_label file x.sect)
       × (x.section.hdr2 ≡ second_label file kinds.Hdr2) × (x.section.headers ≡ [])
       × (x.section.trailer ≡ trailer_label file x.sect (length x.section.blocks) o.eof)
       × (x.section.trailers ≡ second_label file (second_kind o.eof) ∷ [])
-  -- a written set is valid and tight, with this identifier, on the first of the volumes passed,
-  -- each within the capacity, and the tapes contain its items
+  -- a written set is valid and tight, has the given identifier, is on the first of the volumes
+  -- passed, each within the capacity, and the tapes contain its items
   pub written_is : (tapes : Tapes) (volumes : List Vol1) (capacity : ℕ) (set_id : List ℕ)
       (told : List Told) (w : IsWrittenSet (λ t. t ≡ tapes) volumes capacity set_id told)
       → IsLawful w.layout × IsTight w.layout capacity (map (λ t. t.file.shape) told)
@@ -208,10 +210,10 @@ pub record CasesOfSets : Type 0 where
 
 -- a writer, its refusals and their effects
 pub record CasesOfRefusals : Type 0 where
-  -- a call writes the same set
+  -- a call does not change the set
   pub same_set : (old new : SetState ℕ) → SameSet old new → (new.volumes ≡ old.volumes)
       × (new.capacity ≡ old.capacity) × (new.set_id ≡ old.set_id)
-  -- a set cannot begin: each fault has its cause, and there is no other fault
+  -- the faults of creating a writer: each has its cause, and there is no other fault
   pub new_field : (id : List ℕ) (volumes : List Vol1) → IsNewFault id volumes faults.BadField
       → IsText id → AllByRecursion IsTextVolume volumes → ⊥
   pub enough_volumes : (id : List ℕ) (v : Vol1) → IsNewFault id (v ∷ []) faults.OutOfVolumes → ⊥
@@ -221,7 +223,7 @@ pub record CasesOfRefusals : Type 0 where
       × (IsNewFault id volumes faults.Device → ⊥)
       × (IsNewFault id volumes faults.OutOfMemory → ⊥)
       × (IsNewFault id volumes faults.Failed → ⊥)
-  -- a file cannot begin
+  -- the faults of beginning a file
   pub begin_field : (capacity n : ℕ) (head : Head1) (shape : Shape)
       → IsBeginFault capacity n head shape faults.BadField → IsTextHead head → ⊥
   pub begin_shape : (capacity n : ℕ) (head : Head1) (shape : Shape)
@@ -234,16 +236,16 @@ pub record CasesOfRefusals : Type 0 where
       → (IsBeginFault capacity n head shape faults.OutOfVolumes → ⊥)
       × (IsBeginFault capacity n head shape faults.RecordLength → ⊥)
       × (IsBeginFault capacity n head shape faults.NoFile → ⊥)
-  -- a record cannot be written
+  -- the faults of writing a record
   pub put_length : (o : OpenFile) (bytes : List ℕ) → IsPutFault o bytes faults.RecordLength
       → HasLength o bytes → ⊥
   pub no_other_put : (o : OpenFile) (bytes : List ℕ) → (IsPutFault o bytes faults.NoFile → ⊥)
       × (IsPutFault o bytes faults.TooMany → ⊥) × (IsPutFault o bytes faults.BadShape → ⊥)
-  -- a set cannot be finished
+  -- the faults of finishing a set
   pub some_file : IsFinishFault 1 faults.NoFile → ⊥
   pub no_other_end : (IsFinishFault 0 faults.OutOfVolumes → ⊥)
       × (IsFinishFault 0 faults.RecordLength → ⊥) × (IsFinishFault 0 faults.TooMany → ⊥)
-  -- a fault that ends a writer leaves one that failed; otherwise it is unchanged
+  -- a fault that ends a writer leaves a failed writer; any other fault leaves it unchanged
   pub ends_for_good : (old new : SetState ℕ) → (Leaves old new faults.Device
       → new.phase ≡ phases.Failed) × (Leaves old new faults.OutOfMemory
       → new.phase ≡ phases.Failed) × (Leaves old new faults.OutOfVolumes
@@ -253,17 +255,17 @@ pub record CasesOfRefusals : Type 0 where
       × (Leaves old new faults.NoFile → new ≡ old)
       × (Leaves old new faults.BadField → new ≡ old)
   pub does_not_end : (IsEnding faults.RecordLength → ⊥) × (IsEnding faults.NoFile → ⊥)
-  -- a call that is refused returns the fault, and changes nothing
+  -- a refused call returns the fault, and changes nothing
   pub refuses : (old new : SetState ℕ) (result : Result (Unit {0}) WriteFault)
       → Refuses old result new faults.NoFile → (result ≡ Err faults.NoFile) × (new ≡ old)
-  -- a property of the open file holds for it, and there is none between two files,
+  -- a property of the open file is stated inside a file, and makes no claim between two files,
   pub of_the_open : (o u : OpenFile) → IfFiling (phases.Filing o) (λ f. f ≡ u) → o ≡ u
   pub of_no_other : IfFiling phases.Between (λ f. ⊥)
-  -- and a record has a length of its shape
+  -- and a record has one of the lengths of its shape
   pub has_length : (o : OpenFile) → o.file.shape.format ≡ Fixed → HasLength o []
       → 0 ≡ o.file.shape.rec_len
-  -- small letters are written in no field; a volume's identifiers begin with three capital letters
-  -- or digits
+  -- a field with small letters is not written; a volume identifier begins with three capital
+  -- letters or digits
   pub a_text : IsText (codes "AB 12")
   pub no_text : IsText (codes "ABc") → ⊥
   pub three : IsPrefix (codes "A1") → ⊥
@@ -272,25 +274,25 @@ pub record CasesOfRefusals : Type 0 where
   -- a writer keeps the files passed to it
   pub keeps_files : (tapes : Tapes) (w : SetState ℕ) (told : List Told)
       → IsWriting (λ t. t ≡ tapes) w told → w.files ≡ map (λ t. t.file) told
-  -- for a writer that failed the tapes are unspecified, and between files there is no current one
+  -- for a failed writer the contents of the tapes are unspecified; between files no file is current
   pub failed_tells_nothing : (tapes : Tapes) (w : SetState ℕ) (told : List Told)
       → w.phase ≡ phases.Failed → IsWriting (λ t. t ≡ tapes) w told → ⊥
   pub none_under_way : (file : Opened) → (IsInFile file phases.Between → ⊥)
       × (IsInFile file phases.Failed → ⊥) × (IsInFile file phases.Finished → ⊥)
-  -- no volume is left for the last file passed, the others are complete,
+  -- if no volume is left for the last file passed, the other files are complete,
   pub out_of_volumes : (tapes : Tapes) (w : SetState ℕ) (told : List Told)
       (o : IsOutOfVolumes (λ t. t ≡ tapes) w told) → (told ≡ o.past ++ o.last ∷ [])
       × AreFiled w.capacity o.past o.files
       × IsStuck (λ t. t ≡ tapes) w.volumes w.capacity w.set_id o.last.file w.course o.files
       o.last.records
-  -- and the rule for the change refuses the next block of its records
+  -- and the rule for the change of volumes refuses the next block of its records
   pub stuck : (tapes : Tapes) (volumes : List Vol1) (capacity : ℕ) (set_id : List ℕ)
       (file : Opened) (course : Course) (fs : List (List Section)) (records : List (List ℕ))
       (s : IsStuck (λ t. t ≡ tapes) volumes capacity set_id file course fs records)
       → (length volumes ≤ course.volume) × (takes_next capacity course.used s.next ≡ false)
       × (s.draft.files ≡ fs) × Continues file.shape records (open_blocks s.draft) s.next
-  -- which are joined from the blocks written, the next block, if there is one, and the bytes after
-  -- it
+  -- the records are joined from the blocks written, the next block, if there is one, and the parts
+  -- after it
   pub comes_next : (shape : Shape) (records : List (List ℕ)) (blocks next : List Filled)
       (c : Continues shape records blocks next)
       → (join (parts_of_all (blocks ++ next) ++ c.behind)

@@ -1,5 +1,5 @@
--- Test cases for the definitions of sets that are being written. The function `laws::cases` has
--- them as its contract, too.
+-- Test cases for the definitions of sets that are being written. They are part of the contract of
+-- the function `laws::cases`.
 use Rattle.std.specs.Prelude.{◌≡◌, ◌≤◌, ◌<◌, ℕ, ◌+◌, List, [], ◌∷◌, ◌++◌, length, map, true}
 use Rattle.std.specs.Prelude.{false}
 use Rattle.std.specs.List.{AllByRecursion}
@@ -29,16 +29,16 @@ use Rattle.tape_writer.specs.Told.{Told, AreFiled, IsOfFile, IsWithin, labelled}
 
 -- ---- worked drafts
 
--- a section with its numbers
+-- a section with the given numbers
 abbrev pub as_placed : ℕ → ℕ → Section → Placed
 as_placed file sect s = record { file = file; sect = sect; section = s }
 
--- only the first label is written
+-- a draft in which only the label of the first volume is written
 abbrev pub nothing_yet : Draft
 nothing_yet = record { files = []; sects = []; blocks = []; past = 0 }
 
--- two files of one section each, and the first section of the third, on volumes of which three
--- ended, with these blocks in the current section
+-- a draft with two files of one section each, and the first section of the third file with the
+-- given blocks, on volumes of which three have ended
 abbrev pub third_file : Section → Section → Section → List Filled → Draft
 third_file u v s blocks = record {
   files = (u ∷ []) ∷ (v ∷ []) ∷ [];
@@ -47,13 +47,13 @@ third_file u v s blocks = record {
   past = 3;
 }
 
--- two such files, and the third has not begun
+-- a draft with two such files, before the third file
 abbrev pub two_files : Section → Section → Draft
 two_files u v =
     record { files = (u ∷ []) ∷ (v ∷ []) ∷ []; sects = []; blocks = []; past = 3 }
 
--- another file complete on the first volume, a section of this one on the second, and a block of
--- the next section on the third
+-- a draft with another file complete on the first volume, a section of the given file on the
+-- second, and a block of its next section on the third
 abbrev pub third_volume : Opened → Opened → Filled → Filled → Filled → Filled → Filled → Draft
 third_volume other file a b c d e = record {
   files = (closing other 1 1 (a ∷ []) true ∷ []) ∷ [];
@@ -62,7 +62,7 @@ third_volume other file a b c d e = record {
   past = 2;
 }
 
--- the file complete, in one block on the first volume
+-- a draft with the file complete, in one block on the first volume
 abbrev pub one_file : Opened → Filled → Draft
 one_file file a = record {
   files = (closing file 1 1 (a ∷ []) true ∷ []) ∷ [];
@@ -71,11 +71,11 @@ one_file file a = record {
   past = 0;
 }
 
--- after the headers of the first file, this many bytes are used
+-- the position after the headers of the first file, when `used` bytes are used
 abbrev pub first_course : ℕ → Course
 first_course used = record { volume = 1; sect = 1; count = 0; used = used }
 
--- the first label and those headers
+-- the label of the first volume, and those headers
 abbrev pub first_items : Vol1 → Opened → List TapeItem
 first_items v file = block (volume_label v) ∷ header_items file 1
 
@@ -83,37 +83,39 @@ first_items v file = block (volume_label v) ∷ header_items file 1
 
 -- the contents of the volumes
 pub record CasesOfDrafts : Type 0 where
-  -- sections are numbered in their files, and these in the set; the blocks of the file are those of
-  -- its sections, and of the current one
+  -- sections are numbered in their files, and files in the set; the blocks of the current file are
+  -- those of its finished sections and of its current one
   pub in_their_order : (u v s : Section) (blocks : List Filled)
       → placed (third_file u v s blocks)
       ≡ as_placed 1 1 u ∷ as_placed 2 1 v ∷ as_placed 3 1 s ∷ []
   pub blocks_of_file : (other file : Opened) (a b c d e : Filled)
       → open_blocks (third_volume other file a b c d e) ≡ b ∷ c ∷ d ∷ e ∷ []
-  -- a volume that ended has its label, a section with its headers, data and trailer, and a mark
+  -- a volume that has ended contains its label, a section with its headers, data and trailer, and a
+  -- mark
   pub volumes_ended : (v w x : Vol1) (other file : Opened) (a b c d e : Filled)
       → ended_volumes (map labelled (v ∷ w ∷ x ∷ [])) (third_volume other file a b c d e)
       ≡ (block (volume_label v) ∷ header_items other 1 ++ block a.bytes
       ∷ trailer_items other 1 1 true ++ mark ∷ [])
       ∷ (block (volume_label w) ∷ header_items file 1 ++ block b.bytes ∷ block c.bytes
       ∷ block d.bytes ∷ trailer_items file 1 3 false ++ mark ∷ []) ∷ []
-  -- the current one has no trailer yet inside a file, and no second mark between two
+  -- the current volume has no trailer yet inside a file, and no second mark between two files
   pub volume_open : (v w x : Vol1) (other file : Opened) (course : Course) (a b c d e : Filled)
       → open_items (map labelled (v ∷ w ∷ x ∷ [])) file course (third_volume other file a b c d e)
       ≡ block (volume_label x) ∷ header_items file course.sect ++ block e.bytes ∷ []
   pub volume_resting : (v : Vol1) (file : Opened) (a : Filled)
       → body_items (map labelled (v ∷ [])) (one_file file a)
       ≡ block (volume_label v) ∷ header_items file 1 ++ block a.bytes ∷ trailer_items file 1 1 true
-  -- the current section is in its file, with its blocks, on the current volume
+  -- the current section has the numbers of its file and of its place in the file, its blocks, and
+  -- the current volume
   pub section_here : (file : Opened) (course : Course) (blocks : List Filled)
       → ((here file course blocks true).file ≡ file.head.sequence)
       × ((here file course blocks true).sect ≡ course.sect)
       × ((here file course blocks true).section.volume ≡ course.volume)
       × ((here file course blocks true).section.blocks ≡ blocks)
-  -- a property of the last section is stated for it and those before it
+  -- a property of the last section is stated for it and for the sections before it
   pub of_last : (x y z : Placed) (xs : List Placed)
       → OfLast (x ∷ y ∷ []) (λ before last. (before ≡ xs) × (last ≡ z)) → (x ∷ [] ≡ xs) × (y ≡ z)
-  -- the finished sections are valid, follow one another validly, and end and change as in a tight
+  -- the finished sections are valid, are in a valid order, and end and change volumes as in a tight
   -- set
   pub done : (volumes : List Volume) (capacity : ℕ) (id : List ℕ) (n : ℕ) (x y : Placed)
       → IsDone volumes capacity id n (x ∷ y ∷ []) → IsSection id n x × IsSection id n y
@@ -128,7 +130,8 @@ pub record CasesOfDrafts : Type 0 where
       × AllByRecursion (IsWithin capacity) (ended_volumes volumes (two_files u v))
       × (course.used ≡ items_size (body_items volumes (two_files u v)))
       × (course.used + 372 ≤ capacity)
-  -- no section is open there, no file is without one, and before the first file no volume ended
+  -- between two files no section is open, every file has a section, and before the first file no
+  -- volume has ended
   pub none_open : (volumes : List Volume) (capacity : ℕ) (id : List ℕ) (course : Course)
       (d : Draft) → Between volumes capacity id course d → (d.sects ≡ []) × (d.blocks ≡ [])
   pub none_empty : (volumes : List Volume) (capacity : ℕ) (id : List ℕ) (course : Course)
@@ -137,7 +140,8 @@ pub record CasesOfDrafts : Type 0 where
   pub none_ended : (volumes : List Volume) (capacity : ℕ) (id : List ℕ) (course : Course)
       (past : ℕ) → Between volumes capacity id course
       (record { files = []; sects = []; blocks = []; past = past }) → past ≡ 0
-  -- inside a file its number, the section's and the volume's follow those that ended
+  -- inside a file, its number and the numbers of the section and of the volume follow those that
+  -- have ended
   pub inside_file : (volumes : List Volume) (capacity : ℕ) (id : List ℕ) (file : Opened)
       (course : Course) (next : List Filled) (u v s : Section) (b : Filled)
       → Within volumes capacity id file course next (third_file u v s (b ∷ []))
@@ -145,8 +149,8 @@ pub record CasesOfDrafts : Type 0 where
       × (file.head.set_id ≡ id) × IsReady file × (course.volume ≤ length volumes)
       × (course.sect ≤ course.volume) × (course.count ≤ course.used)
       × ((0 < length b.bytes) × (length b.bytes ≤ longest_block))
-  -- the sections before it belong to the same file and continue, and the current one follows a
-  -- tight change
+  -- the finished sections of the file continue in the next, and the current section follows a tight
+  -- change
   pub behind_sections : (volumes : List Volume) (capacity : ℕ) (id : List ℕ) (file : Opened)
       (course : Course) (next : List Filled) (u v s : Section) (b : Filled)
       → Within volumes capacity id file course next (third_file u v s (b ∷ []))
@@ -155,7 +159,7 @@ pub record CasesOfDrafts : Type 0 where
       × IsTightChange volumes capacity (as_placed 1 1 u ∷ as_placed 2 1 v ∷ []) (as_placed 3 1 s)
       (here file course next true)
       × IsOfFile file (as_placed file.head.sequence 1 s) × (ends_file s ≡ false)
-  -- volumes are within the capacity, and the current one has room for the end of a volume
+  -- volumes are within the capacity, and the current volume has room for the end of a volume
   pub inside_room : (volumes : List Volume) (capacity : ℕ) (id : List ℕ) (file : Opened)
       (course : Course) (next : List Filled) (d : Draft)
       → Within volumes capacity id file course next d
@@ -166,8 +170,8 @@ pub record CasesOfDrafts : Type 0 where
       (course : Course) (next blocks : List Filled) (past : ℕ)
       → Within volumes capacity id file course next
       (record { files = []; sects = []; blocks = blocks; past = past }) → past ≡ 0
-  -- between two calls no section after another of the file is without a block, and the blocks that
-  -- the next section begins with are its own
+  -- between two calls, no section except the first of its file is without blocks, and the next
+  -- section begins with its own blocks
   pub some_block : (volumes : List Volume) (capacity : ℕ) (id : List ℕ) (file : Opened)
       (course : Course) (u v s : Section)
       → Steady volumes capacity id file course (third_file u v s []) → ⊥
@@ -178,7 +182,7 @@ pub record CasesOfDrafts : Type 0 where
   pub roomy : (capacity volumes : ℕ) (course : Course) → IsRoomy capacity volumes course
       → (course.used + 192 ≤ capacity) × (course.count ≤ course.used) × (1 ≤ course.sect)
       × (course.sect ≤ course.volume) × (course.volume ≤ volumes)
-  -- the tapes contain exactly that
+  -- the tapes contain exactly the draft
   pub open_held : (tapes : Tapes) (volumes : List Vol1) (capacity : ℕ) (id : List ℕ)
       (file : Opened) (course : Course) (d : Draft)
       → IsOpen (λ t. t ≡ tapes) volumes capacity id file course d
@@ -190,7 +194,7 @@ pub record CasesOfDrafts : Type 0 where
       → (UnderWay (ended_volumes (map labelled volumes) d)
       (body_items (map labelled volumes) d) ≡ tapes)
       × Between (map labelled volumes) capacity id course d
-  -- this holds after the label of the first volume
+  -- the same holds after the label of the first volume
   pub resting_first : (v : Vol1) (capacity : ℕ) (id : List ℕ) (used : ℕ)
       → used ≡ items_size (block (volume_label v) ∷ []) → used + 372 ≤ capacity
       → IsResting (λ t. t ≡ UnderWay [] (block (volume_label v) ∷ [])) (v ∷ []) capacity id
@@ -198,14 +202,14 @@ pub record CasesOfDrafts : Type 0 where
 
 -- the records passed for a file
 pub record CasesOfInside : Type 0 where
-  -- inside a file its records so far are in its blocks, and the rest in the packer
+  -- inside a file, the records so far are in its blocks, and the rest is in the packer
   pub inside : (tapes : Tapes) (volumes : List Vol1) (capacity : ℕ) (id : List ℕ) (file : Opened)
       (course : Course) (p : Packing) (fs : List (List Section)) (records : List (List ℕ))
       (i : IsInside (λ t. t ≡ tapes) volumes capacity id file course p fs records)
       → (i.draft.files ≡ fs) × (p.shape ≡ file.shape) × (p.begun ≡ false)
       × RunOf (open_blocks i.draft) p records × AreRecordsOf file.shape records
       × IsOpen (λ t. t ≡ tapes) volumes capacity id file course i.draft
-  -- in the middle of a record a rest of it is still to be packed
+  -- in the middle of a record, a rest of the record is still to be packed
   pub middle : (tapes : Tapes) (volumes : List Vol1) (capacity : ℕ) (id : List ℕ) (file : Opened)
       (course : Course) (p : Packing) (fs : List (List Section)) (records : List (List ℕ))
       (whole rest : List ℕ)
@@ -213,18 +217,18 @@ pub record CasesOfInside : Type 0 where
       → (i.draft.files ≡ fs) × (p.shape ≡ file.shape)
       × Going (open_blocks i.draft) p records whole rest × AreRecordsOf file.shape records
       × IsOpen (λ t. t ≡ tapes) volumes capacity id file course i.draft
-  -- and at the end all are in blocks
+  -- at the end of a file, all its records are in blocks
   pub flat : (tapes : Tapes) (volumes : List Vol1) (capacity : ℕ) (id : List ℕ) (file : Opened)
       (course : Course) (fs : List (List Section)) (records : List (List ℕ))
       (i : IsFlat (λ t. t ≡ tapes) volumes capacity id file course fs records)
       → (i.draft.files ≡ fs) × packing.IsTight file.shape records (open_blocks i.draft)
       × AreRecordsOf file.shape records
       × IsOpen (λ t. t ≡ tapes) volumes capacity id file course i.draft
-  -- each record has a length of the shape
+  -- each record has one of the lengths of the shape
   pub lengths : (shape : Shape) (r s : List ℕ) → AreRecordsOf shape (r ∷ s ∷ [])
       → HasRecordLength shape.format shape.rec_len (length r)
       × HasRecordLength shape.format shape.rec_len (length s)
-  -- between two files those passed are complete, and inside one those before it
+  -- between two files, the files passed are complete; inside a file, the files before it are
   pub between : (tapes : Tapes) (volumes : List Vol1) (capacity : ℕ) (id : List ℕ)
       (course : Course) (told : List Told)
       (b : IsBetween (λ t. t ≡ tapes) volumes capacity id course told)
@@ -235,7 +239,7 @@ pub record CasesOfInside : Type 0 where
       (f : IsFiling (λ t. t ≡ tapes) volumes capacity id file course p past records)
       → AreFiled capacity past f.files
       × IsInside (λ t. t ≡ tapes) volumes capacity id file course p f.files records
-  -- before the first file there is nothing on the tapes, and after one it is there
+  -- before the first file the tapes are empty, and after a file they contain it
   pub waiting_first : (tapes : Tapes) (volumes : List Vol1) (capacity : ℕ) (id : List ℕ)
       (course : Course) → IsWaiting (λ t. t ≡ tapes) volumes capacity id course []
       → (course.volume ≡ 0) × (Ended [] ≡ tapes)
@@ -246,7 +250,7 @@ pub record CasesOfInside : Type 0 where
   pub nothing_told : (volumes : List Vol1) (capacity : ℕ) (id : List ℕ)
       → IsWaiting (λ t. t ≡ Ended []) volumes capacity id
       (record { volume = 0; sect = 0; count = 0; used = 0 }) []
-  -- after the headers of the first file no record was passed, whether more follow or not
+  -- after the headers of the first file no records were passed, whether or not more follow
   pub begun_first : (v : Vol1) (capacity : ℕ) (file : Opened) (used : ℕ) → IsReady file
       → file.head.sequence ≡ 1 → used ≡ items_size (first_items v file) → used + 192 ≤ capacity
       → IsFiling (λ t. t ≡ UnderWay [] (first_items v file)) (v ∷ []) capacity file.head.set_id file
@@ -255,12 +259,13 @@ pub record CasesOfInside : Type 0 where
       → file.head.sequence ≡ 1 → used ≡ items_size (first_items v file) → used + 192 ≤ capacity
       → IsFlat (λ t. t ≡ UnderWay [] (first_items v file)) (v ∷ []) capacity file.head.set_id file
       (first_course used) [] []
-  -- if no volume is left the tapes contain the section that is open
+  -- if no volume is left, the tapes contain the open section
   pub stuck_open : (tapes : Tapes) (volumes : List Vol1) (capacity : ℕ) (id : List ℕ)
       (file : Opened) (course : Course) (fs : List (List Section)) (records : List (List ℕ))
       (s : IsStuck (λ t. t ≡ tapes) volumes capacity id file course fs records)
       → IsOpen (λ t. t ≡ tapes) volumes capacity id file course s.draft
-  -- and no record after its end is begun by the next block, nor continues after the last
+  -- the parts of the blocks, and those after them, are in span order, and leave no record
+  -- unfinished
   pub whole_records : (shape : Shape) (records : List (List ℕ)) (blocks next : List Filled)
       (c : Continues shape records blocks next)
       → InOrder false (parts_of_all (blocks ++ next) ++ c.behind) false

@@ -1,5 +1,5 @@
--- Test cases for the definitions of what a refusal leaves on the tapes. The function `laws::cases`
--- has them as its contract, too.
+-- Test cases for the definitions of the contents of the tapes after a refusal. They are part of the
+-- contract of the function `laws::cases`.
 use Rattle.std.specs.Prelude.{◌≡◌, ◌≢◌, ◌<◌, ◌⊎◌, ℕ, List, [], ◌∷◌, ◌++◌, Option, Some, length}
 use Rattle.tape_image.specs.Tape.{TapeItem}
 use Rattle.tape_label.specs.declared.values.Head1.{Head1}
@@ -25,16 +25,16 @@ use Rattle.tape_writer.specs.Front.{IsPartly, IsInLast, IsEndingLast, IsLeftInsi
 use Rattle.tape_writer.specs.Front.{IsLeftWhole}
 use Rattle.tape_writer.specs.LeftOf.{IsLeftOf, IsLeftIn, IsLeftOfAll, IsLeftSet, IsLeftUnbegun}
 
--- prefixes, and what remains
+-- prefixes, and contents that remain
 pub record CasesOfFronts : Type 0 where
-  -- items are appended to those of the current volume, and a volume to the others
+  -- items are appended to the current volume, and a volume to the other volumes
   pub in_order : (u v w : TapeItem)
       → behind_steps (Change ∷ Item u ∷ Item v ∷ Change ∷ Item w ∷ []) (Ended [])
       ≡ UnderWay ((u ∷ v ∷ []) ∷ []) (w ∷ [])
   pub at_the_end : (u : TapeItem)
       → behind_steps (Close ∷ []) (UnderWay [] (u ∷ [])) ≡ Ended ((u ∷ []) ∷ [])
   pub no_volume : (u : TapeItem) → behind_steps (Item u ∷ []) (Ended []) ≡ Ended []
-  -- the contents lead to the whole, and nothing of them is taken back
+  -- the contents are extended to the whole, and nothing in them is removed
   pub leads_there : (now whole : Tapes) (f : HoldsFront (λ t. t ≡ now) whole)
       → behind_steps f.steps now ≡ whole
   pub not_back : (u : TapeItem) → HoldsFront (λ t. t ≡ UnderWay [] (u ∷ [])) (UnderWay [] []) → ⊥
@@ -59,7 +59,7 @@ pub record CasesOfFronts : Type 0 where
       (told : List Told) → IsEndingLast (λ t. t ≡ tapes) volumes capacity id told
       → IsInLast (λ t. t ≡ tapes) volumes capacity id told
       ⊎ ((course : Course) × IsWaiting (λ t. t ≡ tapes) volumes capacity id course told)
-  -- a prefix of that remains
+  -- a prefix of the items remains
   pub left : (tapes : Tapes) (w : SetState ℕ) (told : List Told)
       → (IsLeftInside (λ t. t ≡ tapes) w told
       → IsInLast (HoldsFront (λ t. t ≡ tapes)) w.volumes w.capacity w.set_id told)
@@ -67,20 +67,21 @@ pub record CasesOfFronts : Type 0 where
       × IsWaiting (HoldsFront (λ t. t ≡ tapes)) w.volumes w.capacity w.set_id course told)
       × (IsLeftWhole (λ t. t ≡ tapes) w told
       → IsWrittenSet (HoldsFront (λ t. t ≡ tapes)) w.volumes w.capacity w.set_id told)
-  -- for inputs: a prefix of the records was passed, and a file ended only if that is all of them
+  -- for inputs: a prefix of the records was passed, and a file ended only if all its records were
+  -- passed
   pub left_of : (tapes : Tapes) (w : SetState ℕ) (told : List Told) (records : List (List ℕ))
       (g : IsLeftOf (λ t. t ≡ tapes) w ⊥ ReadFailed told records)
       → (records ≡ g.front ++ g.back)
       × (IsLeftInside (λ t. t ≡ tapes) w (with_records told g.front)
       ⊎ ((g.back ≡ []) × IsLeftBehind (λ t. t ≡ tapes) w (with_records told g.front)))
-  -- if the tapes were not refused memory, memory ran out at a longer record
+  -- if no allocation of the tapes failed, memory ran out at a longer record
   pub no_memory : (tapes : Tapes) (w : SetState ℕ) (told : List Told) (r s : List ℕ)
       (g : IsLeftOf (λ t. t ≡ tapes) w ⊥ (Write OutOfMemory) told (r ∷ s ∷ []))
       → g.front ≡ r ∷ [] → length r < length s
   pub not_at_the_end : (tapes : Tapes) (w : SetState ℕ) (told : List Told) (r : List ℕ)
       (g : IsLeftOf (λ t. t ≡ tapes) w ⊥ (Write OutOfMemory) told (r ∷ []))
       → g.front ≡ r ∷ [] → ⊥
-  -- if an input failed, or a record has a wrong length, everything passed is on the tapes
+  -- if an input failed, or a record has a wrong length, all records passed are on the tapes
   pub all_held : (tapes : Tapes) (w : SetState ℕ) (told : List Told) (records : List (List ℕ))
       (g : IsLeftOf (λ t. t ≡ tapes) w ⊥ ReadFailed told records)
       → IsInLast (λ t. t ≡ tapes) w.volumes w.capacity w.set_id (with_records told g.front)
@@ -93,7 +94,7 @@ pub record CasesOfFronts : Type 0 where
       → IsLeftIn (λ t. t ≡ tapes) w ⊥ fault id [] shape cut ((x.0, Some x.1) ∷ [])
       → IsLeftUnbegun (λ t. t ≡ tapes) w fault []
       ⊎ IsLeftOf (λ t. t ≡ tapes) w ⊥ fault (with_file id [] x.0 shape) (records_of cut x.1)
-  -- the bytes read of an input are no reason for not beginning a file
+  -- no fault that depends on the bytes of an input prevents a file from beginning
   pub unbegun : (tapes : Tapes) (w : SetState ℕ) (told : List Told) (fault : SetFault)
       → IsLeftUnbegun (λ t. t ≡ tapes) w fault told
       → (fault ≢ ReadFailed) × (fault ≢ Write RecordLength) × IsLeftBehind (λ t. t ≡ tapes) w told

@@ -1,5 +1,5 @@
--- Test cases for the definitions of sets written from inputs. The function `laws::cases` has them
--- as its contract, too.
+-- Test cases for the definitions of sets written from inputs. They are part of the contract of the
+-- function `laws::cases`.
 use Rattle.std.specs.Prelude.{◌≡◌, ◌⊎◌, ◌≤◌, ◌<◌, ℕ, List, [], ◌∷◌, ◌++◌, length, Option, Some}
 use Rattle.std.specs.Prelude.{None, true, false}
 use Rattle.tape_label.specs.declared.values.Format.TheVariants.{Fixed, Counted, Spanned}
@@ -31,45 +31,45 @@ use Rattle.tape_writer.specs.WriteSet.{cut_of, raw_cut}
 
 -- the records of inputs
 pub record CasesOfInputs : Type 0 where
-  -- 10 is the line feed: a last line without one is a record, an empty line is one too, and the end
-  -- is none
+  -- 10 is the line feed: a last line without a line feed is a record, and so is an empty line; the
+  -- end of the input is not a record
   pub lines : records_of Lines (65 ∷ 10 ∷ 10 ∷ 66 ∷ []) ≡ (65 ∷ []) ∷ [] ∷ (66 ∷ []) ∷ []
   pub last_line_ends : records_of Lines (65 ∷ 10 ∷ []) ≡ (65 ∷ []) ∷ []
   pub no_lines : records_of Lines [] ≡ []
-  -- pieces of two bytes, and the rest; a line feed is a byte like others
+  -- pieces of two bytes, and the rest; the line feed has no special meaning
   pub pieces : records_of (Length 2) (65 ∷ 10 ∷ 66 ∷ []) ≡ (65 ∷ 10 ∷ []) ∷ (66 ∷ []) ∷ []
   pub no_pieces : records_of (Length 2) [] ≡ []
-  -- all in one record, which may be empty
+  -- all bytes are one record, which may be empty
   pub whole : records_of Whole (65 ∷ 10 ∷ []) ≡ (65 ∷ 10 ∷ []) ∷ []
   pub empty_whole : records_of Whole [] ≡ [] ∷ []
-  -- raw inputs by the format
+  -- raw inputs, by format
   pub raw : (raw_cut Fixed 80 ≡ Some (Length 80)) × (raw_cut Counted 80 ≡ None)
       × (raw_cut Spanned 0 ≡ Some Whole)
   pub lines_of_any : (shape : Shape) → cut_of forms.Lines shape ≡ Some Lines
   pub raw_of_shape : (shape : Shape) → cut_of forms.Raw shape ≡ raw_cut shape.format shape.rec_len
-  -- no record of a shape is longer than its maximum, and there is one of this length if there is
-  -- any
+  -- no record of a shape is longer than its maximum, and the shape has records of this length if it
+  -- has any
   pub within_longest : (shape : Shape) (n : ℕ)
       → HasRecordLength shape.format shape.rec_len n → n ≤ longest shape
   pub has_longest : (shape : Shape) (n : ℕ) → HasRecordLength shape.format shape.rec_len n
       → HasRecordLength shape.format shape.rec_len (longest shape)
   pub longest_of_each : (longest_by Fixed 80 ≡ 80) × (longest_by Counted 80 ≡ 76)
       × (longest_by Spanned 0 ≡ 4294967295)
-  -- which record gets too long: the first, whatever follows
+  -- the first record gets too long, whatever follows
   pub none_is_long : (most : ℕ) → IsFirstLong most [] → ⊥
   pub first_is_long : (most : ℕ) (r : List ℕ) (rs : List (List ℕ))
       → IsFirstLong most (r ∷ rs) → most < length r
   pub grows_long : (most : ℕ) (cut : Cut) (r bytes : List ℕ) → GrowsLong most cut r bytes
       → (more : List ℕ) → IsFirstLong most (records_from cut r (bytes ++ more))
-  -- nothing is to come of an input at its end, and a record that was returned comes first
+  -- no records are to come at the end of an input, and a record that was returned comes first
   pub over : (cut : Cut) (bytes : List ℕ) → to_come cut true bytes ≡ []
   pub not_over : (cut : Cut) (bytes : List ℕ) → to_come cut false bytes ≡ records_of cut bytes
   pub given_first : (r : List ℕ) (rs : List (List ℕ)) → (given true r rs ≡ r ∷ rs)
       × (given false r rs ≡ rs)
-  -- bytes that were read ahead come before those of the reader
+  -- bytes that were read ahead precede those of the reader
   pub ahead_first : (r : Records ℕ) → r.ahead ≡ 65 ∷ []
       → left_of (λ n. Some (66 ∷ [])) r ≡ Some (65 ∷ 66 ∷ [])
-  -- bytes continue a record, or end it, whatever follows them
+  -- whether bytes continue or end a record does not depend on the bytes after them
   pub more_of_it : (cut : Cut) (old bytes new more : List ℕ) → Adds cut old bytes new false
       → records_from cut old (bytes ++ more) ≡ records_from cut new more
   pub ends_it : (cut : Cut) (old bytes new more : List ℕ) → Adds cut old bytes new true
@@ -81,32 +81,32 @@ pub record CasesOfInputs : Type 0 where
       ∷ record { file = opened_by id 2 k shape; records = records_of cut b } ∷ []
   pub told_more : (t : Told) (r s : List ℕ) → with_records (t ∷ []) (r ∷ s ∷ [])
       ≡ record { file = t.file; records = (t.records ++ r ∷ []) ++ s ∷ [] } ∷ []
-  -- a claim is made if the bytes of all inputs are known, about these bytes
+  -- a claim about the bytes of the inputs is made only if all of them are known
   pub all_known : (h k : Head1) (a b : List ℕ) (given : List (Head1 × List ℕ))
       → IfAllKnown ((h, Some a) ∷ (k, Some b) ∷ []) (λ fs. fs ≡ given)
       → (h, a) ∷ (k, b) ∷ [] ≡ given
-  -- a set was given up after a prefix of the records left no volume
+  -- after a prefix of the records was passed, no volume was left for the set
   pub gave_up : (tapes : Tapes) (w : SetState ℕ) (told : List Told)
       (records : List (List ℕ)) (g : GaveUp (λ t. t ≡ tapes) w told records)
       → (records ≡ g.front ++ g.back)
       × IsOutOfVolumes (λ t. t ≡ tapes) w (with_records told g.front)
-  -- a prefix of the first of these files was passed, after none
+  -- a prefix of the records of the first file was passed, and no file before it
   pub gave_up_in : (tapes : Tapes) (w : SetState ℕ) (id : List ℕ) (shape : Shape) (cut : Cut)
       (x : Head1 × List ℕ)
       → GaveUpIn (λ t. t ≡ tapes) w id [] shape cut ((x.0, Some x.1) ∷ [])
       → GaveUp (λ t. t ≡ tapes) w (with_file id [] x.0 shape) (records_of cut x.1)
-  -- a writer of the plan gave up, on the tapes that are returned
+  -- a writer of the plan found no volume left, and its tapes are returned
   pub gave_up_set : (plan : SetPlan) (cut : Cut) (given : List (Head1 × Option (List ℕ)))
       (g : GaveUpSet {T = ℕ} (λ n t. t ≡ Ended []) (λ n. n ≡ 7) plan cut given)
       → (g.writer.out ≡ 7) × (g.writer.volumes ≡ plan.volumes.items)
       × (g.writer.capacity ≡ plan.capacity) × (g.writer.set_id ≡ plan.set_id)
 
--- why no set is written from inputs
+-- the faults of writing a set from inputs
 pub record CasesOfSetFaults : Type 0 where
   pub as_told : (told_as inputs.ReadFailed ≡ ReadFailed)
       × (told_as inputs.TooLong ≡ Write faults.RecordLength)
       × (told_as inputs.OutOfMemory ≡ Write faults.OutOfMemory)
-  -- a record of the shape is not a wrong one, and an empty list contains none
+  -- a record of the shape does not have a wrong length, and no records contain none that has
   pub none_is_other : (shape : Shape) → OneIsOther shape [] → ⊥
   pub one_is_other : (shape : Shape) (r : List ℕ) → OneIsOther shape (r ∷ [])
       → HasRecordLength shape.format shape.rec_len (length r) → ⊥
@@ -123,11 +123,11 @@ pub record CasesOfSetFaults : Type 0 where
   pub read_failed : (shape : Shape) → IsInputFault (OneIsOther shape []) ReadFailed
   pub of_no_file : (capacity : ℕ) (shape : Shape) (cut : Cut) (fault : SetFault)
       → IsFilesFault capacity shape cut 0 [] fault → ⊥
-  -- the second file has one before it
+  -- the second file follows one other file
   pub of_second : (capacity : ℕ) (shape : Shape) (cut : Cut) (x y : Head1 × Option (List ℕ))
       (fault : SetFault) → IsFilesFault capacity shape cut 0 (x ∷ y ∷ []) fault
       → IsFileFault capacity shape cut 0 x fault ⊎ IsFileFault capacity shape cut 1 y fault
-  -- a length that is refused is one of the input's own
+  -- a length that is refused is that of a record of the input
   pub length_of_input : (capacity : ℕ) (shape : Shape) (cut : Cut) (n : ℕ) (head : Head1)
       (bytes : List ℕ)
       → IsFileFault capacity shape cut n (head, Some bytes) (Write faults.RecordLength)
@@ -137,7 +137,7 @@ pub record CasesOfSetFaults : Type 0 where
       → IsWholeFault capacity shape cut [] (Write faults.RecordLength) → ⊥
   pub some_file : (capacity : ℕ) (shape : Shape) (cut : Cut) (x : Head1 × Option (List ℕ))
       → IsWholeFault capacity shape cut (x ∷ []) (Write faults.NoFile) → ⊥
-  -- raw inputs that cannot be records of the format are refused as such
+  -- raw inputs that cannot be records of the format are refused for this reason
   pub not_cut : (plan : SetPlan) (given : List (Head1 × Option (List ℕ))) (fault : SetFault)
       → IsFaultOfCut plan given None fault → fault ≡ Write faults.BadShape
   pub cut_so : (plan : SetPlan) (given : List (Head1 × Option (List ℕ))) (cut : Cut)

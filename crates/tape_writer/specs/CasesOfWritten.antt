@@ -1,5 +1,5 @@
--- Further test cases for the definitions of what is written, of missing volumes and of records. The
--- function `laws::cases` has them as its contract, too.
+-- Further test cases for the definitions of written sets, of missing volumes and of records. They
+-- are part of the contract of the function `laws::cases`.
 use Rattle.std.specs.Prelude.{◌≡◌, ◌⊎◌, ◌≤◌, ◌<◌, ℕ, List, [], ◌∷◌, ◌++◌, length, true, Option}
 use Rattle.std.specs.Prelude.{Some, Err}
 use Rattle.std.specs.List.{AllByRecursion, flat_map}
@@ -25,42 +25,42 @@ use Rattle.tape_writer.specs.Told.{Told, IsFiled, IsOfFile, opened_by, with_file
 use Rattle.tape_writer.specs.WriteFaults.{StopsByDevice, IsSetFault, IsFaultOfCut}
 use Rattle.tape_writer.specs.WriteSet.{IsSetOfImages, cut_of}
 
--- what is written, and why it is not
+-- sets that are written, and why others are not
 pub record CasesOfWritten : Type 0 where
-  -- if there is room for three images, there is for the lent one and two more
+  -- room for three images is enough for the one whose device is lent and two more
   pub room_for_all : HoldsImages [] 3 2 true []
-  -- failures of an image's device are counted as those of a device
+  -- failures of an image's device are counted as failures of a device
   pub as_of_a_device : (n : ℕ) → ((device_failures n).device ≡ n)
       × ((device_failures n).memory ≡ 0)
-  -- the sections of a file are not empty, and have its labels, numbered in four digits
+  -- a file has sections; they have the labels of the file, and numbers of four digits
   pub its_sections : (capacity : ℕ) (t : Told) (f : List Section) → IsFiled capacity t f
       → IsFile f × AllByRecursion (IsOfFile t.file) (numbered t.file.head.sequence 1 f)
   pub its_number : (file : Opened) (x : Placed) → IsOfFile file x → (1 ≤ x.sect) × (x.sect ≤ 9999)
-  -- one more file follows those that were passed, with the next number and no records
+  -- one more file follows those that were passed; it has the next number and no records
   pub begun_behind : (id : List ℕ) (t : Told) (head : Head1) (shape : Shape)
       → with_file id (t ∷ []) head shape
       ≡ t ∷ record { file = opened_by id 2 head shape; records = [] } ∷ []
-  -- the images that were passed on are those of the set's volumes
+  -- the images that were passed to the store are those of the set's volumes
   pub of_images : (given : List (List ℕ)) (volumes : List Vol1) (capacity : ℕ) (id : List ℕ)
       (told : List Told)
       (w : IsSetOfImages (λ lent images. images ≡ given) volumes capacity id told)
       → HandedOn (λ images. images ≡ given) (all_items w.layout)
-  -- a set is refused for its device only if the device failed, and otherwise for how its inputs are
-  -- cut
+  -- a set is refused with `Device` only if the device failed; its other faults depend on how its
+  -- inputs are cut
   pub set_failed : (old new : Failures) → StopsByDevice old (Err (Write faults.Device)) new
       → Rose old.device new.device
   pub set_fault : (plan : SetPlan) (given : List (Head1 × Option (List ℕ))) (fault : SetFault)
       → IsSetFault plan given fault
       → IsFaultOfCut plan given (cut_of plan.form plan.shape) fault
-  -- no volume is left if the plan has none, or a writer of it gave up
+  -- no volume is left if the plan has no volumes, or a writer of the plan found none left
   pub no_volume : (plan : SetPlan) (cut : Cut) (given : List (Head1 × Option (List ℕ)))
       → cut_of plan.form plan.shape ≡ Some cut
       → HasNoVolume {T = ℕ} (λ n t. t ≡ Ended []) (λ n. n ≡ 7) plan given
       → (length plan.volumes.items ≡ 0)
       ⊎ GaveUpSet {T = ℕ} (λ n t. t ≡ Ended []) (λ n. n ≡ 7) plan cut given
 
--- conclusions of a caller from the laws of records, so that no law has premises that nothing
--- satisfies
+-- conclusions that a caller can draw from the laws of records, which ensure that no law has
+-- premises that nothing satisfies
 pub record CasesOfRecordLaws : Type 0 where
   pub lines_are_cut : LinesAreCut → (line rest : List ℕ) → IsLine line → IsLine rest
       → records_of Lines (flat_map ended_line (line ∷ []) ++ rest) ≡ line ∷ last_record Lines rest
@@ -68,7 +68,7 @@ pub record CasesOfRecordLaws : Type 0 where
       → records_of (Length (length piece)) (flat_map (λ p. p) (piece ∷ []) ++ rest)
       ≡ piece ∷ last_record (Length (length piece)) rest
   pub whole_is_one : WholeIsOne → (bytes : List ℕ) → records_of Whole bytes ≡ bytes ∷ []
-  -- only 10 is not a byte of a line, and ends it
+  -- the byte 10 is the only one that is not in a line, and ends it
   pub a_line : IsLine (65 ∷ 13 ∷ [])
   pub no_line : IsLine (65 ∷ 10 ∷ []) → ⊥
   pub ended : ended_line (65 ∷ []) ≡ 65 ∷ 10 ∷ []

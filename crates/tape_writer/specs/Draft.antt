@@ -21,7 +21,7 @@ use Rattle.tape_writer.specs.Labels.{header_items}
 use Rattle.tape_writer.specs.Told.{labelled, IsOfFile, IsWithin}
 
 -- The files that are finished; the finished sections of the current file, and the blocks of its
--- next section; and the number of volumes that ended.
+-- next section; and the number of volumes that have ended.
 pub record Draft : Type 0 where
   pub files : List (List Section)
   pub sects : List Section
@@ -36,7 +36,7 @@ placed d = all_numbered 1 d.files ++ numbered (length d.files + 1) 1 d.sects
 abbrev pub open_blocks : Draft → List Filled
 open_blocks d = blocks_of_all d.sects ++ d.blocks
 
--- the contents of the volume after the first k ones, except its last mark
+-- the contents of the volume after the first k volumes, without its last mark
 abbrev pub body : List Volume → List Placed → ℕ → List Entry
 body volumes xs k = group_of (slice_get volumes k) ++ all_entries (on (k + 1) xs)
 
@@ -70,20 +70,20 @@ here file course blocks eof = record {
 abbrev pub data_item : Filled → TapeItem
 data_item b = block b.bytes
 
--- the current volume between two files
+-- the items of the current volume between two files
 abbrev pub body_items : List Volume → Draft → List TapeItem
 body_items volumes d = map item_of (body volumes (placed d) d.past)
 
--- the current volume inside a file
+-- the items of the current volume inside a file
 abbrev pub open_items : List Volume → Opened → Course → Draft → List TapeItem
 open_items volumes file course d =
     body_items volumes d ++ header_items file course.sect ++ map data_item d.blocks
 
--- the volumes that ended
+-- the items of the volumes that have ended
 abbrev pub ended_volumes : List Volume → Draft → List (List TapeItem)
 ended_volumes volumes d = first_volumes volumes (placed d) d.past
 
--- finished sections on the first volumes, and the rules that they follow
+-- the finished sections on the first n volumes, and the rules that they satisfy
 pub record IsDone (volumes : List Volume) (capacity : ℕ) (set_id : List ℕ) (n : ℕ)
     (xs : List Placed) : Type 0 where
   pub each : AllByRecursion (IsSection set_id n) xs
@@ -92,7 +92,7 @@ pub record IsDone (volumes : List Volume) (capacity : ℕ) (set_id : List ℕ) (
   pub ends : EachBehind (IsTightEnd volumes capacity) [] xs
   pub changes : ChainBehind (IsTightChange volumes capacity) [] xs
 
--- a property of the last of these and those before it
+-- a property of the last section and those before it
 abbrev pub OfLast : List Placed → (List Placed → Placed → Type 0) → Type 0
 OfLast xs P = (ys : List Placed) (x : Placed) → xs ≡ ys ++ x ∷ [] → P ys x
 
@@ -100,7 +100,7 @@ OfLast xs P = (ys : List Placed) (x : Placed) → xs ≡ ys ++ x ∷ [] → P ys
 abbrev pub IsGoing : Opened → Placed → Type 0
 IsGoing file x = IsOfFile file x × (ends_file x.section ≡ false)
 
--- Between two files.
+-- The state between two files.
 pub record Between (volumes : List Volume) (capacity : ℕ) (set_id : List ℕ) (course : Course)
     (d : Draft) : Type 0 where
   pub no_sects : d.sects ≡ []
@@ -115,7 +115,7 @@ pub record Between (volumes : List Volume) (capacity : ℕ) (set_id : List ℕ) 
   pub used : course.used ≡ items_size (body_items volumes d)
   pub room : course.used + (headers_size + volume_end_size) ≤ capacity
 
--- Inside a file, whose current section begins with these blocks.
+-- The state inside a file whose current section begins with the blocks `next`.
 pub record Within (volumes : List Volume) (capacity : ℕ) (set_id : List ℕ) (file : Opened)
     (course : Course) (next : List Filled) (d : Draft) : Type 0 where
   pub ready : IsReady file
@@ -139,13 +139,13 @@ pub record Within (volumes : List Volume) (capacity : ℕ) (set_id : List ℕ) (
   pub used : course.used ≡ items_size (open_items volumes file course d)
   pub room : course.used + volume_end_size ≤ capacity
 
--- Between two calls inside a file.
+-- The state between two calls inside a file.
 pub record Steady (volumes : List Volume) (capacity : ℕ) (set_id : List ℕ) (file : Opened)
     (course : Course) (d : Draft) : Type 0 where
   pub inside : Within volumes capacity set_id file course d.blocks d
   pub begins : d.blocks ≡ [] → OfLast (placed d) (λ ys x. (x.file ≡ file.head.sequence) → ⊥)
 
--- the draft after a section's end by EOV
+-- the draft after a section has ended with EOV1 and EOV2
 abbrev pub changed_draft : Opened → Course → Draft → Draft
 changed_draft file course d = record {
   files = d.files;
@@ -154,7 +154,7 @@ changed_draft file course d = record {
   past = d.past + 1;
 }
 
--- and the position: VOL1 and the headers are written on the next volume
+-- the position after this change: VOL1 and the headers are written on the next volume
 abbrev pub changed_course : Course → Course
 changed_course course =
     record { volume = course.volume + 1; sect = course.sect + 1; count = 0; used = 268 }
@@ -169,11 +169,11 @@ ended_draft file course d = record {
   past = d.past;
 }
 
--- one more block
+-- the draft with one more block
 abbrev pub added_draft : Draft → Filled → Draft
 added_draft d b = record d { blocks = d.blocks ++ b ∷ [] }
 
--- and the position, if the block takes this many bytes
+-- the position after one more block of size `size`
 abbrev pub added_course : Course → ℕ → Course
 added_course course size = record course { count = course.count + 1; used = course.used + size }
 
@@ -186,14 +186,14 @@ abbrev pub begun_course : Course → Course
 begun_course course =
     record { volume = course.volume; sect = 1; count = 0; used = course.used + 180 }
 
--- Inside a file the tapes contain what the draft describes.
+-- Inside a file, the tapes contain the items that the draft describes.
 pub record IsOpen (H : Tapes → Type 0) (volumes : List Vol1) (capacity : ℕ) (set_id : List ℕ)
     (file : Opened) (course : Course) (d : Draft) : Type 0 where
   pub steady : Steady (map labelled volumes) capacity set_id file course d
   pub held : H (UnderWay (ended_volumes (map labelled volumes) d)
       (open_items (map labelled volumes) file course d))
 
--- The same between two files.
+-- Between two files, the tapes contain the items that the draft describes.
 pub record IsResting (H : Tapes → Type 0) (volumes : List Vol1) (capacity : ℕ) (set_id : List ℕ)
     (course : Course) (d : Draft) : Type 0 where
   pub between : Between (map labelled volumes) capacity set_id course d
@@ -208,7 +208,7 @@ pub record Grew (H : Tapes → Type 0) (volumes : List Vol1) (capacity : ℕ) (s
   pub files : draft.files ≡ d.files
   pub blocks : open_blocks draft ≡ open_blocks d ++ b ∷ []
 
--- The file has ended, with these sections.
+-- The file has ended, with the given sections.
 pub record Closed (H : Tapes → Type 0) (volumes : List Vol1) (capacity : ℕ) (set_id : List ℕ)
     (file : Opened) (course : Course) (d : Draft) : Type 0 where
   pub draft : Draft

@@ -5,11 +5,12 @@ use Rattle.tape_writer.specs.declared.fault.WriteFault.TheVariants.{OutOfVolumes
 use Rattle.tape_writer.specs.declared.fault.WriteFault.TheVariants.{OutOfMemory}
 use Rattle.tape_writer.specs.Tapes.{Failures, HasCause, Rose}
 
--- `Device` is only returned if the device failed in the call
+-- `Device` is returned only if the device failed in the call
 abbrev pub FailsByDevice : Failures → Result (Unit {0}) WriteFault → Failures → Type 0
 FailsByDevice old result new = IfErr result (λ fault. fault ≡ Device → Rose old.device new.device)
 
--- and `OutOfMemory` only if the tapes were refused memory
+-- `Device` is returned only if the device failed, and `OutOfMemory` only if an allocation of the
+-- tapes failed
 abbrev pub FailsWith : Failures → Result (Unit {0}) WriteFault → Failures → Type 0
 FailsWith old result new = HasCause Device OutOfMemory old result new
 
@@ -20,6 +21,6 @@ IsEnding Device = Unit {0}
 IsEnding OutOfMemory = Unit {0}
 IsEnding _ = ⊥
 
--- those of them that an output causes: all but `OutOfVolumes`
+-- those that an output causes: all except `OutOfVolumes`
 abbrev pub IsOfOut : WriteFault → Type 0
 IsOfOut fault = IsEnding fault × (fault ≢ OutOfVolumes)

@@ -1,4 +1,4 @@
--- The fields of labels that are written consist of a-characters.
+-- The fields of written labels consist of a-characters.
 use Rattle.std.specs.Prelude.{◌≡◌, ℕ, List, [], ◌∷◌, None}
 use Rattle.tape_label.specs.Characters.{first_other}
 use Rattle.tape_label.specs.declared.values.Vol1.{Vol1}
@@ -8,14 +8,14 @@ use Rattle.tape_label.specs.declared.values.Head1.{Head1}
 abbrev pub IsText : List ℕ → Type 0
 IsText bytes = first_other bytes ≡ None
 
--- The volume's fields are a-characters; the version is written unchanged.
+-- The fields of the volume label are a-characters; the version is written unchanged.
 pub record IsTextVolume (v : Vol1) : Type 0 where
   pub volume : IsText v.volume
   pub access : IsText (v.access ∷ [])
   pub implementation : IsText v.implementation
   pub owner : IsText v.owner
 
--- The head's fields are a-characters, except for the set identifier, which is replaced.
+-- The fields of the head are a-characters, except for the set identifier, which is replaced.
 pub record IsTextHead (h : Head1) : Type 0 where
   pub file_id : IsText h.file_id
   pub generation : IsText h.generation

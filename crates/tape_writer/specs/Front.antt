@@ -1,5 +1,5 @@
--- The contents of the tapes after a call that was refused midway: a prefix of what it was writing,
--- and nothing else.
+-- The contents of the tapes after a call that was interrupted by a refusal: a prefix of the items
+-- that it was to write, and nothing else.
 use Rattle.std.specs.Prelude.{◌≡◌, ◌⊎◌, ℕ, List, [], ◌∷◌, ◌++◌}
 use Rattle.tape_image.specs.Tape.{TapeItem}
 use Rattle.tape_label.specs.declared.values.Vol1.{Vol1}
@@ -13,32 +13,32 @@ use Rattle.tape_writer.specs.Inside.{IsInside, IsPacking, IsFlat, IsWaiting}
 use Rattle.tape_writer.specs.State.{SetState}
 
 -- a step on tapes: an item is appended to the current volume, the next volume begins, or the last
--- one ends
+-- volume ends
 pub data Step : Type 0 where
   Item : (item : TapeItem) → Step
   Change : Step
   Close : Step
 
--- the tapes after this step
+-- the tapes after a step
 abbrev pub behind_step : Step → Tapes → Tapes
 behind_step (Item item) (UnderWay volumes items) = UnderWay volumes (items ++ item ∷ [])
 behind_step (Item item) (Ended volumes) = Ended volumes
 behind_step Change tapes = UnderWay (all_volumes tapes) []
 behind_step Close tapes = Ended (all_volumes tapes)
 
--- and after these steps
+-- the tapes after several steps
 abbrev pub behind_steps : List Step → Tapes → Tapes
 behind_steps [] tapes = tapes
 behind_steps (s ∷ steps) tapes = behind_steps steps (behind_step s tapes)
 
--- The tapes contain a prefix of these: further steps lead to them.
+-- The tapes contain a prefix of `whole`: further steps lead to it.
 pub record HoldsFront (H : Tapes → Type 0) (whole : Tapes) : Type 0 where
   pub now : Tapes
   pub held : H now
   pub steps : List Step
   pub leads : behind_steps steps now ≡ whole
 
--- In the middle of the last of these records.
+-- The writer is in the middle of the last of the records.
 pub record IsMidRecord (H : Tapes → Type 0) (volumes : List Vol1) (capacity : ℕ) (set_id : List ℕ)
     (file : Opened) (course : Course) (fs : List (List Section)) (records : List (List ℕ))
     : Type 0 where
@@ -49,7 +49,7 @@ pub record IsMidRecord (H : Tapes → Type 0) (volumes : List Vol1) (capacity : 
   pub split : records ≡ before ++ whole ∷ []
   pub packing : IsPacking H volumes capacity set_id file course packer fs before whole rest
 
--- after these files, inside this one, to which these records were passed: some may be in the
+-- inside a file, after the finished files fs and the records passed: some of them may be in the
 -- current block, the last one in part, or all may be in blocks
 abbrev pub IsPartly : (Tapes → Type 0) → List Vol1 → ℕ → List ℕ → Opened → Course
     → List (List Section) → List (List ℕ) → Type 0
@@ -58,7 +58,7 @@ IsPartly H volumes capacity set_id file course fs records =
     ⊎ (IsMidRecord H volumes capacity set_id file course fs records
     ⊎ IsFlat H volumes capacity set_id file course fs records)
 
--- Inside the last of these files.
+-- The writer is inside the last of the files passed.
 pub record IsInLast (H : Tapes → Type 0) (volumes : List Vol1) (capacity : ℕ) (set_id : List ℕ)
     (told : List Told) : Type 0 where
   pub past : List Told
@@ -69,23 +69,22 @@ pub record IsInLast (H : Tapes → Type 0) (volumes : List Vol1) (capacity : ℕ
   pub course : Course
   pub partly : IsPartly H volumes capacity set_id last.file course files last.records
 
--- inside the last of these files, or at its end
+-- the writer is inside the last of the files passed, or at its end
 abbrev pub IsEndingLast : (Tapes → Type 0) → List Vol1 → ℕ → List ℕ → List Told → Type 0
 IsEndingLast H volumes capacity set_id told = IsInLast H volumes capacity set_id told
     ⊎ ((course : Course) × IsWaiting H volumes capacity set_id course told)
 
--- ---- what remains: the volumes that ended are complete, the current one contains a prefix of its
--- ---- items, and there is nothing else
+-- ---- contents that remain: the volumes that ended, and a prefix of the current one
 
--- the tapes contain a prefix of what is written inside the last of these files
+-- the tapes contain a prefix of the items inside the last of the files passed
 abbrev pub IsLeftInside : {T : Type 0} → (Tapes → Type 0) → SetState T → List Told → Type 0
 IsLeftInside H w told = IsInLast (HoldsFront H) w.volumes w.capacity w.set_id told
 
--- a prefix of what is written when these files have ended
+-- the tapes contain a prefix of the items after the files passed have ended
 abbrev pub IsLeftBehind : {T : Type 0} → (Tapes → Type 0) → SetState T → List Told → Type 0
 IsLeftBehind H w told =
     (course : Course) × IsWaiting (HoldsFront H) w.volumes w.capacity w.set_id course told
 
--- a prefix of what is written when the set of these files is complete
+-- the tapes contain a prefix of the complete set of the files passed
 abbrev pub IsLeftWhole : {T : Type 0} → (Tapes → Type 0) → SetState T → List Told → Type 0
 IsLeftWhole H w told = IsWrittenSet (HoldsFront H) w.volumes w.capacity w.set_id told

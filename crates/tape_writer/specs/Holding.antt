@@ -1,10 +1,10 @@
--- A write buffer: bytes that are kept before they are written to a device.
+-- A write buffer: bytes that are buffered before they are written to a device.
 use Rattle.std.specs.Prelude.{◌≡◌, ◌⊎◌, ℕ, ◌+◌, ◌-◌, ◌^◌, ◌≤◌, min, Bool, true, false, List}
 use Rattle.std.specs.Prelude.{[], ◌++◌, length, Option, None, Some}
 use Rattle.std.specs.Io.KnownBytes.{Appends, append_known}
 use Rattle.tape_image.specs.Written.{AppendsFront}
 
--- the contents of the device, if known, the buffered bytes, how many bytes were accepted, and
+-- the contents of the device, if known, the buffered bytes, the number of bytes accepted, and
 -- whether the device failed
 pub record Holding : Type 0 where
   pub device : Option (List ℕ)
@@ -12,12 +12,11 @@ pub record Holding : Type 0 where
   pub size : ℕ
   pub failed : Bool
 
--- the bytes that were accepted, if known: the contents of the device, followed by the buffered
--- bytes
+-- the bytes accepted, if known: the contents of the device, followed by the buffered bytes
 abbrev pub taken : Holding → Option (List ℕ)
 taken h = append_known h.device h.held
 
--- these bytes were accepted after all others, and counted
+-- `bytes` were accepted after all earlier bytes, and counted
 pub record TakesAll (bytes : List ℕ) (old new : Holding) : Type 0 where
   pub takes : Appends (taken old) (taken new) bytes
   pub size : new.size ≡ min (old.size + length bytes) (2 ^ 64 - 1)
@@ -30,8 +29,8 @@ pub record PassesOn (old new : Holding) : Type 0 where
   pub size : new.size ≡ old.size
   pub stands : new.failed ≡ false
 
--- a prefix of the buffered bytes was written, so that there is room for this many more, or the
--- buffer is empty
+-- a prefix of the buffered bytes was written, so that there is room for `count` further bytes, or
+-- the buffer is empty
 pub record MakesRoom (count : ℕ) (old new : Holding) : Type 0 where
   pub moved : List ℕ
   pub passed : Appends old.device new.device moved
@@ -40,23 +39,23 @@ pub record MakesRoom (count : ℕ) (old new : Holding) : Type 0 where
   pub size : new.size ≡ old.size
   pub stands : new.failed ≡ false
 
--- the device failed: its contents are followed by a prefix of the buffered bytes and of these bytes
+-- the device failed: its contents are followed by a prefix of the buffered bytes and `bytes`
 pub record Stops (bytes : List ℕ) (old new : Holding) : Type 0 where
   pub front : AppendsFront old.device new.device (old.held ++ bytes)
   pub size : new.size ≡ old.size
   pub failed : new.failed ≡ true
 
--- nothing was accepted yet, for a device with these contents
+-- a buffer that has accepted no bytes, on a device with the given contents
 abbrev pub fresh : Option (List ℕ) → Holding
 fresh contents = record { device = contents; held = []; size = 0; failed = false }
 
--- a file is open: the one before, or a new one that accepted nothing yet
+-- a file is open: the file that was open before, or a new one that has accepted no bytes
 abbrev pub Opens : Option Holding → Option Holding → Type 0
 Opens None None = ⊥
 Opens None (Some new) = (contents : Option (List ℕ)) × (new ≡ fresh contents)
 Opens (Some old) new = new ≡ Some old
 
--- a file accepted these bytes, as its first ones if it was not opened before
+-- a file accepted `bytes`, which are its first bytes if it was not open before
 abbrev pub FileTakes : List ℕ → Option Holding → Option Holding → Type 0
 FileTakes bytes None None = ⊥
 FileTakes bytes None (Some new) = (contents : Option (List ℕ)) × TakesAll bytes (fresh contents) new

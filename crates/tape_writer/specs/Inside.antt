@@ -1,5 +1,5 @@
--- The writer inside a file and between two: the contents of the tapes, and the files and records
--- passed so far.
+-- The state of the writer inside a file and between two files: the contents of the tapes, and the
+-- files and records passed so far.
 use Rattle.std.specs.Prelude.{◌≡◌, ◌⊎◌, ◌≢◌, ◌≤◌, ℕ, ◌+◌, List, [], ◌∷◌, ◌++◌, false, None, length}
 use Rattle.std.specs.List.{AllByRecursion}
 use Rattle.tape_label.specs.declared.values.Vol1.{Vol1}
@@ -21,7 +21,7 @@ use Rattle.tape_writer.specs.Tapes.{Tapes, Ended}
 use Rattle.tape_writer.specs.Draft.{Draft, IsOpen, IsResting, open_blocks}
 use Rattle.tape_writer.specs.Told.{Told, AreFiled}
 
--- After the finished files fs, inside this one: these records were passed.
+-- Inside a file, after the finished files fs, the given records were passed.
 pub record IsInside (H : Tapes → Type 0) (volumes : List Vol1) (capacity : ℕ) (set_id : List ℕ)
     (file : Opened) (course : Course) (p : Packing) (fs : List (List Section))
     (records : List (List ℕ)) : Type 0 where
@@ -33,7 +33,7 @@ pub record IsInside (H : Tapes → Type 0) (volumes : List Vol1) (capacity : ℕ
   pub run : RunOf (open_blocks draft) p records
   pub lengths : AreRecordsOf file.shape records
 
--- In the middle of a record, this rest of it is still to be packed.
+-- In the middle of the record `whole`, its rest `rest` is still to be packed.
 pub record IsPacking (H : Tapes → Type 0) (volumes : List Vol1) (capacity : ℕ) (set_id : List ℕ)
     (file : Opened) (course : Course) (p : Packing) (fs : List (List Section))
     (records : List (List ℕ)) (whole rest : List ℕ) : Type 0 where
@@ -64,14 +64,14 @@ pub record IsFlat (H : Tapes → Type 0) (volumes : List Vol1) (capacity : ℕ) 
   pub tight : packing.IsTight file.shape records (open_blocks draft)
   pub lengths : AreRecordsOf file.shape records
 
--- Between two files, these were passed.
+-- Between two files, the given files were passed.
 pub record IsBetween (H : Tapes → Type 0) (volumes : List Vol1) (capacity : ℕ) (set_id : List ℕ)
     (course : Course) (told : List Told) : Type 0 where
   pub draft : Draft
   pub resting : IsResting H volumes capacity set_id course draft
   pub filed : AreFiled capacity told draft.files
 
--- Inside a file, after the ones passed before it.
+-- Inside a file, the files before it and the given records were passed.
 pub record IsFiling (H : Tapes → Type 0) (volumes : List Vol1) (capacity : ℕ) (set_id : List ℕ)
     (file : Opened) (course : Course) (p : Packing) (past : List Told) (records : List (List ℕ))
     : Type 0 where
@@ -79,16 +79,16 @@ pub record IsFiling (H : Tapes → Type 0) (volumes : List Vol1) (capacity : ℕ
   pub filed : AreFiled capacity past files
   pub inside : IsInside H volumes capacity set_id file course p files records
 
--- before the first file, when nothing is written, or between two
+-- before the first file, when the tapes are empty, or between two files
 abbrev pub IsWaiting : (Tapes → Type 0) → List Vol1 → ℕ → List ℕ → Course → List Told → Type 0
 IsWaiting H volumes capacity set_id course told =
     ((course.volume ≡ 0) × H (Ended []) × (told ≡ []))
     ⊎ (IsBetween H volumes capacity set_id course told × (told ≢ []))
 
--- These blocks and the next one are a prefix of the records, packed in the shape: each is a block
--- that is written, they are as full as the rules of packing require, and with the parts after them
--- they join to exactly these records. Next comes one block or, if all records are in the blocks,
--- nothing.
+-- The given blocks and the next block are a prefix of the records, packed in the shape: each block
+-- is one that is written, they are as full as the rules of packing require, and with the parts
+-- after them they join to exactly the records. `next` is one block or, if all records are in the
+-- blocks, empty.
 pub record Continues (shape : Shape) (records : List (List ℕ)) (blocks next : List Filled)
     : Type 0 where
   pub each : AllByRecursion (packing.IsWritten shape) (blocks ++ next)
@@ -101,9 +101,9 @@ pub record Continues (shape : Shape) (records : List (List ℕ)) (blocks next : 
   pub most : length next ≤ 1
   pub ends : next ≡ [] → behind ≡ []
 
--- The volume must be changed and none is left: after the finished files fs the current volume
--- contains an open section with its data blocks and no trailer, and the rule for the change refuses
--- the next block of these records.
+-- The volume must be changed, but no volume is left: after the finished files fs the current volume
+-- contains an open section with its data blocks and without a trailer, and the rule for the change
+-- of volumes refuses the next block of the records.
 pub record IsStuck (H : Tapes → Type 0) (volumes : List Vol1) (capacity : ℕ) (set_id : List ℕ)
     (file : Opened) (course : Course) (fs : List (List Section)) (records : List (List ℕ))
     : Type 0 where
@@ -124,14 +124,14 @@ pub record IsLeftOut (volumes capacity : ℕ) (course : Course) (p : Packing) : 
 
 -- ---- the tapes before a call
 
--- if the tapes contain a draft inside this file, this holds for the set's identifier and the draft
+-- if the tapes contain a draft inside the file, P holds for the set's identifier and the draft
 abbrev pub IfOpen : {T : Type 0} → Ghosts T → List Vol1 → ℕ → Opened → Tape T
     → (List ℕ → Draft → Type 0) → Type 0
 IfOpen g volumes capacity file tape P = (set_id : List ℕ) (d : Draft)
     → IsOpen (g.holds tape.out) volumes capacity set_id file tape.course d → P set_id d
 
--- if they are inside this file, with this packer, this holds for the set's identifier, the finished
--- files and the records passed
+-- if the tapes are inside the file, with the given packer, P holds for the set's identifier, the
+-- finished files and the records passed
 abbrev pub IfInside : {T : Type 0} → Ghosts T → List Vol1 → ℕ → Opened → Tape T → Packing
     → (List ℕ → List (List Section) → List (List ℕ) → Type 0) → Type 0
 IfInside g volumes capacity file tape p P =
@@ -139,8 +139,8 @@ IfInside g volumes capacity file tape p P =
     → IsInside (g.holds tape.out) volumes capacity set_id file tape.course p fs records
     → P set_id fs records
 
--- if this file is the next one, this holds for the set's identifier, the files before it and a
--- packer without any of its records
+-- if the file is the next one, P holds for the set's identifier, the files before it and a packer
+-- without any of its records
 abbrev pub IfNext : Opened → (List ℕ → List Told → Packing → Type 0) → Type 0
 IfNext file P = (set_id : List ℕ) (told : List Told) (p : Packing)
     → file.head.set_id ≡ set_id → file.head.sequence ≡ length told + 1

@@ -6,14 +6,14 @@ use Rattle.tape_writer.specs.Tapes.{Tapes, Ended, UnderWay, Failures}
 use Rattle.tape_writer.specs.declared.memory.Kept.{Kept}
 use Rattle.tape_writer.specs.declared.memory.Kept.TheVariants.{Block, Mark}
 
--- what contracts see of tapes in memory: their volumes, how often they were misused, and how often
--- memory was refused
+-- the state of tapes in memory that contracts see: their volumes, the number of misuses, and the
+-- number of failed allocations
 pub record InMemory : Type 0 where
   pub tapes : Tapes
   pub misused : ℕ
   pub refused : ℕ
 
--- the calls that failed: those without a current volume, and those that ran out of memory
+-- the failures of tapes in memory: calls without a current volume, and failed allocations
 abbrev pub failures_in : InMemory → Failures
 failures_in m = record { device = m.misused; memory = m.refused }
 
@@ -26,18 +26,18 @@ item_of Mark = mark
 abbrev pub volume_of : List Kept → List TapeItem
 volume_of kept = map item_of kept
 
--- these volumes ended, and this is the current one, if there is one
+-- the volumes that have ended, and the current volume, if there is one
 abbrev pub tapes_of : List (List Kept) → Option (List Kept) → Tapes
 tapes_of ended None = Ended (map volume_of ended)
 tapes_of ended (Some current) = UnderWay (map volume_of ended) (volume_of current)
 
--- how many images are lent
+-- the number of devices lent, 0 or 1
 abbrev pub lent_count : Bool → ℕ
 lent_count true = 1
 lent_count false = 0
 
--- exactly these images are stored, and there is room for those that may follow, including the lent
--- one
+-- exactly the given images are stored, and there is room for those that may follow, including the
+-- one whose device is lent
 abbrev pub HoldsImages : List (List ℕ) → ℕ → ℕ → Bool → List (List ℕ) → Type 0
 HoldsImages kept room left lent images =
     (kept ≡ images) × (length kept + left + lent_count lent ≤ room)

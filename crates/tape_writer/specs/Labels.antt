@@ -1,4 +1,4 @@
--- The labels that are written: each is the one text that `tape_label` writes for its fields.
+-- The labels that are written: each is the text that `tape_label` writes for its fields.
 use Rattle.std.specs.Prelude.{◌≤◌, ℕ, List, [], ◌∷◌, Bool, if◌then◌else◌}
 use Rattle.tape_image.specs.Tape.{TapeItem, block, mark}
 use Rattle.tape_label.specs.declared.values.Vol1.{Vol1}
@@ -14,7 +14,7 @@ use Rattle.tape_set.specs.Tight.{second_of}
 use Rattle.tape_writer.specs.declared.course.Opened.{Opened}
 use Rattle.tape_label.specs.Widths.{IsWide}
 
--- A file whose labels can be written.
+-- The labels of the file can be written.
 pub record IsReady (file : Opened) : Type 0 where
   pub wide : IsWide file.head
   pub writable : IsWritable file.shape
@@ -23,7 +23,7 @@ pub record IsReady (file : Opened) : Type 0 where
 
 -- ---- texts
 
--- the file's head in this section
+-- the file's head in the given section
 abbrev pub head_at : Opened → ℕ → Head1
 head_at file sect = record file.head { sect = sect }
 
@@ -49,7 +49,7 @@ second_label file kind = text_of (head2_pieces kind (second_of file.shape))
 unfoldable pub trailer_label : Opened → ℕ → ℕ → Bool → List ℕ
 trailer_label file sect count eof = text_of (trail1_pieces (trailer_at file sect count eof))
 
--- EOF2 if the file ends, EOV2 if it continues
+-- the kind EOF2 if the file ends, EOV2 if it continues
 abbrev pub second_kind : Bool → Kind
 second_kind eof = if eof then kinds.Eof2 else kinds.Eov2
 

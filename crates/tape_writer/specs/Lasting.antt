@@ -1,4 +1,4 @@
--- What every call preserves, whatever it returns.
+-- The properties that every call preserves, whatever its result.
 use Rattle.std.specs.Prelude.{◌≡◌, ℕ, List, ◌++◌, Result, OnOk}
 use Rattle.tape_image.specs.Tape.{TapeItem}
 use Rattle.tape_label.specs.declared.values.Vol1.{Vol1}
@@ -8,15 +8,14 @@ use Rattle.tape_writer.specs.declared.out.TapeOut.{Ghosts}
 use Rattle.tape_writer.specs.declared.tape.Tape.{Tape}
 use Rattle.tape_writer.specs.Tapes.{Tapes, UnderWay, Failures, Grows, WasAsked}
 
--- There is a current volume, whose size is the one that is counted, and these volumes ended before
--- all others.
+-- There is a current volume of the counted size, and the given volumes ended first.
 pub record Lasts (H : Tapes → Type 0) (used : ℕ) (volumes : List (List TapeItem)) : Type 0 where
   pub more : List (List TapeItem)
   pub items : List TapeItem
   pub held : H (UnderWay (volumes ++ more) items)
   pub size : used ≡ items_size items
 
--- Volumes that ended are unchanged, the size is that of the items accepted, and no count of
+-- Volumes that have ended are unchanged, the size is that of the items accepted, and no count of
 -- failures decreases.
 pub record Lasting (H : Tapes → Type 0) (failures : Failures) (used : ℕ)
     (H' : Tapes → Type 0) (failures' : Failures) (used' : ℕ) : Type 0 where
@@ -24,13 +23,12 @@ pub record Lasting (H : Tapes → Type 0) (failures : Failures) (used : ℕ)
       → H (UnderWay volumes items) → used ≡ items_size items → Lasts H' used' volumes
   pub count : Grows failures failures'
 
--- the same for the output of a tape, and the size that it counts, before and after a call
+-- the same for the output of a tape and the size that it counts, before and after a call
 abbrev pub TapeLasts : {T : Type 0} → Ghosts T → Tape T → Tape T → Type 0
 TapeLasts g old new = Lasting (g.holds old.out) (g.failures old.out) old.course.used
     (g.holds new.out) (g.failures new.out) new.course.used
 
--- after a success the output was asked for the current volume with the volume's own label, if it
--- was before
+-- after a call that succeeds, the current volume was requested with its own label, if it was before
 abbrev pub StaysAsked : {T : Type 0} → Ghosts T → List Vol1 → Tape T
     → Result (Unit {0}) WriteFault → Tape T → Type 0
 StaysAsked g volumes old result new = WasAsked (g.asked old.out) volumes old.course.volume

@@ -16,10 +16,11 @@ use Rattle.tape_writer.specs.Records.{records_of, IsFirstLong}
 use Rattle.tape_writer.specs.WriteFaults.{IsOfInput}
 use Rattle.tape_writer.specs.ToldFiles.{with_records, told_files, IfAllKnown}
 
--- A prefix of these records was passed after those, and the tapes contain a prefix of what is
--- written for them: inside the file, or at its end if no record is left. `OutOfMemory` is only
--- possible if the tapes were refused memory, which G says, or at a record that has more bytes than
--- each one before: the others fit the buffer. If an input failed, all of that is on the tapes.
+-- A prefix of the given records was passed after the files `told`, and the tapes contain a prefix
+-- of the items written for them: inside the file, or at its end if no record is left. `OutOfMemory`
+-- is possible only if an allocation of the tapes failed, as G says, or at a record that is longer
+-- than all records before it, since shorter records fit in the buffer. If an input failed, all
+-- these items are on the tapes.
 pub record IsLeftOf {T : Type 0} (H : Tapes → Type 0) (w : SetState T) (G : Type 0)
     (fault : SetFault) (told : List Told) (records : List (List ℕ)) : Type 0 where
   pub front : List (List ℕ)
@@ -32,14 +33,14 @@ pub record IsLeftOf {T : Type 0} (H : Tapes → Type 0) (w : SetState T) (G : Ty
   pub all : IsOfInput fault
       → IsInLast H w.volumes w.capacity w.set_id (with_records told front)
 
--- the writer refused to begin a file after these
+-- the writer refused to begin a file after the files passed
 abbrev pub IsLeftUnbegun : {T : Type 0} → (Tapes → Type 0) → SetState T → SetFault → List Told
     → Type 0
 IsLeftUnbegun H w fault told = (IsOfInput fault → ⊥) × IsLeftBehind H w told
 
--- The same for the files of these inputs: those before one of them were passed completely, and it
--- was not begun, or a prefix of its records was passed. Makes no claim if the bytes of one of these
--- inputs are unknown.
+-- The state after a fault in one of the files of the given inputs: the files before one of them
+-- were passed completely, and that file did not begin, or a prefix of its records was passed. Makes
+-- no claim if the bytes of one of these inputs are unknown.
 pub record IsLeftIn {T : Type 0} (H : Tapes → Type 0) (w : SetState T) (G : Type 0)
     (fault : SetFault) (set_id : List ℕ) (told : List Told) (shape : Shape) (cut : Cut)
     (inputs : List (Head1 × Option (List ℕ))) : Type 0 where
@@ -53,7 +54,7 @@ pub record IsLeftIn {T : Type 0} (H : Tapes → Type 0) (w : SetState T) (G : Ty
       (with_file set_id (told ++ told_files set_id shape cut (length told + 1) fs) input.0 shape)
       (records_of cut bytes)))
 
--- in one of these files, or at the set's end after them, where only the tapes allocate
+-- the same in one of the files, or at the end of the set after them, where only the tapes allocate
 abbrev pub IsLeftOfAll : {T : Type 0} → (Tapes → Type 0) → SetState T → Type 0 → SetFault → List ℕ
     → List Told → Shape → Cut → List (Head1 × Option (List ℕ)) → Type 0
 IsLeftOfAll H w G fault set_id told shape cut inputs =
@@ -62,8 +63,8 @@ IsLeftOfAll H w G fault set_id told shape cut inputs =
     IsLeftBehind H w (told ++ told_files set_id shape cut (length told + 1) fs)
     ⊎ IsLeftWhole H w (told ++ told_files set_id shape cut (length told + 1) fs))
 
--- The same for a set: a writer of the plan, to which nothing was passed before, wrote on these
--- tapes, which satisfy P and do not allocate.
+-- The state after a fault in a set: a writer of the plan, to which nothing was passed before, wrote
+-- to tapes that satisfy P and do not allocate.
 pub record IsLeftSet {T : Type 0} (H : T → Tapes → Type 0) (P : T → Type 0) (fault : SetFault)
     (plan : SetPlan) (cut : Cut) (inputs : List (Head1 × Option (List ℕ))) : Type 0 where
   pub writer : SetState T

@@ -21,17 +21,17 @@ pub mod LeftOf
 pub mod WriteFaults
 -- blank volumes:
 pub mod Blank
--- images that are files:
+-- image files:
 pub mod System
 pub mod Holding
--- test cases for these:
+-- test cases for these definitions:
 pub mod Cases
 pub mod CasesOfInputs
 pub mod CasesOfWritten
 pub mod CasesOfFronts
 pub mod CasesOfDrafts
 pub mod CasesOfHolding
--- sets that are being written, used by the proofs only:
+-- sets that are being written, only used by the proofs:
 pub mod Draft
 pub mod Inside
 pub mod Front

@@ -11,8 +11,8 @@ use Rattle.tape_writer.specs.Records.{records_of}
 use Rattle.tape_writer.specs.ToldFiles.{with_records, told_files, IfAllKnown}
 use Rattle.tape_writer.specs.WriteSet.{cut_of}
 
--- The writer has no volume left after a prefix of these records was passed after those: the last
--- one was offered, or the file was to end after it.
+-- The writer has no volume left, after a prefix of the given records was passed after the files
+-- `told`: either the last of these records was refused, or the end of the file after it.
 pub record GaveUp {T : Type 0} (H : Tapes → Type 0) (w : SetState T) (told : List Told)
     (records : List (List ℕ)) : Type 0 where
   pub front : List (List ℕ)
@@ -20,9 +20,9 @@ pub record GaveUp {T : Type 0} (H : Tapes → Type 0) (w : SetState T) (told : L
   pub split : records ≡ front ++ back
   pub out : IsOutOfVolumes H w (with_records told front)
 
--- The writer has no volume left for one of the files of these inputs: those before it were passed
--- completely, and a prefix of its records. Makes no claim if the bytes of one of these inputs are
--- unknown.
+-- The writer has no volume left for one of the files of the given inputs: the files before it were
+-- passed completely, and a prefix of its records was passed. Makes no claim if the bytes of one of
+-- these inputs are unknown.
 pub record GaveUpIn {T : Type 0} (H : Tapes → Type 0) (w : SetState T) (set_id : List ℕ)
     (told : List Told) (shape : Shape) (cut : Cut) (inputs : List (Head1 × Option (List ℕ)))
     : Type 0 where
@@ -34,8 +34,8 @@ pub record GaveUpIn {T : Type 0} (H : Tapes → Type 0) (w : SetState T) (set_id
       GaveUp H w (with_file set_id (told ++ told_files set_id shape cut (length told + 1) fs)
       input.0 shape) (records_of cut bytes)))
 
--- The same for a set: a writer of the plan, to which nothing was passed before, wrote on these
--- tapes, which satisfy P.
+-- No volume is left for a set: a writer of the plan, to which nothing was passed before, wrote to
+-- tapes that satisfy P.
 pub record GaveUpSet {T : Type 0} (H : T → Tapes → Type 0) (P : T → Type 0) (plan : SetPlan)
     (cut : Cut) (inputs : List (Head1 × Option (List ℕ))) : Type 0 where
   pub writer : SetState T
@@ -45,8 +45,8 @@ pub record GaveUpSet {T : Type 0} (H : T → Tapes → Type 0) (P : T → Type 0
   pub set_id : writer.set_id ≡ plan.set_id
   pub stuck : GaveUpIn (H writer.out) writer plan.set_id [] plan.shape cut inputs
 
--- the plan has no volume, or its last volume has no room for the next block or file end of the
--- inputs
+-- the plan has no volume, or its last volume has no room for the next block, or the end of a file,
+-- of the inputs
 abbrev pub HasNoVolume : {T : Type 0} → (T → Tapes → Type 0) → (T → Type 0) → SetPlan
     → List (Head1 × Option (List ℕ)) → Type 0
 HasNoVolume H P plan inputs = (length plan.volumes.items ≡ 0)

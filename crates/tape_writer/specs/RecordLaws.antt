@@ -1,4 +1,4 @@
--- Laws of records, in terms of the input's format.
+-- Laws about records, in terms of the input's format.
 use Rattle.std.specs.Prelude.{◌≡◌, ◌≢◌, ◌<◌, ℕ, List, [], ◌∷◌, ◌++◌, length}
 use Rattle.std.specs.List.{flat_map, AllByRecursion}
 use Rattle.tape_writer.specs.declared.inputs.cut.Cut.TheVariants.{Lines, Length, Whole}
@@ -12,14 +12,14 @@ IsLine l = AllByRecursion (λ b. b ≢ 10) l
 abbrev pub ended_line : List ℕ → List ℕ
 ended_line line = line ++ 10 ∷ []
 
--- Lines, each with its line feed, and a rest without one are cut into these lines, and the rest if
--- there is one.
+-- Lines, each with its line feed, followed by a rest without a line feed, are cut into these lines
+-- and the rest, if it is not empty.
 abbrev pub LinesAreCut : Type 0
 LinesAreCut = (lines : List (List ℕ)) (rest : List ℕ) → AllByRecursion IsLine lines → IsLine rest
     → records_of Lines (flat_map ended_line lines ++ rest) ≡ lines ++ last_record Lines rest
 
--- Pieces of one length, joined, and a shorter rest are cut into these pieces, and the rest if there
--- is one.
+-- Pieces of one length, followed by a shorter rest, are cut into these pieces and the rest, if it
+-- is not empty.
 abbrev pub PiecesAreCut : Type 0
 PiecesAreCut = (n : ℕ) (pieces : List (List ℕ)) (rest : List ℕ) → 0 < n
     → AllByRecursion (λ p. length p ≡ n) pieces → length rest < n

@@ -9,8 +9,8 @@ use Rattle.tape_writer.specs.declared.inputs.cut.Cut.{Cut}
 use Rattle.tape_writer.specs.declared.inputs.cut.Cut.TheVariants.{Lines, Length, Whole}
 use Rattle.tape_writer.specs.declared.inputs.records.Records.{Records}
 
--- The maximum length of a record, by format and record length. In format D the record length counts
--- the four digits.
+-- The maximum length of a record, by format and record length. In format D the record length
+-- includes the four digits.
 abbrev pub longest_by : Format → ℕ → ℕ
 longest_by Fixed rec_len = rec_len
 longest_by Counted rec_len = rec_len - 4
@@ -20,19 +20,20 @@ longest_by Spanned rec_len = 4294967295
 abbrev pub longest : Shape → ℕ
 longest shape = longest_by shape.format shape.rec_len
 
--- this byte ends the record before it, and is not part of it
+-- whether the byte ends the record before it, and is not part of the record
 abbrev pub ends_before : Cut → ℕ → Bool
 ends_before Lines byte = byte == 10
 ends_before (Length n) byte = false
 ends_before Whole byte = false
 
--- a record of this length is whole
+-- whether a record of the given length is complete
 abbrev pub is_full : Cut → ℕ → Bool
 is_full Lines n = false
 is_full (Length m) n = n == m
 is_full Whole n = false
 
--- Bytes at the end of an input are a record. No bytes are not a record if the input is cut.
+-- The record of the bytes left at the end of an input. If the input is cut, no bytes are not a
+-- record.
 abbrev pub last_record : Cut → List ℕ → List (List ℕ)
 last_record Whole r = r ∷ []
 last_record Lines [] = []
@@ -40,7 +41,7 @@ last_record Lines (b ∷ r) = (b ∷ r) ∷ []
 last_record (Length n) [] = []
 last_record (Length n) (b ∷ r) = (b ∷ r) ∷ []
 
--- the records of these bytes after those of an unfinished record
+-- the records of further bytes after the bytes r of an unfinished record
 abbrev pub records_from : Cut → List ℕ → List ℕ → List (List ℕ)
 records_from cut r [] = last_record cut r
 records_from cut r (b ∷ bs) =
@@ -52,7 +53,7 @@ records_from cut r (b ∷ bs) =
 abbrev pub records_of : Cut → List ℕ → List (List ℕ)
 records_of cut bytes = records_from cut [] bytes
 
--- the records to come, if the input is not at its end
+-- the records to come, if the end of the input was not reached
 abbrev pub to_come : Cut → Bool → List ℕ → List (List ℕ)
 to_come cut over bytes = if over then [] else records_of cut bytes
 
@@ -61,23 +62,23 @@ abbrev pub given : Bool → List ℕ → List (List ℕ) → List (List ℕ)
 given true r rs = r ∷ rs
 given false r rs = rs
 
--- these bytes after those of a record end it, or continue it
+-- the bytes, after the bytes `old` of a record, end the record (true) or continue it
 abbrev pub Adds : Cut → List ℕ → List ℕ → List ℕ → Bool → Type 0
 Adds cut old bytes new true = (more : List ℕ)
     → records_from cut old (bytes ++ more) ≡ new ∷ records_from cut [] more
 Adds cut old bytes new false = (more : List ℕ)
     → records_from cut old (bytes ++ more) ≡ records_from cut new more
 
--- the bytes left of an input: the bytes read ahead, and then those of its reader
+-- the bytes left in an input: the bytes read ahead, and then those of its reader
 abbrev pub left_of : {R : Type 0} → (R → Option (List ℕ)) → Records R → Option (List ℕ)
 left_of remaining records = prepend_known records.ahead (remaining records.device)
 
--- the first of these records has more bytes than this
+-- the first of the records is longer than `most`
 abbrev pub IsFirstLong : ℕ → List (List ℕ) → Type 0
 IsFirstLong most [] = ⊥
 IsFirstLong most (r ∷ rs) = most < length r
 
--- whatever follows these bytes, the record that begins with r gets longer than this
+-- whatever follows the bytes, the record that begins with r is longer than `most`
 abbrev pub GrowsLong : ℕ → Cut → List ℕ → List ℕ → Type 0
 GrowsLong most cut r bytes =
     (more : List ℕ) → IsFirstLong most (records_from cut r (bytes ++ more))

@@ -1,5 +1,5 @@
--- Which faults the calls of a set writer return, and when: a fault that these definitions rule out
--- is not returned.
+-- The faults that the calls of a set writer return, and their causes: a fault that these
+-- definitions rule out is not returned.
 use Rattle.std.specs.Prelude.{◌≡◌, ◌<◌, ◌≤◌, ℕ, List, length}
 use Rattle.std.specs.List.{AllByRecursion}
 use Rattle.tape_label.specs.declared.values.Vol1.{Vol1}
@@ -19,19 +19,20 @@ use Rattle.tape_writer.specs.declared.fault.WriteFault.TheVariants.{Device, OutO
 use Rattle.tape_writer.specs.Fields.{IsText, IsTextVolume, IsTextHead}
 use Rattle.tape_writer.specs.State.{HasLength}
 
--- this is the current file
+-- the given file is the current file
 abbrev pub IsInFile : Opened → Phase → Type 0
 IsInFile file (Filing o) = o.file ≡ file
 IsInFile file _ = ⊥
 
--- why no set with this identifier can be written on these volumes
+-- why a set with the given identifier cannot be written on the given volumes
 abbrev pub IsNewFault : List ℕ → List Vol1 → WriteFault → Type 0
 IsNewFault set_id volumes BadField = IsText set_id × AllByRecursion IsTextVolume volumes → ⊥
 IsNewFault set_id volumes OutOfVolumes = length volumes ≡ 0
 IsNewFault set_id volumes TooMany = 9999 < length volumes
 IsNewFault set_id volumes _ = ⊥
 
--- why a file of this head and shape cannot begin after n others, in this capacity
+-- why a file with the given head and shape cannot begin after n other files, with the given
+-- capacity
 abbrev pub IsBeginFault : ℕ → ℕ → Head1 → Shape → WriteFault → Type 0
 IsBeginFault capacity n head shape BadField = IsTextHead head → ⊥
 IsBeginFault capacity n head shape BadShape = IsWritable shape → ⊥
@@ -49,7 +50,7 @@ IsPutFault o bytes Device = Unit {0}
 IsPutFault o bytes OutOfMemory = Unit {0}
 IsPutFault o bytes _ = ⊥
 
--- why a set cannot be finished after this many volumes were begun
+-- why a set cannot be finished after the given number of volumes
 abbrev pub IsFinishFault : ℕ → WriteFault → Type 0
 IsFinishFault volumes NoFile = volumes ≡ 0
 IsFinishFault volumes Device = Unit {0}

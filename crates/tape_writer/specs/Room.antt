@@ -1,4 +1,4 @@
--- How much a writer can still accept.
+-- How much data a writer can still accept.
 use Rattle.std.specs.Prelude.{◌≡◌, ◌⊎◌, ℕ, ◌+◌, ◌-◌, ◌*◌, length}
 use Rattle.tape_blocks.specs.Packing.{Packing, size_of}
 use Rattle.tape_writer.specs.declared.course.Course.{Course}
@@ -6,13 +6,13 @@ use Rattle.tape_writer.specs.declared.phase.Phase.{Phase}
 use Rattle.tape_writer.specs.declared.phase.Phase.TheVariants.{Filing}
 use Rattle.tape_writer.specs.State.{SetState}
 
--- after this many bytes more: later in the same volume, or on the next one
+-- the position `size` bytes later in the same volume, or on the next volume
 abbrev pub Passed : Course → ℕ → Course → Type 0
 Passed old size new =
     ((new.volume ≡ old.volume) × (new.used ≡ old.used + size)) ⊎ (new.volume ≡ old.volume + 1)
 
--- an upper bound of the bytes that are accepted before no volume is left: the free bytes of the
--- current block and of the current volume, and for each volume to come its capacity and a block
+-- an upper bound of the bytes that can be accepted before no volume is left: the free bytes of the
+-- current block and the current volume, and for each further volume its capacity and a block
 abbrev pub room_of : ℕ → ℕ → Course → Packing → ℕ
 room_of volumes capacity course p =
     (volumes - course.volume) * (capacity + p.shape.block_len)

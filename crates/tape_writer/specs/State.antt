@@ -1,4 +1,4 @@
--- A set writer as its callers see it, and its invariant when these files were passed.
+-- A set writer as its callers see it, and its invariant after files were passed.
 use Rattle.std.specs.Prelude.{◌≡◌, ◌⊎◌, ◌≤◌, ℕ, ◌+◌, List, [], ◌∷◌, ◌++◌, false, length, map}
 use Rattle.std.specs.Prelude.{Result, Err}
 use Rattle.std.specs.List.{AllByRecursion}
@@ -34,22 +34,22 @@ pub record SetState (T : Type 0) : Type 0 where
   pub course : Course
   pub phase : Phase
 
--- its output, and the position
+-- the output of the writer, and its position
 abbrev pub tape_of : {T : Type 0} → SetState T → Tape T
 tape_of w = record { out = w.out; course = w.course }
 
--- its output was asked for the current volume with the volume's own label
+-- the current volume was requested with its own label
 abbrev pub HasAsked : {T : Type 0} → Ghosts T → SetState T → Type 0
 HasAsked g w = WasAsked (g.asked w.out) w.volumes w.course.volume
 
--- the volumes, their capacity and the set's identifier are the same
+-- the volumes, their capacity and the set's identifier are unchanged
 abbrev pub SameSet : {T : Type 0} → SetState T → SetState T → Type 0
 SameSet old new = (new.volumes ≡ old.volumes) × (new.capacity ≡ old.capacity)
     × (new.set_id ≡ old.set_id)
 
--- ---- the tapes contain what was passed
+-- ---- the tapes contain the files passed
 
--- Inside a file, the last one that was passed.
+-- The writer is inside the last of the files passed.
 pub record IsFilingLast (H : Tapes → Type 0) (volumes : List Vol1) (capacity : ℕ) (set_id : List ℕ)
     (course : Course) (o : OpenFile) (told : List Told) : Type 0 where
   pub past : List Told
@@ -57,7 +57,7 @@ pub record IsFilingLast (H : Tapes → Type 0) (volumes : List Vol1) (capacity :
   pub is_told : told ≡ past ++ record { file = o.file; records = records } ∷ []
   pub filing : IsFiling H volumes capacity set_id o.file course o.packer past records
 
--- the contents of the tapes in each phase, if these files were passed, with these records
+-- the contents of the tapes in each phase, after the given files and records were passed
 abbrev pub Stands : (Tapes → Type 0) → List Vol1 → ℕ → List ℕ → Course → Phase → List Told → Type 0
 Stands H volumes capacity set_id course Between told =
     IsWaiting H volumes capacity set_id course told
@@ -67,7 +67,7 @@ Stands H volumes capacity set_id course Failed told = ⊥
 Stands H volumes capacity set_id course Finished told =
     IsWrittenSet H volumes capacity set_id told
 
--- These files were passed to the writer: it keeps their heads and shapes, and the tapes contain
+-- The given files were passed to the writer: it keeps their heads and shapes, and the tapes contain
 -- them.
 pub record IsWriting {T : Type 0} (H : Tapes → Type 0) (w : SetState T) (told : List Told)
     : Type 0 where
@@ -76,29 +76,30 @@ pub record IsWriting {T : Type 0} (H : Tapes → Type 0) (w : SetState T) (told 
 
 -- ---- faults
 
--- the effect of a refusal: a writer that failed, if the fault ends it; otherwise the same writer
+-- the effect of a refusal: the writer failed if the fault ends it, and is unchanged otherwise
 abbrev pub Leaves : {T : Type 0} → SetState T → SetState T → WriteFault → Type 0
 Leaves old new OutOfVolumes = new.phase ≡ Failed
 Leaves old new Device = new.phase ≡ Failed
 Leaves old new OutOfMemory = new.phase ≡ Failed
 Leaves old new _ = new ≡ old
 
--- the call returns this fault, and nothing changes
+-- the call returns the fault, and nothing changes
 abbrev pub Refuses : {T : Type 0} → SetState T → Result (Unit {0}) WriteFault → SetState T
     → WriteFault → Type 0
 Refuses old result new fault = (result ≡ Err fault) × (new ≡ old)
 
--- inside a file, for which this holds
+-- inside a file, P holds for the open file
 abbrev pub IfFiling : Phase → (OpenFile → Type 0) → Type 0
 IfFiling (Filing o) P = P o
 IfFiling _ P = Unit {0}
 
--- the record has a length of the file's shape
+-- the record has one of the lengths of the file's shape
 abbrev pub HasLength : OpenFile → List ℕ → Type 0
 HasLength o bytes = HasRecordLength o.file.shape.format o.file.shape.rec_len (length bytes)
 
--- The writer has no volume left for the last of these files: the others are complete, and its next
--- block, or its end, does not fit. The tapes contain none of the closing labels.
+-- The writer has no volume left for the last of the files passed: the other files are complete, and
+-- the next block of the last file, or its end, does not fit. The tapes contain no closing labels of
+-- that file.
 pub record IsOutOfVolumes {T : Type 0} (H : Tapes → Type 0) (w : SetState T) (told : List Told)
     : Type 0 where
   pub past : List Told
@@ -120,7 +121,7 @@ pub record IsSoundOpen (volumes : List Vol1) (capacity : ℕ) (course : Course) 
   pub room : least_capacity o.file.shape ≤ capacity
   pub roomy : IsRoomy capacity (length volumes) course
 
--- the next file fits the current volume, or there is none
+-- the next file fits on the current volume, or no volume has begun
 abbrev pub IsSoundRest : List Vol1 → ℕ → Course → Type 0
 IsSoundRest volumes capacity course = (course.volume ≡ 0)
     ⊎ ((course.used + 372 ≤ capacity) × (course.volume ≤ length volumes) × (1 ≤ course.volume)
@@ -133,8 +134,8 @@ IsSoundIn volumes capacity course (Filing o) = IsSoundOpen volumes capacity cour
 IsSoundIn volumes capacity course Failed = Unit {0}
 IsSoundIn volumes capacity course Finished = Unit {0}
 
--- The volumes' labels can be written, there is a volume and no more than have numbers, and the next
--- call is possible.
+-- The volumes' labels can be written, there are between 1 and 9,999 volumes, and the next call is
+-- possible.
 pub record IsSound (volumes : List Vol1) (capacity : ℕ) (course : Course) (phase : Phase)
     : Type 0 where
   pub wide : AllByRecursion IsWideVolume volumes

@@ -1,4 +1,4 @@
--- Why a set was not written on images that are files.
+-- Why a set was not written to image files.
 use Rattle.tape_writer.specs.declared.fault.SetFault.{SetFault}
 use Rattle.tape_writer.specs.declared.fault.SetFault.TheVariants as sets
 use Rattle.tape_writer.specs.declared.system.fault.FileFault.TheVariants as files

@@ -1,4 +1,4 @@
--- The files and records passed to a writer, and what it means that they are written.
+-- The files and records passed to a writer, and the meaning of writing them.
 use Rattle.std.specs.Prelude.{◌≡◌, ◌≤◌, ℕ, ◌+◌, List, [], ◌∷◌, ◌++◌, Bool, None, length, map, take}
 use Rattle.std.specs.List.{AllByRecursion}
 use Rattle.tape_image.specs.Tape.{TapeItem}
@@ -19,24 +19,24 @@ use Rattle.tape_writer.specs.Labels.{second_kind}
 
 -- ---- passed
 
--- A file that was begun: its head and shape, and the records passed so far.
+-- A file that has begun: its head and shape, and the records passed so far.
 pub record Told : Type 0 where
   pub file : Opened
   pub records : List (List ℕ)
 
--- the file that `begin_file` begins: set identifier, section and number are the writer's
+-- the file that `begin_file` begins: the set identifier, the section and the number are replaced
 abbrev pub opened_by : List ℕ → ℕ → Head1 → Shape → Opened
 opened_by set_id number head shape = record {
   head = record head { set_id = set_id; sect = 1; sequence = number };
   shape = shape;
 }
 
--- one more file was begun after these
+-- one more file has begun after the files passed
 abbrev pub with_file : List ℕ → List Told → Head1 → Shape → List Told
 with_file set_id told head shape =
     told ++ record { file = opened_by set_id (length told + 1) head shape; records = [] } ∷ []
 
--- one more record of the last file
+-- one more record was passed for the last file
 abbrev pub with_record : List Told → List ℕ → List Told
 with_record [] r = []
 with_record (t ∷ []) r = record { file = t.file; records = t.records ++ r ∷ [] } ∷ []
@@ -44,15 +44,15 @@ with_record (t ∷ u ∷ ts) r = t ∷ with_record (u ∷ ts) r
 
 -- ---- written
 
--- a volume with this VOL1 and no further label
+-- a volume with the given VOL1 and no further label
 abbrev pub labelled : Vol1 → Volume
 labelled v = record { vol1 = volume_label v; labels = [] }
 
--- the items and the end-of-medium marker take no more than the capacity
+-- the items and the end-of-medium marker are within the capacity
 abbrev pub IsWithin : ℕ → List TapeItem → Type 0
 IsWithin capacity items = items_size items + 4 ≤ capacity
 
--- The section's labels are those that are written for this file, and no others.
+-- The section's labels are exactly those written for the file.
 pub record IsOfFile (file : Opened) (x : Placed) : Type 0 where
   pub number : (1 ≤ x.sect) × (x.sect ≤ 9999)
   pub hdr1 : x.section.hdr1 ≡ first_label file x.sect
@@ -62,8 +62,8 @@ pub record IsOfFile (file : Opened) (x : Placed) : Type 0 where
   pub trailer : x.section.trailer ≡ trailer_label file x.sect (length x.section.blocks) eof
   pub trailers : x.section.trailers ≡ second_label file (second_kind eof) ∷ []
 
--- These sections are that file: they have its labels, are packed tightly in its shape, and join to
--- its records.
+-- The given sections are the file passed: they have its labels, have no unused space in its shape,
+-- and contain its records.
 pub record IsFiled (capacity : ℕ) (told : Told) (f : List Section) : Type 0 where
   pub is_file : IsFile f
   pub tight : IsTightFile capacity told.file.shape f
@@ -76,9 +76,9 @@ AreFiled capacity [] [] = Unit {0}
 AreFiled capacity (t ∷ ts) (f ∷ fs) = IsFiled capacity t f × AreFiled capacity ts fs
 AreFiled capacity _ _ = ⊥
 
--- The tapes contain the volumes of a valid set that is tight in the capacity and the shapes passed;
--- its files are those passed, and its volumes the first of those passed; none is longer than the
--- capacity.
+-- The tapes contain the volumes of a valid set without unused space, for the given capacity and
+-- shapes. Its files are the files passed, its volumes are the first of the volumes passed, and none
+-- is longer than the capacity.
 pub record IsWrittenSet (H : Tapes → Type 0) (volumes : List Vol1) (capacity : ℕ) (set_id : List ℕ)
     (told : List Told) : Type 0 where
   pub layout : FileSet

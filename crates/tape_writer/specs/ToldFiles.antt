@@ -6,12 +6,12 @@ use Rattle.tape_writer.specs.Told.{Told, with_record, opened_by}
 use Rattle.tape_writer.specs.declared.inputs.cut.Cut.{Cut}
 use Rattle.tape_writer.specs.Records.{records_of}
 
--- more records of the last file
+-- further records were passed for the last file
 abbrev pub with_records : List Told → List (List ℕ) → List Told
 with_records told [] = told
 with_records told (r ∷ rs) = with_records (with_record told r) rs
 
--- the files of these heads, the first of them with this number, with the records of these inputs
+-- the files with the given heads, numbered from n, with the records of the given inputs
 abbrev pub told_files : List ℕ → Shape → Cut → ℕ → List (Head1 × List ℕ) → List Told
 told_files set_id shape cut n [] = []
 told_files set_id shape cut n (f ∷ fs) = record {
@@ -19,7 +19,7 @@ told_files set_id shape cut n (f ∷ fs) = record {
   records = records_of cut f.1;
 } ∷ told_files set_id shape cut (n + 1) fs
 
--- if the bytes of all these inputs are known
+-- P holds if the bytes of all inputs are known
 abbrev pub IfAllKnown : List (Head1 × Option (List ℕ)) → (List (Head1 × List ℕ) → Type 0) → Type 0
 IfAllKnown [] P = P []
 IfAllKnown (x ∷ xs) P = IfSome x.1 (λ bytes. IfAllKnown xs (λ fs. P ((x.0, bytes) ∷ fs)))

@@ -1,4 +1,4 @@
--- Why `write` does not write a set: a fault that these definitions rule out is not returned.
+-- Why a set is not written from inputs: a fault that these definitions rule out is not returned.
 use Rattle.std.specs.Prelude.{◌≡◌, ◌+◌, ◌⊎◌, ℕ, List, [], ◌∷◌, length, Option, Some, None}
 use Rattle.std.specs.Prelude.{IfSome, IfErr, Result}
 use Rattle.tape_label.specs.declared.values.Head1.{Head1}
@@ -25,12 +25,12 @@ told_as inputs.ReadFailed = ReadFailed
 told_as inputs.TooLong = Write RecordLength
 told_as inputs.OutOfMemory = Write OutOfMemory
 
--- `Device` is only returned if the tapes' device failed in the call
+-- `Device` is returned only if the device of the tapes failed in the call
 abbrev pub StopsByDevice : Failures → Result (Unit {0}) SetFault → Failures → Type 0
 StopsByDevice old result new =
     IfErr result (λ fault. fault ≡ Write Device → Rose old.device new.device)
 
--- a record of none of the shape's lengths
+-- a record whose length the shape does not allow
 abbrev pub IsOther : Shape → List ℕ → Type 0
 IsOther shape r = HasRecordLength shape.format shape.rec_len (length r) → ⊥
 
@@ -40,17 +40,17 @@ IsOfInput ReadFailed = Unit {0}
 IsOfInput (Write RecordLength) = Unit {0}
 IsOfInput (Write _) = ⊥
 
--- one of these records has a wrong length
+-- one of the records has a wrong length
 abbrev pub OneIsOther : Shape → List (List ℕ) → Type 0
 OneIsOther shape [] = ⊥
 OneIsOther shape (r ∷ rs) = IsOther shape r ⊎ OneIsOther shape rs
 
--- a fault of the writer, for which this holds
+-- a fault of the writer, for which P holds
 abbrev pub IsOfWriter : (WriteFault → Type 0) → SetFault → Type 0
 IsOfWriter P (Write fault) = P fault
 IsOfWriter P ReadFailed = ⊥
 
--- why records are not written into a file; RecordLength only if this holds
+-- why records are not written into a file; `RecordLength` only if `other` holds
 abbrev pub IsPuttingFault : Type 0 → WriteFault → Type 0
 IsPuttingFault other RecordLength = other
 IsPuttingFault other OutOfVolumes = Unit {0}
@@ -63,27 +63,26 @@ abbrev pub IsInputFault : Type 0 → SetFault → Type 0
 IsInputFault other (Write fault) = IsPuttingFault other fault
 IsInputFault other ReadFailed = Unit {0}
 
--- Why the file of this head is not written after n others, with the records of an input that has
--- these bytes: it cannot begin, or the records are not written. If the bytes of the input are
--- unknown, so are its records.
+-- Why the file of an input is not written after n other files: it cannot begin, or its records are
+-- not written. If the bytes of the input are unknown, so are its records.
 abbrev pub IsFileFault : ℕ → Shape → Cut → ℕ → Head1 × Option (List ℕ) → SetFault → Type 0
 IsFileFault capacity shape cut n input fault =
     IsOfWriter (IsBeginFault capacity n input.0 shape) fault
     ⊎ IsInputFault (IfSome input.1 (λ bytes. OneIsOther shape (records_of cut bytes))) fault
 
--- the fault is that of one of these files, the first of them with n others before it
+-- the fault is that of one of the files; the first of them follows n other files
 abbrev pub IsFilesFault : ℕ → Shape → Cut → ℕ → List (Head1 × Option (List ℕ)) → SetFault
     → Type 0
 IsFilesFault capacity shape cut n [] fault = ⊥
 IsFilesFault capacity shape cut n (x ∷ xs) fault =
     IsFileFault capacity shape cut n x fault ⊎ IsFilesFault capacity shape cut (n + 1) xs fault
 
--- why the files of these inputs are not written, or the set is not finished after them
+-- why the files of the inputs are not written, or the set is not finished after them
 abbrev pub IsWholeFault : ℕ → Shape → Cut → List (Head1 × Option (List ℕ)) → SetFault → Type 0
 IsWholeFault capacity shape cut inputs fault = IsFilesFault capacity shape cut 0 inputs fault
     ⊎ IsOfWriter (IsFinishFault (length inputs)) fault
 
--- why a set is not written, if inputs are cut like this
+-- why a set is not written, if inputs are cut in the given way
 abbrev pub IsFaultOfCut : SetPlan → List (Head1 × Option (List ℕ)) → Option Cut → SetFault
     → Type 0
 IsFaultOfCut plan inputs None fault = fault ≡ Write BadShape

@@ -1,4 +1,4 @@
--- The result of `write`.
+-- The result of `write_set`.
 use Rattle.std.specs.Prelude.{ℕ, List, Bool, Option, Some, None}
 use Rattle.tape_label.specs.declared.values.Format.{Format}
 use Rattle.tape_label.specs.declared.values.Format.TheVariants.{Fixed, Counted, Spanned}
@@ -11,21 +11,21 @@ use Rattle.tape_blocks.specs.declared.parts.Form.TheVariants as forms
 use Rattle.tape_writer.specs.declared.inputs.cut.Cut.{Cut}
 use Rattle.tape_writer.specs.declared.inputs.cut.Cut.TheVariants.{Lines, Length, Whole}
 
--- The images that were passed on encode the volumes of a valid set that is tight in the capacity
--- and the shapes passed; its files are those passed, and its volumes the first of those passed.
--- There are no others.
+-- The images passed to the store are exactly those of the volumes of a valid set without unused
+-- space, for the given capacity and shapes. Its files are the files passed, and its volumes are the
+-- first of the volumes passed.
 abbrev pub IsSetOfImages :
     (Bool → List (List ℕ) → Type 0) → List Vol1 → ℕ → List ℕ → List Told → Type 0
 IsSetOfImages H volumes capacity set_id told =
     IsWrittenSet (λ tapes. AreImages H None tapes) volumes capacity set_id told
 
--- raw inputs are cut into records of format F, and are one record of format S
+-- raw inputs are cut into records in format F, and are one record in format S
 abbrev pub raw_cut : Format → ℕ → Option Cut
 raw_cut Fixed n = Some (Length n)
 raw_cut Counted n = None
 raw_cut Spanned n = Some Whole
 
--- where inputs of a form are cut for files of a shape, if they can be
+-- how inputs of a form are cut into records for files of a shape, if that is possible
 abbrev pub cut_of : Form → Shape → Option Cut
 cut_of forms.Lines shape = Some Lines
 cut_of forms.Raw shape = raw_cut shape.format shape.rec_len

@@ -1,4 +1,4 @@
-//! Blank volumes: their labels, from a prefix and a number, and their images.
+//! Blank volumes: their labels, made from a prefix and a number, and their images.
 ghost use Rattle.std.specs.Prelude.{◌≡◌, ◌<◌, ◌≤◌, ◌+◌, ◌++◌, ◌↔◌, length, IsSome, IfSome, IsTrue};
 ghost use Rattle.arrayvec.specs.ArrayVec.{array_vec_len};
 ghost use Rattle.tape_writer.specs.Blank.{IsPrefixByte, IsPrefix, volume_id, blank_volume};
@@ -7,20 +7,20 @@ ghost use Rattle.tape_writer.specs.Blank.{blank_image};
 use arrayvec::ArrayVec;
 use tape_label::{Field, Vol1, digits_of, write_vol1};
 
-/// The size of the image of a blank volume in bytes.
+/// The size of the image of a blank volume, in bytes.
 pub const BLANK: usize = 100;
 
-/// The image of a blank volume: one without files.
+/// The image of a blank volume: a volume without files.
 pub type BlankImage = ArrayVec<u8, BLANK>;
 
-/// The first three characters of the identifiers of a set's volumes: `A` to `Z`, `0` to `9`.
+/// The first three characters of the identifiers of a set's volumes, each `A` to `Z` or `0` to `9`.
 #[derive(Clone, Copy, PartialEq, Eq)]
 pub struct Prefix {
     pub characters: [u8; 3],
 }
 
 impl Prefix {
-    /// Returns the prefix, or `None` if the text is not three such characters.
+    /// Returns the prefix, or `None` if `text` is not three such characters.
     pub fn new(text: &str) -> Option<Prefix>
         ensures some { IsSome result ↔ IsPrefix text.now }
         ensures same { IfSome result (λ prefix. prefix.characters ≡ text.now) }
@@ -42,8 +42,8 @@ fn is_prefix_byte(byte: u8) -> bool
     byte.is_ascii_uppercase() || byte.is_ascii_digit()
 }
 
-/// Returns the label of the volume with this number: its identifier, version 4, and spaces in all
-/// other fields.
+/// Returns the label of volume number `number`: its identifier, version 4, and spaces in all other
+/// fields.
 pub fn blank_volume(prefix: Prefix, number: u16) -> Vol1
     requires { number < 1000 }
     ensures { result ≡ blank_volume prefix.characters number }
@@ -57,7 +57,7 @@ pub fn blank_volume(prefix: Prefix, number: u16) -> Vol1
     }
 }
 
-/// Returns the prefix followed by the number in three digits.
+/// Returns the prefix, followed by the number in three digits.
 fn volume_id(prefix: Prefix, number: u16) -> Field<6>
     requires { number < 1000 }
     ensures { result ≡ volume_id prefix.characters number }
@@ -80,7 +80,7 @@ pub fn blank_image(volume: &Vol1) -> BlankImage
     image
 }
 
-/// Appends bytes to an image.
+/// Appends `bytes` to an image.
 fn put(image: &mut BlankImage, bytes: &[u8])
     requires { array_vec_len image.old + length bytes.now ≤ 100 }
     ensures items { image.new.items ≡ image.old.items ++ bytes.now }

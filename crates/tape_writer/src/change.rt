@@ -1,5 +1,4 @@
-//! Writes blocks and ends files on the current volume if it has room, and otherwise on the next
-//! one.
+//! Writes blocks and ends files on the current volume if it has room, otherwise on the next volume.
 
 ghost use Rattle.std.specs.Prelude.{◌≡◌, ◌≢◌, ◌<◌, ◌≤◌, ◌+◌, ◌++◌, ◌∷◌, [], List, ℕ, length, OnOk};
 ghost use Rattle.std.specs.Prelude.{IfErr, Err};
@@ -38,7 +37,7 @@ const FILE_END: u32 = 184;
 const HEADERS: u32 = 180;
 
 impl<T: TapeOut> Tape<T> {
-    /// Returns true if `more` bytes fit the capacity.
+    /// Returns true if `more` bytes fit within the capacity.
     fn has_room(&self, capacity: u32, more: u32) -> bool
         ensures yes { result ≡ true → self.now.course.used + more ≤ capacity }
         ensures no { result ≡ false → capacity < self.now.course.used + more }
@@ -67,7 +66,8 @@ impl<T: TapeOut> Tape<T> {
             self.old.course d
             → OnOk result (Grew (T.holds self.new.out) volumes.now capacity set_id file.now
             self.new.course d b) }
-        // Unless a volume was needed and none was left: the tapes contain a prefix of the same.
+        // Unless a volume was needed and none was left, the tapes contain a prefix of the same
+        // items.
         ensures front { (set_id : List ℕ) (d : Draft) (b : Filled) → b.bytes ≡ bytes.now
             → IsOpen (T.holds self.old.out) volumes.now capacity set_id file.now
             self.old.course d

@@ -7,7 +7,7 @@ ghost use Rattle.tape_writer.specs.Labels.{head_at as head_at_of};
 use tape_blocks::Shape;
 use tape_label::{Head1, Head2};
 
-/// A file that was begun: its head, with the set's identifier, section 1 and the file's number, and
+/// A file that has begun: its head (with the set's identifier, section 1 and the file's number) and
 /// its shape.
 #[derive(Clone, Copy)]
 pub struct Opened {
@@ -20,13 +20,13 @@ pub struct Opened {
 /// The current volume and section.
 #[derive(Clone, Copy)]
 pub struct Course {
-    /// The volume's number, from 1; 0 before the first.
+    /// The number of the volume, from 1; 0 before the first volume.
     pub volume: u16,
-    /// The section's number in its file, from 1.
+    /// The number of the section in its file, from 1.
     pub sect: u16,
-    /// How many data blocks the section has so far.
+    /// The number of data blocks in the section so far.
     pub count: u32,
-    /// How many bytes the volume takes as an image so far.
+    /// The size of the volume as an image so far, in bytes.
     pub used: u32,
 }
 
@@ -45,14 +45,14 @@ impl Course {
 }
 
 impl Opened {
-    /// Returns the fields of HDR1 in this section.
+    /// Returns the fields of HDR1 in section number `sect`.
     pub(crate) fn head_at(&self, sect: u16) -> Head1
         ensures { result ≡ head_at_of self.now sect }
     {
         Head1 { sect, ..self.head }
     }
 
-    /// Returns the fields of HDR2 in each section.
+    /// Returns the fields of HDR2, which are the same in each section.
     pub(crate) fn second(&self) -> Head2
         ensures { result ≡ second_of self.now.shape }
     {

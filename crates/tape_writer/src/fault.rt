@@ -1,4 +1,4 @@
-//! Why nothing was written.
+//! Why nothing more was written.
 
 ghost use Rattle.std.specs.Prelude.{◌≡◌};
 ghost use Rattle.tape_writer.specs.Faults.{IsOfOut};
@@ -8,36 +8,36 @@ ghost use Rattle.tape_writer.specs.Faults.{IsOfOut};
 pub enum OutFault {
     /// The device failed.
     Device,
-    /// Memory was refused.
+    /// Allocating memory failed.
     OutOfMemory,
 }
 
 /// Why a call of a set writer was refused.
 ///
 /// After `OutOfVolumes`, `Device` and `OutOfMemory` every call returns `Failed`; every other fault
-/// leaves the writer unchanged. If several faults apply, the first in this order is returned:
-/// `Failed`, `Finished`, `NoFile`, `FileBegun`, and then the order below.
+/// leaves the writer unchanged. If several faults apply, the first is returned in the order
+/// `Failed`, `Finished`, `NoFile`, `FileBegun`, and then that of the list below.
 #[derive(Clone, Copy, Debug, PartialEq, Eq)]
 pub enum WriteFault {
     /// A field contains a byte that is not an a-character (ECMA-13, 4th edition, characters).
     BadField,
-    /// Blocks of this shape are not written.
+    /// Blocks of this shape cannot be written.
     BadShape,
     /// The capacity is less than the block length plus 1,024 bytes.
     CapacityTooSmall,
-    /// The record's length is not one of its file's shape.
+    /// The length of the record is not one of the lengths of the file's shape.
     RecordLength,
-    /// There is no current file, or the set has no file at all.
+    /// No file has begun, or the set has no file.
     NoFile,
-    /// A file was begun and has not ended.
+    /// The current file has not ended.
     FileBegun,
-    /// The volume must be changed and no volume is left.
+    /// The volume must be changed, but no volume is left.
     OutOfVolumes,
     /// More than 9,999 volumes or files: labels have four digits for their numbers.
     TooMany,
     /// The device failed in this call.
     Device,
-    /// Memory was refused in this call.
+    /// Allocating memory failed in this call.
     OutOfMemory,
     /// An earlier call returned `OutOfVolumes`, `Device` or `OutOfMemory`.
     Failed,
@@ -45,16 +45,17 @@ pub enum WriteFault {
     Finished,
 }
 
-/// Why a set was not written from its inputs.
+/// Why a set was not written completely.
 #[derive(Clone, Copy, Debug, PartialEq, Eq)]
 pub enum SetFault {
-    /// The set writer refused a call, or a record could not be passed to it for this reason.
+    /// The fault with which the set writer refused a call, or for which a record could not be
+    /// passed to it.
     Write(WriteFault),
-    /// An input could not be read further.
+    /// Reading from an input failed.
     ReadFailed,
 }
 
-/// Returns the same fault of the writer.
+/// Returns the fault as a fault of the writer.
 pub(crate) fn fault_of(fault: OutFault) -> WriteFault
     ensures device { result ≡ WriteFault.Device → fault ≡ OutFault.Device }
     ensures memory { result ≡ WriteFault.OutOfMemory → fault ≡ OutFault.OutOfMemory }

@@ -8,14 +8,15 @@ ghost use Rattle.tape_writer.specs.Fields.{IsText, IsTextVolume, IsTextHead};
 use tape_label::laws::volume_widths;
 use tape_label::{Head1, Vol1, first_other};
 
-/// Returns true if each byte is an a-character.
+/// Returns true if all bytes are a-characters.
 pub(crate) fn is_text(bytes: &[u8]) -> bool
     ensures { IsTrue result ↔ IsText bytes.now }
 {
     first_other(bytes).is_none()
 }
 
-/// Returns true if the volume's fields are a-characters. The version is written unchanged.
+/// Returns true if the fields of the volume label are a-characters. The version is not checked; it
+/// is written unchanged.
 fn is_text_volume(volume: &Vol1) -> bool
     ensures { IsTrue result ↔ IsTextVolume volume.now }
 {
@@ -25,8 +26,8 @@ fn is_text_volume(volume: &Vol1) -> bool
         && is_text(volume.owner.bytes())
 }
 
-/// Returns true if the head's fields are a-characters. The set identifier is replaced, so it is not
-/// checked.
+/// Returns true if the fields of the head are a-characters. The set identifier is not checked,
+/// because it is replaced.
 pub(crate) fn is_text_head(head: &Head1) -> bool
     ensures { IsTrue result ↔ IsTextHead head.now }
 {
@@ -46,8 +47,8 @@ pub(crate) fn are_text_volumes(volumes: &[Vol1]) -> bool
     volumes.iter().all(|volume| is_text_volume(volume))
 }
 
-/// Turns the widths of the volumes' fields, which their types guarantee, into a fact about the
-/// list.
+/// States the widths of the fields of all volume labels, which their types guarantee, as a fact
+/// about the list.
 pub(crate) fn tell_all_widths(volumes: &[Vol1])
     ensures { AllByRecursion IsWideVolume volumes.now }
 {

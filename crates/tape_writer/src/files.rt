@@ -22,7 +22,7 @@ use crate::out::TapeOut;
 use crate::tape::Tape;
 use tape_label::Vol1;
 
-/// Begins a file, and before the first file the first volume.
+/// Begins a file. Before the first file, begins the first volume.
 #[tactic(auto, using(crate::proofs::Last::kept))]
 pub(crate) fn begin<T: TapeOut>(
     tape: &mut Tape<T>,
@@ -55,7 +55,7 @@ pub(crate) fn begin<T: TapeOut>(
     tape.begin_section(file, 1)
 }
 
-/// Ends the last volume: its second mark, and the end-of-medium marker.
+/// Ends the last volume: writes its second mark and the end-of-medium marker.
 #[tactic(auto, using(crate::proofs::Last::kept))]
 pub(crate) fn end_set<T: TapeOut>(
     tape: &mut Tape<T>,

@@ -20,8 +20,8 @@ use tape_label::Vol1;
 /// Keeps only the image of the current volume. When a volume ends, its image is flushed and passed
 /// to the store before the next one begins, so that no later failure can affect it.
 ///
-/// Returns `Device` if an image writer refuses, if there is no current volume, and if the store has
-/// no device for one more; after that no further volume begins. Does not allocate.
+/// Returns `Device` if an image writer refuses a call, if there is no current volume, or if the
+/// store has no device left; after that no further volume begins. Does not allocate.
 #[derive(Drop)]
 pub struct ImageTapes<S: ImageStore + Drop> {
     store: S,
@@ -45,7 +45,7 @@ impl<S: ImageStore + Drop> Model for ImageTapes<S> {
 }
 
 impl<S: ImageStore + Drop> ImageTapes<S> {
-    /// Creates a writer without a volume yet. The store must not have received an image.
+    /// Creates a writer that has no volume yet. The store must not have received an image.
     pub fn new(store: S) -> Self
         ensures store { result.store ≡ store }
         ensures image { result.image ≡ None }
@@ -59,12 +59,12 @@ impl<S: ImageStore + Drop> ImageTapes<S> {
         }
     }
 
-    /// Returns the store, which received the images that ended, and the image of the current
+    /// Returns the store, which received the images that have ended, and the image of the current
     /// volume, if there is one.
     pub fn into_parts(self) -> (S, Option<ImageWriter<S::Device>>)
         ensures store { result.0 ≡ self.store }
         ensures image { result.1 ≡ self.image }
-        // If a call failed, the store has no device left, or the image accepts nothing more.
+        // If a call failed, the store has no device left, or the image accepts no further items.
         ensures stopped { 0 < self.failed → HasStopped (S.left result.0) result.1 }
     {
         let ImageTapes { store, image, .. } = self;
@@ -84,7 +84,7 @@ impl<S: ImageStore + Drop> ImageTapes<S> {
         OutFault::Device
     }
 
-    /// Returns true if there is a device for one more volume. After a failed call there is none.
+    /// Returns true if there is a device for another volume. After a failed call no device is left.
     fn has_next(&self) -> bool
         ensures yes { OnTrue result ((self.now.failed ≡ 0) × (0 < S.left self.now.store)) }
         ensures no { OnFalse result ((0 < self.now.failed) ⊎ (S.left self.now.store ≡ 0)) }
@@ -149,8 +149,8 @@ impl<S: ImageStore + Drop> TapeOut for ImageTapes<S> {
     }
 
     fn change_volume(&mut self, volume: &Vol1) -> Result<(), OutFault> {
-        // Checked first: otherwise a refusal because of the next volume would already have ended
-        // this one.
+        // Checked first: otherwise the current volume would already have ended when the next volume
+        // is refused.
         if !self.has_next() {
             return Err(self.fail());
         }

@@ -17,7 +17,7 @@ pub(crate) fn volume_label(volume: &Vol1) -> [u8; 80]
     write_vol1(volume)
 }
 
-/// Returns HDR1 of this section.
+/// Returns HDR1 of section number `sect`.
 #[tactic(auto, unfolding(crate::specs::Labels::first_label))]
 pub(crate) fn first_label(file: &Opened, sect: u16) -> [u8; 80]
     requires ready { IsReady file.now }
@@ -28,7 +28,7 @@ pub(crate) fn first_label(file: &Opened, sect: u16) -> [u8; 80]
     write_head1(&file.head_at(sect))
 }
 
-/// Returns HDR2, EOF2 or EOV2.
+/// Returns the second label of the given kind: HDR2, EOF2 or EOV2.
 #[tactic(auto, unfolding(crate::specs::Labels::second_label))]
 pub(crate) fn second_label(file: &Opened, kind: Kind) -> [u8; 80]
     requires ready { IsReady file.now }
@@ -38,7 +38,7 @@ pub(crate) fn second_label(file: &Opened, kind: Kind) -> [u8; 80]
     write_head2(&file.second(), kind)
 }
 
-/// Returns EOF1 or EOV1 of a section with this number of data blocks.
+/// Returns EOF1 or EOV1 of a section with `count` data blocks.
 #[tactic(auto, unfolding(crate::specs::Labels::trailer_label))]
 pub(crate) fn trailer_label(file: &Opened, sect: u16, count: u32, eof: bool) -> [u8; 80]
     requires ready { IsReady file.now }
@@ -53,7 +53,7 @@ pub(crate) fn trailer_label(file: &Opened, sect: u16, count: u32, eof: bool) -> 
     })
 }
 
-/// Returns EOF2 if the file ends, EOV2 if it continues.
+/// Returns the kind EOF2 if the file ends, otherwise EOV2.
 pub(crate) fn second_kind(eof: bool) -> Kind
     ensures is { result ≡ second_kind eof }
     ensures second { IsSecond result }

@@ -1,4 +1,4 @@
-//! Laws of the definitions that the contracts cite, each as the contract of a function that does
+//! Laws about the definitions that the contracts cite, each as the contract of a function that does
 //! nothing.
 
 ghost use Rattle.tape_writer.specs.Cases.{CasesOfTapes, CasesOfImages, CasesOfSets};
@@ -10,7 +10,7 @@ ghost use Rattle.tape_writer.specs.CasesOfDrafts.{CasesOfDrafts, CasesOfInside};
 ghost use Rattle.tape_writer.specs.CasesOfHolding.{CasesOfHolding};
 
 /// Test cases for the definitions of tapes and images, of the files passed and written, of faults,
-/// of inputs, of unfinished images and of write buffers: each definition says all that it should.
+/// of inputs, of unfinished images and of write buffers.
 pub fn cases()
     ensures tapes { CasesOfTapes }
     ensures images { CasesOfImages }

@@ -21,7 +21,7 @@ enum Kept {
     Mark,
 }
 
-/// Returns element number `n`, counted from 0.
+/// Returns element number `n`, counted from 0, or `None` if there is no such element.
 fn nth<T>(elements: &[T], n: usize) -> Option<&T>
     ensures { option_copied result ≡ slice_get elements.now n }
 {
@@ -30,7 +30,7 @@ fn nth<T>(elements: &[T], n: usize) -> Option<&T>
 
 /// Keeps the volumes in memory.
 ///
-/// `count`, `length` and `item` return its contents. Returns `Device` if there is no current
+/// `count`, `length` and `item` return the contents. Returns `Device` if there is no current
 /// volume.
 #[derive(Drop)]
 pub struct MemoryTapes {
@@ -58,7 +58,7 @@ impl Model for MemoryTapes {
 impl MemoryTapes {
     ghost use Rattle.tape_writer.specs.Kept.{volume_of};
 
-    /// Creates it without volumes.
+    /// Creates a value without volumes.
     pub fn new(alloc: Global) -> Self
         ensures { result ≡ record { tapes = Ended []; misused = 0; refused = 0 } }
     {
@@ -71,7 +71,7 @@ impl MemoryTapes {
         }
     }
 
-    /// Returns how many volumes there are, including the current one.
+    /// Returns the number of volumes, including the current one.
     pub fn count(&self) -> usize
         ensures { result ≡ length (all_volumes self.now.tapes) }
     {
@@ -81,7 +81,8 @@ impl MemoryTapes {
         }
     }
 
-    /// Returns how many items this volume has, counted from 0; 0 if there is no such volume.
+    /// Returns the number of items on volume `volume`, counted from 0, or 0 if there is no such
+    /// volume.
     #[tactic(auto, using(crate::proofs::Closing::kept_length))]
     pub fn length(&self, volume: usize) -> usize
         ensures { result ≡ length (volume_at self.now.tapes volume) }
@@ -89,7 +90,8 @@ impl MemoryTapes {
         self.items(volume).len()
     }
 
-    /// Returns the item with this number of this volume, both counted from 0.
+    /// Returns item `place` of volume `volume`, both counted from 0, or `None` if there is no such
+    /// item.
     #[tactic(auto, using(crate::proofs::Closing::kept_item))]
     pub fn item(&self, volume: usize, place: usize) -> Option<Item<'_>>
         ensures { option_map tape_item result
@@ -102,7 +104,8 @@ impl MemoryTapes {
         }
     }
 
-    /// Returns the items of this volume, counted from 0; none if there is no such volume.
+    /// Returns the items of volume `volume`, counted from 0, or no items if there is no such
+    /// volume.
     fn items(&self, volume: usize) -> &[Kept]
         ensures { volume_of result.now ≡ volume_at self.now.tapes volume }
     {
@@ -112,7 +115,7 @@ impl MemoryTapes {
         }
     }
 
-    /// Returns this volume, counted from 0.
+    /// Returns volume `volume`, counted from 0, or `None` if there is no such volume.
     fn volume(&self, volume: usize) -> Option<&Vec<Kept>>
         ensures { option_map (λ v. volume_of v.items) (option_copied result)
             ≡ slice_get (all_volumes self.now.tapes) volume }
@@ -138,7 +141,7 @@ impl MemoryTapes {
         OutFault::Device
     }
 
-    /// Counts a refusal of memory.
+    /// Counts a failed allocation.
     fn refuse(&mut self) -> OutFault
         ensures fault { result ≡ OutFault.OutOfMemory }
         ensures counted { Rose self.old.refused self.new.refused }

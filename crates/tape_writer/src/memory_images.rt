@@ -8,7 +8,7 @@ use std::alloc::{AllocError, Global};
 use std::io::{Result as IoResult, Write};
 use tape_label::Vol1;
 
-/// An image in memory, as far as it is written.
+/// An image in memory, as far as it has been written.
 #[derive(Drop)]
 pub struct MemoryImage {
     pub bytes: Vec<u8>,
@@ -36,7 +36,7 @@ pub struct MemoryImages {
 }
 
 impl MemoryImages {
-    /// Creates it without an image, and with `count` devices.
+    /// Creates a value without images, and with `count` devices.
     ///
     /// # Errors
     ///
@@ -54,7 +54,7 @@ impl MemoryImages {
         })
     }
 
-    /// Returns the images that ended, in order.
+    /// Returns the images that have ended, in order.
     pub fn into_images(self) -> Vec<Vec<u8>>
         ensures { result.items ≡ self.images.items }
     {
@@ -88,7 +88,7 @@ impl ImageStore for MemoryImages {
     }
 
     fn keep(&mut self, device: MemoryImage) {
-        // There is room for the image of each device that was lent.
+        // The list has room for the image of each device that was lent.
         let _ = self.images.push(device.bytes);
     }
 }

@@ -1,4 +1,4 @@
-//! Where volumes are written.
+//! The output of the writer: volumes, item by item.
 
 ghost use Rattle.std.specs.Prelude.{◌<◌, ◌≤◌, ◌∷◌, [], length, OnOk};
 ghost use Rattle.tape_image.specs.Tape.{IsTapeItem, block, mark};
@@ -11,17 +11,19 @@ use tape_label::Vol1;
 
 /// Receives the items of volumes, one volume after another.
 ///
-/// A call that is refused does not change the contents. Any failure of a device is `Device`,
-/// including an interruption.
+/// A call that is refused does not change the contents. Any failure of a device, including an
+/// interruption, is `Device`.
 pub trait TapeOut {
-    /// Relates the value to the volumes it contains. An untrusted one satisfies it for no volumes.
+    /// Relates a value to the volumes that it contains. It relates an untrusted value to no
+    /// volumes.
     ghost holds: { Self → Tapes → Type 0 };
 
-    /// How many calls the device failed, and how often memory was refused, each up to 2^64 - 1.
+    /// The number of calls in which the device failed, and of failed allocations, each at most 2^64
+    /// - 1.
     ghost failures: { Self → Failures };
 
-    /// Whether the last change of the volume was called with this label. Tapes that do not keep
-    /// labels satisfy it for each.
+    /// Whether the last change of the volume was called with the given label. For tapes that do not
+    /// record labels this holds for every label.
     ghost asked: { Self → Vol1 → Type 0 };
 
     /// Appends a block of 1 to 99,999 bytes to the current volume.
@@ -43,8 +45,8 @@ pub trait TapeOut {
             (failures self.old) result (failures self.new) }
         ensures asked { (v : Vol1) → asked self.old v → asked self.new v };
 
-    /// Ends the current volume, if there is one, and begins the next, with this label. The label
-    /// itself is written by `block`.
+    /// Ends the current volume, if there is one, and begins the next volume, whose label is
+    /// `volume`. The label itself is written by `block`.
     fn change_volume(&mut self, volume: &Vol1) -> Result<(), OutFault>
         ensures ok { Changes [] (holds self.old) result (holds self.new) }
         ensures err { Keeps (holds self.old) result (holds self.new) }

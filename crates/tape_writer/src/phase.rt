@@ -3,12 +3,12 @@
 use crate::course::Opened;
 use tape_blocks::Packer;
 
-/// The current file, with its current block.
+/// The current file and its current block.
 #[derive(Drop)]
 pub struct OpenFile {
-    /// Its head and shape.
+    /// The head and the shape of the file.
     pub file: Opened,
-    /// Packs its records.
+    /// The packer of the file's records.
     pub packer: Packer,
 }
 

@@ -65,7 +65,7 @@ pub(crate) fn flush<T: TapeOut>(
     }
 }
 
-/// Writes a record into the file: each block is written when it is ready.
+/// Writes a record into the file. Each block is written when it is ready.
 #[tactic(auto, using(crate::proofs::Last::kept))]
 pub(crate) fn put_record<T: TapeOut>(
     tape: &mut Tape<T>,
@@ -101,12 +101,12 @@ pub(crate) fn put_record<T: TapeOut>(
         → IfInside T.TapeOut volumes.now capacity file.now tape.old packer.old
         (λ set_id fs records. IsStuck (T.holds tape.new.out) volumes.now capacity set_id
         file.now tape.new.course fs (records ++ whole.now ∷ []))) }
-    // Whatever the fault: the tapes contain a prefix of what is written for the record.
+    // Whatever the fault, the tapes contain a prefix of the items that are written for the record.
     ensures front { IfInside T.TapeOut volumes.now capacity file.now tape.old packer.old
         (λ set_id fs records. IfErr result (λ fault. IsEnding fault → (course : Course)
         × IsMidRecord (HoldsFront (T.holds tape.new.out)) volumes.now capacity set_id file.now
         course fs (records ++ whole.now ∷ []))) }
-    // So no infinite input can keep the writer busy forever.
+    // This ensures that no infinite input can keep the writer busy forever.
     ensures room { OnOk result (room_of (length volumes.now) capacity tape.new.course packer.new
         < room_of (length volumes.now) capacity tape.old.course packer.old) }
     ensures asked { StaysAsked T.TapeOut volumes.now tape.old result tape.new }

@@ -8,7 +8,7 @@ use crate::fault::OutFault;
 use crate::out::TapeOut;
 use tape_label::Vol1;
 
-/// Forwards all calls but one, which it refuses like a failing device.
+/// Forwards all calls except one, which it refuses as if a device had failed.
 #[derive(Drop)]
 pub struct Refusing<T> {
     inner: T,
@@ -17,7 +17,7 @@ pub struct Refusing<T> {
 }
 
 impl<T: TapeOut> Refusing<T> {
-    /// Creates one that refuses the call after the next `left`.
+    /// Creates tapes that refuse the call after the next `left` calls.
     pub fn new(inner: T, left: usize) -> Self
         ensures inner { result.inner ≡ inner }
         ensures left { result.left ≡ left }
@@ -30,14 +30,14 @@ impl<T: TapeOut> Refusing<T> {
         }
     }
 
-    /// Returns the tapes that the calls are forwarded to.
+    /// Returns the tapes to which the calls are forwarded.
     pub fn inner(&self) -> &T
         ensures { result.now ≡ self.now.inner }
     {
         &self.inner
     }
 
-    /// Returns true if this is the call to refuse.
+    /// Returns true if this call must be refused.
     fn is_refused(&mut self) -> bool
         ensures when { MatchBool result (self.old.left ≡ 0) (self.old.left ≡ self.new.left + 1) }
         ensures inner { self.new.inner ≡ self.old.inner }

@@ -18,7 +18,7 @@ use crate::tape::Tape;
 use tape_label::Kind;
 
 impl<T: TapeOut> Tape<T> {
-    /// Writes the headers of this section: HDR1, HDR2 and a mark.
+    /// Writes the headers of section number `sect`: HDR1, HDR2 and a mark.
     #[tactic(auto, using(crate::proofs::Last::lasting_then, crate::proofs::Last::rose_from))]
     pub(crate) fn begin_section(&mut self, file: &Opened, sect: u16) -> Result<(), WriteFault>
         requires ready { IsReady file.now }
@@ -50,7 +50,7 @@ impl<T: TapeOut> Tape<T> {
         Ok(())
     }
 
-    /// Ends the section, and the file if `eof` is true: a mark, two labels, a mark.
+    /// Ends the section, and the file if `eof` is true: writes a mark, two labels and a mark.
     #[tactic(auto, using(crate::proofs::Last::lasting_then, crate::proofs::Last::rose_from))]
     pub(crate) fn end_section(&mut self, file: &Opened, eof: bool) -> Result<(), WriteFault>
         requires ready { IsReady file.now }

@@ -29,12 +29,12 @@ const MOST_VOLUMES: usize = 9_999;
 /// The caller begins each file, puts its records, and ends it, one file after another. The writer
 /// writes all labels, packs the records into blocks, and changes the volume if a block or the end
 /// of a file does not fit. It keeps one block in memory, and the heads and shapes of the files that
-/// ended.
+/// have ended.
 ///
-/// Its contracts promise that the volumes are those of a valid file set: its files, in order, have
-/// the heads and shapes passed and join to exactly the records passed, and it is as tight as blocks
-/// and capacity allow. No volume is longer than the capacity, including its end-of-medium marker,
-/// and no call changes a volume that has ended.
+/// Its contracts guarantee that the volumes are those of a valid file set: its files, in order,
+/// have the given heads and shapes and contain exactly the given records, and a new block or volume
+/// begins only if the next item does not fit. No volume is longer than the capacity, including its
+/// end-of-medium marker, and no call changes a volume that has ended.
 #[derive(Drop)]
 pub struct SetWriter<T: TapeOut + Drop> {
     alloc: Global,
@@ -64,7 +64,7 @@ impl<T: TapeOut + Drop> Model for SetWriter<T> {
     ghost invariant = { λ w. IsSound w.volumes.items w.capacity w.tape.course w.phase };
 }
 
-/// Why there is no writer, with the output that was passed.
+/// Why no writer was created, and the output that was passed.
 #[derive(Drop)]
 pub struct RefusedWriter<T: TapeOut + Drop> {
     pub fault: WriteFault,
@@ -74,15 +74,15 @@ pub struct RefusedWriter<T: TapeOut + Drop> {
 impl<T: TapeOut + Drop> SetWriter<T> {
     ghost use Rattle.tape_writer.specs.declared.phase.Phase.TheVariants.{Between};
 
-    /// Creates a writer of the set with this identifier on these volumes, in order, each an image
-    /// of at most `capacity` bytes. Does not allocate, and writes nothing. `out` must not contain a
-    /// volume yet.
+    /// Creates a writer for the set `set_id` on `volumes`, in order, each an image of at most
+    /// `capacity` bytes. Does not allocate, and writes nothing. `out` must not contain a volume
+    /// yet.
     ///
     /// # Errors
     ///
     /// `BadField` if the set identifier, or a field of a volume other than its version, contains a
-    /// byte that is not an a-character; `OutOfVolumes` if there is no volume; `TooMany` for more
-    /// than 9,999. A refusal returns `out`, and drops the labels.
+    /// byte that is not an a-character; `OutOfVolumes` if there are no volumes; `TooMany` if there
+    /// are more than 9,999. A refusal returns `out`, and drops the labels.
     pub fn new(
         alloc: Global,
         set_id: Field<6>,
@@ -111,7 +111,7 @@ impl<T: TapeOut + Drop> SetWriter<T> {
           course = record { volume = 0; sect = 0; count = 0; used = 0 };
           phase = Between;
         }) }
-        // No file was passed so far.
+        // No file was passed yet.
         ensures told { T.holds out (Ended []) → IfOk result (λ w. IsWriting (T.holds w.out) w []) }
         ensures asked { IfOk result (λ w. HasAsked T.TapeOut w) }
     {
@@ -121,7 +121,7 @@ impl<T: TapeOut + Drop> SetWriter<T> {
         Ok(SetWriter::judged(alloc, set_id, volumes, capacity, out))
     }
 
-    /// Creates a writer of the set with this identifier on these volumes, after they were checked.
+    /// Creates a writer for the set `set_id` on `volumes`, after both were checked.
     pub(crate) fn judged(
         alloc: Global,
         set_id: Field<6>,
@@ -158,9 +158,9 @@ impl<T: TapeOut + Drop> SetWriter<T> {
         }
     }
 
-    /// Returns how many bytes the current or last volume takes as an image so far: 0 before the
-    /// first file, including the end-of-medium marker after `finish`, and after a failure as many
-    /// as were accepted.
+    /// Returns the size of the current or last volume as an image so far, in bytes: 0 before the
+    /// first file; including the end-of-medium marker after `finish`; after a failure the number of
+    /// bytes accepted.
     pub fn used(&self) -> u32
         ensures { result ≡ self.now.course.used }
     {
@@ -194,7 +194,7 @@ impl<T: TapeOut + Drop> SetWriter<T> {
     }
 }
 
-/// Checks that a set with this identifier can be written on these volumes.
+/// Checks that the set `set_id` can be written on `volumes`.
 pub(crate) fn judge_set(set_id: &Field<6>, volumes: &[Vol1]) -> Result<(), WriteFault>
     ensures field { (IsText set_id.now × AllByRecursion IsTextVolume volumes.now → ⊥)
         → result ≡ Err WriteFault.BadField }

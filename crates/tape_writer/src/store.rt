@@ -1,4 +1,4 @@
-//! Where images are stored.
+//! The store of images.
 
 ghost use Rattle.std.specs.Prelude.{◌≡◌, ◌<◌, ◌++◌, ◌∷◌, [], ℕ, List, Bool, true, false, Some};
 ghost use Rattle.std.specs.Prelude.{IsSome, IfSome};
@@ -14,23 +14,23 @@ pub trait ImageStore {
     /// The device that an image is written to.
     type Device: Write + Drop;
 
-    /// Relates the store to exactly the images it received, in order, and to whether one more
-    /// device is lent. An untrusted store satisfies it for no images.
+    /// Relates the store to exactly the images that it received, in order, and to whether a further
+    /// device is lent. It relates an untrusted store to no images.
     ghost holds: { Self → Bool → List (List ℕ) → Type 0 };
 
-    /// For how many more images it has a device.
+    /// The number of images for which the store still has a device.
     ghost left: { Self → ℕ };
 
-    /// Whether the last device was requested with this label. A store that does not keep labels
-    /// satisfies it for each.
+    /// Whether the last device was requested with the given label. For a store that does not record
+    /// labels this holds for every label.
     ghost asked: { Self → Vol1 → Type 0 };
 
-    /// Returns for how many more images it has a device.
+    /// Returns the number of images for which the store still has a device.
     fn left(&self) -> usize
         ensures { result ≡ left self.now };
 
-    /// Lends the device of the next image, for the volume with this label; nothing was written to
-    /// it yet. Returns `None` if no device is left.
+    /// Lends the device of the next image, for the volume with the label `volume`; nothing was
+    /// written to the device yet. Returns `None` if no device is left.
     fn next(&mut self, volume: &Vol1) -> Option<Self::Device>
         ensures some { 0 < left self.old → IsSome result }
         ensures lent { (images : List (List ℕ)) → holds self.old false images
@@ -38,7 +38,7 @@ pub trait ImageStore {
             × holds self.new true images) }
         ensures asked { IfSome result (λ _. asked self.new volume.now) };
 
-    /// Receives the device that is lent. Its image has ended and was flushed.
+    /// Receives the device that was lent. Its image has ended and was flushed.
     fn keep(&mut self, device: Self::Device)
         ensures kept { (images : List (List ℕ)) (bytes : List ℕ) → holds self.old true images
             → Self.Device.contents device ≡ Some bytes

@@ -14,7 +14,7 @@ use crate::course::Course;
 use crate::fault::{WriteFault, fault_of};
 use crate::out::TapeOut;
 
-/// The output, and the position on it.
+/// The output, and the writer's position on it.
 #[derive(Drop)]
 pub struct Tape<T> {
     pub(crate) out: T,
@@ -89,7 +89,7 @@ impl<T: TapeOut> Tape<T> {
     pub(crate) fn add_block(&mut self, bytes: &[u8]) -> Result<(), WriteFault>
         requires sized { IsTapeItem (block_item bytes.now) }
         requires room { self.old.course.used + item_size (block_item bytes.now) ≤ image_limit }
-        // So the count fits 32 bits.
+        // So the count fits in 32 bits.
         requires count { self.old.course.count ≤ self.old.course.used }
         ensures ok { Takes (block_item bytes.now ∷ [])
             (T.holds self.old.out) result (T.holds self.new.out) }

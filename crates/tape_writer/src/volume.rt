@@ -43,7 +43,8 @@ impl<T: TapeOut> Tape<T> {
         self.label(volume_label(volume))
     }
 
-    /// Ends the section by EOV, and continues on the next volume, with this label.
+    /// Ends the section with EOV1 and EOV2, and continues on the next volume, with the label
+    /// `volume`.
     #[tactic(auto, using(crate::proofs::Last::lasting_then, crate::proofs::Last::rose_from))]
     pub(crate) fn change_to(&mut self, file: &Opened, volume: &Vol1) -> Result<(), WriteFault>
         requires ready { IsReady file.now }

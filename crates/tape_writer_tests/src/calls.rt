@@ -10,16 +10,16 @@ const SEVENS: [u8; 290] = [b'7'; 290];
 /// A call of a writer, or several of one kind.
 #[derive(Clone, Copy)]
 pub(crate) enum Call {
-    /// Begins the next file, in records of 80 bytes and blocks of 800.
+    /// Begins the next file, with records of 80 bytes and blocks of 800 bytes.
     Begin,
-    /// Begins the next file, in records of up to 16 bytes after their four digits, and in blocks of
-    /// at most 100.
+    /// Begins the next file, with records of up to 16 bytes (after their four digits), and blocks
+    /// of at most 100 bytes.
     BeginCounted,
-    /// Begins the next file, in records of any length and blocks of at most this one.
+    /// Begins the next file, with records of any length, and the given maximum block length.
     BeginSpanned(u32),
-    /// Writes a record of so many bytes `7`, at most 290.
+    /// Writes a record of the given number of bytes `7`, at most 290.
     Put(usize),
-    /// Writes so many records of 80 bytes, one after another.
+    /// Writes the given number of records of 80 bytes, one after another.
     Records(u32),
     /// Ends the file.
     EndFile,
@@ -30,7 +30,7 @@ pub(crate) enum Call {
 /// A call, its result, and the length of the current volume after it.
 pub(crate) type Row = (Call, Result<(), WriteFault>, u32);
 
-/// Writes a record of so many bytes `7`.
+/// Writes a record of `length` bytes `7`.
 fn put<T: TapeOut + Drop>(writer: &mut SetWriter<T>, length: usize) -> Result<(), WriteFault> {
     match SEVENS.get(..length) {
         Some(record) => writer.put(record),
@@ -38,7 +38,7 @@ fn put<T: TapeOut + Drop>(writer: &mut SetWriter<T>, length: usize) -> Result<()
     }
 }
 
-/// Makes the call; for several, returns the first refusal.
+/// Makes the call; for several calls, returns the first refusal.
 pub(crate) fn perform<T: TapeOut + Drop>(
     writer: &mut SetWriter<T>,
     call: Call,
@@ -59,7 +59,7 @@ pub(crate) fn perform<T: TapeOut + Drop>(
     }
 }
 
-/// Makes the call of each row, counted from 0, and compares its result.
+/// Makes the call of each row, and compares its result. Rows are counted from 0.
 pub(crate) fn follow<T: TapeOut + Drop>(rt: &impl Abort, writer: &mut SetWriter<T>, rows: &[Row]) {
     for (at, row) in rows.iter().enumerate() {
         let answer = perform(writer, row.0);

@@ -1,4 +1,4 @@
-//! Volumes that are full, and the change to the next.
+//! Volumes that are full, and the change to the next volume.
 
 use crate::calls::Call::{Begin, BeginCounted, BeginSpanned, EndFile, Finish, Put, Records};
 use crate::calls::{Row, follow};
@@ -11,7 +11,7 @@ use tape_image::Item;
 use tape_writer::MemoryTapes;
 use tape_writer::WriteFault::{CapacityTooSmall, Failed, OutOfVolumes, RecordLength};
 
-/// A file whose end does not fit the only volume.
+/// A file whose end does not fit on the only volume.
 const NO_ROOM: &[Row] = &[
     (Begin, Ok(()), 268),
     (Records(25), Ok(()), 1_884),
@@ -30,8 +30,8 @@ fn no_volume_left_for_the_file_end(rt: HostRuntime) -> Result<(), Fail> {
     Ok(())
 }
 
-/// Returns true if the tapes contain the three labels, a tape mark and the three blocks, and
-/// nothing of the closing labels.
+/// Returns true if the tapes contain the three labels, a tape mark and the three blocks, but no
+/// closing labels.
 fn are_seven_items(tapes: &MemoryTapes) -> bool {
     tapes.count() == 1
         && tapes.length(0) == 7
@@ -46,7 +46,7 @@ fn seven_items_where_no_volume_is_left(rt: HostRuntime) -> Result<(), Fail> {
     Ok(())
 }
 
-/// A set: its name, the capacity of its volumes and their number, the calls, and the lengths of the
+/// A set: its name, the capacity and the number of its volumes, the calls, and the lengths of the
 /// images after them.
 type Set<'a> = (&'a str, u32, usize, &'a [Row], &'a [usize]);
 
@@ -63,8 +63,9 @@ const SETS: &[Set<'_>] = &[
         ],
         &[1_032, 486],
     ),
-    // After the first file's end 372 bytes are left, for the second one's headers and the end of a
-    // volume; its first section has no block, and its only block is on the second volume.
+    // 372 bytes are left after the end of the first file, for the headers of the second file and
+    // the end of a volume. The first section of the second file has no blocks; its only block is on
+    // the second volume.
     (
         "an empty section ended by EOV",
         2_848,
@@ -119,7 +120,7 @@ const SETS: &[Set<'_>] = &[
     ),
 ];
 
-/// Checks that the set is written with these images.
+/// Checks that the set is written with the given image lengths.
 fn is_written(rt: &impl Abort, alloc: Global, set: &Set<'_>) -> Result<(), Fail> {
     let (name, capacity, count, rows, lengths) = set;
     let images = written(rt, alloc, *capacity, *count, rows)?;

@@ -5,7 +5,7 @@ use std::io::{Error, ErrorKind, Read, Result, Write};
 use tape_label::Vol1;
 use tape_writer::ImageStore;
 
-/// Returns one byte for each call, and is interrupted after as many as `left` says.
+/// Returns one byte for each call, and is interrupted after `left` bytes.
 #[derive(Drop)]
 pub(crate) struct Dribble<'a> {
     pub(crate) bytes: &'a [u8],
@@ -43,7 +43,7 @@ impl Read for Endless {
     }
 }
 
-/// Accepts one byte for each call, and none after as many as `left` says.
+/// Accepts one byte for each call, and no byte after the first `left`.
 #[derive(Drop)]
 pub(crate) struct Narrow {
     pub(crate) taken: Vec<u8>,
@@ -51,7 +51,7 @@ pub(crate) struct Narrow {
 }
 
 impl Narrow {
-    /// Creates a writer that accepts so many bytes.
+    /// Creates a writer that accepts `left` bytes.
     pub(crate) fn new(alloc: Global, left: usize) -> Narrow {
         Narrow {
             taken: Vec::new(alloc),
@@ -77,7 +77,7 @@ impl Write for Narrow {
     }
 }
 
-/// A store of so many writers that accept so many bytes each.
+/// A store with a number of such writers, all of which accept the same number of bytes.
 #[derive(Drop)]
 pub(crate) struct Narrows {
     pub(crate) alloc: Global,

@@ -1,4 +1,4 @@
-//! Images and inputs that are files. Each test has a directory of its own.
+//! Images and inputs that are files. Each test uses its own directory.
 
 use crate::inputs::{one_file, payroll, plan};
 use crate::sets::{FIXED, head, spanned};
@@ -17,7 +17,7 @@ use tape_writer::system::{
 };
 use tape_writer::{Input, Prefix, WriteFault};
 
-/// The image of the first volume when it is blank: its label, two tape marks and the end-of-medium
+/// The image of the first volume while it is blank: its label, two tape marks and the end-of-medium
 /// marker.
 const BLANK: &[u8] = b"\
     P\0\0\0VOL1ABC001                                                                     4P\0\0\0\
@@ -27,21 +27,21 @@ const ABC: Prefix = Prefix {
     characters: *b"ABC",
 };
 
-/// Creates a file of these bytes.
+/// Creates a file with the given bytes.
 fn put<R: Runtime>(rt: &R, path: &str, bytes: &[u8]) -> Result<(), Fail> {
     let mut file = File::create(rt, path)?;
     Ok(file.write_all(bytes)?)
 }
 
-/// The file has these bytes.
+/// Checks that the file has the given bytes.
 fn holds<R: Host + Abort>(rt: &R, path: &str, bytes: &[u8]) -> Result<(), Fail> {
     let found = fs::read(rt, path)?;
     assert!(rt; found.as_slice() == bytes, "{path}");
     Ok(())
 }
 
-/// Directories and numbers of volumes, the result of creating their images, and the path of each.
-/// The second and the third already exist.
+/// Directories and numbers of volumes, the result of creating their images, and the path of each
+/// image. The second and the third image already exist.
 const MADE: &[(&str, u16, Option<FileFault>, &str)] = &[
     ("made", 1, None, "made/ABC001.tap"),
     ("made", 1, Some(FileFault::Exists), "made/ABC001.tap"),
@@ -70,7 +70,7 @@ fn blank_images(rt: HostRuntime) -> Result<(), Fail> {
     holds(&rt, "made/ABC020.tap", b"kept")
 }
 
-/// Writes the bytes as a file on volumes of this directory, and returns the volumes.
+/// Writes the bytes as a file on volumes in the directory, and returns the volumes.
 fn ended<R: Host>(
     rt: &R,
     folder: &str,
@@ -92,7 +92,7 @@ fn ended<R: Host>(
     write_in_folder(rt, &plan, &mut files)
 }
 
-/// The same, and returns their number and the size of the last one.
+/// Does the same, and returns the number of volumes and the size of the last one.
 fn write<R: Host>(
     rt: &R,
     folder: &str,
@@ -108,7 +108,7 @@ fn write<R: Host>(
     Ok((ended.len(), size))
 }
 
-/// Returns so many of the first bytes of the blank image, followed by zeros.
+/// Returns the first `kept` bytes of the blank image, followed by `zeros` zeros.
 fn changed(alloc: Global, kept: usize, zeros: u8) -> Result<Vec<u8>, AllocError> {
     let mut bytes = Vec::from_slice(alloc, BLANK)?;
     bytes.truncate(kept);
@@ -118,8 +118,8 @@ fn changed(alloc: Global, kept: usize, zeros: u8) -> Result<Vec<u8>, AllocError>
     Ok(bytes)
 }
 
-/// How many bytes of the blank image already exist, and how many zeros follow them. All but the
-/// last are left alone.
+/// The number of bytes of the blank image that already exist, and the number of zeros after them.
+/// All files except the last remain unchanged.
 const THERE: &[(usize, u8)] = &[(100, 1), (99, 0), (99, 1), (0, 0), (100, 0)];
 
 #[test]
@@ -141,7 +141,7 @@ fn images_that_are_there(rt: HostRuntime) -> Result<(), Fail> {
     Ok(())
 }
 
-/// Writes the worked records, with this result.
+/// Checks the result of writing the worked records.
 fn comes_to<R: Host + Abort>(
     rt: &R,
     folder: &str,
@@ -154,7 +154,7 @@ fn comes_to<R: Host + Abort>(
     Ok(())
 }
 
-/// A blank volume that another run has locked, in either way, is not written.
+/// A blank volume that another run has locked, in either way, is not written to.
 #[test]
 fn an_image_that_another_run_has(rt: HostRuntime) -> Result<(), Fail> {
     let path = "locked/ABC001.tap";
@@ -177,8 +177,8 @@ fn an_image_that_another_run_has(rt: HostRuntime) -> Result<(), Fail> {
     Ok(())
 }
 
-/// The worked volume; over it no more; on two volumes, the second of which already exists; and with
-/// something else in place of the first.
+/// The worked volume; the same again, which is refused; on two volumes, the second of which already
+/// exists; with a directory instead of the first image; and in a missing directory.
 #[test]
 fn a_set_in_a_folder(rt: HostRuntime) -> Result<(), Fail> {
     let exists = Err(SystemFault::File(FileFault::Exists));
@@ -198,16 +198,16 @@ fn a_set_in_a_folder(rt: HostRuntime) -> Result<(), Fail> {
     holds(&rt, "second/ABC002.tap", b"kept")
 }
 
-/// A directory, a capacity, the length of blocks of format S, and that of the record in them, whose
-/// bytes differ from block to block. Blocks longer than the buffer, blocks of which one fits the
-/// buffer and two do not, and short ones; on one volume, on two and on three.
+/// A directory, a capacity, a block length for format S, and the length of the one record. The
+/// cases are blocks longer than the buffer, blocks of which only one fits in the buffer, and short
+/// blocks; on one, two and three volumes.
 const AS_IN_MEMORY: &[(&str, u32, u32, usize)] = &[
     ("long", 150_000, 9_999, 120_000),
     ("middle", 100_000, 5_000, 120_000),
     ("short", 1_042, 18, 650),
 ];
 
-/// Returns so many bytes, no two consecutive ones equal.
+/// Returns `count` bytes, of which no two consecutive ones are equal.
 fn counted_up(alloc: Global, count: usize) -> Result<Vec<u8>, AllocError> {
     let mut bytes = Vec::new(alloc);
     for number in 0..count as u64 {
@@ -216,7 +216,7 @@ fn counted_up(alloc: Global, count: usize) -> Result<Vec<u8>, AllocError> {
     Ok(bytes)
 }
 
-/// Returns true if this volume was returned, and the file has the bytes of the image.
+/// Returns true if the volume was returned, and its file has the bytes of the image.
 fn is_image<R: Host>(
     rt: &R,
     folder: &str,
@@ -234,7 +234,7 @@ fn text_of(ended: &Ended) -> &str {
     str::from_utf8(ended.volume.bytes()).unwrap_or("")
 }
 
-/// The record is written to files as it is in memory, with the same result.
+/// The record is written to files with the same result as in memory.
 #[test]
 fn files_are_as_in_memory(rt: HostRuntime) -> Result<(), Fail> {
     for (folder, capacity, block_len, count) in AS_IN_MEMORY {
@@ -250,7 +250,7 @@ fn files_are_as_in_memory(rt: HostRuntime) -> Result<(), Fail> {
     Ok(())
 }
 
-/// The bytes as one record are written to files as they are in memory.
+/// Checks that the bytes, as one record, are written to files with the same result as in memory.
 fn are_as_in_memory<R: Host + Abort>(
     rt: &R,
     folder: &str,
@@ -276,8 +276,8 @@ fn are_as_in_memory<R: Host + Abort>(
     Ok(())
 }
 
-/// There are volumes 1 to 256, and no more: each takes 22 blocks of 18 bytes, of which 13 are the
-/// record's.
+/// There are at most 256 volumes: each takes 22 blocks of 18 bytes, of which 13 bytes belong to the
+/// record.
 #[test]
 fn the_last_volume(rt: HostRuntime) -> Result<(), Fail> {
     fs::create_dir(&rt, "full")?;
@@ -290,7 +290,7 @@ fn the_last_volume(rt: HostRuntime) -> Result<(), Fail> {
     Ok(())
 }
 
-/// Paths of inputs, and the fault if there is none.
+/// Paths of inputs, and the fault if the input cannot be found.
 const INPUTS: &[(&str, Option<FileFault>)] = &[
     ("input.txt", None),
     ("missing.txt", Some(FileFault::NotOpened)),

@@ -1,4 +1,4 @@
-//! Images that ended, when the next volume begins.
+//! Images that have ended when the next volume begins.
 
 use crate::inputs::{payroll, plan};
 use crate::sets::{FIXED, head};
@@ -11,7 +11,8 @@ use tape_image::ImageWriter;
 use tape_label::Vol1;
 use tape_writer::{ImageStore, Input, RefusedSet, SetFault, WriteFault, WrittenSet, write_set};
 
-/// Keeps the bytes it accepts, and their number at the last flush. So many flushes succeed.
+/// Keeps the bytes that it accepts, and their number at the last flush. A given number of flushes
+/// succeed.
 #[derive(Drop)]
 struct Flushed {
     bytes: Vec<u8>,
@@ -20,8 +21,8 @@ struct Flushed {
 }
 
 impl Flushed {
-    /// Returns true if these are its bytes, and all of them were accepted before its last flush.
-    /// There was one.
+    /// Returns true if the device has exactly `bytes`, all of them accepted before its last flush,
+    /// and no further flush is allowed.
     fn is_whole(&self, bytes: &[u8]) -> bool {
         self.bytes.as_slice() == bytes && self.flushed == Some(bytes.len()) && self.left == 0
     }
@@ -43,8 +44,8 @@ impl Write for Flushed {
     }
 }
 
-/// Has two devices, and records how many it lent, and how many images it received before the last
-/// of these. Each device can be flushed so often.
+/// Has two devices, and records how many devices it lent, and how many images it had received when
+/// it lent the last device. Each device can be flushed a given number of times.
 #[derive(Drop)]
 struct Noting {
     alloc: Global,
@@ -118,7 +119,8 @@ fn are_handed_on(alloc: Global, records: &[u8], images: &Noting) -> Result<bool,
     })
 }
 
-/// When the second volume begins, the store receives the first one's image, complete and flushed.
+/// When the second volume begins, the store has received the image of the first, complete and
+/// flushed.
 #[test]
 fn the_first_image_is_handed_on_before_the_second_begins(rt: HostRuntime) -> Result<(), Fail> {
     let records = payroll(rt.alloc(), b"")?;
@@ -130,7 +132,7 @@ fn the_first_image_is_handed_on_before_the_second_begins(rt: HostRuntime) -> Res
     Ok(())
 }
 
-/// Returns true if the set was refused by the first device, which has all of its image.
+/// Returns true if the set was refused by the first device, which contains its whole image.
 fn is_refused(
     alloc: Global,
     records: &[u8],
@@ -143,7 +145,7 @@ fn is_refused(
     Ok(is_first && facts == (SetFault::Write(WriteFault::Device), 1, 0))
 }
 
-/// Returns true if there is an image, and its device has these bytes.
+/// Returns true if there is an image, and its device has the given bytes.
 fn has_bytes(image: Option<ImageWriter<Flushed>>, bytes: &[u8]) -> bool {
     match image {
         Some(image) => image.into_device().bytes.as_slice() == bytes,

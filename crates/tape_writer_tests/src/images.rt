@@ -1,4 +1,4 @@
-//! Images that were written, and the expected ones.
+//! Images that were written, and expected images.
 
 use crate::calls::{Row, follow};
 use crate::sets::on_images;
@@ -18,7 +18,7 @@ pub(crate) enum Piece<'a> {
     End,
 }
 
-/// Appends a block between two words of its length, with a pad byte if it is odd.
+/// Appends a block between two length words, with a pad byte if its length is odd.
 fn add_block(bytes: &mut Vec<u8>, content: &[u8]) -> Result<(), AllocError> {
     let word = (content.len() as u64).to_le_bytes();
     bytes.extend_from_slice(&word[..4])?;
@@ -29,7 +29,7 @@ fn add_block(bytes: &mut Vec<u8>, content: &[u8]) -> Result<(), AllocError> {
     bytes.extend_from_slice(&word[..4])
 }
 
-/// Appends a piece to these bytes of an image.
+/// Appends a piece to an image.
 fn add(bytes: &mut Vec<u8>, piece: &Piece) -> Result<(), AllocError> {
     match piece {
         Piece::Block(content) => add_block(bytes, content),
@@ -38,7 +38,7 @@ fn add(bytes: &mut Vec<u8>, piece: &Piece) -> Result<(), AllocError> {
     }
 }
 
-/// Appends these pieces, one after another.
+/// Appends `pieces`, one after another.
 pub(crate) fn add_all(bytes: &mut Vec<u8>, pieces: &[Piece]) -> Result<(), AllocError> {
     for piece in pieces {
         add(bytes, piece)?;
@@ -46,14 +46,14 @@ pub(crate) fn add_all(bytes: &mut Vec<u8>, pieces: &[Piece]) -> Result<(), Alloc
     Ok(())
 }
 
-/// Returns the bytes of an image.
+/// Returns the bytes of the image that consists of `pieces`.
 pub(crate) fn image_of(alloc: Global, pieces: &[Piece]) -> Result<Vec<u8>, AllocError> {
     let mut bytes = Vec::new(alloc);
     add_all(&mut bytes, pieces)?;
     Ok(bytes)
 }
 
-/// Returns the images after the calls of these rows, on so many volumes.
+/// Returns the images after the calls of the rows, on a given number of volumes.
 pub(crate) fn written(
     rt: &impl Abort,
     alloc: Global,
@@ -66,7 +66,8 @@ pub(crate) fn written(
     Ok(images_of(writer.into_out())?)
 }
 
-/// Returns the images that ended, followed by that of the current volume, if there is one.
+/// Returns the images that have ended, followed by the image of the current volume, if there is
+/// one.
 pub(crate) fn images_of(tapes: ImageTapes<MemoryImages>) -> Result<Vec<Vec<u8>>, AllocError> {
     let (store, under_way) = tapes.into_parts();
     let mut images = store.into_images();
@@ -76,7 +77,8 @@ pub(crate) fn images_of(tapes: ImageTapes<MemoryImages>) -> Result<Vec<Vec<u8>>,
     Ok(images)
 }
 
-/// Returns how many images ended, and the length of that of the current volume, if there is one.
+/// Returns the number of images that have ended, and the length of the image of the current volume,
+/// if there is one.
 pub(crate) fn ended(tapes: ImageTapes<MemoryImages>) -> (usize, Option<usize>) {
     let (store, under_way) = tapes.into_parts();
     let length = match under_way {
@@ -86,7 +88,7 @@ pub(crate) fn ended(tapes: ImageTapes<MemoryImages>) -> (usize, Option<usize>) {
     (store.into_images().len(), length)
 }
 
-/// Returns true if the images have these lengths, and there are no others.
+/// Returns true if the images have exactly the given lengths.
 pub(crate) fn have_lengths(images: &[Vec<u8>], lengths: &[usize]) -> bool {
     for (image, length) in images.iter().zip(lengths) {
         if image.len() != *length {
@@ -96,7 +98,7 @@ pub(crate) fn have_lengths(images: &[Vec<u8>], lengths: &[usize]) -> bool {
     images.len() == lengths.len()
 }
 
-/// Returns true if the image at this index of the list has, after so many bytes, only these.
+/// Returns true if the image at index `at` has exactly `bytes` after its first `behind` bytes.
 pub(crate) fn ends_with(images: &[Vec<u8>], at: usize, behind: usize, bytes: &[u8]) -> bool {
     match images.get(at) {
         Some(image) => image.get(behind..) == Some(bytes),

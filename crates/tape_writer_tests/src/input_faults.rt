@@ -1,4 +1,4 @@
-//! Sets that are not written from their inputs, and readers and writers that fail.
+//! Sets that are not written because of their inputs, and readers and writers that fail.
 
 use crate::devices::{Dribble, Endless, Narrow, Narrows};
 use crate::inputs::{COUNTED, one_file, payroll, plan};
@@ -20,8 +20,8 @@ const THIN: Shape = Shape {
     pad_full: false,
 };
 
-/// So many bytes of the worked records of 80, in another shape or form, on so many volumes of this
-/// capacity. The last piece of 1,999 bytes is too short.
+/// The number of bytes of the worked records of 80 bytes, another shape or form, the number of
+/// volumes, their capacity, and the fault. The last piece of 1,999 bytes is too short.
 const REFUSED: [(usize, Shape, Form, usize, u32, WriteFault); 9] = [
     (2_000, COUNTED, Form::Raw, 1, 100_000, WriteFault::BadShape),
     (2_000, COUNTED, Form::Raw, 0, 0, WriteFault::BadShape),
@@ -62,7 +62,7 @@ const REFUSED: [(usize, Shape, Form, usize, u32, WriteFault); 9] = [
     ),
 ];
 
-/// Returns the fault with which the records are not written.
+/// Returns the fault of writing the records.
 fn fault_of(
     alloc: Global,
     length: usize,
@@ -89,8 +89,8 @@ fn refusals(rt: HostRuntime) -> Result<(), Fail> {
     Ok(())
 }
 
-/// The result of writing a set: how many files were written; or the fault, whether the current
-/// image is returned, and how many images are left.
+/// The result of writing a set: the number of files written; or the fault, whether the current
+/// image is returned, and the number of images left.
 type Became = Result<usize, (SetFault, bool, usize)>;
 
 /// Returns the result of writing the files on one volume.
@@ -121,7 +121,8 @@ fn no_files(rt: HostRuntime) -> Result<(), Fail> {
     Ok(())
 }
 
-/// The second of two files has a head that cannot be labelled: nothing is written of the first.
+/// The second of two files has a head that cannot be labelled: nothing is written, not even the
+/// first file.
 #[test]
 fn a_head_that_cannot_be_labelled(rt: HostRuntime) -> Result<(), Fail> {
     let bad = Head1 {
@@ -139,7 +140,8 @@ fn a_head_that_cannot_be_labelled(rt: HostRuntime) -> Result<(), Fail> {
     Ok(())
 }
 
-/// Returns the result of writing two lines, so many bytes of which can be read, one for each call.
+/// Returns the result of writing two lines, of which only `left` bytes can be read, one at each
+/// call.
 fn of_dribble(alloc: Global, left: usize) -> Result<Became, Fail> {
     let mut files = [Input {
         head: head(),
@@ -152,7 +154,7 @@ fn of_dribble(alloc: Global, left: usize) -> Result<Became, Fail> {
     told(alloc, COUNTED, Form::Lines, &mut files, images)
 }
 
-/// A reader that fails, at each byte of an input that is read one byte for each call.
+/// A reader that fails, at each byte of an input that is read one byte at a time.
 #[test]
 fn an_input_that_fails(rt: HostRuntime) -> Result<(), Fail> {
     for left in 0..7 {
@@ -162,7 +164,7 @@ fn an_input_that_fails(rt: HostRuntime) -> Result<(), Fail> {
     Ok(())
 }
 
-/// Returns the result of writing an infinite line, and how many bytes of it were read.
+/// Returns the result of writing an infinite line, and the number of bytes read.
 fn of_endless(alloc: Global, shape: Shape) -> Result<(Became, usize), Fail> {
     let mut files = [Input {
         head: head(),
@@ -173,7 +175,7 @@ fn of_endless(alloc: Global, shape: Shape) -> Result<(Became, usize), Fail> {
     Ok((told, files[0].reader.given))
 }
 
-/// An infinite line: it is refused at once, because the first piece is longer than a record.
+/// An infinite line is refused immediately, because its first piece is longer than a record.
 #[test]
 fn a_line_without_end(rt: HostRuntime) -> Result<(), Fail> {
     let refused = Err((SetFault::Write(WriteFault::RecordLength), true, 0));
@@ -184,9 +186,9 @@ fn a_line_without_end(rt: HostRuntime) -> Result<(), Fail> {
     Ok(())
 }
 
-/// Returns the result of writing one line to a device that accepts so many bytes: how many images
-/// are left, and how many files were written; or the fault, and how many bytes the device that is
-/// returned accepted.
+/// Returns the result of writing one line to a device that accepts `left` bytes: the number of
+/// images left, and the number of files written; or the fault, and the number of bytes that the
+/// returned device accepted.
 fn on_narrow(
     alloc: Global,
     left: usize,
@@ -207,7 +209,7 @@ fn on_narrow(
     })
 }
 
-/// Returns how many bytes the device of an image accepted.
+/// Returns the number of bytes that the device of an image accepted.
 fn taken(image: Option<ImageWriter<Narrow>>) -> Option<usize> {
     match image {
         Some(image) => Some(image.into_device().taken.len()),
@@ -215,8 +217,8 @@ fn taken(image: Option<ImageWriter<Narrow>>) -> Option<usize> {
     }
 }
 
-/// A device that fails, at each byte of an image, whose written bytes are returned; and one that
-/// accepts exactly the image.
+/// A device that fails at each byte of an image, and is returned with the bytes written; and a
+/// device that accepts exactly the image.
 #[test]
 fn a_device_that_fails(rt: HostRuntime) -> Result<(), Fail> {
     for left in 0..487 {

@@ -8,7 +8,7 @@ use tape_blocks::{Form, Shape};
 use tape_label::{Field, Format};
 use tape_writer::{Input, MemoryImages, SetFault, SetPlan, write_set};
 
-/// Records of at most 14 bytes in blocks of 18.
+/// Records of at most 14 bytes, in blocks of 18 bytes.
 pub(crate) const COUNTED: Shape = Shape {
     format: Format::Counted,
     block_len: 18,
@@ -17,7 +17,7 @@ pub(crate) const COUNTED: Shape = Shape {
     pad_full: false,
 };
 
-/// Records of any length in blocks of 18.
+/// Records of any length, in blocks of 18 bytes.
 const SPANNED: Shape = Shape {
     format: Format::Spanned,
     block_len: 18,
@@ -26,7 +26,7 @@ const SPANNED: Shape = Shape {
     pad_full: false,
 };
 
-/// Returns a plan with so many of the set's first volumes, and all files in one shape and form.
+/// Returns a plan with the first `count` volumes of the set, and one shape and form for all files.
 pub(crate) fn plan(
     alloc: Global,
     count: usize,
@@ -43,7 +43,7 @@ pub(crate) fn plan(
     })
 }
 
-/// Returns the 25 records of the worked file, each followed by these bytes. Record i is i in four
+/// Returns the 25 records of the worked file, each followed by `behind`. Record i is i in four
 /// digits and 76 spaces.
 pub(crate) fn payroll(alloc: Global, behind: &[u8]) -> Result<Vec<u8>, AllocError> {
     let mut bytes = Vec::new(alloc);
@@ -54,7 +54,7 @@ pub(crate) fn payroll(alloc: Global, behind: &[u8]) -> Result<Vec<u8>, AllocErro
     Ok(bytes)
 }
 
-/// Returns a record of the worked file.
+/// Returns record `number` of the worked file.
 fn record(number: u8) -> [u8; 80] {
     let mut record = [b' '; 80];
     record[..2].fill(b'0');
@@ -63,7 +63,7 @@ fn record(number: u8) -> [u8; 80] {
     record
 }
 
-/// Returns the images' bytes of a set of one file, or the fault.
+/// Returns the images of a set of one file, or the fault.
 pub(crate) fn one_file(
     alloc: Global,
     plan: SetPlan,
@@ -80,7 +80,7 @@ pub(crate) fn one_file(
     }
 }
 
-/// Returns the images of a set of one file, which must be written.
+/// Returns the images of a set of one file, whose writing must succeed.
 fn written(alloc: Global, plan: SetPlan, input: &[u8]) -> Result<Vec<Vec<u8>>, Fail> {
     match one_file(alloc, plan, input)? {
         Ok(images) => Ok(images),
@@ -88,7 +88,7 @@ fn written(alloc: Global, plan: SetPlan, input: &[u8]) -> Result<Vec<Vec<u8>>, F
     }
 }
 
-/// Returns the image at this index of the list, or nothing.
+/// Returns the image at index `place`, or an empty image.
 fn at<'a>(images: &'a [Vec<u8>], place: usize) -> &'a [u8] {
     match images.get(place) {
         Some(image) => image.as_slice(),
@@ -96,13 +96,14 @@ fn at<'a>(images: &'a [Vec<u8>], place: usize) -> &'a [u8] {
     }
 }
 
-/// Returns true if the images are these two, or only the first one if the second one is empty.
+/// Returns true if the images are `first` and `second`, or only `first` if `second` is empty.
 fn are(images: &[Vec<u8>], first: &[u8], second: &[u8]) -> bool {
     let count = if second.is_empty() { 1 } else { 2 };
     images.len() == count && at(images, 0) == first && at(images, 1) == second
 }
 
-/// So many bytes of the records, each followed by these, are written as the worked image.
+/// Returns true if the first `length` bytes of the records, each followed by `behind`, are written
+/// as the worked image.
 fn is_worked(alloc: Global, form: Form, behind: &[u8], length: usize) -> Result<bool, Fail> {
     let mut input = payroll(alloc, behind)?;
     input.truncate(length);
@@ -115,7 +116,7 @@ fn is_worked(alloc: Global, form: Form, behind: &[u8], length: usize) -> Result<
     Ok(are(images.as_slice(), wanted.as_slice(), &[]))
 }
 
-/// Lines, the last of which has a line feed, or has none; and raw bytes.
+/// Lines with and without a last line feed, and raw bytes.
 const INPUTS: &[(Form, &[u8], usize)] = &[
     (Form::Lines, b"\n", 2025),
     (Form::Lines, b"\n", 2024),
@@ -133,8 +134,8 @@ fn the_worked_volume(rt: HostRuntime) -> Result<(), Fail> {
     Ok(())
 }
 
-/// Returns true if three volumes of 2,500 bytes contain the raw records like this: the third block
-/// fits on the first volume, the file's end does not, so that section 2 is empty.
+/// Returns true if three volumes of 2,500 bytes contain the raw records as expected: the third
+/// block fits on the first volume but the end of the file does not, so section 2 is empty.
 fn are_small(alloc: Global) -> Result<bool, Fail> {
     let records = payroll(alloc, b"")?;
     let plan = plan(alloc, 3, 2_500, FIXED, Form::Raw)?;
@@ -161,7 +162,7 @@ const SIZES: [(Shape, Form, u32, usize, usize, usize); 6] = [
     (SPANNED, Form::Lines, 1_042, 290, 1_032, 486),
 ];
 
-/// Returns the sizes of the two images for a record of so many bytes.
+/// Returns the sizes of the two images for a record of the given length.
 fn sizes_of(
     alloc: Global,
     shape: Shape,
@@ -178,7 +179,7 @@ fn sizes_of(
     ))
 }
 
-/// Sizes: no record at all, and a record over two volumes.
+/// Sizes with no record, and with a record on two volumes.
 #[test]
 fn sizes(rt: HostRuntime) -> Result<(), Fail> {
     for (row, (shape, form, capacity, length, first, second)) in SIZES.into_iter().enumerate() {
@@ -188,20 +189,20 @@ fn sizes(rt: HostRuntime) -> Result<(), Fail> {
     Ok(())
 }
 
-/// Lines, and the block of 18 bytes that is the first after the headers, in format D.
+/// Lines, and the block of 18 bytes after the headers, in format D.
 const LINES: &[(&[u8], &[u8])] = &[
     (b"AB\n\n", b"0006AB0004^^^^^^^^"),
     (b"A\r\n\nB", b"0006A\r00040005B^^^"),
 ];
 
-/// Returns true if the lines are written as a volume with this block.
+/// Returns true if the lines are written as a volume with the block `block`.
 fn have_block(alloc: Global, lines: &[u8], block: &[u8]) -> Result<bool, Fail> {
     let plan = plan(alloc, 1, 100_000, COUNTED, Form::Lines)?;
     let images = written(alloc, plan, lines)?;
     Ok(at(images.as_slice(), 0).get(272..290) == Some(block))
 }
 
-/// Lines in format D: an empty line is a record, a carriage return stays.
+/// In format D an empty line is a record, and a carriage return is kept.
 #[test]
 fn lines_and_what_they_keep(rt: HostRuntime) -> Result<(), Fail> {
     for (lines, block) in LINES {

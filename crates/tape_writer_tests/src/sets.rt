@@ -6,7 +6,7 @@ use tape_blocks::Shape;
 use tape_label::{Field, Format, Head1, Vol1};
 use tape_writer::{ImageTapes, MemoryImages, MemoryTapes, RefusedWriter, SetWriter, TapeOut};
 
-/// Records of 80 bytes in blocks of 800.
+/// Records of 80 bytes, in blocks of 800 bytes.
 pub(crate) const FIXED: Shape = Shape {
     format: Format::Fixed,
     block_len: 800,
@@ -15,7 +15,7 @@ pub(crate) const FIXED: Shape = Shape {
     pad_full: false,
 };
 
-/// Records of up to 16 bytes after their four digits, in blocks of at most 100.
+/// Records of up to 16 bytes (after their four digits), in blocks of at most 100 bytes.
 pub(crate) const COUNTED: Shape = Shape {
     format: Format::Counted,
     block_len: 100,
@@ -24,7 +24,7 @@ pub(crate) const COUNTED: Shape = Shape {
     pad_full: false,
 };
 
-/// Returns records of any length in blocks of at most this one.
+/// Returns a shape with records of any length, in blocks of at most `block_len` bytes.
 pub(crate) fn spanned(block_len: u32) -> Shape {
     Shape {
         format: Format::Spanned,
@@ -46,7 +46,7 @@ pub(crate) fn volume(id: [u8; 6]) -> Vol1 {
     }
 }
 
-/// Returns a head whose set identifier and numbers are not those that are written.
+/// Returns a head whose set identifier and numbers the writer replaces.
 pub(crate) fn head() -> Head1 {
     Head1 {
         file_id: Field::of_bytes(*b"PAYROLL          "),
@@ -62,13 +62,13 @@ pub(crate) fn head() -> Head1 {
     }
 }
 
-/// Returns the first volumes of a set, of these three.
+/// Returns the labels of the first `count` of three volumes.
 pub(crate) fn volumes(alloc: Global, count: usize) -> Result<Vec<Vol1>, AllocError> {
     let all = [volume(*b"ABC001"), volume(*b"ABC002"), volume(*b"ABC003")];
     Vec::from_slice(alloc, &all[..count.min(3)])
 }
 
-/// Returns a writer of items in memory, on so many of the three volumes.
+/// Returns a writer of items in memory, on the first of the three volumes.
 pub(crate) fn in_memory(
     alloc: Global,
     capacity: u32,
@@ -79,7 +79,7 @@ pub(crate) fn in_memory(
     made(SetWriter::new(alloc, set_id, volumes, capacity, MemoryTapes::new(alloc)))
 }
 
-/// Returns a writer of images in memory, on so many of the three volumes.
+/// Returns a writer of images in memory, on the first of the three volumes.
 pub(crate) fn on_images(
     alloc: Global,
     capacity: u32,
@@ -91,7 +91,7 @@ pub(crate) fn on_images(
     made(SetWriter::new(alloc, set_id, volumes, capacity, out))
 }
 
-/// Returns the writer, which is not refused.
+/// Returns the writer, which must not be refused.
 fn made<T: TapeOut + Drop>(
     writer: Result<SetWriter<T>, RefusedWriter<T>>,
 ) -> Result<SetWriter<T>, Fail> {

@@ -12,7 +12,7 @@ pub(crate) const VOL1_SECOND: &[u8; 80] =
 pub(crate) const HDR1: &[u8; 80] =
     b"HDR1PAYROLL          ABC00100010001000100 00000 00000 000000                    ";
 
-/// HDR1 of its second section.
+/// HDR1 of the second section of the first file.
 pub(crate) const HDR1_SECOND_SECTION: &[u8; 80] =
     b"HDR1PAYROLL          ABC00100020001000100 00000 00000 000000                    ";
 
@@ -36,11 +36,11 @@ pub(crate) const EOV2: &[u8; 80] =
 pub(crate) const EOF1: &[u8; 80] =
     b"EOF1PAYROLL          ABC00100010001000100 00000 00000 000003                    ";
 
-/// EOF1 after no block.
+/// EOF1 after no blocks.
 pub(crate) const EOF1_EMPTY: &[u8; 80] =
     b"EOF1PAYROLL          ABC00100010001000100 00000 00000 000000                    ";
 
-/// EOF1 of the second section, after no block.
+/// EOF1 of the second section, after no blocks.
 pub(crate) const EOF1_SECOND_SECTION: &[u8; 80] =
     b"EOF1PAYROLL          ABC00100020001000100 00000 00000 000000                    ";
 

@@ -1,23 +1,23 @@
-//! Volumes of a file of 25 records, written out from the formats.
+//! Volumes with a file of 25 records, written out from the formats.
 
 use crate::images::Piece::{Block, End, Mark};
 use crate::images::{Piece, add_all, image_of};
 use crate::texts::*;
 use std::alloc::{AllocError, Global};
 
-/// Returns the volume of the whole file.
+/// Returns the volume with the whole file.
 pub(crate) fn one_volume(alloc: Global, records: &[u8]) -> Result<Vec<u8>, AllocError> {
     let closing = [Mark, Block(EOF1), Block(EOF2), Mark, Mark, End];
     of_records(alloc, records, &closing)
 }
 
-/// Returns the volume that the file fills, if its end is on the next.
+/// Returns the volume that the file fills, if the end of the file is on the next volume.
 pub(crate) fn first_of_two(alloc: Global, records: &[u8]) -> Result<Vec<u8>, AllocError> {
     let closing = [Mark, Block(EOV1), Block(EOV2), Mark, Mark, End];
     of_records(alloc, records, &closing)
 }
 
-/// Returns the next one, which contains only the file's end.
+/// Returns the second volume, which contains only the end of the file.
 pub(crate) fn second_of_two(alloc: Global) -> Result<Vec<u8>, AllocError> {
     let pieces = [
         Block(VOL1_SECOND),
@@ -34,7 +34,8 @@ pub(crate) fn second_of_two(alloc: Global) -> Result<Vec<u8>, AllocError> {
     image_of(alloc, &pieces)
 }
 
-/// Returns the first volume, with these records in blocks of 800 bytes, followed by these pieces.
+/// Returns the first volume, with the records in blocks of 800 bytes, followed by the pieces
+/// `closing`.
 fn of_records(alloc: Global, records: &[u8], closing: &[Piece]) -> Result<Vec<u8>, AllocError> {
     let mut bytes = image_of(alloc, &[Block(VOL1_FIRST), Block(HDR1), Block(HDR2), Mark])?;
     for block in records.chunks(800) {

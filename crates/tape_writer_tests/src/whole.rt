@@ -1,4 +1,4 @@
-//! Sets written completely, byte by byte and by their lengths.
+//! Sets written completely, compared byte by byte and by length.
 
 use crate::calls::Call::{Begin, BeginSpanned, EndFile, Finish, Put, Records};
 use crate::calls::{Row, follow, perform};
@@ -16,7 +16,8 @@ use tape_writer::MemoryTapes;
 /// 25 records of 80 bytes.
 const SEVENS: [u8; 2_000] = [b'7'; 2_000];
 
-/// Sets on one volume: a name, the calls, and the bytes after so many of the image.
+/// Sets on one volume: a name, the calls, an offset in the image, and the bytes from that offset to
+/// its end.
 const ON_ONE_VOLUME: &[(&str, &[Row], usize, &[Piece<'_>])] = &[
     (
         "a file of 25 records",
@@ -91,7 +92,7 @@ const ON_ONE_VOLUME: &[(&str, &[Row], usize, &[Piece<'_>])] = &[
     ),
 ];
 
-/// The calls write one volume that ends with these pieces.
+/// Checks that the calls write one volume that ends with the given pieces.
 fn is_written(
     rt: &impl Abort,
     alloc: Global,
@@ -125,7 +126,7 @@ const TWO_VOLUMES: &[Row] = &[
     (Finish, Ok(()), 460),
 ];
 
-/// Returns true if these are the images of the two volumes.
+/// Returns true if `images` are the images of the two volumes.
 fn are_both(alloc: Global, images: &[Vec<u8>]) -> Result<bool, Fail> {
     let first = first_of_two(alloc, &SEVENS)?;
     let second = second_of_two(alloc)?;
@@ -143,7 +144,7 @@ fn file_end_on_the_second_volume(rt: HostRuntime) -> Result<(), Fail> {
     Ok(())
 }
 
-/// A set that ended has no current volume, and returns its labels.
+/// A set that has ended has no current volume, and returns its labels.
 #[test]
 fn nothing_is_under_way_at_the_end(rt: HostRuntime) -> Result<(), Fail> {
     let mut writer = on_images(rt.alloc(), 2_500, 2)?;
@@ -177,7 +178,7 @@ const ITEMS: &[(usize, usize, Option<Item<'_>>)] = &[
     (2, 0, None),
 ];
 
-/// These are the two volumes in memory that were written for 25 records.
+/// Checks that the two volumes in memory are those written for 25 records.
 fn are_two(rt: &impl Abort, tapes: &MemoryTapes) {
     assert!(rt; tapes.count() == 2);
     for (volume, length) in LENGTHS {

@@ -1,4 +1,4 @@
-//! What is missing of the sets on some reels.
+//! The sections missing from the sets on some reels.
 use super::reel::SECOND_BAD;
 use std::alloc::Global;
 use std::io::Read;
@@ -6,7 +6,7 @@ use std::test::Fail;
 use tape_label::Field;
 use tape_run::{Catalogue, Lack, RunFault, check_set};
 
-/// The first incomplete section, of all sets on the reels.
+/// Returns the first incomplete section in all sets on the reels.
 fn first_lack<R: Read>(alloc: Global, reels: &mut [R]) -> Result<Option<Lack>, RunFault> {
     let mut catalogue = Catalogue::new(alloc);
     for reel in reels {

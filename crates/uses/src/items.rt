@@ -1,13 +1,14 @@
-//! The items of an image, counted.
+//! Counts the items of an image.
 use super::reel::SECOND_BAD;
 use std::io::Read;
 use std::test::Fail;
 use tape_image::{ImageFault, ImageReader, Item};
 
-/// Counts the blocks, bad blocks and tape marks that follow, up to the end of the medium.
+/// Counts the remaining blocks, bad blocks and tape marks, up to the end of the medium.
 fn counted<R: Read>(image: &mut ImageReader<'_, R>) -> Result<(u64, u64, u64), ImageFault> {
     let (mut blocks, mut bad, mut marks) = (0u64, 0u64, 0u64);
-    // An image has fewer items than this. A loop with no bound would need a proof that it ends.
+    // An image has fewer items than this bound. A loop without a bound would need a proof that it
+    // ends.
     for _ in 0..u64::MAX {
         match image.next()? {
             Some(Item::Block(_)) => blocks = blocks.saturating_add(1),

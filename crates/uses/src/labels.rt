@@ -1,11 +1,11 @@
-//! What the labels of an image name.
+//! The identifiers in the labels of an image.
 use super::reel::SECOND_BAD;
 use std::io::Read;
 use std::test::Fail;
 use tape_image::{ImageFault, ImageReader, Item};
 use tape_label::{Field, Label, read_label};
 
-/// The volume, and the first file on it, if there is one.
+/// Returns the volume identifier, and the identifier of the first file, if there is one.
 fn first_names<R: Read>(
     image: &mut ImageReader<'_, R>,
 ) -> Result<Option<(Field<6>, Field<17>)>, ImageFault> {

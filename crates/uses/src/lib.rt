@@ -1,6 +1,6 @@
-//! Uses of the crates, as a program that depends on them contains them: each file has a caller of
-//! public calls only, and a test that runs it. They are under `cfg(test)`, so that CI proves them
-//! once, with their tests.
+//! Uses of the crates, as in a program that depends on them: each file has a function that calls
+//! only public items, and a test that runs it. The files are under `cfg(test)`, so that CI proves
+//! them once, with their tests.
 #![tactic(auto)]
 
 #[cfg(test)]

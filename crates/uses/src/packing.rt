@@ -1,4 +1,4 @@
-//! A record packed into blocks, and a walk over the parts of these.
+//! A record packed into blocks, and a walk over their parts.
 use std::test::Fail;
 use tape_blocks::{BlockFault, Offer, Packer, Parts, Shape, check_block};
 use tape_label::Format;

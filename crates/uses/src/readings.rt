@@ -12,13 +12,14 @@ use tape_run::{EngineFault, Step, read_file};
 enum Outcome {
     /// All of the file was read.
     Written,
-    /// Something of it is still missing.
+    /// A part of the file is still missing.
     Wanting,
-    /// This reading could not be used, counted from 0.
+    /// The reading with this index, from 0, could not be used.
     Stopped(usize),
 }
 
-/// The records of a file from two readings, each followed by a line feed, if all of it was read.
+/// Returns the records of a file from two readings, each followed by a line feed, if the whole file
+/// was read.
 fn lines_of<R: Read>(
     alloc: Global,
     set_id: Field<6>,
@@ -31,7 +32,7 @@ fn lines_of<R: Read>(
             session.write_file(Form::Lines, lines)?;
             Ok(Outcome::Written)
         }
-        // Each step is a reading.
+        // The number of the step is that of the reading.
         Ok((_, Err(stopped))) => Ok(Outcome::Stopped(stopped.step)),
         _ => Ok(Outcome::Wanting),
     }

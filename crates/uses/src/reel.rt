@@ -1,7 +1,7 @@
-//! The reel for the uses: a volume `ABC001` with a file of five records of four characters, written
-//! out from its format as two readings return it.
+//! The reel for these examples: a volume `ABC001` with a file of five records of four characters,
+//! written out from the standard as two readings return it.
 
-/// A reading with an error in the file's first block.
+/// A reading with an error in the first block of the file.
 pub(super) const FIRST_BAD: &[u8] = b"\
     P\0\0\0VOL1ABC001                                                                     4P\0\0\0\
     P\0\0\0HDR1BIRDS            ABC00100010001000100 00000 00000 000000                    P\0\0\0\
@@ -13,7 +13,7 @@ pub(super) const FIRST_BAD: &[u8] = b"\
     P\0\0\0EOF2F0000800004                                   00                            P\0\0\0\
     \0\0\0\0\0\0\0\0\xFF\xFF\xFF\xFF";
 
-/// A reading with an error in its second block.
+/// A reading with an error in the second block of the file.
 pub(super) const SECOND_BAD: &[u8] = b"\
     P\0\0\0VOL1ABC001                                                                     4P\0\0\0\
     P\0\0\0HDR1BIRDS            ABC00100010001000100 00000 00000 000000                    P\0\0\0\

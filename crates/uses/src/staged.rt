@@ -1,4 +1,4 @@
-//! The first of the parts that are staged.
+//! The first part in a stage.
 ghost use Rattle.std.specs.Prelude.{◌≡◌, List, [], Ok, None};
 ghost use Rattle.tape_blocks.specs.Block.{Portion};
 ghost use Rattle.tape_stage.specs.Stages.{Holds};
@@ -22,7 +22,7 @@ fn first_length<D: Disk>(stage: &mut Stage<D>) -> Result<Option<usize>, SinkFaul
     }
 }
 
-/// Nothing of the first file of the set ABC001 is staged.
+/// Returns the checkpoint at which nothing of the first file of the set ABC001 is staged.
 fn start() -> Checkpoint
     ensures { result.staged ≡ 0 }
 {

@@ -44,8 +44,7 @@ impl ReaderCore {
         }
     }
 
-    /// Processes a block. Nearly all blocks of a reel are data, which need no copy of what is
-    /// expected.
+    /// Processes a block. Nearly all blocks of a reel are data, which need no copy of the phase.
     #[inline(always)]
     fn at_block(&mut self, block: &[u8]) -> Answer
         requires { is_finished self.old.position ≡ false }
@@ -157,7 +156,7 @@ impl ReaderCore {
         };
     }
 
-    /// Moves to a checkpoint of this file.
+    /// Moves to a checkpoint of the same file.
     pub(crate) fn go_to(&mut self, checkpoint: &Checkpoint) -> Result<(), CoreFault>
         ensures value { (result, self.new) ≡ Table.restart_of self.old checkpoint.now }
     {
@@ -173,8 +172,8 @@ impl ReaderCore {
 }
 
 impl ReaderCore {
-    /// Processes a data block: one that was delivered before is skipped. What is expected is
-    /// changed in place, since nearly all items of a reel are such blocks.
+    /// Processes a data block: a block that was delivered already is skipped. The phase is changed
+    /// in place, since nearly all items of a reel are such blocks.
     #[inline(always)]
     pub(crate) fn at_data(&mut self, block: &[u8]) -> Answer
         requires wanted { wants_data self.old.phase ≡ true }
@@ -204,8 +203,8 @@ impl ReaderCore {
         }
     }
 
-    /// Processes an unreadable item after `seen` blocks: the reading stops only if it is the
-    /// expected block or a later one.
+    /// Processes an unreadable item after `seen` blocks. The reading ends only if the item is the
+    /// expected block or a later block.
     pub(crate) fn at_bad_data(&mut self, heading: Heading, form: Known, seen: u32) -> Answer
         requires told { ToldFits self.old.begun (Some form) }
         ensures table { (result, self.new) ≡ Table.at_bad_data self.old heading form seen }
@@ -218,7 +217,7 @@ impl ReaderCore {
         }
     }
 
-    /// Processes the mark after the data: all blocks that were delivered before must precede it.
+    /// Processes the mark after the data. It must follow all blocks that were delivered already.
     pub(crate) fn at_data_end(&mut self, heading: Heading, form: Known, seen: u32) -> Answer
         requires told { ToldFits self.old.begun (Some form) }
         ensures table { (result, self.new) ≡ Table.at_data_end self.old heading form seen }
@@ -232,8 +231,9 @@ impl ReaderCore {
     }
 }
 
-/// Returns whether a block leaves a record unfinished, if it has this number, or why it is refused.
-/// `part` of its parts were delivered, and `begun` is the state before the next part.
+/// Returns whether a block, if it is block number `number`, leaves a record unfinished, or why it
+/// is refused. `part` is the number of its parts already delivered; `begun` says whether a record
+/// is unfinished before the next one.
 #[inline(always)]
 fn judge_awaited(
     form: &Known,
@@ -300,8 +300,8 @@ fn goes_on_at(format: Format, offset: u8, block: &[u8]) -> bool
     }
 }
 
-/// Returns whether a record is unfinished where the block begins, if `part` of its parts were
-/// delivered; `begun` is the state before the expected part.
+/// Returns whether a record is unfinished at the start of the block, after `part` of its parts were
+/// delivered; `begun` says whether a record is unfinished before the expected part.
 pub(crate) fn begun_before(known: &Known, part: u32, begun: bool, block: &[u8]) -> bool
     ensures { result ≡ Parts'.begun_before known.now part begun block.now }
 {
@@ -312,15 +312,16 @@ pub(crate) fn begun_before(known: &Known, part: u32, begun: bool, block: &[u8]) 
     }
 }
 
-/// Returns whether the two differ.
+/// Returns whether `a` and `b` differ.
 fn differs(a: bool, b: bool) -> bool
     ensures { result ≡ not (bool_eq a b) }
 {
     if a { !b } else { b }
 }
 
-/// Returns whether the block, which was checked, cannot be the one of which `part` parts were
-/// delivered: it has too few, or the state of the record after these parts is not the expected one.
+/// Returns whether `block`, already checked, differs from the block whose first `part` parts were
+/// delivered: it has no further part, or a record is unfinished after them although `begun` is
+/// false, or the converse.
 pub(crate) fn other_front(known: &Known, part: u32, begun: bool, block: &[u8]) -> bool
     requires { (before : Bool) × (end : Bool)
         × (judged known.now.format known.now.rec_len known.now.offset before block.now ≡ Ok end) }

@@ -1,4 +1,4 @@
-//! Which labels continue a file.
+//! The rules for labels that continue a file.
 
 ghost use Rattle.std.specs.Prelude.{◌≡◌, ◌≢◌, true, false, Some, ℕ, List};
 ghost use Rattle.tape_label.specs.Kinds.{kind_at};
@@ -114,7 +114,7 @@ impl ReaderCore {
         }
     }
 
-    /// Processes the trailer of the section needed, all of whose blocks were seen.
+    /// Processes the trailer of the section needed, after all its blocks were seen.
     pub(crate) fn at_wanted_trailer(
         &mut self,
         heading: Heading,
@@ -155,7 +155,7 @@ impl ReaderCore {
         Answer::Complete
     }
 
-    /// Processes EOV1: the section is complete. A record may continue in the next one.
+    /// Processes EOV1: the section is complete. A record may continue in the next section.
     fn at_section_end(&mut self, form: Known) -> Answer
         requires told { ToldFits self.old.begun (Some form) }
         ensures table { (result, self.new) ≡ Table.at_end self.old form false }
@@ -164,7 +164,7 @@ impl ReaderCore {
         if self.sect() >= 9_999 {
             return self.useless(Reason::SectionDiffers);
         }
-        // This applies to a section without blocks too.
+        // This applies also to a section without blocks.
         self.known = Some(form);
         self.position = self.position.next_section();
         self.phase = Phase::Over;
@@ -183,7 +183,7 @@ pub(crate) fn not_of_kind(block: &[u8]) -> LabelFault
     }
 }
 
-/// Returns what is remembered of an HDR1.
+/// Returns the fields of an HDR1 that are remembered.
 pub(crate) fn heading_of(head: &Head1) -> Heading
     ensures { result ≡ Labels.heading_of head.now }
 {
@@ -194,7 +194,7 @@ pub(crate) fn heading_of(head: &Head1) -> Heading
     }
 }
 
-/// Returns whether the form is known, with another file identifier.
+/// Returns whether the form is known and has another file identifier.
 pub(crate) fn other_file_id(known: &Option<Known>, file_id: &Field<17>) -> bool
     ensures { result ≡ Labels.other_file_id known.now file_id.now }
 {
@@ -204,7 +204,7 @@ pub(crate) fn other_file_id(known: &Option<Known>, file_id: &Field<17>) -> bool
     }
 }
 
-/// Returns whether the form is known, with another format, record length or offset.
+/// Returns whether the form is known and has another format, record length or offset.
 pub(crate) fn other_shape(known: &Option<Known>, form: &Known) -> bool
     ensures { result ≡ Labels.other_shape known.now form.now }
 {
@@ -235,7 +235,7 @@ pub(crate) fn form_at(heading: &Heading, head: &Head2) -> Known
     }
 }
 
-/// Returns whether the trailer has other numbers than the header.
+/// Returns whether the numbers in the trailer differ from those in the header.
 pub(crate) fn other_numbers(heading: Heading, trailer: &Trail1) -> bool
     ensures { result ≡ Table.other_numbers heading trailer.now }
 {

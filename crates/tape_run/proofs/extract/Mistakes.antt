@@ -1,5 +1,5 @@
--- Answers excluded by the contracts of a walk over records, and of what is asked of a session
--- before it is read: each is what a wrong body would return.
+-- Wrong answers that the contracts of a walk over records exclude, and those of what a session
+-- requires before it is read.
 use Rattle.std.proofs.Common.{◌≡◌, true, false, List, [], ◌∷◌, length, ap, ◌∙◌, subst, arith}
 use Rattle.std.proofs.Common.{codes, ◌<◌, inl, inr}
 use Rattle.std.specs.Prelude.{Some, Ok, Err}
@@ -19,7 +19,7 @@ use Rattle.tape_run.proofs.extract.extract_to.Reads as extract_to
 use Rattle.tape_run.proofs.extract.count_records.Reads as count_records
 use Rattle.tape_run.proofs.extract.write_records.Reads as write_records
 
--- the first part of a record that is not ended
+-- the first part of a record that does not end
 abbrev begun : List Portion
 begun = record { span = First; bytes = codes "AB" } ∷ []
 
@@ -33,13 +33,13 @@ begun_rest_counted : (S : _) (L : _) (g : _) (d : _) (g' : _) (d' : _) (κs : _)
 begun_rest_counted S L g d g' d' κs a s l holds =
     absurd (let n : 1 ≡ 0 = l.count begun holds in omega arith)
 
--- heavy_sink_told_as_full: records are not counted since the sink is full, and it refused no call
+-- heavy_sink_told_as_full: records are not counted because the sink is full, but it refused no call
 heavy_sink_told_as_full : (S : _) (L : _) (g : _) (d : _) (g' : _) (d' : _) (κs : _) (a : _)
     (s : _) → count_records.Learnt-named S L g d g' d' κs a (Err Full) s
     → g'.refusals s.0.now ≡ g'.refusals a.0.now → g'.refusals a.0.now < 18446744073709551615 → ⊥
 heavy_sink_told_as_full S L g d g' d' κs a s l same few = not_rose _ _ same few l.cause
 
--- full_told_at_once: the images are not read since the sink is full, and it refused no call
+-- full_told_at_once: the images are not read because the sink is full, but it refused no call
 full_told_at_once : (S : _) (R : _) (L : _) (W : _) (P : _) (LS : _) (LR : _) (LL : _) (LW : _)
     (LP : _) (g : _) (d : _) (g' : _) (d' : _) (h : _) (e : _) (m : _) (n : _) (w : _) (f : _)
     (p : _) (i : _) (j : _) (κs : _) (a : _) (s : _)
@@ -67,7 +67,7 @@ begun_rest_written S W LS LW g d g' d' h e κs a s l ahead none form old new =
     (l.ok begun ahead none)) in
     absurd (let n : 2 ≡ 0 = ap length (r ∙ ap (λ v. output_of v begun) form) in omega arith)
 
--- line_feed_left_out: no line feed follows the last record
+-- line_feed_left_out: the last record is not followed by a line feed
 line_feed_left_out : (S : _) (W : _) (LS : _) (LW : _) (g : _) (d : _) (g' : _) (d' : _) (h : _)
     (e : _) (κs : _) (a : _) (s : _)
     → write_records.Learnt-named S W LS LW g d g' d' h e κs a (Ok tt) s
@@ -80,7 +80,7 @@ line_feed_left_out S W LS LW g d g' d' h e κs a s l ahead one form old new =
     (l.ok whole ahead one)) in
     absurd (let n : 2 ≡ 3 = ap length (r ∙ ap (λ v. output_of v whole) form) in omega arith)
 
--- one_note_is_none: a session with one note does not go back to it
+-- one_note_is_none: a session with one checkpoint does not roll back to it
 one_note_is_none : (S : _) (L : _) (g : _) (d : _) (κs : _) (a : _) (s : _) (note : _)
     → has_note.Learnt S L g d κs a false s → a.0.now.notes ≡ note ∷ [] → ⊥
 one_note_is_none S L g d κs a s note l one =

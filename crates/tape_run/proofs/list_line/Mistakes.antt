@@ -1,4 +1,4 @@
--- Answers that the contracts of a line's pieces exclude: each is what a wrong body would give.
+-- Wrong answers that the contracts of the pieces of a line exclude.
 use Rattle.std.proofs.Common.{◌≡◌, [], ◌++◌, false, sym, ap, ◌∙◌, arith, codes}
 use Rattle.std.specs.Prelude.{slice_index}
 use Rattle.tape_label.specs.declared.values.Head1.{Head1}
@@ -29,7 +29,7 @@ heading = record {
 abbrev closing : Trail1
 closing = record { eof = false; head = heading; blocks = 25 }
 
--- second_labels_all_hdr2: the second label of a volume's trailer is named as a header's
+-- second_labels_all_hdr2: the second label of a volume's trailer is listed as that of a header
 second_labels_all_hdr2 : (κs : _) (z : _) (s : _) → identifier.Learnt κs (kinds.Eov2, tt) z s
     → z.now ≡ codes "HDR2" → ⊥
 second_labels_all_hdr2 κs z s h e =
@@ -43,7 +43,7 @@ ten_digits_cut_to_nine κs line z s l e w =
     absurd (let d : 48 ≡ 50 = ap (λ v. slice_index v 0)
     (sym w ∙ l.items ∙ ap (λ v. v ++ item_number 2000000001) e) in omega arith)
 
--- sequence_before_section: the sequence number 3 is printed in place of the section 2
+-- sequence_before_section: the sequence number 3 is printed instead of the section 2
 sequence_before_section : (κs : _) (a : _) (z : _) (s : _) → put_head.Learnt-named κs a z s
     → a.0.now.items ≡ [] → a.1.0.now ≡ heading
     → s.0.now.items ≡ codes "PAYROLL           ABC001 0003 0002" → ⊥

@@ -1,4 +1,4 @@
--- Answers that the contracts of a reel reader exclude: each is what a wrong body would give.
+-- Wrong answers that the contracts of a reel reader exclude.
 use Rattle.std.proofs.Common.{◌≡◌, ℕ, List, [], ◌∷◌, ◌++◌, length, drop, Bool, true}
 use Rattle.std.proofs.Common.{false, sym, ap, ◌∙◌, subst, arith, length-append}
 use Rattle.std.specs.Prelude.{Some, Ok, ◌==◌, ◌&&◌, if◌then◌else◌}
@@ -17,7 +17,7 @@ use Rattle.tape_run.proofs.reel_reader.refused_point.Reads as refused_point
 use Rattle.tape_run.proofs.reel_reader.ReelReader.put_block.Reads as put_block
 use Rattle.tape_run.proofs.reel_reader.ReelReader.take.Reads as take
 
--- a sink of this kind contains one list of parts, as a sink in memory does
+-- a sink of this kind contains only one list of parts, as a sink in memory does
 abbrev HoldsOne : (List Portion → Type 0) → Type 0
 HoldsOne holds = (xs ys : List Portion) → holds xs → holds ys → xs ≡ ys
 
@@ -28,7 +28,7 @@ at_part_two before after n begun two four =
     ap (λ k. puts.refused_point before after k begun) two
     ∙ ap (λ p. if 2 == part_of p then before else inside_block after p 2 begun 0) four
 
--- position_behind_refused_block: part 2 of block 4 was refused, and block 5 is expected.
+-- position_behind_refused_block: part 2 of block 4 was refused, but block 5 is expected.
 position_behind_refused_block : (κs : _) (a : _) (z : _) (s : _) → refused_point.Learnt κs a z s
     → a.0.now.position ≡ Awaits 1 4 0 → a.1.1.0 ≡ 2 → z.position ≡ Awaits 1 5 0 → ⊥
 position_behind_refused_block κs a z s h four two five =
@@ -36,7 +36,7 @@ position_behind_refused_block κs a z s h four two five =
     absurd (let n : 5 ≡ 4 = ap block_of (sym five ∙ ap (λ c. c.position) e) in omega arith)
 
 -- span_forgotten_at_refused_part: part 2 of block 4 was refused, after an unfinished record that
--- may continue, and no record is unfinished there.
+-- may continue, but no record is unfinished there.
 span_forgotten_at_refused_part : (κs : _) (a : _) (z : _) (s : _) → refused_point.Learnt κs a z s
     → a.0.now.position ≡ Awaits 1 4 0 → a.1.1.0 ≡ 2 → a.1.1.1.0 ≡ true
     → may_span a.1.0.now.known ≡ true → z.begun ≡ false → ⊥
@@ -47,7 +47,7 @@ span_forgotten_at_refused_part κs a z s h four two begun spans none =
     let f : false ≡ true = sym none ∙ b in
     absurd (cc f)
 
--- first_parts_put_twice: the second part of a block of two is expected, and both are put.
+-- first_parts_put_twice: the second of a block's two parts is expected, but both are put.
 first_parts_put_twice : (S : _) (LS : _) (g : _) (d : _) (κs : _) (a : _) (s : _)
     (held : List Portion) (first second : Portion) (form : FileForm)
     → put_block.Learnt-named S LS g d κs a (Ok tt) s

@@ -1,5 +1,4 @@
--- Answers excluded by the contracts of what is kept of sections: each is what a wrong body would
--- return.
+-- Wrong answers that the contracts about the records of sections exclude.
 use Rattle.std.proofs.Common.{◌≡◌, ◌<◌, sym, ap, ◌∙◌, arith}
 use Rattle.std.specs.Prelude.{not, ◌&&◌, if◌then◌else◌, Ok, Some, None}
 use Rattle.indexmap.specs.IndexMap.{spare}
@@ -12,7 +11,8 @@ use Rattle.tape_run.specs.Noted.{is_good}
 use Rattle.tape_run.proofs.sections.better.Reads as keeps
 use Rattle.tape_run.proofs.sections.take.Reads as take
 
--- later_cut_replaces_bad: a section that was found as bad is found again cut off, and this is kept.
+-- later_cut_replaces_bad: a section that was found as bad is found again as truncated, and this is
+-- kept.
 later_cut_replaces_bad : (κs : _) (s : _) (old new : Entry)
     → keeps.Learnt κs (old, (new, tt)) new s → old.state ≡ Bad → new.state ≡ Cut → ⊥
 later_cut_replaces_bad κs s old new h bad cut_off =
@@ -21,7 +21,7 @@ later_cut_replaces_bad κs s old new h bad cut_off =
     let f : Cut ≡ Bad = sym cut_off ∙ ap (λ v. v.state) e ∙ bad in
     absurd (cc f)
 
--- room_not_made: a section's data follow its headers, and there is no room to add it
+-- room_not_made: a section's data follow its headers, but there is no room to add the section
 room_not_made : (κs : _) (a : _) (next : _) (s : _) (met : _) → take.Learnt-named κs a (Ok next) s
     → next ≡ Data met → spare s.0.now ≡ 0 → ⊥
 room_not_made κs a next s met l is none =

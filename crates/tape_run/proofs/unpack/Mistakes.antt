@@ -1,4 +1,4 @@
--- Answers that the contracts of unpacking exclude: each is what a wrong body would give.
+-- Wrong answers that the contracts of unpacking exclude.
 use Rattle.std.proofs.Common.{◌≡◌, ◌≢◌, ◌∙◌, ℕ, List, [], ◌∷◌, ◌++◌, length, true, false, sym, ap}
 use Rattle.std.proofs.Common.{arith, codes, refl, subst}
 use Rattle.std.specs.Prelude.{Ok, Option, Some, None, slice_index, option_map}
@@ -36,7 +36,7 @@ slash_kept κs a z s h set file name w =
     ∙ ap (λ n. unpacking.file_name (codes "ABC001") n a.1.1.0.now) file
     ∙ ap (unpacking.file_name (codes "ABC001") 1) name) in omega arith)
 
--- stop_of_a_set_kept: file 2 of set A.1 has the name that file 1 of set A may have
+-- stop_of_a_set_kept: file 2 of set A.1 has a name that file 1 of set A may have
 stop_of_a_set_kept : (κs : _) (a : _) (z : _) (s : _) → file_name.Learnt κs a z s
     → a.0.now ≡ codes "A.1   " → a.1.0 ≡ 2 → a.1.1.0.now ≡ codes "B                "
     → z.items ≡ codes "A.1___.2.B" → ⊥
@@ -47,7 +47,7 @@ stop_of_a_set_kept κs a z s h set file name w =
     ∙ ap (λ n. unpacking.file_name (codes "A.1   ") n a.1.1.0.now) file
     ∙ ap (unpacking.file_name (codes "A.1   ") 2) name) in omega arith)
 
--- small_letters_kept: two sets have one name where capital and small letters are one
+-- small_letters_kept: two sets have the same name if case is ignored
 small_letters_kept : (κs : _) (a : _) (z : _) (s : _) → file_name.Learnt κs a z s
     → a.0.now ≡ codes "aBC001" → a.1.0 ≡ 1 → a.1.1.0.now ≡ codes "B                "
     → z.items ≡ codes "aBC001.1.B" → ⊥
@@ -95,14 +95,14 @@ left_over_not_told : (κs : _) (z : _) (s : _) → left_over_line.Learnt κs (fa
 left_over_not_told κs z s h w =
     absurd (let e : 0 ≡ 18 = ap length (sym w ∙ h) in omega arith)
 
--- of no image nothing was found
+-- without images nothing was found
 none_found : {L R : Type 0} (gives : Mounting L R) (remaining : R → Option (List ℕ))
     (shelf left : L) (sights : List (Option ImageSurvey)) (d : Found) → length sights ≡ 0
     → AreViewed gives remaining shelf 0 sights nothing_found left d → d ≡ nothing_found
 none_found gives remaining shelf left [] d none (same, found) = found
 none_found gives remaining shelf left (s ∷ sights) d none are = absurd (omega (arith, none))
 
--- left_over_turned: there is no image, and something on the images is told to be left over
+-- left_over_turned: there is no image, but an image is reported as not read completely
 left_over_turned : (R : _) (L : _) (LR : _) (LL : _) (g : _) (d : _) (h : _) (i : _) (j : _)
     (κs : _) (a : _) (met : _) (s : _) → find_files.Learnt-named R L LR LL g d h i j κs a (Ok met) s
     → h.size a.1.0.now ≡ 0 → met.whole ≡ false → ⊥
@@ -111,7 +111,7 @@ left_over_turned R L LR LL g d h i j κs a met s l empty told =
     let none = none_found _ _ _ _ met.images f.found (f.viewed.all ∙ empty) f.viewed.viewed in
     absurd (let e : false ≡ true = sym told ∙ f.whole ∙ ap (λ (x : Found). x.whole) none in cc e)
 
--- first_file_left_out: a set has one file, and none is added
+-- first_file_left_out: a set has one file, but none is added
 first_file_left_out : (κs : _) (a : _) (s : _) (n : FileNote) → add_files.Learnt κs a (Ok tt) s
     → a.1.1.1.0 ≡ 1 → a.0.now.items ≡ []
     → note_at a.1.0.now.files (file_key a.1.1.0 1) ≡ Some n → s.0.now.items ≡ [] → ⊥
@@ -126,14 +126,14 @@ abbrev told : Option (List ℕ) → ℕ
 told (Some set_id) = 1
 told None = 0
 
--- image_of_no_set: a section begins on an image, and it is told to be of no set
+-- image_of_no_set: a section begins on an image, but the image is reported to belong to no set
 image_of_no_set : (κs : _) (a : _) (sight : _) (s : _) (h : _) → set_of.Learnt κs a None s
     → a.0.now ≡ Some sight → sight.glance.head ≡ Some h → ⊥
 image_of_no_set κs a sight s h l of is =
     absurd (let e : 0 ≡ 1 = ap (λ o. told o) (l ∙ ap unpacking.set_of of
     ∙ ap (λ o. option_map (λ x. x.set_id) o) is) in omega arith)
 
--- image_left_out: there is an image, and nothing is reported of it
+-- image_left_out: there is an image, but nothing is reported of it
 image_left_out : (R : _) (L : _) (LR : _) (LL : _) (g : _) (d : _) (h : _) (i : _) (j : _)
     (κs : _) (a : _) (met : _) (s : _) → find_files.Learnt-named R L LR LL g d h i j κs a (Ok met) s
     → h.size a.1.0.now ≡ 1 → met.images ≡ [] → ⊥
@@ -170,8 +170,8 @@ first_unmarked gives remaining shelf left sights sight more d bytes items end ar
     (subst (λ o. IsViewed o (Some sight) nothing_found mid) (first image next gave) viewed) begins
     marked
 
--- unread_image_reported_as_ended: the bytes of the first image have no end-of-medium marker at their
--- end, and it is reported to have one
+-- unread_image_reported_as_ended: the bytes of the first image have no end-of-medium marker at
+-- their end, but it is reported to have one
 unread_image_reported_as_ended : (R : _) (L : _) (LR : _) (LL : _) (g : _) (d : _) (h : _) (i : _)
     (j : _) (κs : _) (a : _) (met : _) (s : _)
     → find_files.Learnt-named R L LR LL g d h i j κs a (Ok met) s
@@ -201,7 +201,7 @@ first_opened gives remaining shelf left sights more d are is first =
     subst (λ l. AreViewed gives remaining shelf 0 l nothing_found left d) is are in
     first image next gave (opened remaining image nothing_found mid viewed)
 
--- image_reported_as_not_opened: the first image was opened, and it is reported not to be
+-- image_reported_as_not_opened: the first image was opened, but it is reported as not opened
 image_reported_as_not_opened : (R : _) (L : _) (LR : _) (LL : _) (g : _) (d : _) (h : _) (i : _)
     (j : _) (κs : _) (a : _) (met : _) (s : _)
     → find_files.Learnt-named R L LR LL g d h i j κs a (Ok met) s

@@ -16,8 +16,8 @@ use tape_blocks::Form;
 use tape_core::{PartSink, PartWalk};
 use tape_set::Want;
 
-/// As `extract_to`, but the images are read again, from the first one on, after each pass that
-/// recovered something and left something missing. So the order of the images does not matter, and
+/// Does the same as `extract_to`, but reads the images again, from the first one, after each pass
+/// that recovered something but not the whole file. So the order of the images does not matter, and
 /// damaged copies complete each other. The lines are numbered continuously over all passes.
 ///
 /// After a reel the session is saved only if its position differs from that of its last checkpoint.
@@ -27,7 +27,7 @@ use tape_set::Want;
 ///
 /// # Errors
 ///
-/// The errors are those of `extract_to`.
+/// The errors of `extract_to`.
 pub fn extract_in_passes<S: PartWalk, R: Read + Drop, L: ImageSource<R>, W: Write, P: Write>(
     session: &mut Session<S>,
     images: &mut L,
@@ -47,6 +47,7 @@ pub fn extract_in_passes<S: PartWalk, R: Read + Drop, L: ImageSource<R>, W: Writ
     // is not rolled back.
     ensures cause { IfErr result (λ fault. ExtractFails S.PartSink
         (goes_back session.old.notes) fault session.old session.new) }
+    ensures calm { OnOk result (IsCalm S.PartSink session.old session.new) }
 {
     let back = has_note(session);
     read_rounds(session, images, back, report)?;
@@ -80,14 +81,14 @@ fn read_rounds<S: PartSink, R: Read + Drop, L: ImageSource<R>, P: Write>(
             return Ok(());
         }
         lines += count as u64;
-        // The lines of another pass would have no numbers.
+        // Another pass would need line numbers above the greatest one.
         if u64::MAX - lines < count as u64 {
             return Ok(());
         }
     }
 }
 
-/// Returns whether a pass was the last: nothing is missing after it, or the same as before it.
+/// Returns whether a pass was the last: afterwards nothing is missing, or as much as before it.
 fn is_enough(before: Option<Want>, want: Option<Want>) -> bool
     ensures yes { OnTrue result ((want ≡ None) ⊎ (want ≡ before)) }
     ensures no { OnFalse result ((want ≢ None) × (want ≢ before)) }

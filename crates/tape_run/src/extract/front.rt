@@ -17,20 +17,20 @@ use std::io::Write;
 use tape_blocks::Form;
 use tape_core::{PartWalk, SinkFault};
 
-/// What was written of the parts of a sink in the first walk.
+/// The records written during the first walk over the parts of a sink.
 #[derive(Clone, Copy)]
 pub struct Front {
     /// How many parts were written, each of which is a record.
     pub records: u64,
-    /// Whether these are all parts.
+    /// Whether the sink has no other parts.
     pub all: bool,
 }
 
 /// Writes the records that the parts of the sink join to, and returns their number. An unfinished
 /// record is left out.
 ///
-/// Only blocks of format S contain parts that end no record: without such parts the sink is walked
-/// once, otherwise the records are counted before the rest is written.
+/// Only blocks of format S contain parts that end no record. Without such parts the sink is walked
+/// once; otherwise the records are counted before the rest is written.
 ///
 /// # Errors
 ///
@@ -57,7 +57,7 @@ pub fn write_parts<S: PartWalk, W: Write>(
     write_rest(sink, front.records, form, out)
 }
 
-/// Writes the parts of the sink from the first on, as long as each of them ends a record.
+/// Writes the parts of the sink from the first one, as long as each of them ends a record.
 fn write_front<S: PartWalk, W: Write>(
     sink: &mut S,
     form: Form,
@@ -129,7 +129,7 @@ fn write_rest<S: PartWalk, W: Write>(
     Ok(records)
 }
 
-/// Begins the walk after this many parts.
+/// Begins the walk after the first `count` parts.
 fn pass_parts<S: PartWalk>(sink: &mut S, count: u64) -> Result<(), SinkFault>
     ensures ok { OnOk result ((first rest : List Portion) → S.holds sink.old (first ++ rest)
         → length first ≡ count → S.ahead sink.new rest) }

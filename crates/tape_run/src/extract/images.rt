@@ -23,18 +23,18 @@ pub trait ImageSource<R: Read> {
     /// The number of images.
     ghost size: { Self → ℕ };
 
-    /// What opening the image with this number yields, and the source then.
+    /// The result of opening an image by its number, and the source afterwards.
     ghost gives: { Mounting Self R };
 
     /// Returns the number of images.
     fn count(&self) -> usize
         ensures { result ≡ size self.now };
 
-    /// Opens the image with this number, counted from 0. Returns `None` if it cannot be opened.
+    /// Opens image `number`, counted from 0. Returns `None` if it cannot be opened.
     ///
     /// # Errors
     ///
-    /// Returns `AllocError` if there is no memory to read it. Nothing changed.
+    /// Returns `AllocError` if there is no memory to read the image. The source is unchanged.
     fn mount(&mut self, number: usize) -> Result<Option<R>, AllocError>
         ensures ok { IfOk result (λ image. gives self.old number image self.new) }
         ensures err { OnErr result (self.new ≡ self.old) };
@@ -59,8 +59,8 @@ impl<R: Read> ImageSource<R> for Vec<Option<R>> {
 }
 
 /// Opens the images in order until the file is complete. `back` says whether the session rolls back
-/// after a suspect reel, `spares` whether it saves no checkpoint if its last one has the same
-/// position.
+/// after a suspect reel, `spares` whether it skips a checkpoint whose position the last one already
+/// has.
 pub fn read_images<S: PartSink, R: Read + Drop, L: ImageSource<R>, P: Write>(
     session: &mut Session<S>,
     images: &mut L,
@@ -116,7 +116,7 @@ pub fn read_round<S: PartSink, R: Read + Drop, L: ImageSource<R>, P: Write>(
     Ok(())
 }
 
-/// Reads the image with this number, or skips it if it cannot be opened, and prints its line.
+/// Reads image `number`, or skips it if it cannot be opened, and prints its line.
 fn take_image<S: PartSink, R: Read + Drop, P: Write>(
     session: &mut Session<S>,
     image: Option<R>,
@@ -144,7 +144,8 @@ fn take_image<S: PartSink, R: Read + Drop, P: Write>(
     }
 }
 
-/// Reads a reel, prints its line, and then saves a checkpoint, or rolls back.
+/// Reads a reel, saves a checkpoint or rolls back, and then prints the reel's line. So a reported
+/// reel is saved.
 fn take_reel<S: PartSink, R: Read, P: Write>(
     session: &mut Session<S>,
     device: &mut R,
@@ -157,6 +158,9 @@ fn take_reel<S: PartSink, R: Read, P: Write>(
     ensures ok { OnOk result (Takes S.PartSink R.remaining back spares session.old session.new
         (Some device.old) number (P.contents report.old) (P.contents report.new)) }
     ensures err { OnErr result (IsReported number (P.contents report.old) (P.contents report.new)) }
+    // A reel that could not be saved is not reported.
+    ensures silent { IfErr result (λ fault. fault ≢ EngineFault.WriteFailed
+        → P.contents report.new ≡ P.contents report.old) }
     ensures left { OnErr result (IfSeen S.PartSink session.old (λ old. IsKeptFor back old
         → LeavesStep S.PartSink back session.old old.parts session.new)) }
     ensures cause { IfErr result (λ fault.
@@ -164,10 +168,9 @@ fn take_reel<S: PartSink, R: Read, P: Write>(
     ensures calm { OnOk result (IsCalm S.PartSink session.old session.new) }
 {
     let answer = session.reel(device)?;
-    let outcome = Some(answer);
-    write_line(report, &ReelLine { number, outcome })?;
     settle(session, &answer, back, spares)?;
-    Ok(())
+    let outcome = Some(answer);
+    Ok(write_line(report, &ReelLine { number, outcome })?)
 }
 
 /// Saves the session after a reel, as `note` does; after a suspect one, a session that may roll
@@ -182,8 +185,8 @@ fn settle<S: PartSink>(
         → IsSeen S.PartSink session.new (λ new.
         IsNoted back spares (counts_differ answer.now.answer) noted old new
         × KeepsLast S.PartSink session.old old.parts session.new new.parts))) }
-    ensures left { OnErr result (IfSeen S.PartSink session.old (λ old. IsKeptFor back old
-        → LeavesStep S.PartSink back session.old old.parts session.new)) }
+    ensures left { IfSeen S.PartSink session.old (λ old. IsKeptFor back old
+        → LeavesStep S.PartSink back session.old old.parts session.new) }
     ensures cause { IfErr result (λ fault.
         ExtractFails S.PartSink back (EngineFault.Run fault) session.old session.new) }
     ensures calm { OnOk result (IsCalm S.PartSink session.old session.new) }
@@ -200,8 +203,8 @@ fn go_back<S: PartSink>(session: &mut Session<S>) -> Result<(), RunFault>
     ensures ok { OnOk result (IfSeen S.PartSink session.old (λ old. IsKept old
         → IsSeen S.PartSink session.new (λ new. WentToLast old new
         × KeepsLast S.PartSink session.old old.parts session.new new.parts))) }
-    ensures left { OnErr result (IfSeen S.PartSink session.old (λ old. IsKept old
-        → LeavesStep S.PartSink true session.old old.parts session.new)) }
+    ensures left { IfSeen S.PartSink session.old (λ old. IsKept old
+        → LeavesStep S.PartSink true session.old old.parts session.new) }
     ensures cause { IfErr result (λ fault.
         ExtractFails S.PartSink true (EngineFault.Run fault) session.old session.new) }
     ensures calm { OnOk result (IsCalm S.PartSink session.old session.new) }
@@ -226,8 +229,8 @@ fn note<S: PartSink>(
         IsSeen S.PartSink session.new (λ new.
         IsNoted false spares (counts_differ answer.now.answer) noted old new
         × KeepsLast S.PartSink session.old old.parts session.new new.parts))) }
-    ensures left { OnErr result ((back : Bool) → IfSeen S.PartSink session.old (λ old.
-        LeavesStep S.PartSink back session.old old.parts session.new)) }
+    ensures left { (back : Bool) → IfSeen S.PartSink session.old (λ old.
+        LeavesStep S.PartSink back session.old old.parts session.new) }
     ensures cause { IfErr result (λ fault. (back : Bool) →
         ExtractFails S.PartSink back (EngineFault.Run fault) session.old session.new) }
     ensures calm { OnOk result (IsCalm S.PartSink session.old session.new) }
@@ -243,7 +246,8 @@ fn note<S: PartSink>(
     Ok(true)
 }
 
-/// Returns whether the trailer label of the reel, or of a reel before it, counted other blocks.
+/// Returns whether the trailer label of the reel, or of a reel before it, gave a different number
+/// of blocks.
 fn counts_differ(answer: &ReelAnswer) -> bool
     ensures { result ≡ counts_differ answer.now.answer }
 {

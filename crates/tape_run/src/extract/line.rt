@@ -13,8 +13,7 @@ use tape_core::{Answer, Reason};
 use tape_image::ImageFault;
 use tape_set::Want;
 
-/// Returns the line of the image with this number: the answer of its reading, or that it was not
-/// opened.
+/// The line about an image: its number, and the answer of its reading, or that it was not opened.
 #[derive(Clone, Copy)]
 pub struct ReelLine {
     pub number: u64,
@@ -88,7 +87,7 @@ impl fmt::Display for ReasonText {
     }
 }
 
-/// The fault of the image that ended a reading, if one did.
+/// The fault of the image that ended a reading, if any.
 #[derive(Clone, Copy)]
 struct EndText(Option<ImageFault>);
 
@@ -110,7 +109,8 @@ impl fmt::Display for EndText {
 /// The length of the longest last line.
 pub type ReportLine = ArrayString<256>;
 
-/// Returns the last line: what is missing, or that the file is complete, with this many records.
+/// Returns the last line: the missing part, or that the file is complete, with the number of its
+/// records.
 pub fn last_line(want: Option<Want>, records: u64) -> ReportLine
     ensures { result.bytes ≡ last_line want records }
 {
@@ -120,7 +120,7 @@ pub fn last_line(want: Option<Want>, records: u64) -> ReportLine
     }
 }
 
-/// The file is complete.
+/// Returns the last line of a complete file.
 fn complete_line(records: u64) -> ReportLine
     ensures { result.bytes ≡ complete_line records }
 {
@@ -131,7 +131,8 @@ fn complete_line(records: u64) -> ReportLine
     line
 }
 
-/// What is missing of the file: its number, the section, the block, and the part if it is not 0.
+/// Returns the last line of an incomplete file: the file's number, the missing section and block,
+/// and the part if it is not 0.
 fn awaits_line(want: &Want) -> ReportLine
     ensures { result.bytes ≡ awaits_line want.now }
 {
@@ -147,7 +148,7 @@ fn awaits_line(want: &Want) -> ReportLine
     line
 }
 
-/// Returns how many parts of a block were delivered, if any.
+/// Appends how many parts of a block were delivered, if any.
 fn put_part(line: &mut ReportLine, part: u32)
     requires room { array_string_len line.old ≤ 129 }
     ensures text { line.new.bytes ≡ line.old.bytes ++ part_text part }

@@ -1,7 +1,7 @@
 //! `unpack` of complete files: each image is read once for all of its files.
 
 ghost use Rattle.std.specs.Prelude.{◌≡◌, ◌≢◌, ◌<◌, List, Option, Some, None, ℕ, OnOk, IfOk};
-ghost use Rattle.std.specs.Prelude.{OnErr, IfErr};
+ghost use Rattle.std.specs.Prelude.{OnErr, IfErr, is_some};
 ghost use Rattle.std.specs.Bool.{OnTrue, OnFalse};
 ghost use Rattle.tape_set.specs.declared.position.Position.TheVariants.{Finished};
 ghost use Rattle.tape_run.specs.Causes.{IsExtractFault};
@@ -36,10 +36,10 @@ pub struct Mounted<R> {
 }
 
 /// Reads a file from the images on which its sections begin, each section from one image, and
-/// writes the file's records as they come. If the file is complete its output is placed under its
-/// name; returns how many records it has. Returns `None` exactly if the file is not complete: a
-/// section has no image in `locations`, or could not be read to its end from its image. Then the
-/// output's name is not touched, and what was written is dropped with the session.
+/// writes the file's records as they come. If the file is complete, gives the output its name, and
+/// returns the number of records. Returns `None` exactly if the file is not complete: a section has
+/// no image in `locations`, or could not be read to its end from its image. Then the output's name
+/// is not touched, and the records already written are dropped with the session.
 ///
 /// The image of the last section stays open. The session of a later file of the set continues
 /// there, as if it had read the image from its start. So each byte of an image is read once for all
@@ -49,7 +49,7 @@ pub struct Mounted<R> {
 ///
 /// Returns `Run` with the fault of a reel, with `OutOfMemory` if there was no memory to open an
 /// image, or with `Sink(Failed)` if a record is left unfinished; `WriteFailed` if the output could
-/// not be placed. What has the output's name did not change.
+/// not be placed. A file that already has the output's name is unchanged.
 pub fn extract_located<W: Write + Drop, R: Read + Drop, L: ImageSource<R>, O: Place<W>>(
     session: Session<OutSink<W>>,
     images: &mut L,
@@ -62,8 +62,8 @@ pub fn extract_located<W: Write + Drop, R: Read + Drop, L: ImageSource<R>, O: Pl
     ensures ok { IfOk result (λ records. (whole : Option (List ℕ))
         → IsHeld R.remaining mounted.old whole
         → ExtractsLocated ⟦<OutSink<W> as PartSink>⟧ L.gives R.remaining locations.now.entries
-        session images.old images.new whole mounted.new form (TellsAlways W.contents)
-        (O.stands out.new) records) }
+        session images.old images.new (is_some mounted.old) whole mounted.new form
+        (TellsAlways W.contents) (O.stands out.new) records) }
     ensures untouched { IfOk result (λ records. records ≡ None → out.new ≡ out.old) }
     ensures err { OnErr result (O.stands out.new ≡ O.stands out.old) }
     ensures cause { IfErr result IsExtractFault }
@@ -89,7 +89,7 @@ fn read_sections<S: PartSink, R: Read + Drop, L: ImageSource<R>>(
     ensures ok { IfOk result (λ complete. (whole : Option (List ℕ))
         → IsHeld R.remaining mounted.old whole
         → ReadsSections S.PartSink L.gives R.remaining locations.now.entries complete
-        session.old session.new images.old images.new whole mounted.new) }
+        session.old session.new images.old images.new (is_some mounted.old) whole mounted.new) }
     ensures cause { IfErr result IsExtractFault }
 {
     let mut next = 0u32;
@@ -112,8 +112,9 @@ fn read_sections<S: PartSink, R: Read + Drop, L: ImageSource<R>>(
     Ok(true)
 }
 
-/// Reads a section from an image: from the current position if this image is open and an earlier
-/// file of the set left it there, otherwise from its start. Returns the image, if a section ended.
+/// Reads section `number` from an image: from the current position of the open image, if the
+/// session of an earlier file of the set stopped there, otherwise from the start of an image.
+/// Returns the image if a section ended.
 fn read_section<S: PartSink, R: Read + Drop, L: ImageSource<R>>(
     session: &mut Session<S>,
     images: &mut L,
@@ -122,8 +123,10 @@ fn read_section<S: PartSink, R: Read + Drop, L: ImageSource<R>>(
 ) -> Result<Option<Mounted<R>>, EngineFault>
     requires waits { session.old.core.position ≢ Finished }
     ensures ok { IfOk result (λ after. (whole : Option (List ℕ)) → IsHeld R.remaining held whole
-        → ReadsLocated S.PartSink L.gives R.remaining session.old session.new images.old images.new
-        whole after) }
+        → ReadsLocated S.PartSink L.gives R.remaining number session.old session.new images.old
+        images.new (is_some held) whole after) }
+    ensures file { (session.new.core.set_id ≡ session.old.core.set_id)
+        × (session.new.core.file ≡ session.old.core.file) }
     ensures unfinished { IfOk result (λ after. after ≡ None
         → session.new.core.position ≢ Finished) }
     ensures cause { IfErr result IsExtractFault }
@@ -156,6 +159,8 @@ fn read_front<S: PartSink, R: Read + Drop>(
     requires waits { session.old.core.position ≢ Finished }
     ensures ok { IfOk result (ReadsPart S.PartSink R.remaining (R.remaining device)
         session.old session.new) }
+    ensures file { (session.new.core.set_id ≡ session.old.core.set_id)
+        × (session.new.core.file ≡ session.old.core.file) }
     ensures unfinished { IfOk result (λ after. after ≡ None
         → session.new.core.position ≢ Finished) }
     ensures cause { IfErr result (λ fault. IsExtractFault (engine.Run fault)) }
@@ -184,6 +189,8 @@ fn read_on<S: PartSink, R: Read + Drop>(
     ensures ok { IfOk result (λ after. (whole : Option (List ℕ))
         → IsHeld R.remaining (Some held) whole
         → ReadsPart S.PartSink R.remaining whole session.old session.new after) }
+    ensures file { (session.new.core.set_id ≡ session.old.core.set_id)
+        × (session.new.core.file ≡ session.old.core.file) }
     ensures unfinished { IfOk result (λ after. after ≡ None
         → session.new.core.position ≢ Finished) }
     ensures cause { IfErr result (λ fault. IsExtractFault (engine.Run fault)) }
@@ -202,7 +209,7 @@ fn read_on<S: PartSink, R: Read + Drop>(
     Ok(None)
 }
 
-/// Whether a reading completed a section.
+/// Returns whether a reading completed a section.
 fn ends_section(answer: &ReelAnswer) -> bool
     ensures yes { OnTrue result (EndsSection answer.now.answer) }
     ensures no { OnFalse result (answer.now.answer ≢ Answer.Complete) }

@@ -1,4 +1,4 @@
-//! `extract` without a stage: the records are written while the images are read.
+//! `extract` without a stage: writes the records while it reads the images.
 
 ghost use Rattle.std.specs.Prelude.{◌≡◌, ◌≢◌, ℕ, List, Option, None, OnOk, IfOk, OnErr, IfErr};
 ghost use Rattle.tape_run.specs.Causes.{IsExtractFault};
@@ -17,10 +17,10 @@ use tape_set::Want;
 
 /// The name that an output is given once it is complete.
 pub trait Place<W: Write> {
-    /// What has the name, if this is known.
+    /// The contents of the file with this name, if known.
     ghost stands: { Self → Option (List ℕ) };
 
-    /// Gives the output this name, and nothing else.
+    /// Gives the name to `out`, and changes nothing else.
     ///
     /// # Errors
     ///
@@ -31,20 +31,20 @@ pub trait Place<W: Write> {
 }
 
 /// Reads a file from its images, in their order, until it is complete, prints a line for each, and
-/// writes the file's records as they come. If the file is complete they are placed under the
-/// output's name; otherwise what has the name is not touched, what was written is dropped with the
-/// session, and the result is what is missing of the file.
+/// writes the file's records as they come. If the file is complete, they get the output's name.
+/// Otherwise a file with that name is not touched, the records already written are dropped with the
+/// session, and the missing part is returned.
 ///
 /// Allocates only for the session, a buffer while a reel is read, checkpoints, and what opening
 /// takes.
 ///
 /// # Errors
 ///
-/// Returns `Run` with the fault of a reel or of a save, with `OutOfMemory` if there was none to
-/// open an image, or with `Sink(Failed)` if a record is unfinished after the last part;
-/// `WriteFailed` if the output or the report failed. What was reported is a prefix of such a
-/// report. What has the output's name is unchanged, or the file is complete, and its records have
-/// the name.
+/// Returns `Run` with the fault of a reel or of a save, with `OutOfMemory` if there was no memory
+/// to open an image, or with `Sink(Failed)` if a record is unfinished after the last part;
+/// `WriteFailed` if the output or the report failed. The lines reported so far are a prefix of such
+/// a report. A file that has the output's name is unchanged, or the file is complete, and its
+/// records have the name.
 pub fn extract_streaming<W: Write + Drop, R: Read + Drop, L: ImageSource<R>, O: Place<W>, P: Write>(
     session: Session<OutSink<W>>,
     images: &mut L,

@@ -22,7 +22,7 @@ use std::io::Write;
 use tape_blocks::{Form, Part, Span};
 use tape_core::{Checkpoint, PartSink, SinkFault};
 
-/// The greatest weight of parts.
+/// The greatest total weight of the parts.
 const MOST_STAGED: u64 = 999_999_999_999_999;
 
 /// Writes the records of a file as its parts come. Does not allocate, and nothing survives a crash.
@@ -85,7 +85,7 @@ impl<W: Write + Drop> OutSink<W> {
     /// # Errors
     ///
     /// Returns `Run(Sink(Failed))` if a write failed before, a record is unfinished, or the records
-    /// cannot be written in this form; `WriteFailed`.
+    /// cannot be written in this `form`; `WriteFailed`.
     pub fn finish(self, form: Form) -> Result<(W, u64), EngineFault>
         ensures ok { IfOk result (λ given. (parts : List Portion) → HasTaken W.contents self.form
             self.out self.weight self.records self.begun self.failed parts
@@ -166,7 +166,8 @@ impl<W: Write> PartSink for OutSink<W> {
         }
     }
 
-    /// What was written remains: a cut to all parts changes nothing, and any other is refused.
+    /// Written records cannot be removed: a cut to all parts changes nothing, and any other cut is
+    /// refused.
     fn cut_to(&mut self, point: &Checkpoint) -> Result<(), SinkFault>
         requires { point.now.staged ≤ self.old.weight }
         ensures ok { OnOk result ((front rest : List Portion)

@@ -5,9 +5,11 @@ ghost use Rattle.std.specs.Prelude.{IfSome};
 ghost use Rattle.tape_image.specs.Reader.{tape_item};
 ghost use Rattle.tape_run.specs.MergeSteps.{agrees, Takes, is_less, is_bad_one};
 ghost use Rattle.tape_run.specs.MergeCalls.{Puts, RefusesCandidate};
+ghost use Rattle.tape_run.specs.MergeLog.{kind_at};
 ghost use Rattle.tape_run.specs.Passing.{blocks_of, step};
 ghost use Rattle.tape_set.specs.Lawful.{most_blocks};
 
+use super::line::ItemKind;
 use crate::met::Told;
 use crate::passing;
 use crate::passing::Phase;
@@ -23,15 +25,15 @@ pub(crate) enum Kind {
     Nothing,
     Bad,
     Mark,
-    /// A block of the bytes that are held.
+    /// A block, whose bytes are in the buffer.
     Block,
 }
 
-/// How many bytes a block has at most.
+/// The maximum number of bytes of a block.
 const LONGEST_BLOCK: usize = 99_999;
 
 /// The best item that the readings have at one place of the tape, so far: none, a bad one, or one
-/// that could be read. A block is a copy.
+/// that could be read. A block is copied.
 #[derive(Drop)]
 pub struct Candidate {
     kind: Kind,
@@ -71,25 +73,38 @@ impl Candidate {
         self.kind = Kind::Nothing;
     }
 
-    /// Whether any item would be as good: there is none yet, or a bad one.
+    /// Returns whether any item would be at least as good: there is no item yet, or a bad one.
     fn is_less(&self) -> bool
         ensures { result ≡ is_less self.now }
     {
         matches!(self.kind, Kind::Nothing | Kind::Bad)
     }
 
-    /// Whether there is an item.
+    /// Returns whether there is an item.
     pub(crate) fn is_some(&self) -> bool
         ensures { result ≡ is_some self.now }
     {
         !matches!(self.kind, Kind::Nothing)
     }
 
-    /// Whether the item is a bad one.
+    /// Returns whether the item is a bad one.
     pub(crate) fn is_bad(&self) -> bool
         ensures { result ≡ is_bad_one self.now }
     {
         matches!(self.kind, Kind::Bad)
+    }
+
+    /// What the item is, if there is one.
+    pub(crate) fn kind(&self) -> Option<ItemKind>
+        ensures none { self.now ≡ None → result ≡ None }
+        ensures some { IfSome self.now (λ x. result ≡ Some (kind_at x)) }
+    {
+        match self.kind {
+            Kind::Nothing => None,
+            Kind::Bad => Some(ItemKind::Bad),
+            Kind::Mark => Some(ItemKind::Mark),
+            Kind::Block => Some(ItemKind::Block(self.content.len() as u64)),
+        }
     }
 
     /// What is expected after the item on a labelled volume, and the section that it completes.
@@ -105,8 +120,8 @@ impl Candidate {
         }
     }
 
-    /// Whether an item can be at the same place of one tape as this one: one of them is bad, or
-    /// they are equal, or there is none yet.
+    /// Returns whether `item` can be at the same place of one tape as the candidate: one of the two
+    /// is bad, they are equal, or there is no candidate yet.
     fn agrees(&self, item: Item<'_>) -> bool
         ensures { IsTrue result ↔ agrees self.now (tape_item item.entry) }
     {
@@ -137,7 +152,7 @@ impl Candidate {
         Ok(())
     }
 
-    /// Takes an item of a reading, if it agrees, and keeps the better of the two. Returns whether
+    /// Accepts an item of a reading, if it agrees, and keeps the better of the two. Returns whether
     /// it agrees.
     pub(crate) fn take(&mut self, item: Item<'_>) -> Result<bool, AllocError>
         ensures { IfOk result (λ agreed. Takes self.old (tape_item item.entry) agreed self.new) }
@@ -151,7 +166,7 @@ impl Candidate {
         Ok(true)
     }
 
-    /// Writes the item, if there is one. Returns whether there is one.
+    /// Writes the item and returns true; returns false if there is no item.
     pub(crate) fn put<W: Write + Drop>(
         &self,
         out: &mut ImageWriter<W>,

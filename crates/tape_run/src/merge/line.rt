@@ -16,14 +16,14 @@ use crate::text::{Text, put, put_decimal};
 use std::alloc::{AllocError, Global};
 use std::io::Read;
 
-/// What was read from an image beside others.
+/// The items read from an image in parallel with others.
 #[derive(Clone, Copy)]
 pub(crate) struct ReadingLine {
     /// How many items.
     pub items: u64,
-    /// How many of these are bad.
+    /// How many of these items are bad.
     pub bad: u64,
-    /// How it stopped, if it did.
+    /// How the reading stopped, if it did.
     pub stop: Option<ImageStop>,
 }
 
@@ -32,22 +32,22 @@ pub(crate) struct ReadingLine {
 pub(crate) enum MergedEnd {
     /// By an end word.
     Marked,
-    /// By the end of its bytes.
+    /// With the end of its bytes.
     Physical,
-    /// Where each of the longest readings stopped at a fault.
+    /// At a fault: each of the longest readings stopped there.
     Cut,
 }
 
 /// An item, without its bytes.
 #[derive(Clone, Copy)]
 pub(crate) enum ItemKind {
-    /// A block of so many bytes.
+    /// A block of this length.
     Block(u64),
     Mark,
     Bad,
 }
 
-/// What a reading has where readings differ.
+/// The item that a reading has where readings differ.
 #[derive(Clone, Copy)]
 pub(crate) struct HasLine {
     /// Which of the differing items it is, by a letter.
@@ -57,7 +57,7 @@ pub(crate) struct HasLine {
     pub from: u64,
 }
 
-/// What was read of the reading with this number: a line without its name.
+/// Returns the line about reading `number`, without its name.
 pub(crate) fn reading_text(number: usize, reading: &ReadingLine) -> Text
     ensures { result.items ≡ reading_text number reading.now }
 {
@@ -73,7 +73,7 @@ pub(crate) fn reading_text(number: usize, reading: &ReadingLine) -> Text
     line
 }
 
-/// How a reading stopped, or `-`.
+/// Appends how a reading stopped, or `-`.
 fn put_end(line: &mut Text, stop: &Option<ImageStop>)
     requires room { array_vec_len line.old ≤ 100 }
     ensures { line.new.items ≡ line.old.items ++ end_text stop.now }
@@ -84,7 +84,7 @@ fn put_end(line: &mut Text, stop: &Option<ImageStop>)
     }
 }
 
-/// A line that ends with a name.
+/// Returns a line that ends with a name.
 pub(crate) fn with_name(alloc: Global, text: &[u8], name: &str) -> Result<Vec<u8>, AllocError>
     ensures { IfOk result (λ line. line.items ≡ with_name text.now name.now) }
 {
@@ -96,7 +96,7 @@ pub(crate) fn with_name(alloc: Global, text: &[u8], name: &str) -> Result<Vec<u8
     Ok(line)
 }
 
-/// The line of the merged image.
+/// Returns the line about the merged image.
 pub(crate) fn merged_line(merged: &Merged, end: MergedEnd) -> Text
     ensures { result.items ≡ merged_line merged.now end }
 {
@@ -114,7 +114,7 @@ pub(crate) fn merged_line(merged: &Merged, end: MergedEnd) -> Text
     line
 }
 
-/// How the merged image ends.
+/// Returns how the merged image ends.
 fn merged_end(end: MergedEnd) -> &'static [u8]
     ensures text { result.now ≡ merged_end end }
     ensures short { length result.now ≤ 8 }
@@ -126,7 +126,7 @@ fn merged_end(end: MergedEnd) -> &'static [u8]
     }
 }
 
-/// How many sections have a wrong count, if any do.
+/// Appends the number of sections with a wrong count, unless it is 0.
 fn put_miscounted(line: &mut Text, sections: u64)
     requires room { array_vec_len line.old ≤ 200 }
     ensures items { line.new.items ≡ line.old.items ++ miscounted_text sections }
@@ -141,7 +141,7 @@ fn put_miscounted(line: &mut Text, sections: u64)
     }
 }
 
-/// The line of the first item at which readings differ.
+/// Returns the line about the first item at which readings differ.
 pub(crate) fn differ_line(item: u64) -> Text
     ensures { result.items ≡ differ_line item }
 {
@@ -152,7 +152,7 @@ pub(crate) fn differ_line(item: u64) -> Text
     line
 }
 
-/// What the reading with this number has there: a line without its name.
+/// Returns the line about the item of reading `number` at the difference, without its name.
 pub(crate) fn has_text(number: usize, has: &HasLine) -> Text
     ensures { result.items ≡ has_text number has.now }
 {
@@ -169,7 +169,7 @@ pub(crate) fn has_text(number: usize, has: &HasLine) -> Text
 }
 
 /// An item, as `list` prints it without labels.
-fn put_kind(line: &mut Text, kind: ItemKind)
+pub(crate) fn put_kind(line: &mut Text, kind: ItemKind)
     requires room { array_vec_len line.old ≤ 100 }
     ensures items { line.new.items ≡ line.old.items ++ kind_text kind }
     ensures len { array_vec_len line.new ≤ 200 }
@@ -184,7 +184,7 @@ fn put_kind(line: &mut Text, kind: ItemKind)
     }
 }
 
-/// What was read of a reading.
+/// Returns the numbers of items of a reading, and how it stopped.
 pub(crate) fn line_of<R: Read>(reading: &Reading<'_, R>) -> ReadingLine
     ensures { result ≡ line_of reading.now }
 {
@@ -200,7 +200,7 @@ pub(crate) fn line_of<R: Read>(reading: &Reading<'_, R>) -> ReadingLine
     }
 }
 
-/// The item that a reading was asked for last, if it has one.
+/// Returns the last item that a reading was asked for, if it has one.
 pub(crate) fn has_of<R: Read>(reading: &Reading<'_, R>) -> Option<HasLine>
     ensures { result ≡ has_of reading.now }
 {
@@ -215,7 +215,7 @@ pub(crate) fn has_of<R: Read>(reading: &Reading<'_, R>) -> Option<HasLine>
     Some(HasLine { letter, kind, from })
 }
 
-/// An item that could be read, by its length: no block is empty.
+/// Returns an item that could be read, given its length: no block is empty.
 fn kind_of(length: u64) -> ItemKind
     ensures { result ≡ kind_of length }
 {
@@ -225,7 +225,7 @@ fn kind_of(length: u64) -> ItemKind
     }
 }
 
-/// The name of the image with this number, counted from 0.
+/// Returns the name of the image with this number, counted from 0.
 pub(crate) fn name_at<'n>(names: &[&'n str], number: usize) -> &'n str
     ensures { result.now ≡ name_at (map (λ n. n.now) names.now) number }
 {

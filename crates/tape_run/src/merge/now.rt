@@ -1,8 +1,8 @@
-//! `merge` and `compare` over images: they are read side by side, and the merged one is put in its
-//! place.
+//! `merge` and `compare` over images: they are read in parallel, and the merged image gets its
+//! name.
 
 ghost use Rattle.std.specs.Prelude.{◌≡◌, map, IfOk, OnOk, IfErr};
-ghost use Rattle.std.specs.Io.KnownBytes.{Appends};
+ghost use Rattle.std.specs.Io.KnownBytes.{Appends, Keeps};
 ghost use Rattle.tape_image.specs.Written.{AppendsFront};
 ghost use Rattle.tape_run.specs.MergeLines.{lines_from, reading_line, has_line};
 ghost use Rattle.tape_run.specs.MergeNow.{MountsAll, IsMissing, Misses, MergesNow, LeavesPlace};
@@ -15,6 +15,7 @@ use super::line::{
     MergedEnd, differ_line, has_of, has_text, line_of, merged_line, name_at, reading_text,
     with_name,
 };
+use super::log::log_head;
 use super::open::{merge_to, open_all};
 use super::reading::Reading;
 use super::{MergeFault, Merged};
@@ -22,7 +23,7 @@ use crate::check::pass_on;
 use crate::extract::Place;
 use crate::extract::images::ImageSource;
 use crate::fault::WriteFailed;
-use crate::text::flush;
+use crate::text::{flush, write_text};
 use std::alloc::{AllocError, Global};
 use std::io::{Read, Write};
 use tape_image::{Ending, ImageWriteFault, ImageWriter};
@@ -30,7 +31,7 @@ use tape_image::{Ending, ImageWriteFault, ImageWriter};
 /// What came of merging.
 #[derive(Clone, Copy, Debug, PartialEq, Eq)]
 pub enum MergeEnd {
-    /// The merged image is whole, as far as its readings show.
+    /// The merged image is complete, as far as its readings show.
     Whole,
     /// An item of it is bad, a section has a wrong count, or it is cut.
     Partial,
@@ -43,11 +44,13 @@ pub enum MergeEnd {
 pub enum MergeStop {
     /// The image with this number, counted from 0, could not be opened.
     NotOpened(usize),
-    /// The merged image would be longer than an image may be: it has so many bytes so far.
+    /// The merged image would be longer than an image may be: it has this number of bytes so far.
     TooLong(u64),
     OutOfMemory,
     /// The merged image or the report could not be written.
     WriteFailed,
+    /// The log could not be written.
+    LogFailed,
 }
 
 impl From<AllocError> for MergeStop {
@@ -66,7 +69,7 @@ impl From<WriteFailed> for MergeStop {
     }
 }
 
-/// Why the merged image of so many bytes could not be written on.
+/// Returns why no more of the merged image was written, given its size so far.
 fn write_stop(fault: ImageWriteFault, size: u64) -> MergeStop
     ensures { Misses (λ _. ⊥) result }
 {
@@ -77,38 +80,57 @@ fn write_stop(fault: ImageWriteFault, size: u64) -> MergeStop
 }
 
 /// Reads the images of a shelf side by side, all of them opened first, and writes to `out` the tape
-/// that they make together. Then `place` puts `out` in its place, and the report ends with its
-/// line. If the images differ, the place is not touched, and the report says what each image has
-/// at that item.
+/// that they make together, and to `log` a row for each item that fewer than two of them have, or
+/// one has as bad. Then the log is flushed, `place` puts `out` in its place, and the report ends
+/// with its line. If the images differ, the log is not flushed, the place is not touched, and the
+/// report says what each image has at that item.
 ///
 /// It allocates 100,000 bytes for each image, what mounting takes, and 200,000.
 ///
 /// # Errors
 ///
 /// `NotOpened` before anything is read; `OutOfMemory`; `WriteFailed` if `out`, its place or the
-/// report failed; `TooLong`. The place was not touched, unless placing `out` failed, which changes
-/// nothing there, or the last line could not be written.
-pub fn merge_now<R: Read + Drop, L: ImageSource<R>, W: Write + Drop, O: Place<W>, P: Write>(
+/// report failed; `LogFailed`; `TooLong`. The place was not touched, unless placing `out` failed,
+/// which changes nothing there, or the last line could not be written.
+pub fn merge_now<
+    R: Read + Drop,
+    L: ImageSource<R>,
+    W: Write + Drop,
+    O: Place<W>,
+    G: Write,
+    P: Write,
+>(
     alloc: Global,
     images: &mut L,
     names: &[&str],
     out: W,
     place: &mut O,
+    log: &mut G,
     report: &mut P,
 ) -> Result<MergeEnd, MergeStop>
     ensures ok { IfOk result (MergesNow L.size L.gives R.remaining images.old images.new
         (map (λ n. n.now) names.now) (W.contents out) (O.stands place.new)
+        (Appends (G.contents log.old) (G.contents log.new))
         (Appends (P.contents report.old) (P.contents report.new))) }
     ensures untouched { IfOk result (λ end. end ≡ Differs → place.new ≡ place.old) }
     ensures err { IfErr result (LeavesPlace O.stands place.old place.new
         (IsMissing L.gives images.old images.new) ((end : MergeEnd)
         × MergesNow L.size L.gives R.remaining images.old images.new
         (map (λ n. n.now) names.now) (W.contents out) (O.stands place.new)
+        (Appends (G.contents log.old) (G.contents log.new))
         (AppendsFront (P.contents report.old) (P.contents report.new)) end)) }
 {
     let mut devices = mount_all(alloc, images)?;
     let mut readings = open_all(alloc, devices.as_mut_slice())?;
-    merge_readings(alloc, readings.as_mut_slice(), names, out, place, report)
+    merge_readings(
+        alloc,
+        readings.as_mut_slice(),
+        names,
+        out,
+        place,
+        log,
+        report,
+    )
 }
 
 /// Mounts all images.
@@ -133,29 +155,33 @@ fn mount_all<R: Read + Drop, L: ImageSource<R>>(
 }
 
 /// Merges readings that were opened.
-fn merge_readings<R: Read, W: Write + Drop, O: Place<W>, P: Write>(
+fn merge_readings<R: Read, W: Write + Drop, O: Place<W>, G: Write, P: Write>(
     alloc: Global,
     readings: &mut [Reading<'_, R>],
     names: &[&str],
     out: W,
     place: &mut O,
+    log: &mut G,
     report: &mut P,
 ) -> Result<MergeEnd, MergeStop>
     ensures ok { IfOk result (ReadingsComeTo readings.old (map (λ n. n.now) names.now)
-        (W.contents out) (O.stands place.new)
+        (W.contents out) (O.stands place.new) (Appends (G.contents log.old) (G.contents log.new))
         (Appends (P.contents report.old) (P.contents report.new))) }
     ensures untouched { IfOk result (λ end. end ≡ Differs → place.new ≡ place.old) }
     ensures err { IfErr result (LeavesPlace O.stands place.old place.new (λ _. ⊥) ((end : MergeEnd)
         × ReadingsComeTo readings.old (map (λ n. n.now) names.now) (W.contents out)
-        (O.stands place.new) (AppendsFront (P.contents report.old) (P.contents report.new))
-        end)) }
+        (O.stands place.new) (Appends (G.contents log.old) (G.contents log.new))
+        (AppendsFront (P.contents report.old) (P.contents report.new)) end)) }
 {
     let mut image = ImageWriter::new(out);
-    match merge_to(alloc, readings, &mut image) {
+    let head = log_head(alloc, names)?;
+    write_log(log, head.as_slice())?;
+    match merge_to(alloc, readings, &mut image, log) {
         Ok(merged) => {
             let end = end_of(readings, merged.items);
             report_readings(alloc, readings, names, report)?;
             let written = end_image(image, end)?;
+            flush_log(log)?;
             place.place(written)?;
             pass_on(report, &merged_line(&merged, end))?;
             Ok(whole_or_partial(&merged, end))
@@ -168,6 +194,29 @@ fn merge_readings<R: Read, W: Write + Drop, O: Place<W>, P: Write>(
         }
         Err(MergeFault::OutOfMemory) => Err(MergeStop::OutOfMemory),
         Err(MergeFault::Write(fault)) => Err(write_stop(fault, image.size())),
+        Err(MergeFault::Log) => Err(MergeStop::LogFailed),
+    }
+}
+
+/// Writes a text to the log.
+fn write_log<G: Write>(log: &mut G, text: &[u8]) -> Result<(), MergeStop>
+    ensures ok { OnOk result (Appends (G.contents log.old) (G.contents log.new) text.now) }
+    ensures err { IfErr result (Misses (λ _. ⊥)) }
+{
+    match write_text(log, text) {
+        Ok(()) => Ok(()),
+        Err(WriteFailed) => Err(MergeStop::LogFailed),
+    }
+}
+
+/// Flushes the log.
+fn flush_log<G: Write>(log: &mut G) -> Result<(), MergeStop>
+    ensures kept { Keeps (G.contents log.old) (G.contents log.new) }
+    ensures err { IfErr result (Misses (λ _. ⊥)) }
+{
+    match flush(log) {
+        Ok(()) => Ok(()),
+        Err(WriteFailed) => Err(MergeStop::LogFailed),
     }
 }
 
@@ -191,7 +240,7 @@ fn end_image<W: Write + Drop>(image: ImageWriter<W>, end: MergedEnd) -> Result<W
     }
 }
 
-/// Whether the merged image is whole.
+/// Returns whether the merged image is complete.
 fn whole_or_partial(merged: &Merged, end: MergedEnd) -> MergeEnd
     ensures { FitsEnd merged.now.bad merged.now.miscounted end result }
 {
@@ -207,7 +256,8 @@ fn whole_or_partial(merged: &Merged, end: MergedEnd) -> MergeEnd
     }
 }
 
-/// How the merged image ends: as one of its longest readings, by an end word if one of them does.
+/// Returns how the merged image ends: as one of its longest readings, with an end-of-medium marker
+/// if one of them does.
 fn end_of<R: Read>(readings: &[Reading<'_, R>], items: u64) -> MergedEnd
     ensures { EndsAs items readings.now result }
 {
@@ -243,7 +293,7 @@ fn report_readings<R: Read, P: Write>(
     Ok(())
 }
 
-/// Reports what each reading has where they differ, if it has an item there.
+/// Reports the item of each reading at the difference, unless the reading has none there.
 fn report_items<R: Read, P: Write>(
     alloc: Global,
     readings: &[Reading<'_, R>],

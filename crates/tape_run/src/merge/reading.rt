@@ -1,4 +1,4 @@
-//! A reading of a tape: an image, and what was taken from it.
+//! A reading of a tape: an image, and the items read from it so far.
 
 ghost use Rattle.std.specs.Prelude.{◌≡◌, IfOk, OnOk};
 ghost use Rattle.tape_image.specs.Reader.{tape_item};
@@ -14,9 +14,9 @@ use tape_image::{ImageFault, ImageReader, Item};
 /// How the item of one reading compares with those of the readings before it.
 #[derive(Clone, Copy, Debug, PartialEq, Eq)]
 pub enum Verdict {
-    /// It is the first one that could be read, or equals that.
+    /// It is the first item that could be read, or equal to it.
     First,
-    /// It is bad.
+    /// It is the first item that differs, or equal to it.
     Bad,
     /// It is the first one that differs, or equals that.
     Second,
@@ -24,35 +24,35 @@ pub enum Verdict {
     Third,
     /// There is none: the reading ended.
     Ended,
-    /// There is none: the reading stopped at this fault.
+    /// There is no item: the reading stopped at this fault.
     Failed(ImageFault),
 }
 
-/// An image that is read beside others, and what was taken from it.
+/// An image that is read in parallel with others, and the items read from it so far.
 #[derive(Drop)]
 pub struct Reading<'r, R: Read> {
     pub image: ImageReader<'r, R>,
-    /// How many items were taken.
+    /// How many items were read.
     pub items: u64,
-    /// How many of these are bad.
+    /// How many of these items are bad.
     pub bad: u64,
-    /// The byte offset at which the last of them begins, an erase gap before it included.
+    /// The byte offset at which the last of them begins, including an erase gap before it.
     pub from: u64,
-    /// How many bytes the last of them has, if it is a block; 0 otherwise.
+    /// The number of bytes of the last item, or 0 if it is not a block.
     pub length: u64,
-    /// How it compares at the item under way.
+    /// How its current item compares.
     pub verdict: Verdict,
 }
 
 impl Verdict {
-    /// Whether the reading stopped: there is no item.
+    /// Returns whether the reading stopped: there is no item.
     fn is_stop(&self) -> bool
         ensures { result ≡ is_stop self.now }
     {
         matches!(self, Verdict::Ended | Verdict::Failed(_))
     }
 
-    /// How many bad items it counts: 1 or 0.
+    /// Returns how many bad items it counts: 1 or 0.
     fn bad_items(&self) -> u64
         ensures { result ≡ bad_count self.now }
     {
@@ -62,7 +62,7 @@ impl Verdict {
         }
     }
 
-    /// Whether it counts for the first item: 1 if the reading has it, 0 otherwise.
+    /// Returns 1 if the reading has the first item, and 0 otherwise.
     pub(crate) fn witnesses(&self) -> u64
         ensures { result ≡ has_first self.now }
     {
@@ -74,7 +74,7 @@ impl Verdict {
 }
 
 impl<'r, R: Read> Reading<'r, R> {
-    /// Creates a reading of an image from which nothing was taken.
+    /// Creates a reading of an unread image.
     pub fn new(image: ImageReader<'r, R>) -> Reading<'r, R>
         ensures image { result.image ≡ image.entry }
         ensures none { (result.items ≡ 0) × (result.bad ≡ 0) }
@@ -111,7 +111,7 @@ fn take_item(
     Ok(Verdict::Third)
 }
 
-/// The number of bytes of a block; 0 for any other item.
+/// Returns the number of bytes of a block, or 0 for any other item.
 fn length_of(item: Item<'_>) -> u64
     ensures { result ≡ block_length (tape_item item.entry) }
 {

@@ -1,4 +1,4 @@
-//! The copies of a file's sections on images, and how much of each is certain.
+//! The copies of a file's sections on images, and how much of each is reliable.
 
 ghost use Rattle.std.specs.Prelude.{◌≡◌, ◌++◌, ◌∷◌, max, [], List, OnOk, IfErr, None, Some};
 ghost use Rattle.tape_image.specs.Reader.{going};
@@ -25,7 +25,8 @@ pub struct SectionCopy {
     pub image: usize,
     /// The section, and its data.
     pub section: OpenSection,
-    /// How it ended. With `None` it did not close, and may have other data than were found.
+    /// How it ended. If it is `None`, the section did not close, and may have other data than were
+    /// found.
     pub closed: Option<Closing>,
     /// If its HDR1 was not read: how many items of the image precede its data.
     pub skip: Option<u64>,
@@ -33,7 +34,7 @@ pub struct SectionCopy {
 
 impl SectionCopy {
     /// Returns how many of its data items are certainly its blocks: all if it closes, otherwise
-    /// those before the first item that could not be read.
+    /// those before the first unreadable item.
     pub fn believed(&self) -> u32
         ensures { result ≡ believed self.now }
     {
@@ -43,7 +44,7 @@ impl SectionCopy {
         }
     }
 
-    /// Returns what is expected at the first item of the image when the section is read from it. If
+    /// Returns what is expected at the first item of the image if the section is read from it. If
     /// its HDR1 was not read, its data are found by their place.
     pub fn start(&self) -> Expected
         ensures { result ≡ start_of self.now }
@@ -72,8 +73,8 @@ impl SectionCopy {
         }
     }
 
-    /// Returns a greater number for a copy that is to be read rather than another: complete ones
-    /// first, otherwise by how many of its blocks were read.
+    /// Returns a number that is greater for a better copy: complete ones are best, then those with
+    /// more readable blocks.
     pub fn rank(&self) -> u64
         ensures { result ≡ rank self.now }
     {
@@ -113,12 +114,12 @@ pub fn copies_on<R: Read>(
         Err(_) => return Err(NO_MEMORY),
     };
     let found = copies_in_items(&mut image, set_id, file, number, copies);
-    // The device belongs to the caller again.
+    // The caller gets back the device.
     image.into_device();
     found
 }
 
-/// Finds the sections of a file on an image of which nothing was read yet.
+/// Finds the sections of a file on an unread image.
 fn copies_in_items<R: Read>(
     image: &mut ImageReader<'_, R>,
     set_id: &Field<6>,
@@ -151,15 +152,15 @@ fn copies_in_items<R: Read>(
     }
 }
 
-/// Whether it is a section of this file.
+/// Returns whether the section belongs to file `file` of the set.
 fn is_of(set_id: &Field<6>, file: u16, section: &OpenSection, closed: &Option<Closing>) -> bool
     ensures { result ≡ is_of set_id.now file (section.now, closed.now) }
 {
     section.key.set_id.bytes() == set_id.bytes() && section.key.file == file
 }
 
-/// How many items of an image precede the section's data, if its HDR1 was not read; `read` items
-/// were read before the one that ended it.
+/// Returns how many items of an image precede the section's data, if its HDR1 was not read; `read`
+/// items were read before the one that ended it.
 fn skip_of(read: u64, section: &OpenSection) -> Option<u64>
     ensures { result ≡ skip_of read section.now }
 {
@@ -172,7 +173,7 @@ fn skip_of(read: u64, section: &OpenSection) -> Option<u64>
     }
 }
 
-/// Adds a section, if one was found and it belongs to the file; `read` items of the image were read
+/// Adds the section that was found, if it belongs to the file; `read` is the number of items read
 /// before the one that ended it.
 fn add_copy(
     copies: &mut Vec<SectionCopy>,
@@ -215,7 +216,7 @@ pub fn last_section(copies: &[SectionCopy]) -> u16
     last
 }
 
-/// The greater of two numbers.
+/// Returns the greater of two numbers.
 fn greater(a: u16, b: u16) -> u16
     ensures { result ≡ max a b }
 {
@@ -230,7 +231,7 @@ struct Choice {
 }
 
 impl Choice {
-    /// Whether a copy is one of this section and the first on its image.
+    /// Returns whether `copy` is a copy of section `sect`, and the first one on its image.
     fn is_considered(&self, sect: u16, copy: &SectionCopy) -> bool
         ensures { result ≡ is_considered sect self.now.last copy.now }
     {
@@ -243,7 +244,7 @@ impl Choice {
         }
     }
 
-    /// Chooses this copy if it is better than the best so far.
+    /// Chooses `copy` if it is better than the best copy so far.
     fn better(self, copy: &SectionCopy) -> Choice
         ensures best { (cs : List SectionCopy) → IsBest cs self.best
             → IsBest (cs ++ copy.now ∷ []) result.best }
@@ -256,7 +257,7 @@ impl Choice {
         }
     }
 
-    /// Considers one more copy, if it is one of this section and the first on its image.
+    /// Considers `copy`, if it is a copy of section `sect` and the first one on its image.
     fn with(self, sect: u16, copy: &SectionCopy) -> Choice
         ensures { (cs : List SectionCopy) → IsChoice sect cs self.best self.last
             → IsChoice sect (cs ++ copy.now ∷ []) result.best result.last }
@@ -268,7 +269,7 @@ impl Choice {
     }
 }
 
-/// The copy with the greater rank, or the first of two with one rank.
+/// Returns the copy with the greater rank, or `best` if both have the same rank.
 fn better_of(best: &Option<SectionCopy>, copy: &SectionCopy) -> SectionCopy
     ensures { (cs : List SectionCopy) → IsBest cs best.now
         → IsBest (cs ++ copy.now ∷ []) (Some result) }
@@ -284,8 +285,8 @@ fn better_of(best: &Option<SectionCopy>, copy: &SectionCopy) -> SectionCopy
     }
 }
 
-/// Returns the copy of this section that is to be read. If the section is more than once on an
-/// image, only the first is considered: that is the one that `recover_section` reads.
+/// Returns the best copy of section `sect`. If the section is on an image more than once, only the
+/// first copy is considered, since that is the one that `recover_section` reads.
 pub fn best_copy(copies: &[SectionCopy], sect: u16) -> Option<SectionCopy>
     ensures { IsBest (firsts sect None copies.now) result }
 {

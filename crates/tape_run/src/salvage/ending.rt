@@ -1,4 +1,4 @@
-//! The end of a section, and what is reported as missing there.
+//! The end of a section, and the report on missing blocks there.
 
 ghost use Rattle.std.specs.Prelude.{◌≡◌, ◌≢◌, ◌&&◌, true, false, Some, OnOk, IfOk, IfErr};
 ghost use Rattle.std.specs.Io.KnownBytes.{Appends};
@@ -42,7 +42,8 @@ impl SectionEnd {
     }
 }
 
-/// Writes which items after those that are believed may be blocks, if there are some.
+/// Reports that the items after the reliable ones may be blocks of the section, if there are such
+/// items.
 fn write_unsure<P: Write>(
     report: &mut P,
     sect: u16,
@@ -81,7 +82,7 @@ impl<W: Write> Recovery<W> {
         Ok(())
     }
 
-    /// Reports what is missing after the blocks of a section that did not close.
+    /// Reports the missing blocks at the end of a section that did not close.
     fn end_open<P: Write>(&mut self, copy: &SectionCopy, report: &mut P) -> Result<(), EngineFault>
         ensures ok { OnOk result (Recovers W.contents self.old self.new (P.contents report.old)
             (P.contents report.new) without_rest (open_text copy.now)) }
@@ -114,7 +115,7 @@ impl<W: Write> Recovery<W> {
         Ok(())
     }
 
-    /// Reports what is missing after the blocks of a section that closed.
+    /// Reports the missing blocks at the end of a section that closed.
     fn end_closed<P: Write>(
         &mut self,
         copy: &SectionCopy,
@@ -134,7 +135,7 @@ impl<W: Write> Recovery<W> {
         Ok(())
     }
 
-    /// Reports that the blocks of a section were not read again from this one on.
+    /// Reports that the blocks of a section from `first` on were not read again.
     fn end_stopped<P: Write>(
         &mut self,
         sect: u16,
@@ -151,7 +152,7 @@ impl<W: Write> Recovery<W> {
         Ok(())
     }
 
-    /// Reports what is missing of the blocks of a section, of which so many were read again.
+    /// Reports the missing blocks at the end of a section, of which `read` were read again.
     fn end_blocks<P: Write>(
         &mut self,
         copy: &SectionCopy,
@@ -171,7 +172,7 @@ impl<W: Write> Recovery<W> {
         }
     }
 
-    /// Reports what is missing after the blocks of a section, of which so many were read again, and
+    /// Reports the missing blocks at the end of a section, of which `read` were read again, and
     /// returns how the section ended.
     pub fn end_section<P: Write>(
         &mut self,

@@ -15,7 +15,7 @@ use std::io::{Read, Write};
 use tape_core::Known;
 use tape_image::{ImageReader, Item};
 
-/// Whether the data of this section are being read.
+/// Returns whether the data of section `key` are being read.
 fn is_in(key: &SectionKey, expected: &Expected) -> bool
     ensures { result ≡ is_in key.now expected.now }
 {
@@ -25,7 +25,7 @@ fn is_in(key: &SectionKey, expected: &Expected) -> bool
     }
 }
 
-/// How many data items of this section were read, if nothing more is read.
+/// Returns the number of data items read of section `key`, if the image ends here.
 fn read_in(key: &SectionKey, expected: &Expected) -> u32
     ensures { result ≡ read_in key.now expected.now }
 {
@@ -41,15 +41,15 @@ fn read_in(key: &SectionKey, expected: &Expected) -> u32
     }
 }
 
-/// Whether both are the same section.
+/// Returns whether both keys identify the same section.
 fn same_section(a: &SectionKey, b: &SectionKey) -> bool
     ensures { result ≡ same_key a.now b.now }
 {
     a.set_id.bytes() == b.set_id.bytes() && a.file == b.file && a.sect == b.sect
 }
 
-/// The number of the next item among the data items of this section, if it is one of the first
-/// `most`.
+/// Returns the number of the next item among the data items of section `key`, if it is one of the
+/// first `most`.
 fn number_in(key: &SectionKey, most: u32, expected: &Expected) -> Option<u32>
     ensures { result ≡ number_in key.now most expected.now }
 {
@@ -61,11 +61,10 @@ fn number_in(key: &SectionKey, most: u32, expected: &Expected) -> Option<u32>
     }
 }
 
-/// Recovers the blocks of a section from an image of which nothing was read yet: the first `most`
-/// of the first section with this key on it. `start` is what is expected at the first item. Returns
-/// how many data items of the section were read; nothing after the tape mark that ends them is
-/// read. The end of the medium, a fault of the image or a reader that fails may end the reading
-/// before.
+/// Recovers the blocks of a section from an unread image: the first `most` blocks of the first
+/// section `key` on it. `start` is what is expected at the first item. Returns how many data items
+/// of the section were read; nothing after the tape mark that ends them is read. The reading may
+/// end earlier: at the end of the medium, at a fault of the image, or if the reader fails.
 ///
 /// # Errors
 ///
@@ -104,7 +103,7 @@ pub fn recover_section<R: Read, W: Write, P: Write>(
     }
 }
 
-/// Whether the item is the tape mark that ends the data of this section.
+/// Returns whether the item is the tape mark that ends the data of section `key`.
 fn is_end(key: &SectionKey, expected: &Expected, item: Item<'_>) -> bool
     ensures { result ≡ (is_mark (tape_item item.entry) && is_in key.now expected.now) }
 {

@@ -15,7 +15,7 @@ use tape_blocks::BlockFault;
 /// Room for the longest line.
 pub type Line = ArrayVec<u8, 192>;
 
-/// Adds a space and a number.
+/// Appends a space and a number.
 fn put_number(line: &mut Line, number: u64)
     requires room { array_vec_len line.old ≤ 171 }
     ensures items { line.new.items ≡ line.old.items ++ number_text number }
@@ -25,8 +25,8 @@ fn put_number(line: &mut Line, number: u64)
     put_decimal(line, number);
 }
 
-/// Returns the line of a gap: the blocks `first` to `last` of the section are missing after so many
-/// records.
+/// Returns the line about a gap: the blocks `first` to `last` of the section are missing after
+/// `records` records.
 pub fn gap_line(sect: u16, first: u32, last: u32, records: u64) -> Line
     ensures { result.items ≡ gap_line sect first last records }
 {
@@ -40,7 +40,8 @@ pub fn gap_line(sect: u16, first: u32, last: u32, records: u64) -> Line
     line
 }
 
-/// Returns the line of a gap of unknown length: all blocks of the section from `first` on.
+/// Returns the line about a gap of unknown length: all blocks of the section from `first` on are
+/// missing.
 pub fn open_gap_line(sect: u16, first: u32, records: u64) -> Line
     ensures { result.items ≡ open_gap_line sect first records }
 {
@@ -54,7 +55,7 @@ pub fn open_gap_line(sect: u16, first: u32, records: u64) -> Line
     line
 }
 
-/// Returns the line of a section that was not found.
+/// Returns the line about a section that was not found.
 pub fn no_section_line(sect: u16, records: u64) -> Line
     ensures { result.items ≡ no_section_line sect records }
 {
@@ -67,7 +68,7 @@ pub fn no_section_line(sect: u16, records: u64) -> Line
     line
 }
 
-/// Returns the line of a section whose form no label records.
+/// Returns the line about a section whose form no label records.
 pub fn no_form_line(sect: u16, records: u64) -> Line
     ensures { result.items ≡ no_form_line sect records }
 {
@@ -79,7 +80,7 @@ pub fn no_form_line(sect: u16, records: u64) -> Line
     line
 }
 
-/// Returns the line of a block that was read and holds no records in the file's form.
+/// Returns the line about a block that was read but contains no records in the file's form.
 pub fn refused_line(sect: u16, block: u32, fault: &BlockFault, records: u64) -> Line
     ensures { result.items ≡ refused_line sect block fault.now records }
 {
@@ -94,7 +95,7 @@ pub fn refused_line(sect: u16, block: u32, fault: &BlockFault, records: u64) -> 
     line
 }
 
-/// Returns the line of a record that is left out because of a cut at the start of this block.
+/// Returns the line about a record that is left out because something is missing before this block.
 pub fn torn_line(sect: u16, block: u32, records: u64) -> Line
     ensures { result.items ≡ torn_line sect block records }
 {
@@ -107,7 +108,7 @@ pub fn torn_line(sect: u16, block: u32, records: u64) -> Line
     line
 }
 
-/// Returns the line of a section whose trailer label counts other blocks than there are.
+/// Returns the line about a section whose trailer label gives a different number of blocks.
 pub fn count_line(sect: u16, label: u32, seen: u32) -> Line
     ensures { result.items ≡ count_line sect label seen }
 {
@@ -120,7 +121,7 @@ pub fn count_line(sect: u16, label: u32, seen: u32) -> Line
     line
 }
 
-/// Returns the line of items that may be blocks of the section or not.
+/// Returns the line about items that may or may not be blocks of the section.
 pub fn unsure_line(sect: u16, first: u32, last: u32) -> Line
     ensures { result.items ≡ unsure_line sect first last }
 {
@@ -133,7 +134,7 @@ pub fn unsure_line(sect: u16, first: u32, last: u32) -> Line
     line
 }
 
-/// Returns the line of a section that is read from the image with this number.
+/// Returns the line about a section, with the number of the image from which it is read.
 pub fn section_line(sect: u16, image: usize, blocks: u32) -> Line
     ensures { result.items ≡ section_line sect image blocks }
 {
@@ -146,7 +147,7 @@ pub fn section_line(sect: u16, image: usize, blocks: u32) -> Line
     line
 }
 
-/// Returns the last line: how many records were written, and whether they are all.
+/// Returns the last line: the number of records written, and whether any are missing.
 pub fn last_line(whole: bool, records: u64) -> Line
     ensures { result.items ≡ last_line whole records }
 {
@@ -161,7 +162,7 @@ pub fn last_line(whole: bool, records: u64) -> Line
     line
 }
 
-/// Returns the line of an image that could not be opened.
+/// Returns the line about image `number`, which could not be opened.
 pub fn not_opened_line(number: usize) -> Line
     ensures { result.items ≡ not_opened_line number }
 {

@@ -1,4 +1,4 @@
-//! The complete records of blocks of which some are missing.
+//! The complete records in blocks, some of which are missing.
 
 ghost use Rattle.std.specs.Prelude.{◌≡◌, ◌≤◌, length, IfOk, IfErr, OnOk, Ok, Bool, Some};
 ghost use Rattle.tape_blocks.specs.Judged.{judged};
@@ -18,25 +18,25 @@ use tape_blocks::{BlockFault, Form, Part, Parts, Shape, Span, check_block};
 use tape_core::Known;
 use tape_label::Format;
 
-/// Writes the records of blocks as they come, without the records of which a part is missing. Only
-/// the record that has begun and not ended is buffered.
+/// Writes the records of blocks as they come, except records of which a part is missing. Buffers
+/// only an unfinished record.
 #[derive(Drop)]
 pub struct Mender<W> {
-    /// What the records are written to.
+    /// The writer of the records.
     out: W,
     /// How they are written.
     form: Form,
-    /// The bytes of the record that has begun and not ended.
+    /// The bytes of an unfinished record.
     unfinished: Vec<u8>,
     /// How many records were written.
     records: u64,
-    /// Whether a record has begun and not ended.
+    /// Whether a record is unfinished.
     begun: bool,
-    /// Whether something is missing and no record has begun since.
+    /// Whether something is missing, and no record has begun since.
     torn: bool,
 }
 
-/// The shape of a file's blocks, as far as a reader depends on it.
+/// Returns the shape of a file's blocks, as far as a reader depends on it.
 fn shape_of(form: &Known) -> Shape
     ensures format { result.format ≡ form.now.format }
     ensures rec_len { result.rec_len ≡ form.now.rec_len }
@@ -91,7 +91,7 @@ impl<W: Write> Mender<W> {
         self.records
     }
 
-    /// Returns whether a record has begun and not ended.
+    /// Returns whether a record is unfinished.
     pub fn is_begun(&self) -> bool
         ensures { result ≡ self.now.begun }
     {
@@ -109,15 +109,16 @@ impl<W: Write> Mender<W> {
         }
     }
 
-    /// Returns what the records were written to.
+    /// Returns the writer of the records.
     pub fn into_out(self) -> W
         ensures { result ≡ self.out }
     {
         self.out
     }
 
-    /// Takes the next block: its records, or the block as it is if no form is given. Returns why it
-    /// holds no records in this form; then it counts as missing.
+    /// Processes the next block: writes its records, or the block unchanged if `form` is `None`.
+    /// Returns the reason if the block contains no records in this form; the block then counts as
+    /// missing.
     ///
     /// # Errors
     ///
@@ -147,7 +148,7 @@ impl<W: Write> Mender<W> {
         }
     }
 
-    /// Takes the records of the next block.
+    /// Processes the records of the next block.
     fn take_records(
         &mut self,
         form: &Known,
@@ -178,7 +179,7 @@ impl<W: Write> Mender<W> {
         }
     }
 
-    /// Notes that a block is missing here, and drops what there is of a record that has begun.
+    /// Records that a block is missing here, and drops the bytes of an unfinished record.
     pub fn tear(&mut self)
         ensures { (start : Start) (p : Piece) → HasPiece W.contents start self.old p
             → HasPiece W.contents start self.new (torn p) }
@@ -188,7 +189,7 @@ impl<W: Write> Mender<W> {
         self.torn = true;
     }
 
-    /// Takes the parts of a block that was checked.
+    /// Processes the parts of a block that was checked.
     fn put_parts(&mut self, form: &Known, block: &[u8]) -> Result<(), EngineFault>
         requires short { length block.now ≤ longest_block }
         requires checked { (begun : Bool) × (end : Bool) × (judged form.now.format form.now.rec_len
@@ -204,7 +205,7 @@ impl<W: Write> Mender<W> {
         Ok(())
     }
 
-    /// Takes one part, unless it continues a record whose beginning is missing.
+    /// Processes one part, unless it continues a record whose beginning is missing.
     fn put(&mut self, part: Part<'_>) -> Result<(), EngineFault>
         ensures ok { OnOk result ((start : Start) (p : Piece)
             → HasPiece W.contents start self.old p

@@ -1,5 +1,5 @@
-//! What follows an item outside of sections, where a section may begin. If its first label was not
-//! read, its trailer label names it.
+//! What is expected after an item outside of sections, where a section may begin. A section whose
+//! first label was not read is identified by its trailer label.
 
 ghost use Rattle.std.specs.Prelude.{◌≡◌, if◌then◌else◌};
 ghost use Rattle.tape_run.specs.SalvageWalk as Walk;
@@ -9,7 +9,7 @@ use crate::section::SectionKey;
 use tape_label::{Head1, Kind, LabelFault, Trail1};
 use tape_set::label_count;
 
-/// The section with this first label.
+/// Returns the section that begins with first label `head`.
 fn section_by(head: Head1) -> OpenSection
     ensures { result ≡ Walk.section_by head }
 {
@@ -28,7 +28,8 @@ fn section_by(head: Head1) -> OpenSection
     }
 }
 
-/// Returns what is expected after a block at which a section may begin; `other` if it does not.
+/// Returns what is expected after a block at which a section may begin; `other` if no section
+/// begins.
 pub fn begun_by(read: Result<Head1, LabelFault>, other: Expected) -> Expected
     ensures { result ≡ Walk.begun_by read other }
 {
@@ -39,7 +40,7 @@ pub fn begun_by(read: Result<Head1, LabelFault>, other: Expected) -> Expected
 }
 
 impl UnnamedItems {
-    /// One item, and whether it was read.
+    /// Returns one item, and whether it was read.
     fn one(is_read: bool) -> UnnamedItems
         ensures { result ≡ (if is_read then Walk.one_read else Walk.one_unreadable) }
     {
@@ -69,8 +70,8 @@ impl UnnamedItems {
         }
     }
 
-    /// Returns what is expected after a block that may be the trailer label of a section with these
-    /// data: it is, if it counts so many blocks.
+    /// Returns what is expected after a block that may be the trailer label of a section with the
+    /// items so far as its data: it is, if it counts as many blocks.
     pub fn named_by(
         self,
         read: Result<Trail1, LabelFault>,
@@ -98,8 +99,8 @@ impl UnnamedItems {
     }
 }
 
-/// Returns what is expected after an item outside of sections that begins none, with so many tape
-/// marks before it. Only after one it may be the first of a section's data.
+/// Returns what is expected after an item outside of sections that begins no section, with `marks`
+/// tape marks before it. Only after exactly one mark may the item be the first of a section's data.
 pub fn unnamed_after(marks: u8, is_read: bool) -> Expected
     ensures { result ≡ Walk.unnamed_after marks
         (if is_read then Walk.one_read else Walk.one_unreadable) }
@@ -110,7 +111,7 @@ pub fn unnamed_after(marks: u8, is_read: bool) -> Expected
     Expected::Outside(0)
 }
 
-/// Returns what is expected after a block outside of sections, with so many tape marks before it.
+/// Returns what is expected after a block outside of sections, with `marks` tape marks before it.
 pub fn outside_by(marks: u8, kind: Option<Kind>, head: Result<Head1, LabelFault>) -> Expected
     ensures { result ≡ Walk.outside_by marks kind head }
 {

@@ -1,4 +1,4 @@
-//! The data items of a section taken one after another, with a line for each gap.
+//! The data items of a section, processed one after another, with a line for each gap.
 
 ghost use Rattle.std.specs.Prelude.{◌≡◌, ◌≤◌, length, OnOk, IfErr};
 ghost use Rattle.std.specs.Io.KnownBytes.{Appends};
@@ -23,17 +23,17 @@ use tape_blocks::{BlockFault, Form};
 use tape_core::Known;
 use tape_image::Item;
 
-/// Takes the data items of sections, and reports what is missing.
+/// Processes the data items of sections, and reports missing blocks.
 #[derive(Drop)]
 pub struct Recovery<W> {
     pub mender: Mender<W>,
-    /// The first block of a gap that is not reported yet.
+    /// The first block of a gap that has not been reported yet.
     pub gap: Option<u32>,
     /// Whether something is missing.
     pub missing: bool,
 }
 
-/// Writes the line of a gap, if there is one. `next` is the first block after it.
+/// Writes the line about the gap before block `next`, if there is a gap.
 fn write_gap<P: Write>(
     report: &mut P,
     sect: u16,
@@ -53,7 +53,7 @@ fn write_gap<P: Write>(
     }
 }
 
-/// Writes that a record is left out because of a cut at the start of this block, if `is`.
+/// Writes that a record is left out because of a gap before block `number`, if `is` is true.
 fn write_torn<P: Write>(
     report: &mut P,
     is: bool,
@@ -71,7 +71,7 @@ fn write_torn<P: Write>(
     Ok(())
 }
 
-/// Writes why a block holds no records, if there is a fault.
+/// Writes the reason why block `number` yielded no records, if there is one.
 fn write_refused<P: Write>(
     report: &mut P,
     sect: u16,
@@ -106,14 +106,14 @@ impl<W: Write> Recovery<W> {
         }
     }
 
-    /// Returns what the records were written to.
+    /// Returns the writer of the records.
     pub fn into_out(self) -> W
         ensures { result ≡ self.mender.out }
     {
         self.mender.into_out()
     }
 
-    /// Reports the gap that ends before the block `next`, if there is one.
+    /// Reports the gap that ends before block `next`, if there is one.
     pub fn end_gap<P: Write>(
         &mut self,
         sect: u16,
@@ -129,8 +129,8 @@ impl<W: Write> Recovery<W> {
         Ok(())
     }
 
-    /// Notes that something is missing from this block on, and reports the unfinished record that
-    /// is left out, if there is one.
+    /// Records that something is missing from block `number` on, and reports the unfinished record
+    /// that is left out, if there is one.
     pub fn tear<P: Write>(
         &mut self,
         sect: u16,
@@ -153,7 +153,7 @@ impl<W: Write> Recovery<W> {
         Ok(())
     }
 
-    /// Takes a trailer label that counts other blocks, if there is such a count, and reports it.
+    /// Records and reports the count in a trailer label, if it is wrong.
     pub fn take_count<P: Write>(
         &mut self,
         sect: u16,
@@ -172,7 +172,7 @@ impl<W: Write> Recovery<W> {
         Ok(())
     }
 
-    /// Takes a block of the section that could not be read.
+    /// Processes an unreadable block of the section.
     fn miss_block<P: Write>(
         &mut self,
         sect: u16,
@@ -190,7 +190,7 @@ impl<W: Write> Recovery<W> {
         Ok(())
     }
 
-    /// Takes the next block of the section.
+    /// Processes the next block of the section.
     fn take_block<P: Write>(
         &mut self,
         sect: u16,
@@ -222,8 +222,8 @@ impl<W: Write> Recovery<W> {
         Ok(())
     }
 
-    /// Takes the next item of an image, which is the data item `number` of the section; with `None`
-    /// it is no data item of it.
+    /// Processes the next item of an image, which is the data item `number` of the section, or none
+    /// of them if `number` is `None`.
     ///
     /// # Errors
     ///

@@ -56,7 +56,8 @@ pub fn recover_sections<W: Write, R: Read + Drop, L: ImageSource<R>, P: Write>(
     }
 }
 
-/// The form in which a section's blocks are read: the section's own, otherwise that of the file.
+/// Returns the form in which a section's blocks are read: the section's own, otherwise that of the
+/// file.
 fn form_for(content: Content, own: Option<Known>, known: Option<Known>) -> Option<Known>
     ensures { result ≡ form_for content own known }
 {
@@ -67,7 +68,7 @@ fn form_for(content: Content, own: Option<Known>, known: Option<Known>) -> Optio
     }
 }
 
-/// Whether blocks can be read in this form. Blocks as they are need none.
+/// Returns whether blocks can be read in this form. Blocks that are copied unchanged need no form.
 fn has_form(content: Content, form: &Option<Known>) -> bool
     ensures { result ≡ has_form content form.now }
 {
@@ -116,7 +117,7 @@ fn recover<W: Write, R: Read + Drop, L: ImageSource<R>, P: Write>(
     recover_copy(&mut reader, &copy, sect, &form, recovery, report)
 }
 
-/// Recovers a section from its copy on an image of which nothing was read yet.
+/// Recovers a section from its copy on an unread image.
 fn recover_copy<W: Write, R: Read, P: Write>(
     image: &mut ImageReader<'_, R>,
     copy: &SectionCopy,

@@ -1,5 +1,5 @@
-//! Follows the items of an image past what could not be read: which section an item belongs to, and
-//! which of its blocks it is.
+//! Follows the items of an image past unreadable ones: which section an item belongs to, and which
+//! of its blocks it is.
 
 ghost use Rattle.std.specs.Prelude.{◌≡◌};
 ghost use Rattle.tape_image.specs.Reader.{tape_item};
@@ -22,13 +22,13 @@ pub struct OpenSection {
     pub key: SectionKey,
     /// The file identifier of its HDR1.
     pub file_id: Field<17>,
-    /// The form of its blocks that its HDR2 records, or else its EOF2 or EOV2, if one was read.
+    /// The form of its blocks in its HDR2 or, if no HDR2 was read, in its EOF2 or EOV2.
     pub form: Option<Known>,
-    /// How many data items it has so far, including those that could not be read.
+    /// How many data items it has so far, including unreadable ones.
     pub blocks: u32,
-    /// How many data items came before the first item after its HDR1 that could not be read.
+    /// How many data items precede the first unreadable item after its HDR1.
     pub certain: Option<u32>,
-    /// How many of its data items could not be read.
+    /// How many of its data items are unreadable.
     pub unreadable: u32,
     /// If its HDR1 was not read: how many items follow its data so far.
     pub after: Option<u32>,
@@ -40,7 +40,7 @@ pub struct OpenSection {
 pub struct UnnamedItems {
     /// How many.
     pub items: u32,
-    /// How many of them could not be read.
+    /// How many of them are unreadable.
     pub unreadable: u32,
 }
 
@@ -66,10 +66,10 @@ pub enum Expected {
     Over,
     /// More items outside of sections, up to a tape mark, or a section's first label.
     Unnamed(UnnamedItems),
-    /// The trailer label of a section of which these are the data, or what follows a tape mark
+    /// The trailer label of a section with these items as its data, or what follows a tape mark
     /// outside of sections.
     UnnamedTrailer(UnnamedItems),
-    /// So many items, and then the data of this section.
+    /// A number of items, and then the data of a section.
     Skipping(u64, OpenSection),
 }
 
@@ -82,11 +82,11 @@ pub struct Closing {
     pub count: u32,
 }
 
-/// A section that ended, and how. With `None` no trailer label with its numbers was read.
+/// A section that ended, and how. `None` means that no trailer label with its numbers was read.
 pub type FoundSection = (OpenSection, Option<Closing>);
 
 impl OpenSection {
-    /// Counts one more data item. No image has so many that the count stops.
+    /// Counts one more data item. The count cannot overflow, since an image has fewer items.
     fn with_item(self) -> OpenSection
         ensures { result ≡ Walk.with_item self }
     {
@@ -96,7 +96,7 @@ impl OpenSection {
         }
     }
 
-    /// Notes an item that could not be read: what follows is certain only if the section closes.
+    /// Records an unreadable item: what follows is reliable only if the section closes.
     fn doubted(self) -> OpenSection
         ensures { result ≡ Walk.doubted self }
     {
@@ -109,7 +109,7 @@ impl OpenSection {
         }
     }
 
-    /// Notes a data item that could not be read.
+    /// Records an unreadable data item.
     fn with_unreadable(self) -> OpenSection
         ensures { result ≡ Walk.with_unreadable self }
     {
@@ -121,7 +121,7 @@ impl OpenSection {
         }
     }
 
-    /// Takes a label after its trailer label: EOF2 and EOV2 record the form of its blocks too.
+    /// Processes a label after its trailer label: EOF2 and EOV2 record the form of its blocks too.
     fn with_trailer(self, read: Result<Head2, LabelFault>) -> OpenSection
         ensures { result ≡ Walk.with_trailer self read }
     {
@@ -136,7 +136,7 @@ impl OpenSection {
         }
     }
 
-    /// Whether this is its trailer label.
+    /// Returns whether `trail` is the section's trailer label.
     fn closes(&self, trail: &Trail1) -> bool
         ensures { result ≡ Walk.closes self.now trail.now }
     {
@@ -144,7 +144,7 @@ impl OpenSection {
     }
 }
 
-/// The form of the file's blocks that a second label records.
+/// Returns the form of the file's blocks that a second label records.
 fn form_by(file_id: Field<17>, read: Result<Head2, LabelFault>) -> Option<Known>
     ensures { result ≡ Walk.form_by file_id read }
 {
@@ -160,7 +160,8 @@ fn form_by(file_id: Field<17>, read: Result<Head2, LabelFault>) -> Option<Known>
     }
 }
 
-/// After a block at which a section's second label is expected. Some systems wrote none.
+/// Returns what is expected after a block in place of a section's second label. Some systems did
+/// not write this label.
 fn second_by(section: OpenSection, kind: Option<Kind>, read: Result<Head2, LabelFault>) -> Expected
     ensures { result ≡ Walk.second_by section kind read }
 {
@@ -173,7 +174,8 @@ fn second_by(section: OpenSection, kind: Option<Kind>, read: Result<Head2, Label
     }
 }
 
-/// After a block at which a section's trailer label is expected, and which is not it.
+/// Returns what is expected after a block, other than the section's trailer label, in place of that
+/// label.
 fn unclosed_by(
     section: OpenSection,
     read: Result<Head1, LabelFault>,
@@ -183,7 +185,7 @@ fn unclosed_by(
     (begun_by(read, Expected::Outside(0)), Some((section, None)))
 }
 
-/// After a block at which a section's trailer label is expected.
+/// Returns what is expected after a block in place of a section's trailer label.
 fn closed_by(
     section: OpenSection,
     read: Result<Trail1, LabelFault>,
@@ -203,7 +205,8 @@ fn closed_by(
     }
 }
 
-/// Returns what is expected before so many items and then the data of this section.
+/// Returns what is expected before `items` items that are skipped, followed by the data of the
+/// section.
 pub fn skipping(items: u64, section: OpenSection) -> Expected
     ensures { result ≡ Walk.skipping items section }
 {
@@ -213,7 +216,7 @@ pub fn skipping(items: u64, section: OpenSection) -> Expected
     Expected::Skipping(items, section)
 }
 
-/// After a block, with the section that ended there.
+/// Returns what is expected after a block, and the section that ended there, if any.
 fn block_step(expected: Expected, bytes: &[u8]) -> (Expected, Option<FoundSection>)
     ensures { result ≡ Walk.step expected (block bytes.now) }
 {
@@ -240,7 +243,7 @@ fn block_step(expected: Expected, bytes: &[u8]) -> (Expected, Option<FoundSectio
     }
 }
 
-/// After a tape mark, with the section that ended there.
+/// Returns what is expected after a tape mark, and the section that ended there, if any.
 fn mark_step(expected: Expected) -> (Expected, Option<FoundSection>)
     ensures { result ≡ Walk.step expected mark }
 {
@@ -259,7 +262,7 @@ fn mark_step(expected: Expected) -> (Expected, Option<FoundSection>)
     }
 }
 
-/// After an item that could not be read, with the section that ended there.
+/// Returns what is expected after an unreadable item, and the section that ended there, if any.
 fn bad_step(expected: Expected) -> (Expected, Option<FoundSection>)
     ensures { result ≡ Walk.step expected bad }
 {
@@ -283,7 +286,7 @@ fn bad_step(expected: Expected) -> (Expected, Option<FoundSection>)
     }
 }
 
-/// Returns what is expected after an item, and the section that ended there, if one did.
+/// Returns what is expected after an item, and the section that ended there, if any.
 pub fn step(expected: Expected, item: Item<'_>) -> (Expected, Option<FoundSection>)
     ensures { result ≡ Walk.step expected (tape_item item.entry) }
 {
@@ -295,7 +298,7 @@ pub fn step(expected: Expected, item: Item<'_>) -> (Expected, Option<FoundSectio
 }
 
 impl Expected {
-    /// Returns the section that is under way, if the items end here.
+    /// Returns the current section, if the items end here.
     pub fn open_section(&self) -> Option<FoundSection>
         ensures { result ≡ Walk.open_section self.now }
     {

@@ -22,8 +22,8 @@ use tape_set::Position;
 
 impl<S: PartSink> Session<S> {
     /// Continues a reel where the session of an earlier file of the set completed a section: the
-    /// reader's position is after the section's trailer label. The result is as if this session had
-    /// read the reel from its start (`laws::passes_files`), but each byte is read once.
+    /// reader's position is after the section's trailer label. The result is the same as if this
+    /// session had read the reel from its start (`laws::passes_files`), but each byte is read once.
     ///
     /// # Errors
     ///
@@ -47,10 +47,11 @@ impl<S: PartSink> Session<S> {
             S.refusals self.new.sink ≡ S.refusals self.old.sink) }
         ensures refuses { IfErr result (λ fault. Refuses S.PartSink fault self.old self.new) }
         ensures unread { IfErr result (λ fault. Leaves fault (behind_of self.old.core)
-            (R.remaining device.old) (R.remaining device.new)) }
+            (R.remaining device.old) (R.remaining device.new) self.new.core) }
         ensures answer { IfOk result (λ answer. IfKnown (R.remaining device.old)
             (R.remaining device.new)
-            (λ bytes left. ReadsBehind self.old.core.position self.old.core bytes left answer)) }
+            (λ bytes left. ReadsBehind self.old.core.position self.old.core bytes left answer
+            self.new.core)) }
         ensures complete { IfOk result (λ answer. answer.answer ≡ Answer.Complete
             → self.new.core.position ≡ Position.Finished) }
         ensures finished { IfOk result (λ answer.

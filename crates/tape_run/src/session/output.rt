@@ -15,8 +15,8 @@ use tape_blocks::Form;
 use tape_core::PartWalk;
 
 impl<S: PartWalk> Session<S> {
-    /// Writes the records that what was delivered so far joins to, as `write_file` does those of a
-    /// sink: for an incomplete file, the records before the first missing part.
+    /// Writes the records of the parts delivered so far, as `write_file` does for a sink: for an
+    /// incomplete file, the records before the first missing part.
     ///
     /// # Errors
     ///

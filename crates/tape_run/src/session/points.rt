@@ -1,4 +1,4 @@
-//! Whether the last checkpoint has the session's position.
+//! Comparisons of checkpoints with the session's position.
 
 ghost use Rattle.std.specs.Prelude.{◌≡◌, ◌≢◌};
 ghost use Rattle.std.specs.Bool.{OnTrue, OnFalse};
@@ -24,7 +24,7 @@ impl<S: PartSink> Session<S> {
     }
 }
 
-/// Returns whether the same is known of a file.
+/// Returns whether both forms are the same.
 fn same_form(one: &Known, other: &Known) -> bool
     ensures yes { OnTrue result (one.now ≡ other.now) }
     ensures no { OnFalse result (one.now ≢ other.now) }
@@ -35,7 +35,7 @@ fn same_form(one: &Known, other: &Known) -> bool
         && same_field(&one.file_id, &other.file_id)
 }
 
-/// Returns whether the same is known of a file, or nothing in both cases.
+/// Returns whether both are the same form, or both unknown.
 fn same_known(one: &Option<Known>, other: &Option<Known>) -> bool
     ensures yes { OnTrue result (one.now ≡ other.now) }
     ensures no { OnFalse result (one.now ≢ other.now) }

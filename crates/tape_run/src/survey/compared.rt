@@ -1,4 +1,4 @@
-//! What a survey says of sections with more than one complete copy.
+//! The report of a survey on sections with more than one complete copy.
 ghost use Rattle.std.specs.Prelude.{◌≡◌, ◌<◌, ◌+◌, ◌++◌, length, take, map, IfOk, OnOk};
 ghost use Rattle.tape_run.specs.SurveyCompared.{section_front, row_front, name_at};
 ghost use Rattle.tape_run.specs.SurveyCompared.{agreed_text, conflict_text, verdict_text, other_name};
@@ -12,7 +12,7 @@ use crate::section::SectionKey;
 use crate::text::{Text, put, put_decimal, put_trimmed};
 use std::alloc::{AllocError, Global};
 
-/// The section of a line.
+/// Returns the section of a line.
 fn section_front(key: &SectionKey) -> Text
     ensures { result.items ≡ section_front key.now }
 {
@@ -26,7 +26,7 @@ fn section_front(key: &SectionKey) -> Text
     text
 }
 
-/// How many copies agree.
+/// Returns how many copies agree.
 fn agreed_text(copies: u32) -> Text
     ensures { result.items ≡ agreed_text copies }
 {
@@ -37,7 +37,7 @@ fn agreed_text(copies: u32) -> Text
     text
 }
 
-/// Appends the name of the image with this number.
+/// Appends the name of image number `image`.
 #[tactic(auto, using(crate::proofs::SurveyCompared::is_name, crate::proofs::SurveyCompared::no_name))]
 fn add_name(
     alloc: Global,
@@ -74,7 +74,7 @@ fn add_conflict(
     Ok(())
 }
 
-/// Appends what is reported of the copies of a section.
+/// Appends the result of comparing the copies of a section.
 fn add_verdict(
     alloc: Global,
     line: &mut Vec<u8>,
@@ -90,7 +90,7 @@ fn add_verdict(
     }
 }
 
-/// The line of a section.
+/// Returns the line about a section.
 fn copy_line(
     alloc: Global,
     names: &[&str],
@@ -106,7 +106,7 @@ fn copy_line(
     Ok(line)
 }
 
-/// The first columns of a section's row.
+/// Returns the first columns of a section's row.
 fn row_front(key: &SectionKey, copies: u32) -> Text
     ensures { result.items ≡ row_front key.now copies }
 {
@@ -123,7 +123,7 @@ fn row_front(key: &SectionKey, copies: u32) -> Text
     text
 }
 
-/// Appends the name of the image with a copy that differs, if there is one.
+/// Appends the name of the image whose copy differs, if any.
 fn add_other(
     alloc: Global,
     row: &mut Vec<u8>,
@@ -139,7 +139,7 @@ fn add_other(
     }
 }
 
-/// The last column of a section's row.
+/// Returns the last column of a section's row.
 fn verdict_cell(differs: bool) -> &'static [u8]
     ensures { result.now ≡ verdict_cell differs }
 {
@@ -150,7 +150,7 @@ fn verdict_cell(differs: bool) -> &'static [u8]
     }
 }
 
-/// The row of a section.
+/// Returns the row for a section.
 fn copy_row(
     alloc: Global,
     names: &[&str],
@@ -169,14 +169,14 @@ fn copy_row(
     Ok(row)
 }
 
-/// Whether a section has only one complete copy.
+/// Returns whether a section has only one complete copy.
 fn is_alone(note: &CopyNote) -> bool
     ensures { result ≡ is_alone note.now }
 {
     note.copies == 1 && note.other.is_none()
 }
 
-/// The text for a section.
+/// Returns the text for a section.
 fn copy_text(
     alloc: Global,
     wording: Wording,
@@ -219,7 +219,7 @@ fn add_place(
     Ok(())
 }
 
-/// Returns the text for each section of which more than one complete copy was found.
+/// Returns the text for each section with more than one complete copy.
 pub(crate) fn copies_text(
     alloc: Global,
     wording: Wording,

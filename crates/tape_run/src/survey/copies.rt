@@ -18,7 +18,7 @@ use std::alloc::Global;
 use std::marker::Model;
 use tape_label::Field;
 
-/// What is known of the complete copies of a section.
+/// The record of the complete copies of a section.
 #[derive(Clone, Copy)]
 pub struct CopyNote {
     /// The number of the image with the copy that was found first.
@@ -33,7 +33,7 @@ pub struct CopyNote {
     pub other: Option<usize>,
 }
 
-/// What is known of the complete copies of each section.
+/// The record of the complete copies of each section.
 pub(crate) type CopyNotes = IndexMap<SectionKey, CopyNote>;
 
 /// The files with a section whose copies differ, and the number of one such section of each.
@@ -59,7 +59,7 @@ impl Model for Copies {
 }
 
 impl Copies {
-    /// Returns that no copy was found. Does not allocate.
+    /// Creates an empty record, without copies. Does not allocate.
     pub(crate) fn new(alloc: Global) -> Copies
         ensures { result ≡ no_copies }
     {
@@ -69,8 +69,8 @@ impl Copies {
         }
     }
 
-    /// Adds a section that was completed on this image, if it is complete there, with the digest of
-    /// its data blocks.
+    /// Records the section that was completed on image number `image`, if it is complete there,
+    /// with the digest of its data blocks.
     pub(crate) fn note(
         &mut self,
         image: usize,
@@ -108,7 +108,7 @@ impl Copies {
         }
     }
 
-    /// What is known of a section after one more complete copy.
+    /// Returns the record of section `key` after one more complete copy.
     fn note_of(&self, image: usize, key: &SectionKey, blocks: u32, digest: u64) -> CopyNote
         ensures { result ≡ copy_note (noted_at self.now.notes key.now) image blocks digest }
     {
@@ -151,14 +151,14 @@ impl Copies {
         }
     }
 
-    /// A section of this file whose complete copies differ, if there is one.
+    /// Returns the number of a section of the file whose complete copies differ, if there is one.
     pub(crate) fn dispute(&self, key: &FileKey) -> Option<u16>
         ensures { result ≡ dispute_at self.now key.now }
     {
         self.conflicts.get(key).copied()
     }
 
-    /// Whether no file is in conflict.
+    /// Returns whether no file is in conflict.
     pub(crate) fn is_agreed(&self) -> bool
         ensures { result ≡ is_agreed self.now.conflicts }
     {

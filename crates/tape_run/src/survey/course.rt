@@ -7,7 +7,7 @@ ghost use Rattle.tape_run.specs.SurveyGlance.{behind_blank, course_with};
 use crate::passing::Phase;
 use tape_image::Item;
 
-/// What is expected next in the order of a volume.
+/// The next item expected in the order of a volume.
 #[derive(Clone, Copy)]
 pub enum ExpectedItem {
     /// `VOL1`.
@@ -31,17 +31,17 @@ pub enum ExpectedItem {
 /// How far the items follow the order of a volume.
 #[derive(Clone, Copy)]
 pub enum LabelOrder {
-    /// They do, and the volume continues.
+    /// All items do so far, and the volume continues.
     Follows,
     /// One tape mark follows the volume labels: the volume is blank if a second one follows.
     Blank,
-    /// They do, up to the volume's end.
+    /// All items do, up to the volume's end.
     Ended,
-    /// The item with this number, counted from 1, is the first that was not expected.
+    /// The number, counted from 1, of the first item that was not expected.
     Leaves(u32, ExpectedItem),
 }
 
-/// What is expected in a phase.
+/// Returns the item expected in a phase.
 fn wanted_in(phase: Phase) -> ExpectedItem
     ensures { result ≡ wanted_in phase }
 {
@@ -56,8 +56,8 @@ fn wanted_in(phase: Phase) -> ExpectedItem
     }
 }
 
-/// The course after an item that follows the order or leaves it, with this number and the phases
-/// before and after it.
+/// Returns the label order after item `number`, which is in order or not; `phase` and `next` are
+/// the phases before and after it.
 fn left_by(number: u32, phase: Phase, next: Phase) -> LabelOrder
     ensures { result ≡ left_by number phase next }
 {
@@ -67,7 +67,8 @@ fn left_by(number: u32, phase: Phase, next: Phase) -> LabelOrder
     }
 }
 
-/// The course after a tape mark, if all items before it follow the order and the volume continues.
+/// Returns the label order after a tape mark, if all items before it are in order and the volume
+/// continues.
 fn behind_mark(number: u32, phase: Phase, next: Phase) -> LabelOrder
     ensures { result ≡ behind_mark number phase next }
 {
@@ -78,7 +79,8 @@ fn behind_mark(number: u32, phase: Phase, next: Phase) -> LabelOrder
     }
 }
 
-/// The course after an item, if all items before it follow the order and the volume continues.
+/// Returns the label order after an item, if all items before it are in order and the volume
+/// continues.
 fn behind(number: u32, phase: Phase, item: Item<'_>, next: Phase) -> LabelOrder
     ensures { result ≡ behind number phase (tape_item item.entry) next }
 {
@@ -88,7 +90,7 @@ fn behind(number: u32, phase: Phase, item: Item<'_>, next: Phase) -> LabelOrder
     }
 }
 
-/// The course after an item where a second tape mark is expected.
+/// Returns the label order after an item in place of the second tape mark.
 fn behind_blank(number: u32, item: Item<'_>) -> LabelOrder
     ensures { result ≡ behind_blank number (tape_item item.entry) }
 {
@@ -98,7 +100,7 @@ fn behind_blank(number: u32, item: Item<'_>) -> LabelOrder
     }
 }
 
-/// The course after an item.
+/// Returns the label order after an item.
 pub(crate) fn course_with(
     course: LabelOrder,
     number: u32,

@@ -1,4 +1,4 @@
-//! What a survey says of the damaged sections on an image.
+//! The part of a survey about the damaged sections on an image.
 ghost use Rattle.std.specs.Prelude.{◌≡◌, Some};
 ghost use Rattle.tape_run.specs.SurveyLine.{damage_text, damaged_text, more_text, damages_text};
 
@@ -6,7 +6,7 @@ use super::glance::ImageSummary;
 use crate::section::{SectionLine, SectionState};
 use std::fmt;
 
-/// Returns what is wrong with a section in this state.
+/// Returns the fault of a section in the given state.
 pub(super) fn damage_text(state: SectionState) -> &'static str
     ensures { result.now ≡ damage_text state }
 {

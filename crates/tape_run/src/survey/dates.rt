@@ -14,7 +14,7 @@ pub(crate) struct Date {
     day: u16,
 }
 
-/// The first year of the century that a character of a label means.
+/// Returns the first year of the century that a character of a label represents.
 fn century(byte: u8) -> Option<u16>
     ensures value { result ≡ century byte }
     ensures small { IfSome result (λ year. year ≤ 2000) }
@@ -26,22 +26,22 @@ fn century(byte: u8) -> Option<u16>
     }
 }
 
-/// Whether a year has 366 days.
+/// Returns whether a year has 366 days.
 fn is_leap(year: u16) -> bool
     ensures { result ≡ is_leap year }
 {
     year % 4 == 0 && (year % 100 != 0 || year % 400 == 0)
 }
 
-/// How many days February has.
+/// Returns how many days February has.
 fn february(year: u16) -> u16
     ensures { result ≡ february year }
 {
     if is_leap(year) { 29 } else { 28 }
 }
 
-/// The date of a day, counted from the first one of the last months of a year, which have these
-/// numbers of days.
+/// Returns the date of day number `day` of the last months of a year, which have the given numbers
+/// of days.
 fn in_months(lengths: &[u16], year: u16, day: u16) -> Option<Date>
     ensures { result ≡ in_months lengths.now year day }
 {
@@ -57,7 +57,7 @@ fn in_months(lengths: &[u16], year: u16, day: u16) -> Option<Date>
     }
 }
 
-/// The date of a day of a year, counted from 1.
+/// Returns the date of a day of a year, counted from 1.
 fn in_year(year: u16, day: u16) -> Option<Date>
     ensures { result ≡ in_year year day }
 {
@@ -68,7 +68,7 @@ fn in_year(year: u16, day: u16) -> Option<Date>
     in_months(&lengths, year, day)
 }
 
-/// The date whose year in its century and day of the year are these five digits.
+/// Returns the date whose five digits are the year in its century and the day of the year.
 fn in_century(first: Option<u16>, digits: u64) -> Option<Date>
     requires few { digits ≤ 99999 }
     requires small { IfSome first (λ year. year ≤ 2000) }
@@ -80,7 +80,7 @@ fn in_century(first: Option<u16>, digits: u64) -> Option<Date>
     }
 }
 
-/// The date that the six characters of a label are, if they are one.
+/// Returns the date in the six characters of a label, if they are a date.
 fn date_of(field: &Field<6>) -> Option<Date>
     ensures { result ≡ date_of field.now }
 {
@@ -93,7 +93,7 @@ fn date_of(field: &Field<6>) -> Option<Date>
     }
 }
 
-/// The date of a label, as in 1985-04-23; spaces if it has none.
+/// The date of a label, for example 1985-04-23, or spaces if there is none.
 #[derive(Clone, Copy)]
 pub(crate) struct DateText<'a>(pub(crate) &'a Field<6>);
 

@@ -1,4 +1,4 @@
-//! What a survey says of an image: the facts of its description.
+//! The facts in a survey's description of an image.
 ghost use Rattle.std.specs.Prelude.{◌≡◌, Some};
 ghost use Rattle.tape_run.specs.SurveyLine.{first_text, written_text, system_text, files_text};
 ghost use Rattle.tape_run.specs.SurveyLine.{bad_text, late_text, unread_text, wanted_text, is_told};
@@ -111,7 +111,7 @@ impl fmt::Display for BadText {
     }
 }
 
-/// A volume label that follows something else.
+/// A volume label that follows another item.
 #[derive(Clone, Copy)]
 struct LateText(&'static str, Option<u32>);
 
@@ -212,7 +212,7 @@ impl fmt::Display for LeftText {
     }
 }
 
-/// Whether to say what was expected; that no volume label was found is said before.
+/// Returns whether to print what was expected: a missing volume label is reported already.
 fn is_told(wanted: ExpectedItem) -> bool
     ensures { result ≡ is_told wanted }
 {
@@ -271,7 +271,7 @@ impl fmt::Display for FaultText {
     }
 }
 
-/// A fault with this number at this offset, and what the image probably is.
+/// A fault's number and offset, and what the image probably is.
 #[derive(Clone, Copy)]
 struct FaultAt(&'static str, u8, u64, &'static str);
 
@@ -284,7 +284,7 @@ impl fmt::Display for FaultAt {
     }
 }
 
-/// Whether nothing of it reads as an image.
+/// Returns whether no item of it can be read, so that it is probably not an image.
 pub(super) fn is_no_image(fault: &ImageFault) -> bool
     ensures { result ≡ is_no_image fault.now }
 {
@@ -302,7 +302,7 @@ fn guess_text(fault: &ImageFault) -> &'static str
     }
 }
 
-/// What an image contains, with this text between two facts.
+/// The contents of an image, with a text between two facts.
 #[derive(Clone, Copy)]
 struct GlanceText<'a>(&'static str, &'a ImageSummary);
 
@@ -321,7 +321,7 @@ impl fmt::Display for GlanceText<'_> {
     }
 }
 
-/// What an image is, with this text between two facts.
+/// The description of an image, with a text between two facts.
 #[derive(Clone, Copy)]
 pub(super) struct SeenText<'a>(pub(super) &'static str, pub(super) &'a ImageSurvey);
 

@@ -17,7 +17,7 @@ pub struct FileKey {
     pub file: u16,
 }
 
-/// What header labels say of a file.
+/// The contents of the header labels of a file.
 #[derive(Clone, Copy)]
 pub struct FileNote {
     /// The label that was found first.
@@ -26,7 +26,7 @@ pub struct FileNote {
     pub differs: bool,
 }
 
-/// What is known of each file.
+/// The record of each file.
 pub(crate) type Files = IndexMap<FileKey, FileNote>;
 
 /// Returns whether header labels with one number belong to different files: by the file identifier,
@@ -39,7 +39,7 @@ fn is_other(first: &Head1, second: &Head1) -> bool
         || first.generation != second.generation
 }
 
-/// What is known of a file after one more of its labels.
+/// Returns the record of a file after one more of its labels.
 fn note_of(files: &Files, key: &FileKey, head: Head1) -> FileNote
     ensures { result ≡ note_of (lookup (same_file key.now) files.now.entries) head }
 {
@@ -71,7 +71,7 @@ fn note_head(files: &mut Files, head: Head1) -> Result<(), RunFault>
     }
 }
 
-/// Adds the header label that was found, if there was one.
+/// Records the header label that was found, if any.
 pub(crate) fn note_met(files: &mut Files, head: Option<Head1>) -> Result<(), RunFault>
     ensures fault { IsOkUnless result faults.OutOfMemory }
     ensures ok { OnOk result (files.new.entries ≡ with_met files.old.entries head) }

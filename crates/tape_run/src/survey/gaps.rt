@@ -1,4 +1,4 @@
-//! Numbers between those of files that were found.
+//! File numbers that were not found, between those that were.
 ghost use Rattle.std.specs.Prelude.{◌≡◌, ◌≤◌, ◌<◌, ◌-◌, ◌++◌};
 ghost use Rattle.arrayvec.specs.ArrayVec.{array_vec_len};
 ghost use Rattle.tape_run.specs.SurveyGaps.{is_found, gap_first, numbers_text, gap_line, gap_row};
@@ -17,7 +17,7 @@ pub(crate) fn is_found(findings: &Findings, set_id: Field<6>, file: u16) -> bool
     findings.files.get(&FileKey { set_id, file }).is_some()
 }
 
-/// The first number after the last file before this one that was found, or 1.
+/// Returns the number after that of the last file found before `file`, or 1.
 pub(crate) fn gap_first(findings: &Findings, set_id: Field<6>, file: u16) -> u16
     requires { 0 < file }
     ensures value { result ≡ gap_first findings.now set_id (file - 1) }
@@ -33,7 +33,7 @@ pub(crate) fn gap_first(findings: &Findings, set_id: Field<6>, file: u16) -> u16
     first
 }
 
-/// The numbers from the first one up to the one before a file.
+/// Appends the file numbers `first` to `file - 1`.
 fn put_numbers(text: &mut Text, first: u16, file: u16)
     requires some { first < file }
     requires room { array_vec_len text.old ≤ 100 }
@@ -48,8 +48,8 @@ fn put_numbers(text: &mut Text, first: u16, file: u16)
     }
 }
 
-/// Returns the line of `unpack` for numbers of which no label was found: from the first one up to
-/// the one before a file.
+/// Returns the line of `unpack` for the file numbers `first` to `file - 1`, for which no label was
+/// found.
 pub fn numbers_line(set_id: &Field<6>, first: u16, file: u16) -> Text
     requires { first < file }
     ensures { result.items ≡ numbers_line set_id.now first file }
@@ -63,7 +63,7 @@ pub fn numbers_line(set_id: &Field<6>, first: u16, file: u16) -> Text
     text
 }
 
-/// The line of numbers of which no label was found.
+/// Returns the line for the file numbers `first` to `file - 1`, for which no label was found.
 fn gap_line(first: u16, file: u16) -> Text
     requires { first < file }
     ensures { result.items ≡ gap_line first file }
@@ -82,7 +82,7 @@ fn gap_line(first: u16, file: u16) -> Text
     text
 }
 
-/// The row of numbers of which no label was found.
+/// Returns the row for the file numbers `first` to `file - 1`, for which no label was found.
 fn gap_row(set_id: Field<6>, first: u16, file: u16) -> Text
     requires { first < file }
     ensures { result.items ≡ gap_row set_id first file }
@@ -96,7 +96,7 @@ fn gap_row(set_id: Field<6>, first: u16, file: u16) -> Text
     text
 }
 
-/// The text for the numbers from the first one up to the one before a file.
+/// Returns the text for the file numbers `first` to `file - 1`, for which no label was found.
 pub(crate) fn gap_text(wording: Wording, set_id: Field<6>, first: u16, file: u16) -> Text
     ensures { result.items ≡ gap_text wording set_id first file }
 {

@@ -28,7 +28,7 @@ pub enum First {
     Volume(Vol1),
     /// A volume label in EBCDIC.
     Ebcdic,
-    /// Another block, of this length.
+    /// Another block, of the given length.
     Block(u64),
     /// An unreadable block.
     Bad,
@@ -43,7 +43,7 @@ pub struct ImageSummary {
     pub items: u32,
     /// What it begins with.
     pub first: First,
-    /// The number of the first item after the first item that is a volume label.
+    /// The number of the first volume label after the first item.
     pub late: Option<u32>,
     /// The first section's `HDR1`.
     pub head: Option<Head1>,
@@ -51,7 +51,7 @@ pub struct ImageSummary {
     pub files: u32,
     /// How many blocks are unreadable.
     pub bad: u32,
-    /// The number of the first file whose `HDR2` is not one that is read.
+    /// The number of the first file whose `HDR2` is not supported.
     pub unread: Option<u16>,
     /// The first section on it that was read to its end and is damaged.
     pub damage: Option<SectionLine>,
@@ -63,7 +63,7 @@ pub struct ImageSummary {
     pub course: LabelOrder,
 }
 
-/// Nothing was looked at yet.
+/// Returns the summary of an unread image.
 pub(crate) fn blank_glance() -> ImageSummary
     ensures { result ≡ blank_glance }
 {
@@ -82,7 +82,7 @@ pub(crate) fn blank_glance() -> ImageSummary
     }
 }
 
-/// Whether a block is a volume label in EBCDIC, by its length and its first four bytes.
+/// Returns whether a block is a volume label in EBCDIC, by its length and its first four bytes.
 #[tactic(auto, unfolding(crate::specs::SurveyGlance::is_ebcdic))]
 fn is_ebcdic(block: &[u8]) -> bool
     ensures { result ≡ is_ebcdic block.now }
@@ -90,7 +90,7 @@ fn is_ebcdic(block: &[u8]) -> bool
     block.len() == 80 && &block[..4] == b"\xE5\xD6\xD3\xF1".as_slice()
 }
 
-/// What an image with this first item begins with.
+/// Returns what an image begins with whose first item is `item`.
 fn first_of(item: Item<'_>) -> First
     ensures { result ≡ first_of (tape_item item.entry) }
 {
@@ -101,7 +101,7 @@ fn first_of(item: Item<'_>) -> First
     }
 }
 
-/// What an image with this first block begins with.
+/// Returns what an image begins with whose first block is `bytes`.
 fn first_block(bytes: &[u8]) -> First
     ensures { result ≡ first_block bytes.now }
 {
@@ -111,7 +111,7 @@ fn first_block(bytes: &[u8]) -> First
     }
 }
 
-/// The same for a block that is not a supported volume label.
+/// Returns what an image begins with whose first block is not a supported volume label.
 fn first_other(bytes: &[u8]) -> First
     ensures { result ≡ first_other bytes.now }
 {
@@ -121,7 +121,7 @@ fn first_other(bytes: &[u8]) -> First
     First::Block(bytes.len() as u64)
 }
 
-/// What an image begins with, given the item with this number.
+/// Returns what an image begins with, after its item `number`.
 fn first_with(first: &First, number: u32, item: Item<'_>) -> First
     ensures { result ≡ first_with first.now number (tape_item item.entry) }
 {
@@ -131,7 +131,7 @@ fn first_with(first: &First, number: u32, item: Item<'_>) -> First
     *first
 }
 
-/// Whether an item is a volume label.
+/// Returns whether an item is a volume label.
 fn is_vol1(item: Item<'_>) -> bool
     ensures { result ≡ is_vol1 (tape_item item.entry) }
 {
@@ -141,7 +141,7 @@ fn is_vol1(item: Item<'_>) -> bool
     }
 }
 
-/// Whether a block is a volume label.
+/// Returns whether a block is a volume label.
 fn begins_volume(bytes: &[u8]) -> bool
     ensures { result ≡ is_kind_vol1 (kind_at bytes.now) }
 {
@@ -151,7 +151,7 @@ fn begins_volume(bytes: &[u8]) -> bool
     }
 }
 
-/// The header label that an item is, if a section may begin there.
+/// Returns the header label that an item is, if a section may begin there.
 pub(crate) fn head_in(phase: &Phase, item: Item<'_>) -> Option<Head1>
     ensures { result ≡ head_in phase.now (tape_item item.entry) }
 {
@@ -161,7 +161,7 @@ pub(crate) fn head_in(phase: &Phase, item: Item<'_>) -> Option<Head1>
     }
 }
 
-/// The header label that a block is, if a section may begin there.
+/// Returns the block as a header label, if it is one and a section may begin there.
 fn head_at(phase: &Phase, bytes: &[u8]) -> Option<Head1>
     ensures { result ≡ head_at phase.now bytes.now }
 {
@@ -171,7 +171,7 @@ fn head_at(phase: &Phase, bytes: &[u8]) -> Option<Head1>
     }
 }
 
-/// The header label that a block is, if it is one.
+/// Returns the header label in a block, if it is one.
 fn head_of(bytes: &[u8]) -> Option<Head1>
     ensures { result ≡ head_of bytes.now }
 {
@@ -181,7 +181,7 @@ fn head_of(bytes: &[u8]) -> Option<Head1>
     }
 }
 
-/// The file of which this item is an `HDR2` that is not read.
+/// Returns the number of the file whose unsupported `HDR2` the item is, if it is one.
 fn unread_in(phase: &Phase, item: Item<'_>) -> Option<u16>
     ensures { result ≡ unread_in phase.now (tape_item item.entry) }
 {
@@ -191,7 +191,7 @@ fn unread_in(phase: &Phase, item: Item<'_>) -> Option<u16>
     }
 }
 
-/// The file of which this block is an `HDR2` that is not read.
+/// Returns the number of the file whose unsupported `HDR2` the block is, if it is one.
 fn unread_at(phase: &Phase, bytes: &[u8]) -> Option<u16>
     ensures { result ≡ unread_at phase.now bytes.now }
 {
@@ -201,7 +201,7 @@ fn unread_at(phase: &Phase, bytes: &[u8]) -> Option<u16>
     }
 }
 
-/// The same, if a second label of this file is expected.
+/// Returns `file` if the block is an unsupported `HDR2`; a second label of that file is expected.
 fn unread_by(file: u16, bytes: &[u8]) -> Option<u16>
     ensures { result ≡ unread_by file (kind_at bytes.now) bytes.now }
 {
@@ -211,7 +211,7 @@ fn unread_by(file: u16, bytes: &[u8]) -> Option<u16>
     }
 }
 
-/// The file, if this `HDR2` of it is not one that is read.
+/// Returns `file` if the `HDR2` is unsupported.
 fn unread_head(file: u16, bytes: &[u8]) -> Option<u16>
     ensures { result ≡ unread_with file (head2_at bytes.now) }
 {
@@ -221,7 +221,7 @@ fn unread_head(file: u16, bytes: &[u8]) -> Option<u16>
     }
 }
 
-/// Whether an item is an unreadable block.
+/// Returns whether an item is an unreadable block.
 fn is_bad(item: Item<'_>) -> bool
     ensures { result ≡ is_bad (tape_item item.entry) }
 {
@@ -231,7 +231,7 @@ fn is_bad(item: Item<'_>) -> bool
     }
 }
 
-/// One, if this is so.
+/// Returns 1 if `so` is true, otherwise 0.
 pub(crate) fn one_if(so: bool) -> u32
     ensures exact { result ≡ one_if so }
     ensures most { result ≤ 1 }
@@ -239,7 +239,7 @@ pub(crate) fn one_if(so: bool) -> u32
     if so { 1 } else { 0 }
 }
 
-/// How many sections a header label begins, if there is one.
+/// Returns 1 if there is a header label, otherwise 0.
 fn one_head(head: &Option<Head1>) -> u32
     ensures exact { result ≡ one_head head.now }
     ensures most { result ≤ 1 }
@@ -250,7 +250,7 @@ fn one_head(head: &Option<Head1>) -> u32
     }
 }
 
-/// The first of two that exists.
+/// Returns the first of two values that exists.
 pub(crate) fn or_else<T: Copy>(first: Option<T>, second: Option<T>) -> Option<T>
     ensures { result ≡ or_else first second }
 {
@@ -260,7 +260,7 @@ pub(crate) fn or_else<T: Copy>(first: Option<T>, second: Option<T>) -> Option<T>
     }
 }
 
-/// What is known of a section that was found, if one was.
+/// Returns the entry of the section that was found, if any.
 fn line_in(told: &Option<Told>) -> Option<SectionLine>
     ensures { result ≡ line_in told.now }
 {
@@ -270,7 +270,7 @@ fn line_in(told: &Option<Told>) -> Option<SectionLine>
     }
 }
 
-/// The same if the section is damaged.
+/// Returns the entry of the section that was found, if it is damaged.
 fn damage_in(told: &Option<Told>) -> Option<SectionLine>
     ensures { result ≡ damage_in told.now }
 {
@@ -280,14 +280,14 @@ fn damage_in(told: &Option<Told>) -> Option<SectionLine>
     }
 }
 
-/// Whether there are both.
+/// Returns whether there are both.
 fn is_second(first: &Option<SectionLine>, second: &Option<SectionLine>) -> bool
     ensures { result ≡ is_second first.now second.now }
 {
     first.is_some() && second.is_some()
 }
 
-/// The glance after one more item, with the phases before and after it.
+/// Returns the summary after one more item, with the phases before and after it.
 pub(crate) fn look(
     glance: &ImageSummary,
     phase: &Phase,
@@ -319,7 +319,7 @@ pub(crate) fn look(
     }
 }
 
-/// The number of the first volume label after the first item, given the item with this number.
+/// Returns the number of the first volume label after the first item, after item `number`.
 fn late_with(late: Option<u32>, number: u32, item: Item<'_>) -> Option<u32>
     ensures { result ≡ late_with late number (tape_item item.entry) }
 {

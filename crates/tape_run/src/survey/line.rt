@@ -11,7 +11,7 @@ use super::view::{ImageSurvey, is_end, is_ended};
 use crate::section::ImageStop;
 use std::fmt;
 
-/// How many columns a name has at least.
+/// The minimum width of a name in columns.
 const NAME: usize = 24;
 
 /// The state of an image that was opened.
@@ -85,7 +85,7 @@ fn state_word(state: ImageState) -> &'static str
     }
 }
 
-/// Spaces after a name of this length, so that the next column is the same for all.
+/// The spaces after a name of a given length, which align the next column.
 #[derive(Clone, Copy)]
 struct Spaces(usize);
 
@@ -100,7 +100,7 @@ impl fmt::Display for Spaces {
     }
 }
 
-/// The state of an image and what it is, each fact after the first on a line of its own.
+/// The state of an image and its description, with each fact after the first on a separate line.
 #[derive(Clone, Copy)]
 struct OpenedText<'a>(&'a ImageSurvey);
 
@@ -114,7 +114,7 @@ impl fmt::Display for OpenedText<'_> {
     }
 }
 
-/// The line of an image after its name, which has this length.
+/// The line about an image after its name, with the length of the name.
 #[derive(Clone, Copy)]
 pub(crate) struct LineEnd<'a>(pub(crate) usize, pub(crate) &'a Option<ImageSurvey>);
 

@@ -22,7 +22,7 @@ use tape_label::Field;
 /// The greatest number of a section.
 const MOST: u16 = 9_999;
 
-/// The line of a damaged section.
+/// The line about a damaged section.
 #[derive(Clone, Copy)]
 struct DamageLine {
     sect: u16,
@@ -43,7 +43,7 @@ impl fmt::Display for DamageLine {
     }
 }
 
-/// The numbers from the first one up to the one before the next.
+/// The numbers from one up to another, without the last.
 #[derive(Clone, Copy)]
 struct Numbers {
     first: u16,
@@ -64,7 +64,7 @@ impl fmt::Display for Numbers {
     }
 }
 
-/// Where to look for missing sections, if this is known of the one before them.
+/// Where to look for missing sections, if the section before them is known.
 #[derive(Clone, Copy)]
 struct Where(Option<Entry>);
 
@@ -82,7 +82,7 @@ impl fmt::Display for Where {
     }
 }
 
-/// The line of missing sections, from the first one up to the one before the next.
+/// The line about missing sections: the first one, and the one after the last.
 #[derive(Clone, Copy)]
 struct MissingLine {
     numbers: Numbers,
@@ -171,7 +171,7 @@ fn add_missing(
     add_numbers(alloc, texts, wording, sections, first, next)
 }
 
-/// What is known of the section before this one.
+/// Returns the entry of the section before section `key`.
 fn before_of(sections: &Sections, key: &SectionKey) -> Option<Entry>
     ensures { result ≡ entry_at sections.now.entries
         (key_at key.now.set_id key.now.file (key.now.sect - 1)) }
@@ -238,7 +238,7 @@ fn add_section(
     }
 }
 
-/// Whether no trailer label of a section was found.
+/// Returns whether no trailer label of a section was found.
 fn is_cut(state: SectionState) -> bool
     ensures { result ≡ is_cut state }
 {
@@ -278,7 +278,7 @@ fn add_next(
     add_numbers(alloc, texts, wording, sections, first, first.sect + 1)
 }
 
-/// The same for this many sections.
+/// Appends the lines about the first `most` sections of a file.
 fn add_sections(
     alloc: Global,
     texts: &mut Vec<u8>,

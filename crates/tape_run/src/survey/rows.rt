@@ -1,4 +1,4 @@
-//! The rows of a survey, for scripts, with a tab between columns.
+//! The rows of a survey, for scripts, with tab-separated columns.
 ghost use Rattle.std.specs.Prelude.{◌≡◌, ◌≤◌, ◌+◌, ◌++◌, length, decimal, codes, option_map};
 ghost use Rattle.arrayvec.specs.ArrayVec.{array_vec_len};
 ghost use Rattle.tape_run.specs.SurveyRows.{whole_cell, volume_cell, head_cells, count_cells};
@@ -15,7 +15,7 @@ use crate::section::{Entry, SectionKey};
 use crate::text::{Text, put, put_decimal, put_trimmed};
 use tape_label::{Field, Head1};
 
-/// A tab.
+/// Appends a tab.
 fn put_tab(text: &mut Text)
     requires { array_vec_len text.old ≤ 1000 }
     ensures items { text.new.items ≡ text.old.items ++ codes "\t" }
@@ -24,7 +24,7 @@ fn put_tab(text: &mut Text)
     put(text, b"\t");
 }
 
-/// A number that is no greater than 32 bits.
+/// Appends a number of at most 32 bits.
 fn put_count(text: &mut Text, number: u32)
     requires { array_vec_len text.old ≤ 980 }
     ensures items { text.new.items ≡ text.old.items ++ decimal number }
@@ -33,7 +33,7 @@ fn put_count(text: &mut Text, number: u32)
     put_decimal(text, u64::from(number));
 }
 
-/// The columns of an image between its name and the words at the end.
+/// Returns the columns of an image between its name and the words at the end.
 pub(crate) fn middle_cells(sight: &Option<ImageSurvey>) -> Text
     ensures { result.items ≡ middle_cells sight.now }
 {
@@ -44,7 +44,7 @@ pub(crate) fn middle_cells(sight: &Option<ImageSurvey>) -> Text
     text
 }
 
-/// What an image is, or that it was not opened.
+/// Appends what an image is, or that it was not opened.
 fn put_sight(text: &mut Text, sight: &Option<ImageSurvey>)
     requires room { array_vec_len text.old ≤ 1 }
     ensures items { text.new.items ≡ text.old.items ++ sight_cells sight.now }
@@ -56,7 +56,7 @@ fn put_sight(text: &mut Text, sight: &Option<ImageSurvey>)
     }
 }
 
-/// What an image is.
+/// Appends what an image is.
 fn put_seen(text: &mut Text, sight: &ImageSurvey)
     requires room { array_vec_len text.old ≤ 1 }
     ensures items { text.new.items ≡ text.old.items ++ seen_cells sight.now }
@@ -73,7 +73,7 @@ fn put_seen(text: &mut Text, sight: &ImageSurvey)
     put(text, &stop_text(&sight.stop));
 }
 
-/// Whether it was read completely.
+/// Appends whether it was read completely.
 fn whole_cell(whole: bool) -> &'static [u8]
     ensures text { result.now ≡ whole_cell whole }
     ensures short { length result.now ≤ 9 }
@@ -81,7 +81,7 @@ fn whole_cell(whole: bool) -> &'static [u8]
     if whole { b"WHOLE" } else { b"PARTIAL" }
 }
 
-/// The volume, if there is a volume label first.
+/// Appends the volume, if the first item is a volume label.
 fn put_volume(text: &mut Text, first: &First)
     requires room { array_vec_len text.old ≤ 20 }
     ensures items { text.new.items ≡ text.old.items ++ volume_cell first.now }
@@ -93,7 +93,7 @@ fn put_volume(text: &mut Text, first: &First)
     }
 }
 
-/// The set and the system, if a section was found.
+/// Appends the set and the system, if a section was found.
 fn put_head(text: &mut Text, head: &Option<Head1>)
     requires room { array_vec_len text.old ≤ 40 }
     ensures items { text.new.items ≡ text.old.items ++ head_cells head.now }
@@ -109,7 +109,7 @@ fn put_head(text: &mut Text, head: &Option<Head1>)
     }
 }
 
-/// How many items there are, sections and bad blocks.
+/// Appends how many items, sections and bad blocks there are.
 fn put_counts(text: &mut Text, glance: &ImageSummary)
     requires room { array_vec_len text.old ≤ 90 }
     ensures items { text.new.items ≡ text.old.items ++ count_cells glance.now }
@@ -122,7 +122,7 @@ fn put_counts(text: &mut Text, glance: &ImageSummary)
     put_count(text, glance.bad);
 }
 
-/// The row of a section.
+/// Returns the row for a section.
 pub(crate) fn section_row(key: &SectionKey, entry: &Entry) -> Text
     ensures { result.items ≡ section_row (key.now, entry.now) }
 {
@@ -141,7 +141,7 @@ pub(crate) fn section_row(key: &SectionKey, entry: &Entry) -> Text
     text
 }
 
-/// The numbers of the section.
+/// Appends the numbers of the section.
 fn put_key(text: &mut Text, key: &SectionKey)
     requires room { array_vec_len text.old ≤ 20 }
     ensures items { text.new.items
@@ -155,7 +155,7 @@ fn put_key(text: &mut Text, key: &SectionKey)
     put_count(text, u32::from(key.sect));
 }
 
-/// Whether its trailer label ends the file.
+/// Returns whether its trailer label ends the file.
 fn eof_cell(eof: bool) -> &'static [u8]
     ensures text { result.now ≡ eof_cell eof }
     ensures short { length result.now ≤ 3 }
@@ -163,7 +163,7 @@ fn eof_cell(eof: bool) -> &'static [u8]
     if eof { b"EOF" } else { b"" }
 }
 
-/// The columns of a file, up to the last one.
+/// Returns the columns of a file, up to the last one.
 pub(crate) fn file_cells(findings: &Findings, set_id: Field<6>, file: u16) -> Text
     ensures { result.items ≡ file_cells findings.now set_id file }
 {
@@ -183,7 +183,7 @@ pub(crate) fn file_cells(findings: &Findings, set_id: Field<6>, file: u16) -> Te
     text
 }
 
-/// What is known of a file by its labels.
+/// Appends the facts about a file that its labels state.
 fn put_known(text: &mut Text, note: Option<&FileNote>)
     requires room { array_vec_len text.old ≤ 100 }
     ensures items { text.new.items
@@ -200,7 +200,7 @@ fn put_known(text: &mut Text, note: Option<&FileNote>)
     }
 }
 
-/// What is reported of a file.
+/// Appends the state of a file.
 fn put_standing(text: &mut Text, standing: &Standing)
     requires room { array_vec_len text.old ≤ 160 }
     ensures items { text.new.items ≡ text.old.items ++ standing_cells standing.now }
@@ -216,7 +216,7 @@ fn put_standing(text: &mut Text, standing: &Standing)
     }
 }
 
-/// A section, in this state, and a volume.
+/// Appends the state of a section, its number, and a volume.
 fn put_wanted(text: &mut Text, state: &[u8], sect: u16, volume: &Field<6>)
     requires room { array_vec_len text.old ≤ 160 }
     requires short { length state.now ≤ 7 }
@@ -230,7 +230,7 @@ fn put_wanted(text: &mut Text, state: &[u8], sect: u16, volume: &Field<6>)
     put_trimmed(text, volume);
 }
 
-/// Whether labels of different files were found under its number, or copies differ.
+/// Returns whether labels of different files were found under its number, or copies differ.
 fn conflict_cell(differs: bool) -> &'static [u8]
     ensures text { result.now ≡ conflict_cell differs }
     ensures short { length result.now ≤ 10 }

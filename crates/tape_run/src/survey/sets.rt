@@ -1,4 +1,4 @@
-//! What a survey says of sets and their files.
+//! The part of a survey about sets and their files.
 ghost use Rattle.std.specs.Prelude.{◌≡◌, ◌<◌, ◌+◌, ◌++◌, ◌&&◌, length, take, IfOk, OnOk, Some};
 ghost use Rattle.std.specs.Prelude.{is_some, option_map};
 ghost use Rattle.tape_run.specs.Lacks.{entry_at, found_all};
@@ -27,20 +27,20 @@ use std::alloc::{AllocError, Global};
 use std::fmt;
 use tape_label::Field;
 
-/// What is reported of a file.
+/// The state of a file.
 #[derive(Clone, Copy)]
 pub(crate) enum Standing {
     /// All its sections are complete.
     Complete,
     /// This section was found, and no copy of it is complete.
     Damaged(u16, Entry),
-    /// This section is missing; the one before it is on this volume.
+    /// This section is missing; the section before it is on this volume.
     Behind(u16, Field<6>),
     /// This section is missing, and the one before it is not known.
     Missing(u16),
 }
 
-/// What is missing of a file without this section.
+/// Returns the state of a file whose first missing section is `sect`.
 fn wanted_at(sections: &Sections, set_id: Field<6>, file: u16, sect: u16) -> Standing
     ensures { result ≡ wanted_at sections.now.entries set_id file sect }
 {
@@ -56,7 +56,7 @@ fn wanted_at(sections: &Sections, set_id: Field<6>, file: u16, sect: u16) -> Sta
     }
 }
 
-/// Where to look for a missing section: after the one before it.
+/// Returns where to look for a missing section: after the one before it.
 fn behind_at(sections: &Sections, before: &SectionKey, sect: u16) -> Standing
     ensures { result ≡ behind_by sect (entry_at sections.now.entries before.now) }
 {
@@ -66,7 +66,7 @@ fn behind_at(sections: &Sections, before: &SectionKey, sect: u16) -> Standing
     }
 }
 
-/// What is reported of a file.
+/// Returns the state of a file.
 pub(crate) fn standing_of(sections: &Sections, set_id: Field<6>, file: u16) -> Standing
     ensures { result ≡ standing_of sections.now.entries set_id file }
 {
@@ -94,7 +94,7 @@ impl fmt::Display for Number {
     }
 }
 
-/// What is known of a file by its labels.
+/// The facts about a file that its labels state.
 #[derive(Clone, Copy)]
 struct Known(Option<FileNote>);
 
@@ -113,7 +113,7 @@ impl fmt::Display for Known {
     }
 }
 
-/// What a file is, in a word, or why it is in conflict.
+/// Returns the state of a file in a word, or why it is in conflict.
 fn file_word(mixed: bool, disputed: bool, complete: bool) -> &'static str
     ensures { result.now ≡ file_word mixed disputed complete }
 {
@@ -128,7 +128,7 @@ fn file_word(mixed: bool, disputed: bool, complete: bool) -> &'static str
     }
 }
 
-/// The first line of a file.
+/// The first line about a file.
 #[derive(Clone, Copy)]
 struct HeadLine {
     file: u16,
@@ -148,7 +148,7 @@ impl fmt::Display for HeadLine {
     }
 }
 
-/// Whether header labels of different files were found.
+/// Returns whether header labels of different files were found.
 pub(crate) fn is_mixed(note: Option<&FileNote>) -> bool
     ensures { result ≡ is_mixed (option_map (λ n. n.now) note.entry) }
 {
@@ -173,7 +173,7 @@ pub(crate) fn add_lines(
     add_rest(texts, findings, Wording::Words, set_id, file, complete)
 }
 
-/// Appends the first line of a file.
+/// Appends the first line about a file.
 fn add_head(
     texts: &mut Vec<u8>,
     findings: &Findings,
@@ -195,7 +195,7 @@ fn add_head(
     append(findings.alloc, texts, line)
 }
 
-/// Appends what is damaged or missing of a file unless it is complete.
+/// Appends the lines about the damaged and missing sections of a file, unless it is complete.
 fn add_rest(
     texts: &mut Vec<u8>,
     findings: &Findings,
@@ -257,7 +257,7 @@ fn is_sure(findings: &Findings, set_id: Field<6>, file: u16) -> bool
         && findings.copies.dispute(&key).is_none()
 }
 
-/// How many files of a set, up to the greatest number of one, are.
+/// Returns how many files of a set, up to its greatest file number, are complete.
 fn sure_files(findings: &Findings, set_id: Field<6>, greatest: u16) -> u32
     ensures { result ≡ sure_files findings.now set_id 1 greatest }
 {
@@ -268,7 +268,7 @@ fn sure_files(findings: &Findings, set_id: Field<6>, greatest: u16) -> u32
     sure
 }
 
-/// The line of a set.
+/// The line about a set.
 #[derive(Clone, Copy)]
 struct SetLine {
     set_id: Field<6>,
@@ -286,7 +286,7 @@ impl fmt::Display for SetLine {
     }
 }
 
-/// Appends the line of a set with this greatest number of a file.
+/// Appends the line about a set whose greatest file number is `files`.
 pub(crate) fn add_set_line(
     texts: &mut Vec<u8>,
     findings: &Findings,
@@ -305,7 +305,7 @@ pub(crate) fn add_set_line(
     append(findings.alloc, texts, line)
 }
 
-/// Whether something was found, and nothing is missing.
+/// Returns whether something was found, and nothing is missing.
 fn is_complete(alloc: Global, sections: &Sections) -> Result<bool, AllocError>
     ensures { IfOk result (λ found. found ≡ found_all sections.now.entries) }
 {
@@ -315,7 +315,7 @@ fn is_complete(alloc: Global, sections: &Sections) -> Result<bool, AllocError>
     Ok(found)
 }
 
-/// Whether the section at an index is complete.
+/// Returns whether the section at an index is complete.
 fn good_at(sections: &Sections, place: usize) -> bool
     requires { place < length sections.now.entries }
     ensures { all_good (take (place + 1) sections.now.entries)
@@ -327,7 +327,7 @@ fn good_at(sections: &Sections, place: usize) -> bool
     entry.state.is_good()
 }
 
-/// Whether each section that was found has a complete copy.
+/// Returns whether each section that was found has a complete copy.
 fn all_good(sections: &Sections) -> bool
     ensures { result ≡ all_good sections.now.entries }
 {
@@ -339,7 +339,7 @@ fn all_good(sections: &Sections) -> bool
     all
 }
 
-/// Whether nothing is missing and no complete copies differ, and every image was read completely.
+/// Returns whether all is well, as the status of a survey says it.
 pub(crate) fn is_all(alloc: Global, findings: &Findings) -> Result<bool, AllocError>
     ensures { IfOk result (λ all. all ≡ is_all findings.now) }
 {

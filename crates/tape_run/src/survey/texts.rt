@@ -19,7 +19,7 @@ use crate::sections::Sections;
 use std::alloc::{AllocError, Global};
 use tape_label::Field;
 
-/// Appends the text for a file of which a label was found.
+/// Appends the text for a file for which a label was found.
 fn add_known(
     texts: &mut Vec<u8>,
     findings: &Findings,
@@ -36,7 +36,7 @@ fn add_known(
     }
 }
 
-/// Appends the heading of a set with this greatest number of a file.
+/// Appends the heading of a set whose greatest file number is `greatest`.
 fn add_front(
     texts: &mut Vec<u8>,
     findings: &Findings,
@@ -147,7 +147,7 @@ fn add_place(
     Ok(())
 }
 
-/// The texts for sets, in the order in which they were found first.
+/// Returns the texts for sets, in the order in which they were found first.
 fn texts_of(
     alloc: Global,
     findings: &Findings,
@@ -163,7 +163,7 @@ fn texts_of(
     Ok(texts)
 }
 
-/// Appends the row of a section.
+/// Appends the row for a section.
 fn put_row(rows: &mut Vec<u8>, key: &SectionKey, entry: &Entry) -> Result<(), AllocError>
     ensures { OnOk result (rows.new.items ≡ rows.old.items ++ section_row (key.now, entry.now)) }
 {
@@ -171,7 +171,7 @@ fn put_row(rows: &mut Vec<u8>, key: &SectionKey, entry: &Entry) -> Result<(), Al
     rows.extend_from_slice(&row)
 }
 
-/// Appends the row of the section at an index.
+/// Appends the row for the section at index `place`.
 fn add_row(rows: &mut Vec<u8>, sections: &Sections, place: usize) -> Result<(), AllocError>
     requires { place < length sections.now.entries }
     ensures { OnOk result (rows.old.items ≡ flat_map section_row (take place sections.now.entries)
@@ -184,7 +184,7 @@ fn add_row(rows: &mut Vec<u8>, sections: &Sections, place: usize) -> Result<(), 
     Ok(())
 }
 
-/// A row for each section.
+/// Returns a row for each section.
 fn rows_of(alloc: Global, sections: &Sections) -> Result<Vec<u8>, AllocError>
     ensures { IfOk result (λ rows. rows.items ≡ flat_map section_row sections.now.entries) }
 {
@@ -195,7 +195,7 @@ fn rows_of(alloc: Global, sections: &Sections) -> Result<Vec<u8>, AllocError>
     Ok(rows)
 }
 
-/// What precedes the sets.
+/// Returns what precedes the sets.
 pub(crate) fn sections_text(
     alloc: Global,
     wording: Wording,
@@ -209,7 +209,7 @@ pub(crate) fn sections_text(
     }
 }
 
-/// The texts for all sets that were found.
+/// Returns the texts for all sets that were found.
 pub(crate) fn sets_text(
     alloc: Global,
     findings: &Findings,

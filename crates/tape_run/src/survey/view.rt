@@ -34,7 +34,7 @@ pub struct ImageSurvey {
     pub stop: ImageStop,
 }
 
-/// What was found on the images of a survey.
+/// The findings of a survey on its images.
 #[derive(Drop)]
 pub(crate) struct Findings {
     pub(crate) alloc: Global,
@@ -71,7 +71,7 @@ impl Model for Findings {
     } };
 }
 
-/// Whether the volume ended.
+/// Returns whether the volume ended.
 pub(crate) fn is_ended(course: LabelOrder) -> bool
     ensures { result ≡ is_ended course }
 {
@@ -81,7 +81,7 @@ pub(crate) fn is_ended(course: LabelOrder) -> bool
     }
 }
 
-/// Whether nothing was found.
+/// Returns whether nothing was found.
 fn is_none(file: Option<u16>) -> bool
     ensures { result ≡ is_none file }
 {
@@ -91,7 +91,7 @@ fn is_none(file: Option<u16>) -> bool
     }
 }
 
-/// Whether the image does not stop by a fault.
+/// Returns whether the image does not end with a fault.
 pub(crate) fn is_end(stop: ImageStop) -> bool
     ensures { result ≡ is_end stop }
 {
@@ -102,14 +102,15 @@ pub(crate) fn is_end(stop: ImageStop) -> bool
 }
 
 impl ImageSurvey {
-    /// Whether the items are a complete volume in its order, whose files can be read.
+    /// Returns whether the items are a complete volume in its order, whose files can be read.
     pub(crate) fn is_whole(&self) -> bool
         ensures { result ≡ is_whole_sight self.now }
     {
         is_ended(self.glance.course) && is_none(self.glance.unread) && is_end(self.stop)
     }
 
-    /// Whether they are such a volume, and none of its sections is damaged.
+    /// Returns whether the items are a complete volume whose files can be read, and no section is
+    /// damaged.
     pub(crate) fn is_sound(&self) -> bool
         ensures { result ≡ is_sound self.now }
     {
@@ -134,7 +135,7 @@ impl Findings {
         }
     }
 
-    /// Reads an image to its end or to a fault, if it was opened, and adds what is found on it.
+    /// Reads an image to its end or to a fault, if it was opened, and adds its sections and labels.
     pub(crate) fn read<R: Read + Drop>(
         &mut self,
         image: Option<R>,
@@ -157,7 +158,7 @@ impl Findings {
         Ok(Some(sight))
     }
 
-    /// The same for an image that was opened, whatever of it remains unread.
+    /// Does the same for an image that was opened. The reader keeps the bytes that were not read.
     fn read_items<R: Read>(&mut self, reader: &mut R) -> Result<ImageSurvey, RunFault>
         ensures fault { IsOkUnless result faults.OutOfMemory }
         ensures ok { IfOk result (λ sight. ViewsItems (R.remaining reader.old)
@@ -179,13 +180,13 @@ impl Findings {
             self.images,
             &mut image,
         );
-        // The rest of the reader is its caller's again.
+        // The caller gets back the rest of the reader.
         image.into_device();
         viewed
     }
 }
 
-/// Looks at the items of an image of which nothing was read yet, and adds what is found in them.
+/// Processes the items of an unread image, and adds its sections and labels.
 fn view_items<R: Read>(
     sections: &mut Sections,
     files: &mut Files,
@@ -234,7 +235,7 @@ fn view_items<R: Read>(
     }
 }
 
-/// Adds what an item says, and returns what is expected next.
+/// Adds the section that an item completes, and returns what is expected next.
 fn take_behind(sections: &mut Sections, phase: &Phase, item: Item<'_>) -> Result<Phase, RunFault>
     requires { blocks_of phase.now < most_blocks }
     ensures fault { IsOkUnless result faults.OutOfMemory }
@@ -245,7 +246,7 @@ fn take_behind(sections: &mut Sections, phase: &Phase, item: Item<'_>) -> Result
     take(sections, *phase, item)
 }
 
-/// Adds the section that is being read when the items end, if there is one.
+/// Adds the section that is being read when the items end, if any.
 fn close_behind(sections: &mut Sections, phase: &Phase) -> Result<(), RunFault>
     ensures fault { IsOkUnless result faults.OutOfMemory }
     ensures ok { OnOk result (sections.new.entries

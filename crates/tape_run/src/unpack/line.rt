@@ -55,7 +55,7 @@ pub fn file_line(
     Ok(line)
 }
 
-/// The words before the path.
+/// Appends the words before the path.
 fn file_front(set_id: &Field<6>, file: u16) -> Text
     ensures { result.items ≡ file_front set_id.now file }
 {
@@ -68,7 +68,7 @@ fn file_front(set_id: &Field<6>, file: u16) -> Text
     text
 }
 
-/// A path, if it is one.
+/// Appends a space and the path, if there is one.
 fn put_path(alloc: Global, line: &mut Vec<u8>, path: &str) -> Result<(), AllocError>
     ensures { IfOk result (λ _. line.new.items ≡ line.old.items ++ path_text path.now) }
 {

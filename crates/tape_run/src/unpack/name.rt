@@ -11,13 +11,13 @@ use tape_label::Field;
 /// Returns the name of a file, `SET.FILE.NAME`: its set identifier, its number there and its file
 /// identifier, for example `ABC001.1.PAYROLL`.
 ///
-/// Names are unique in a directory, also where capital and small letters are one: files with
-/// different numbers or of different sets never have the same name (`names_differ`). Every file
-/// system accepts each name and keeps it (`names_stay`, `names_fit`). `%` with two hexadecimal
-/// digits replaces a byte: in the set identifier each but digits, capital letters and the space,
-/// which becomes `_`; in the file identifier `%`, unprintable bytes and the characters
-/// `" * / : < > ? \ |`. Spaces at the end of the file identifier are left out; a full stop at its
-/// end is replaced too, and an identifier of spaces is `%20`.
+/// Names are unique in a directory, even if its file system ignores case: files with different
+/// numbers or of different sets never have the same name (`names_differ`). Every file system
+/// accepts each name and keeps it (`names_stay`, `names_fit`). `%` with two hexadecimal digits
+/// replaces a byte: in the set identifier every byte except digits, capital letters and the space,
+/// which becomes `_`; in the file identifier `%`, unprintable bytes and the characters `" * / : < >
+/// ? \ |`. Spaces at the end of the file identifier are left out; a full stop at its end is
+/// replaced too, and an identifier of spaces is `%20`.
 pub fn file_name(set_id: &Field<6>, file: u16, file_id: &Field<17>) -> Text
     ensures { result.items ≡ file_name set_id.now file file_id.now }
 {
@@ -30,14 +30,14 @@ pub fn file_name(set_id: &Field<6>, file: u16, file_id: &Field<17>) -> Text
     text
 }
 
-/// Whether the byte is a digit or a capital letter.
+/// Returns whether the byte is a digit or a capital letter.
 fn is_plain(byte: u8) -> bool
     ensures { result ≡ is_plain byte }
 {
     (b'0'..=b'9').contains(&byte) || (b'A'..=b'Z').contains(&byte)
 }
 
-/// Whether the byte is a printable character that every file system keeps.
+/// Returns whether the byte is a printable character that every file system accepts in names.
 fn is_kept(byte: u8) -> bool
     ensures { result ≡ is_kept byte }
 {
@@ -47,7 +47,7 @@ fn is_kept(byte: u8) -> bool
     }
 }
 
-/// A byte as `%` and its two hexadecimal digits.
+/// Appends a byte as `%` and its two hexadecimal digits.
 fn put_escape(text: &mut Text, byte: u8)
     requires { array_vec_len text.old ≤ 500 }
     ensures items { text.new.items ≡ text.old.items ++ escape byte }
@@ -58,7 +58,7 @@ fn put_escape(text: &mut Text, byte: u8)
     text.push(hex(u32::from(byte % 16)));
 }
 
-/// A byte of a set identifier.
+/// Appends a byte of a set identifier.
 fn put_byte(text: &mut Text, byte: u8)
     requires { array_vec_len text.old ≤ 100 }
     ensures items { text.new.items ≡ text.old.items ++ escaped byte }
@@ -84,7 +84,7 @@ fn put_escaped(text: &mut Text, set_id: &Field<6>)
     }
 }
 
-/// A byte of a file identifier that another one follows.
+/// Appends a byte of a file identifier that is followed by another one.
 fn put_fit(text: &mut Text, byte: u8)
     requires { array_vec_len text.old ≤ 500 }
     ensures items { text.new.items ≡ text.old.items ++ fit byte }
@@ -97,7 +97,7 @@ fn put_fit(text: &mut Text, byte: u8)
     }
 }
 
-/// The last byte: some file systems drop a space or a full stop at the end.
+/// Appends the last byte: some file systems drop a space or a full stop at the end.
 fn put_last(text: &mut Text, byte: u8)
     requires { array_vec_len text.old ≤ 500 }
     ensures { text.new.items ≡ text.old.items ++ fit_last byte }
@@ -109,7 +109,7 @@ fn put_last(text: &mut Text, byte: u8)
     }
 }
 
-/// A file identifier, without the spaces at its end, or one space instead of none.
+/// Appends a file identifier without the spaces at its end, or one space instead of none.
 fn put_file_id(text: &mut Text, file_id: &Field<17>)
     requires { array_vec_len text.old ≤ 200 }
     ensures { text.new.items ≡ text.old.items ++ fit_text file_id.now }

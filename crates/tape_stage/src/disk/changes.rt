@@ -1,4 +1,4 @@
-//! How calls change the contents of a disk in memory.
+//! The effects of calls on the contents of a disk in memory.
 ghost use Rattle.std.specs.Prelude.{◌≡◌, ◌≤◌, ◌+◌, ◌-◌, [], ◌∷◌, ◌++◌, length, take, drop};
 ghost use Rattle.std.specs.Prelude.{replicate, true, false, OnOk, OnErr, IfOk};
 ghost use Rattle.tape_stage.specs.Same.{SameContent, DidCall};
@@ -6,7 +6,7 @@ ghost use Rattle.tape_stage.specs.Same.{SameContent, DidCall};
 use crate::disk::content::{Call, Content};
 use std::alloc::{AllocError, Global};
 
-/// Returns the old bytes, overwritten from an offset on.
+/// Returns `old` with `bytes` written at offset `place`.
 fn written(alloc: Global, old: &[u8], place: usize, bytes: &[u8]) -> Result<Vec<u8>, AllocError>
     requires { place ≤ length old.now }
     ensures { IfOk result (λ v. v.items ≡ take place old.now ++ bytes.now ++ drop
@@ -20,7 +20,7 @@ fn written(alloc: Global, old: &[u8], place: usize, bytes: &[u8]) -> Result<Vec<
     Ok(next)
 }
 
-/// Returns this many bytes that may be anything: 255 each.
+/// Returns `count` bytes of the value 255, in place of unknown bytes.
 fn unknown(alloc: Global, count: usize) -> Result<Vec<u8>, AllocError>
     ensures { IfOk result (λ v. v.items ≡ replicate count 255) }
 {
@@ -28,7 +28,7 @@ fn unknown(alloc: Global, count: usize) -> Result<Vec<u8>, AllocError>
 }
 
 impl Content {
-    /// Creates a disk's contents from these bytes, all of them durable.
+    /// Creates a disk's contents from `bytes`, all of them durable.
     pub fn new(alloc: Global, bytes: Vec<u8>) -> Self
         ensures bytes { result.bytes ≡ bytes }
         ensures calls { result.calls.items ≡ [] }
@@ -60,7 +60,7 @@ impl Content {
         Ok(())
     }
 
-    /// Records a call that changes nothing.
+    /// Records a call that changed nothing.
     pub fn look(&mut self) -> Result<(), AllocError>
         ensures ok { OnOk result (DidCall Call.Look self.old self.new) }
         ensures err { OnErr result (SameContent self.old self.new) }
@@ -90,7 +90,7 @@ impl Content {
         Ok(())
     }
 
-    /// Cuts, and records the call.
+    /// Truncates, and records the call.
     pub fn cut(&mut self, len: usize) -> Result<(), AllocError>
         requires { len ≤ length self.old.bytes.items }
         ensures ok { OnOk result (DidCall (Call.Cut len) self.old self.new) }

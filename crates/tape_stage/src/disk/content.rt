@@ -1,4 +1,4 @@
-//! The contents of a disk in memory, with a record of the calls that led to them.
+//! The contents of a disk in memory, with a record of its calls.
 ghost use Rattle.std.specs.Prelude.{◌≡◌};
 ghost use Rattle.tape_stage.specs.Calls.{kept_or, IsRight, right_one_way};
 
@@ -13,7 +13,7 @@ pub enum Call {
     Sync,
 }
 
-/// The bytes, the worst that a crash may leave of them, and all calls so far.
+/// The bytes, the worst contents that a crash may leave, and all calls so far.
 #[derive(Drop)]
 pub struct Content {
     pub alloc: Global,

@@ -14,13 +14,13 @@ use std::io::{Read, Seek, SeekFrom, Write};
 
 /// A file as a disk; each call is one call on the file.
 ///
-/// It tracks its length itself, so it never asks for bytes past the end, and reports each failure
-/// of the file as `Device`: an error, an interruption, an early end, or a write of no bytes. A
-/// contract cannot speak of a file's bytes, so it claims no honesty; what is proved of stages on
-/// honest disks holds for a file if its system keeps what was synced.
+/// Tracks the length itself, so it never asks for bytes past the end, and reports each failure of
+/// the file as `Device`: an error, an interruption, an early end, or a write of no bytes. A
+/// contract cannot describe a file's bytes, so this type is not claimed to be honest. The theorems
+/// about stages on honest disks hold for a file if its system keeps synced bytes.
 ///
-/// After a failed sync every call but `len` is `Device`: a system may have dropped what it could
-/// not write, and answer the next sync with Ok.
+/// After a failed sync every call except `len` returns `Device`: a system may have dropped bytes
+/// that it could not write, and may return Ok from the next sync.
 #[derive(Drop)]
 pub struct FileDisk<F> {
     file: F,
@@ -30,7 +30,7 @@ pub struct FileDisk<F> {
 }
 
 impl<F: Seek + Drop> FileDisk<F> {
-    /// Uses the whole file, which must be open for reading and writing. Nobody else may change its
+    /// Uses the whole file, which must be open for reading and writing. Nothing else may change its
     /// length.
     ///
     /// # Errors
@@ -63,7 +63,7 @@ impl<F> FileDisk<F> {
         self.file
     }
 
-    /// Counts a call that failed.
+    /// Counts a failed call.
     fn fail(&mut self) -> DiskFault
         ensures same_length { self.new.len ≡ self.old.len }
         ensures counted { Rose self.old.failed self.new.failed }
@@ -75,7 +75,7 @@ impl<F> FileDisk<F> {
 }
 
 impl<F: Read + Write + Seek + OpenFile> FileDisk<F> {
-    /// Reads bytes from an offset on, and fills the buffer.
+    /// Fills the buffer with the bytes at offset `place`.
     fn look(&mut self, place: u64, buf: &mut [u8]) -> Result<(), DiskFault>
         ensures same_size { length buf.new ≡ length buf.old }
         ensures same_length { self.new.len ≡ self.old.len }
@@ -89,7 +89,7 @@ impl<F: Read + Write + Seek + OpenFile> FileDisk<F> {
         read_from(&mut self.file, place, buf)
     }
 
-    /// Writes bytes at an offset.
+    /// Writes `bytes` at offset `place`.
     fn put(&mut self, place: u64, bytes: &[u8]) -> Result<(), DiskFault>
         ensures same_length { self.new.len ≡ self.old.len }
         ensures same_count { self.new.failed ≡ self.old.failed }
@@ -102,7 +102,7 @@ impl<F: Read + Write + Seek + OpenFile> FileDisk<F> {
         write_from(&mut self.file, place, bytes)
     }
 
-    /// Cuts the file.
+    /// Truncates the file.
     fn cut_file(&mut self, len: u64) -> Result<(), DiskFault>
         ensures same_length { self.new.len ≡ self.old.len }
         ensures same_count { self.new.failed ≡ self.old.failed }
@@ -218,7 +218,7 @@ impl<F: Read + Write + Seek + OpenFile> Disk for FileDisk<F> {
         }
     }
 
-    // The length and the bytes: a crash may leave either unwritten.
+    // Syncs the length and the bytes: a crash might leave either unwritten.
     fn sync(&mut self) -> Result<(), DiskFault>
         ensures same_length { self.new.len ≡ self.old.len }
         ensures cause { OnErr result (Rose self.old.failed self.new.failed) }
@@ -234,8 +234,7 @@ impl<F: Read + Write + Seek + OpenFile> Disk for FileDisk<F> {
     }
 }
 
-/// Reads bytes from an offset on, and fills the buffer. An early end is a failure, and so is an
-/// interruption.
+/// Fills the buffer with the bytes at offset `place`. An early end or an interruption is a failure.
 pub(crate) fn read_from<R: Read + Seek>(
     file: &mut R,
     place: u64,
@@ -249,7 +248,7 @@ pub(crate) fn read_from<R: Read + Seek>(
     }
 }
 
-/// Continues to read until the buffer is full.
+/// Reads until the buffer is full.
 fn read_whole<R: Read>(file: &mut R, buf: &mut [u8]) -> Result<(), DiskFault>
     ensures same_size { length buf.new ≡ length buf.old }
 {
@@ -264,7 +263,7 @@ fn read_whole<R: Read>(file: &mut R, buf: &mut [u8]) -> Result<(), DiskFault>
     Ok(())
 }
 
-/// Writes all bytes at an offset.
+/// Writes all of `bytes` at offset `place`.
 pub(crate) fn write_from<W: Write + Seek>(
     file: &mut W,
     place: u64,
@@ -276,7 +275,7 @@ pub(crate) fn write_from<W: Write + Seek>(
     }
 }
 
-/// Writes all bytes. A write of no bytes is an error, and so is an interruption.
+/// Writes all bytes. A write of no bytes or an interruption is an error.
 fn write_whole<W: Write>(file: &mut W, bytes: &[u8]) -> Result<(), DiskFault> {
     let mut rest = bytes;
     'writes: while !rest.is_empty() {
@@ -289,13 +288,13 @@ fn write_whole<W: Write>(file: &mut W, bytes: &[u8]) -> Result<(), DiskFault> {
     Ok(())
 }
 
-/// The maximum number of bytes buffered for writing, and the number of bytes read ahead.
+/// The size of the write buffer and of the read-ahead buffer, in bytes.
 const ROOM: usize = 32_768;
 
-/// A file as a disk, with 32,768 bytes of write buffer and as many of read-ahead.
+/// A file as a disk, with 32,768 bytes of write buffer and 32,768 bytes of read-ahead.
 pub type BufferedFile<F> = ReadAhead<WriteBehind<FileDisk<F>>>;
 
-/// Uses the whole file, with buffers. It must be open for reading and writing, and nobody else may
+/// Uses the whole file, with buffers. It must be open for reading and writing, and nothing else may
 /// change its length.
 ///
 /// # Errors
@@ -319,9 +318,8 @@ pub fn buffered_file<F: Read + Write + Seek + OpenFile + Drop>(
     Ok(ReadAhead::over(WriteBehind::over(disk, behind), ahead))
 }
 
-/// Allocates the buffer for reading ahead. No contract describes its contents: so many bytes would
-/// make proofs slow.
-// No contract describes its contents: in a proof that many bytes would be slow.
+/// Allocates the read-ahead buffer.
+// No contract describes the contents: that many bytes would make proofs slow.
 fn read_room(alloc: Global) -> Result<Vec<u8>, AllocError> {
     vec![in alloc; 0u8; ROOM]
 }

@@ -10,7 +10,7 @@ use std::alloc::Global;
 #[derive(Drop)]
 pub struct MemoryDisk {
     pub(crate) content: Content,
-    /// After how many more calls each call fails, if that was decided.
+    /// The number of further calls after which each call fails, if a limit was set.
     left: Option<u64>,
     pub(crate) failed: u64,
 }
@@ -27,7 +27,7 @@ impl MemoryDisk {
         MemoryDisk::from_bytes(alloc, Vec::new(alloc))
     }
 
-    /// Creates a disk with these bytes, all of them durable. Does not allocate.
+    /// Creates a disk containing `bytes`, all of them durable. Does not allocate.
     pub fn from_bytes(alloc: Global, bytes: Vec<u8>) -> Self
         ensures bytes { memory_bytes result ≡ bytes.items }
         ensures calm { result.failed ≡ 0 }
@@ -41,7 +41,7 @@ impl MemoryDisk {
         }
     }
 
-    /// Returns the contents, as reads return them.
+    /// Returns the contents that reads see.
     pub fn bytes(&self) -> &[u8]
         ensures { result.now ≡ memory_bytes self.now }
     {
@@ -58,8 +58,8 @@ impl MemoryDisk {
         self.left = Some(count);
     }
 
-    /// Returns the worst disk that a crash may leave: 255 wherever a byte is open, and nothing
-    /// absent. All its bytes are durable, and its calls succeed.
+    /// Returns the worst disk that a crash may leave: every byte that was not durable is 255, and
+    /// no byte is missing. All bytes of the new disk are durable, and its calls succeed.
     pub fn crash(self) -> MemoryDisk
         ensures calm { result.failed ≡ 0 }
         ensures runs { result.left ≡ None }
@@ -80,7 +80,7 @@ impl MemoryDisk {
     ///
     /// # Errors
     ///
-    /// Returns `Device` if none is left.
+    /// Returns `Device` if no call is left.
     pub(crate) fn count(&mut self) -> Result<(), DiskFault>
         ensures content { self.new.content ≡ self.old.content }
         ensures made { OnOk result (CountsDown (Unit {0}) self.old.left self.new.left) }

@@ -7,15 +7,15 @@ ghost use Rattle.tape_stage.specs.OnlyReading.{Looks};
 use crate::disk::{Disk, DiskFault};
 
 /// A disk with read-ahead, so that consecutive small reads need one read of the disk. Consecutive
-/// reads of any lengths read each byte of the disk once. Writes and cuts drop the bytes read ahead.
+/// reads of any length read each byte of the disk once. Writes and cuts drop the bytes read ahead.
 ///
-/// It fails at most as often as its disk.
+/// Fails at most as often as the disk.
 #[derive(Drop)]
 pub struct ReadAhead<D: Disk> {
     pub(crate) disk: D,
     pub(crate) start: u64,
     pub(crate) bytes: Vec<u8>,
-    /// How many bytes of the buffer were read. Those after them are undefined.
+    /// The number of bytes in the buffer that were read. The bytes after them are undefined.
     pub(crate) held: usize,
     pub(crate) failed: u64,
     ghost caused: { failed ≤ D.faults disk },
@@ -27,7 +27,7 @@ pub struct ReadAhead<D: Disk> {
         ≡ take held bytes.items },
 }
 
-/// Reads this many bytes at an offset into the first bytes of a buffer.
+/// Reads `count` bytes at offset `place` into the start of the buffer.
 fn read_front<D: Disk>(
     disk: &mut D,
     place: u64,
@@ -46,7 +46,8 @@ fn read_front<D: Disk>(
 }
 
 impl<D: Disk> ReadAhead<D> {
-    /// Creates a disk with nothing read ahead. The buffer keeps its length, whatever it contains.
+    /// Creates a disk with no bytes read ahead. The buffer keeps its length; its contents do not
+    /// matter.
     pub fn over(disk: D, room: Vec<u8>) -> ReadAhead<D>
         ensures disk { result.disk ≡ disk }
         ensures none { result.held ≡ 0 }
@@ -68,8 +69,8 @@ impl<D: Disk> ReadAhead<D> {
         self.disk
     }
 
-    /// Fills the start of the buffer with the bytes at an offset that were read ahead. Returns the
-    /// number of these bytes.
+    /// Fills the start of `buf` with those bytes at offset `place` that were read ahead. Returns
+    /// the number of these bytes.
     fn give(&self, place: u64, buf: &mut [u8]) -> usize
         ensures same_size { length buf.new ≡ length buf.old }
         ensures few { result ≤ length buf.old }
@@ -89,7 +90,7 @@ impl<D: Disk> ReadAhead<D> {
         count
     }
 
-    /// Drops what was read ahead.
+    /// Drops the bytes read ahead.
     fn forget(&mut self)
         ensures disk { self.new.disk ≡ self.old.disk }
         ensures bytes { self.new.bytes ≡ self.old.bytes }
@@ -101,8 +102,8 @@ impl<D: Disk> ReadAhead<D> {
         self.start = 0;
     }
 
-    /// Reads ahead at an offset, as much as exists and fits. A failure is ignored: nobody asked for
-    /// all of these bytes.
+    /// Reads ahead at offset `place`, as many bytes as exist and fit. A failure is ignored, since
+    /// no caller asked for all of these bytes.
     fn look_ahead(&mut self, place: u64)
         requires there { place ≤ D.length_of self.old.disk }
         ensures looks { Looks D.Disk self.old.disk self.new.disk }
@@ -121,8 +122,8 @@ impl<D: Disk> ReadAhead<D> {
         }
     }
 
-    /// Reads bytes from an offset on, and fills the buffer. If the buffer is smaller than the
-    /// read-ahead, reads ahead first.
+    /// Fills `buf` with the bytes at offset `place`. If `buf` is smaller than the read-ahead
+    /// buffer, reads ahead first.
     fn look(&mut self, place: u64, buf: &mut [u8]) -> Result<(), DiskFault>
         requires there { place + length buf.old ≤ D.length_of self.old.disk }
         ensures bytes { D.is_honest self.old.disk → OnOk result (buf.new

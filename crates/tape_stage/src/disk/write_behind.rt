@@ -1,4 +1,4 @@
-//! A write buffer in front of a disk.
+//! A write buffer for a disk.
 ghost use Rattle.std.specs.Prelude.{◌≡◌, ◌+◌, ◌<◌, ◌≤◌, ◌^◌, [], ◌++◌, length, max, ℕ, List};
 ghost use Rattle.std.specs.Prelude.{OnOk, OnErr, vec_capacity};
 ghost use Rattle.std.specs.Bool.{OnTrue};
@@ -11,12 +11,12 @@ ghost use Rattle.tape_stage.specs.Holding.{held_long, held_over, held_counts, he
 use crate::disk::{Disk, DiskFault};
 
 /// A disk with a write buffer that merges adjacent small writes. The buffer is written when a write
-/// is not adjacent or does not fit, and before a read, a cut and a sync; so reads return what was
-/// buffered, and a sync makes it durable.
+/// is not adjacent or does not fit, and before a read, a cut and a sync; so reads return the
+/// buffered bytes, and a sync makes them durable.
 ///
-/// If writing the buffer fails, the call is `Device` and the bytes stay buffered: a failure does
-/// not change what a read returns, and the next call tries to write them again. No call fails
-/// unless the disk fails in it. Dropping the disk drops the buffer, which no sync has promised to
+/// If writing the buffer fails, the call returns `Device` and the bytes stay buffered: a failure
+/// does not change the result of a read, and the next call tries to write them again. A call fails
+/// only if the disk fails in it. Dropping the disk drops the buffer, which no sync has promised to
 /// keep.
 #[derive(Drop)]
 pub struct WriteBehind<D: Disk> {
@@ -29,8 +29,8 @@ pub struct WriteBehind<D: Disk> {
 }
 
 impl<D: Disk> WriteBehind<D> {
-    /// Creates a disk with an empty write buffer, as large as the capacity of `room`; the contents
-    /// of `room` are dropped.
+    /// Creates a disk with an empty write buffer of the capacity of `room`; the contents of `room`
+    /// are dropped.
     pub fn over(disk: D, room: Vec<u8>) -> WriteBehind<D>
         ensures disk { result.disk ≡ disk }
         ensures bytes { result.bytes.items ≡ [] }
@@ -45,7 +45,7 @@ impl<D: Disk> WriteBehind<D> {
         }
     }
 
-    /// Returns the disk. What is buffered is not written: no sync has promised to keep it.
+    /// Returns the disk. Buffered bytes are not written: no sync has promised to keep them.
     pub fn into_disk(self) -> D
         ensures { result ≡ self.disk }
     {
@@ -76,7 +76,8 @@ impl<D: Disk> WriteBehind<D> {
         }
     }
 
-    /// Returns whether so many bytes fit the buffer, and have offsets below 2^64 from this one on.
+    /// Returns whether `size` bytes fit in the buffer, and their offsets from `place` are below
+    /// 2^64.
     fn fits(&self, place: u64, size: usize) -> bool
         ensures fits { OnTrue result
             (length self.now.bytes.items + size ≤ vec_capacity self.now.bytes) }
@@ -85,7 +86,7 @@ impl<D: Disk> WriteBehind<D> {
         size <= self.bytes.capacity() - self.bytes.len() && place.checked_add(size as u64).is_some()
     }
 
-    /// Returns whether this offset is the one after the end of the buffer.
+    /// Returns whether `place` is the offset after the end of the buffer.
     fn continues(&self, place: u64) -> bool
         ensures end { OnTrue result (self.now.start + length self.now.bytes.items ≡ place) }
     {

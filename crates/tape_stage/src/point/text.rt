@@ -23,16 +23,16 @@ pub enum PointFault {
     /// The text does not have 80 characters.
     #[error("a checkpoint has 80 characters")]
     Length,
-    /// It does not begin `TPCK`.
+    /// The text does not begin with `TPCK`.
     #[error("the text is not a checkpoint")]
     Mark,
-    /// Its version is neither `1` nor `2`.
+    /// The version is neither `1` nor `2`.
     #[error("unknown version")]
     Version,
-    /// A character of the field that begins at this position is not allowed there.
+    /// A character of the field that begins at this position is not allowed in the field.
     #[error("invalid character in the field at position {0}")]
     Field(u8),
-    /// Each field is valid, but together they are not those of a checkpoint.
+    /// Each field is valid, but no checkpoint has these fields together.
     #[error("the fields do not form a valid checkpoint")]
     Range,
 }
@@ -54,7 +54,7 @@ impl PointFault {
 
 const SPACES: [u8; 12] = [b' '; 12];
 
-/// Returns the number in digits at these positions.
+/// Returns the decimal number at the positions `first` to `last`.
 pub(crate) fn number_at(text: &[u8], first: u8, last: u8) -> Result<u64, PointFault>
     requires first { 1 ≤ first }
     requires order { first ≤ last }
@@ -68,7 +68,7 @@ pub(crate) fn number_at(text: &[u8], first: u8, last: u8) -> Result<u64, PointFa
     }
 }
 
-/// Returns which of two characters is at the position.
+/// Returns true if the character at the position is `yes`, and false if it is `no`.
 pub(crate) fn flag_at(text: &[u8], position: u8, yes: u8, no: u8) -> Result<bool, PointFault>
     requires first { 1 ≤ position }
     requires last { position ≤ length text.now }
@@ -111,7 +111,7 @@ pub(crate) fn tail_at(text: &[u8], first: u8) -> Result<(), PointFault>
     Err(PointFault::Field(first))
 }
 
-/// Returns the characters from a position on, as a field.
+/// Returns the `N` characters from position `first`, as a field.
 pub(crate) fn field_at<const N: usize>(text: &[u8], first: u8) -> Field<N>
     requires first { 1 ≤ first }
     requires last { first + N ≤ length text.now + 1 }
@@ -123,7 +123,7 @@ pub(crate) fn field_at<const N: usize>(text: &[u8], first: u8) -> Field<N>
     Field::of_bytes(characters)
 }
 
-/// Returns the version with this digit.
+/// Returns the version with the given digit.
 fn version_by(digit: u8) -> Result<Version, PointFault>
     ensures { result ≡ version_by digit }
 {
@@ -134,7 +134,7 @@ fn version_by(digit: u8) -> Result<Version, PointFault>
     }
 }
 
-/// Returns the position of the state.
+/// Returns the position of the letter for the state.
 fn state_position(version: Version) -> u8
     ensures value { result ≡ state_position version }
     ensures low { 26 ≤ result }
@@ -205,7 +205,7 @@ pub(crate) fn place_at(version: Version, text: &[u8]) -> Result<Place, PointFaul
     }
 }
 
-/// Reads the state and the next two digits.
+/// Reads the letter for the state, and the two digits after it.
 #[tactic(auto, unfolding(crate::specs::Reading::flags_at))]
 pub(crate) fn flags_at(text: &[u8], first: u8) -> Result<Flags, PointFault>
     requires size { length text.now ≡ 80 }
@@ -260,7 +260,7 @@ pub(crate) fn put<const N: usize>(text: &mut ArrayVec<u8, N>, piece: &[u8])
     }
 }
 
-/// Appends a number with this many digits.
+/// Appends `number` in `W` digits.
 fn put_number<const W: usize>(text: &mut ArrayVec<u8, 80>, number: u64)
     requires fits { number < 10 ^ W }
     requires room { array_vec_len text.old + W ≤ 80 }
@@ -270,7 +270,7 @@ fn put_number<const W: usize>(text: &mut ArrayVec<u8, 80>, number: u64)
     put(text, &digits_of::<W>(number));
 }
 
-/// Returns the text.
+/// Returns the complete text.
 pub(crate) fn whole<const N: usize>(text: ArrayVec<u8, N>) -> [u8; N]
     requires { array_vec_len text ≡ N }
     ensures { result ≡ text.entry.items }
@@ -288,14 +288,14 @@ fn state_letter(done: bool) -> u8
     if done { b'D' } else { b'R' }
 }
 
-/// Returns `1` or `0`.
+/// Returns `1` for true, `0` for false.
 fn flag_digit(flag: bool) -> u8
     ensures { result ≡ flag_digit flag }
 {
     if flag { b'1' } else { b'0' }
 }
 
-/// Returns `F`, `D` or `S`, or a space.
+/// Returns `F`, `D` or `S`, or a space for `None`.
 fn format_letter(format: Option<Format>) -> u8
     ensures { result ≡ format_letter format }
 {
@@ -305,7 +305,7 @@ fn format_letter(format: Option<Format>) -> u8
     }
 }
 
-/// Returns the text of these fields in version 2.
+/// Returns the text of `fields` in version 2.
 pub(crate) fn fields_text(fields: &Fields) -> [u8; 80]
     requires { Fit Two fields.now }
     ensures text { result ≡ text_of (pieces Two fields.now) }

@@ -1,4 +1,4 @@
-//! Frames: a part's header and content, walked, read and cut.
+//! Frames (the header and content of a part): walking, reading and truncating them.
 
 ghost use Rattle.std.specs.Prelude.{◌≡◌, ◌+◌, ◌-◌, ◌≤◌, ◌<◌, ◌^◌, ◌∷◌, List, length, min, OnOk};
 ghost use Rattle.std.specs.Prelude.{OnErr, IfOk, MatchOption, ℕ, take, IsErrOf, true, false, IfErr};
@@ -9,6 +9,7 @@ ghost use Rattle.tape_blocks.specs.Block.{Portion, indicator};
 ghost use Rattle.tape_blocks.specs.declared.parts.Span.{Span};
 ghost use Rattle.tape_core.specs.Weight.{Rose};
 ghost use Rattle.tape_core.specs.Known.{most_staged};
+ghost use Rattle.tape_stage.specs.Body.{most_generation};
 ghost use Rattle.tape_stage.specs.Staged.{IsNoHeader, StagedIn, IsEither};
 ghost use Rattle.tape_stage.specs.Salvaged.{FramedTo, WalkedIn};
 ghost use Rattle.tape_stage.specs.OnlyReading.{OnlyReads};
@@ -26,7 +27,7 @@ use tape_core::{Checkpoint, SinkFault};
 /// The maximum number of bytes of a part.
 const LONGEST_PART: u32 = 99_999;
 
-/// Returns the span with this digit.
+/// Returns the span with the given digit.
 fn span_by(digit: u8) -> Option<Span>
     ensures { MatchOption result ((span : Span) → digit ≡ indicator span → ⊥)
         (λ span. digit ≡ indicator span) }
@@ -40,7 +41,7 @@ fn span_by(digit: u8) -> Option<Span>
     }
 }
 
-/// Returns the contents of a header.
+/// Returns the span and the length in a header, if it is valid.
 pub(crate) fn header_of(header: &[u8; 5]) -> Option<(Span, u64)>
     ensures { MatchOption result (IsNoHeader header.now)
         (λ found. (found.1 ≤ longest_part)
@@ -54,7 +55,7 @@ pub(crate) fn header_of(header: &[u8; 5]) -> Option<(Span, u64)>
     Some((span, u64::from(size)))
 }
 
-/// Returns the size of the part that follows a header.
+/// Returns the size of the part that follows a header, if the header is valid.
 fn part_size(header: &[u8; 5]) -> Option<u64>
     ensures { MatchOption result (IsNoHeader header.now)
         (λ size. (size ≤ longest_part) × ((span : Span)
@@ -66,8 +67,8 @@ fn part_size(header: &[u8; 5]) -> Option<u64>
     }
 }
 
-/// Walks frames of this total weight, as far as the file goes. Returns the first offset without a
-/// frame that ends within that weight, or `None` if all frames are valid.
+/// Walks over frames of total weight `staged`, up to the offset `limit`. Returns the first offset
+/// without a frame that ends within that weight, or `None` if all frames are valid.
 pub(crate) fn walk<D: Disk>(disk: &mut D, staged: u64, limit: u64) -> Result<Option<u64>, DiskFault>
     requires low { 256 ≤ limit }
     requires there { limit ≡ min (256 + staged) (D.length_of disk.old) }
@@ -99,7 +100,8 @@ pub(crate) fn walk<D: Disk>(disk: &mut D, staged: u64, limit: u64) -> Result<Opt
     Ok(None)
 }
 
-/// Returns where the frames of this total weight are damaged, if they are.
+/// Returns the offset at which the frames of total weight `staged` are damaged, or `None` if they
+/// are intact.
 pub(crate) fn break_of<D: Disk>(disk: &mut D, staged: u64) -> Result<Option<u64>, DiskFault>
     requires long { 256 ≤ D.length_of disk.old }
     requires fits { staged ≤ most_staged }
@@ -116,7 +118,7 @@ pub(crate) fn break_of<D: Disk>(disk: &mut D, staged: u64) -> Result<Option<u64>
 }
 
 /// Reads the frame at an offset into the buffer, and returns its span and the length of its part.
-/// Returns `Failed` if there is no frame.
+/// Returns `Failed` if there is no frame at that offset.
 pub(crate) fn read_frame<D: Disk>(
     disk: &mut D,
     buffer: &mut [u8],
@@ -161,7 +163,8 @@ pub(crate) fn read_frame<D: Disk>(
 }
 
 impl<D: Disk> Stage<D> {
-    /// Cuts what follows the first parts of this weight, none of which is acknowledged.
+    /// Removes the parts after the first ones of weight `staged`; the removed parts were not
+    /// acknowledged.
     pub(crate) fn cut_parts(&mut self, staged: u64) -> Result<(), StageFault>
         requires alive { self.old.failed ≡ false }
         requires behind { self.old.acknowledged.staged ≤ staged }
@@ -183,7 +186,7 @@ impl<D: Disk> Stage<D> {
             → Rose (D.faults self.old.disk) (D.faults self.new.disk) }
         ensures honest { SameFact (D.is_honest self.old.disk) (D.is_honest self.new.disk) }
     {
-        // No sync: what follows that weight does not count, whether a crash leaves it or not.
+        // No sync: bytes after that weight do not count, whether or not a crash leaves them.
         match self.disk.cut(256 + staged) {
             Ok(()) => {
                 self.walked = 0;
@@ -197,8 +200,8 @@ impl<D: Disk> Stage<D> {
         }
     }
 
-    /// Keeps the first parts, up to the weight in the checkpoint: at once if no acknowledged part
-    /// is dropped, otherwise by saving the checkpoint as a new generation.
+    /// Keeps the first parts, up to the weight in the checkpoint: immediately if no acknowledged
+    /// part is dropped, otherwise by saving the checkpoint as a new generation.
     pub(crate) fn cut_back(&mut self, point: &Checkpoint) -> Result<(), StageFault>
         requires { point.now.staged ≤ self.old.weight }
         ensures ok { D.is_honest self.old.disk → OnOk result ((acked parts front : List Portion)
@@ -209,6 +212,7 @@ impl<D: Disk> Stage<D> {
             → Passes D.Disk self.old.disk self.new.disk (IsEither self.old.in_second
             self.old.generation self.old.acknowledged point.now acked front) }
         ensures weight { OnOk result (self.new.weight ≡ point.now.staged) }
+        ensures full { IsErrOf result StageFault.Full → most_generation ≤ self.old.generation }
         ensures ends { EndsCall self.old result self.new }
     {
         if self.failed {

@@ -8,9 +8,9 @@ ghost use Rattle.tape_core.specs.Point.{Point};
 ghost use Rattle.tape_core.specs.Known.{most_staged};
 ghost use Rattle.tape_stage.specs.Disk.{Holds as HoldsBytes, Torn, CutShort};
 ghost use Rattle.tape_stage.specs.Moments.{Untouched, After, EndsSynced, IsDurable, Passes};
-ghost use Rattle.tape_stage.specs.Staged.{Staged, HoldsNone, KeepsStaged, Ready, blank};
-ghost use Rattle.tape_stage.specs.Faults.{SaysNone, IsNotDevice, OnBadFrame};
-ghost use Rattle.tape_stage.specs.Found.{IsBadPlace};
+ghost use Rattle.tape_stage.specs.Staged.{Staged, HoldsNone, KeepsStaged, Ready, new_slots};
+ghost use Rattle.tape_stage.specs.Faults.{SaysNone, IsNotDevice};
+ghost use Rattle.tape_stage.specs.Found.{IsFaultOf};
 ghost use Rattle.tape_stage.specs.Stages.{IsStage, IsOpened, OpensOver, Holds, Survives, Returns};
 ghost use Rattle.tape_stage.specs.Stages.{EndsFinding};
 ghost use Rattle.tape_stage.specs.Body.{body_text, FitBody, most_generation, body_of};
@@ -39,7 +39,7 @@ pub(crate) fn body_bytes(generation: u64, point: Checkpoint) -> [u8; 127]
     whole(body)
 }
 
-/// Returns what the bytes after a gate represent, if they are valid.
+/// Returns the generation and the checkpoint in the bytes after a gate, if they are valid.
 pub(crate) fn read_body(body: &[u8]) -> Option<(u64, Checkpoint)>
     requires { length body.now ≡ 127 }
     ensures says { body_of body.now ≡ result }
@@ -55,14 +55,15 @@ pub(crate) fn read_body(body: &[u8]) -> Option<(u64, Checkpoint)>
 
 const ROOM: usize = 100_000;
 
-/// Allocates the buffer from which parts are lent.
+/// Allocates the buffer for the parts that are returned.
 pub(crate) fn buffer_of(alloc: Global) -> Result<Vec<u8>, AllocError>
     ensures room { IfOk result (λ buffer. longest_part ≤ length buffer.items) }
 {
     Vec::from_elem(alloc, 0u8, ROOM)
 }
 
-/// Writes and syncs. If a crash interrupts this, the range may contain anything.
+/// Writes `bytes` at offset `place`, and syncs. If a crash interrupts this, the range may contain
+/// any bytes.
 pub(crate) fn write_kept<D: Disk>(disk: &mut D, place: u64, bytes: &[u8]) -> Result<(), DiskFault>
     requires { place ≤ D.length_of disk.old }
     ensures written { D.is_honest disk.old
@@ -79,7 +80,7 @@ pub(crate) fn write_kept<D: Disk>(disk: &mut D, place: u64, bytes: &[u8]) -> Res
     disk.sync()
 }
 
-/// Cuts what follows the staged end, and syncs.
+/// Removes the bytes after the staged end, and syncs.
 pub(crate) fn cut_kept<D: Disk>(disk: &mut D, end: u64) -> Result<(), DiskFault>
     requires { end ≤ D.length_of disk.old }
     ensures cut { D.is_honest disk.old → OnOk result
@@ -91,12 +92,12 @@ pub(crate) fn cut_kept<D: Disk>(disk: &mut D, end: u64) -> Result<(), DiskFault>
     ensures short { OnOk result (D.length_of disk.new ≡ end) }
     ensures synced { EndsSynced D.Disk disk.old result disk.new }
 {
-    // Synced, so that what is appended later is not confused with what was there before.
+    // Synced so that bytes appended later cannot be confused with old ones.
     disk.cut(end)?;
     disk.sync()
 }
 
-/// Finds what is staged, allocates the buffer, and cuts what follows.
+/// Finds the staged data, allocates the buffer, and removes the bytes after the staged data.
 fn recover<D: Disk>(alloc: Global, disk: &mut D) -> Result<(Found, Vec<u8>), StageFault>
     ensures found { D.is_honest disk.old → IfOk result
         (λ opened. IsOpened D.Disk opened.0 disk.old disk.new) }
@@ -106,8 +107,7 @@ fn recover<D: Disk>(alloc: Global, disk: &mut D) -> Result<(Found, Vec<u8>), Sta
     ensures staged { IfOk result (λ opened. opened.0.point.staged ≤ most_staged) }
     ensures none { D.is_honest disk.old → IfErr result
         (λ fault. SaysNone fault → HoldsNone (D.seen disk.old)) }
-    ensures at { D.is_honest disk.old → IfErr result
-        (λ fault. OnBadFrame fault (IsBadPlace (D.seen disk.old))) }
+    ensures says { D.is_honest disk.old → IfErr result (IsFaultOf (D.seen disk.old)) }
     ensures any_moment { D.is_honest disk.old → OpensOver D.Disk disk.old disk.new }
     ensures cut { D.is_honest disk.old → IfOk result (λ opened.
         D.seen disk.new ≡ take (256 + opened.0.point.staged) (D.seen disk.old)) }
@@ -121,30 +121,30 @@ fn recover<D: Disk>(alloc: Global, disk: &mut D) -> Result<(Found, Vec<u8>), Sta
         → D.length_of disk.new ≡ D.length_of disk.old) }
     ensures ends { EndsFinding D.Disk disk.old result disk.new }
 {
-    // The buffer is allocated before the cut, so a refusal leaves the disk unchanged.
+    // The buffer is allocated before the cut, so a failed allocation leaves the disk unchanged.
     let found = look(disk)?;
     let buffer = buffer_of(alloc)?;
     cut_kept(disk, 256 + found.staged())?;
     Ok((found, buffer))
 }
 
-/// Returns both slots with closed gates, the first with generation 1 and the checkpoint.
-fn header(alloc: Global, point: Checkpoint) -> Result<Vec<u8>, AllocError>
-    ensures text { IfOk result (λ v. v.items ≡ (67 ∷ []) ++
-        (body_text 1 point ++ ((67 ∷ []) ++ blank))) }
-    ensures fit { FitBody 1 point }
+/// Returns the slots of a new stage before its first gate is opened: the first slot has generation 1
+/// and the checkpoint, and both gates are closed.
+pub fn new_slots(point: &Checkpoint) -> [u8; 256]
+    ensures text { result ≡ new_slots point.now }
+    ensures fit { FitBody 1 point.now }
 {
-    let mut header = Vec::new(alloc);
-    header.push(CLOSED)?;
-    header.extend_from_slice(&body_bytes(1, point))?;
-    header.push(CLOSED)?;
-    header.extend_from_slice(&[b'0'; 15])?;
-    header.extend_from_slice(&[b' '; 112])?;
-    Ok(header)
+    let mut slots = ArrayVec::new();
+    put(&mut slots, &[CLOSED]);
+    put(&mut slots, &body_bytes(1, *point));
+    put(&mut slots, &[CLOSED]);
+    put(&mut slots, &[b'0'; 15]);
+    put(&mut slots, &[b' '; 112]);
+    whole(slots)
 }
 
 /// Writes both slots, and then opens the first gate.
-fn make<D: Disk>(alloc: Global, disk: &mut D, point: Checkpoint) -> Result<(), StageFault>
+fn make<D: Disk>(disk: &mut D, point: Checkpoint) -> Result<(), StageFault>
     requires empty { D.length_of disk.old ≡ 0 }
     requires none { point.staged ≡ 0 }
     ensures made { D.is_honest disk.old → OnOk result
@@ -153,13 +153,12 @@ fn make<D: Disk>(alloc: Global, disk: &mut D, point: Checkpoint) -> Result<(), S
     ensures ends { EndsFinding D.Disk disk.old result disk.new }
     ensures not_none { IfErr result (λ fault. SaysNone fault → ⊥) }
 {
-    // The gate is opened when both slots are durable.
-    let header = header(alloc, point)?;
-    write_kept(disk, 0, &header)?;
+    // The gate is opened only after both slots are durable.
+    write_kept(disk, 0, &new_slots(&point))?;
     Ok(write_kept(disk, 0, &[OPEN])?)
 }
 
-/// The disk that was passed in, and why it was refused.
+/// The disk that was passed in, and the fault for which it was refused.
 #[derive(Drop)]
 pub struct Refused<D, F> {
     pub disk: D,
@@ -167,13 +166,13 @@ pub struct Refused<D, F> {
 }
 
 impl<D: Disk> Stage<D> {
-    /// Opens the stage on a disk, and cuts the bytes after it. A crash may interrupt this too.
+    /// Opens the stage on a disk, and removes the bytes after it. A crash may interrupt this too.
     ///
     /// # Errors
     ///
     /// Returns `NoPoint` if no slot is valid; `BadFrame` if a frame that the checkpoint counts is
-    /// damaged; `OutOfMemory`; `Device`. Each returns the disk, and all but `Device` with nothing
-    /// written to it.
+    /// damaged; `OutOfMemory`; `Device`. Each returns the disk; nothing was written to it except in
+    /// the case of `Device`.
     pub fn open_disk(
         alloc: Global,
         disk: D,
@@ -197,23 +196,23 @@ impl<D: Disk> Stage<D> {
             → Rose (D.faults disk) (D.faults refused.disk)) }
         ensures none { D.is_honest disk → IfErr result
             (λ refused. SaysNone refused.fault → HoldsNone (D.seen disk)) }
-        ensures at { D.is_honest disk → IfErr result
-            (λ refused. OnBadFrame refused.fault (IsBadPlace (D.seen disk))) }
+        ensures says { D.is_honest disk
+            → IfErr result (λ refused. IsFaultOf (D.seen disk) refused.fault) }
         ensures any_moment_err { D.is_honest disk
             → IfErr result (λ refused. OpensOver D.Disk disk refused.disk) }
-        // The opened stage lost at most what follows its staged end.
+        // The opened stage lost at most the bytes after its staged end.
         ensures cut { D.is_honest disk → IfOk result (λ opened.
             D.seen opened.0.disk ≡ take (256 + opened.1.staged) (D.seen disk)) }
-        // Unless the disk failed, a refusal wrote nothing.
+        // Unless the disk failed, nothing was written if the stage is refused.
         ensures untouched { D.is_honest disk → IfErr result (λ refused. IsNotDevice refused.fault
             → Untouched D.Disk disk refused.disk) }
         // A disk without a stage is never written to, even if the disk failed.
         ensures foreign { D.is_honest disk → HoldsNone (D.seen disk)
             → IfErr result (λ refused. Untouched D.Disk disk refused.disk) }
-        // If it failed, what is staged is unchanged.
+        // Even if the disk failed, the staged data are unchanged.
         ensures kept { D.is_honest disk
             → IfErr result (λ refused. KeepsStaged (D.seen disk) (D.seen refused.disk)) }
-        // On any disk, even a dishonest one.
+        // This holds on any disk, even if it is not honest.
         ensures same_length { IfErr result (λ refused. IsNotDevice refused.fault
             → D.length_of refused.disk ≡ D.length_of disk) }
     {
@@ -243,7 +242,7 @@ impl<D: Disk> Stage<D> {
     ///
     /// # Errors
     ///
-    /// Returns `OutOfMemory` or `Device`. Each returns the disk.
+    /// Returns `OutOfMemory` or `Device`. Both return the disk.
     pub fn create(
         alloc: Global,
         disk: D,
@@ -263,7 +262,7 @@ impl<D: Disk> Stage<D> {
             → (back ≡ point.now) × (there ≡ [])) }
         ensures not_full { IfErr result (λ refused. refused.fault ≡ StageFault.Full → ⊥) }
         ensures not_failed { IfErr result (λ refused. refused.fault ≡ StageFault.Failed → ⊥) }
-        // Nothing is read that might not be a stage.
+        // No fault says that the disk contains no stage.
         ensures not_none { IfErr result (λ refused. SaysNone refused.fault → ⊥) }
     {
         let mut disk = disk;
@@ -272,7 +271,7 @@ impl<D: Disk> Stage<D> {
             return Err(Refused { disk, fault });
         };
         let first = *point;
-        if let Err(fault) = make(alloc, &mut disk, first) {
+        if let Err(fault) = make(&mut disk, first) {
             return Err(Refused { disk, fault });
         }
         let acknowledged = *point;

@@ -7,7 +7,7 @@ ghost use Rattle.tape_blocks.specs.Block.{Portion};
 ghost use Rattle.tape_core.specs.Known.{most_staged};
 ghost use Rattle.tape_stage.specs.Moments.{IsDurable};
 ghost use Rattle.tape_stage.specs.Staged.{read_slot, slot_at, HoldsNone, Holding, Loses};
-ghost use Rattle.tape_stage.specs.Found.{IsFound, IsBadPlace};
+ghost use Rattle.tape_stage.specs.Found.{IsFound, IsFaultOf};
 ghost use Rattle.tape_stage.specs.Salvaged.{RemainsNone};
 ghost use Rattle.tape_stage.specs.Stages.{EndsFinding};
 ghost use Rattle.tape_stage.specs.Faults.{SaysNone, OnBadFrame};
@@ -46,7 +46,7 @@ fn slot(bytes: &[u8], second: bool) -> Option<(u64, Checkpoint)>
     read_slot(bytes[0], &bytes[1..128])
 }
 
-/// Returns the current slot, and the other one's gate.
+/// Returns the current slot, and whether the other slot's gate is open.
 fn found_in(bytes: &[u8], in_second: bool, generation: u64, point: Checkpoint) -> Found
     requires size { length bytes.now ≡ 256 }
     requires says { slot_at in_second bytes.now ≡ Some (generation, point) }
@@ -64,7 +64,7 @@ fn found_in(bytes: &[u8], in_second: bool, generation: u64, point: Checkpoint) -
     }
 }
 
-/// Returns the current slot: the one with the greater generation, or the first if both are equal.
+/// Returns the current slot: the slot with the greater generation, or the first if both are equal.
 fn find(bytes: &[u8]) -> Option<Found>
     requires { length bytes.now ≡ 256 }
     ensures found { MatchOption result
@@ -106,8 +106,8 @@ pub(crate) fn find_on<D: Disk>(disk: &mut D) -> Result<Found, StageFault>
     ensures reads { OnlyReads D.Disk disk.old disk.new }
     ensures ends { EndsFinding D.Disk disk.old result disk.new }
 {
-    // Synced before anything is read: reads then return what a crash leaves, and the cut that
-    // follows relies on slots that stay.
+    // Synced before anything is read: reads then return the bytes that a crash leaves, and the cut
+    // afterwards relies on slots that do not change.
     disk.sync()?;
     let len = disk.len()?;
     if len < 256 {
@@ -121,7 +121,7 @@ pub(crate) fn find_on<D: Disk>(disk: &mut D) -> Result<Found, StageFault>
     }
 }
 
-/// Finds what is staged, by reading only.
+/// Finds the staged data, by reading only.
 pub(crate) fn look<D: Disk>(disk: &mut D) -> Result<Found, StageFault>
     ensures found { D.is_honest disk.old → IfOk result (λ found. IsFound found (D.seen disk.old)) }
     ensures parts { D.is_honest disk.old → IfOk result
@@ -131,8 +131,7 @@ pub(crate) fn look<D: Disk>(disk: &mut D) -> Result<Found, StageFault>
     ensures staged { IfOk result (λ found. found.point.staged ≤ most_staged) }
     ensures none { D.is_honest disk.old → IfErr result
         (λ fault. SaysNone fault → HoldsNone (D.seen disk.old)) }
-    ensures at { D.is_honest disk.old → IfErr result
-        (λ fault. OnBadFrame fault (IsBadPlace (D.seen disk.old))) }
+    ensures says { D.is_honest disk.old → IfErr result (IsFaultOf (D.seen disk.old)) }
     ensures durable { D.is_honest disk.old → OnOk result (IsDurable D.Disk disk.new) }
     ensures calm { OnOk result (D.faults disk.new ≡ D.faults disk.old) }
     ensures reads { OnlyReads D.Disk disk.old disk.new }

@@ -18,11 +18,11 @@ impl<'s, D: Disk> PartReader<'s, D> {
     ghost use Rattle.std.specs.Borrow.{sem};
     ghost use Rattle.tape_stage.specs.Reads.{ReadsAs};
 
-    /// Lends the next part, or returns `None` after the last.
+    /// Returns the next part, or `None` after the last part.
     ///
     /// # Errors
     ///
-    /// The errors are those of `PartWalk::next_part`: the same part is still to come.
+    /// As for `PartWalk::next_part`: the same part is still to come.
     pub fn next(&mut self) -> Result<Option<Part<'_>>, SinkFault>
         ensures* after { sem 𝓛 (ReadsAs D.row D.Disk self.entry result) }
     {
@@ -31,7 +31,7 @@ impl<'s, D: Disk> PartReader<'s, D> {
 }
 
 impl<D: Disk> Stage<D> {
-    /// Reads the parts, from the first.
+    /// Reads the parts, beginning with the first.
     pub fn parts(&mut self) -> PartReader<'_, D>
         ensures same_stage { result.stage.ghost_name ≡ self.entry.ghost_name }
         ensures keeps { (parts : List Portion) → Holds self.old parts

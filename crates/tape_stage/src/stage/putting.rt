@@ -45,7 +45,7 @@ fn header(span: Span, size: u32) -> [u8; 5]
     [digit(span), n[0], n[1], n[2], n[3]]
 }
 
-/// Writes a part's frame at an offset.
+/// Writes a part's frame at offset `place`.
 fn write_frame<D: Disk>(disk: &mut D, place: u64, part: Part<'_>) -> Result<(), DiskFault>
     requires there { place ≤ D.length_of disk.old }
     requires short { length part.bytes.now ≤ longest_part }
@@ -71,8 +71,9 @@ impl<D: Disk> Stage<D> {
     ///
     /// # Errors
     ///
-    /// Returns `Failed` if the disk failed before, and `Full` if the parts would weigh more than
-    /// 999,999,999,999,999: nothing is changed. After `Device` the stage must be opened again.
+    /// Returns `Failed` if the disk failed before, and `Full` if the total weight would exceed
+    /// 999,999,999,999,999; in both cases nothing is changed. After `Device` the stage must be
+    /// opened again.
     pub fn put_part(&mut self, part: Part<'_>) -> Result<(), StageFault>
         requires { length part.bytes.now ≤ longest_part }
         ensures ok { D.is_honest self.old.disk → OnOk result ((acked parts : List Portion)
@@ -113,7 +114,7 @@ impl<D: Disk> Stage<D> {
     }
 }
 
-/// Returns the same fault as one of a sink; only opening has others.
+/// Returns the fault as a fault of a sink. The faults of opening do not occur here.
 fn sink_fault(fault: StageFault) -> SinkFault
     ensures { result ≡ sink_fault_of fault }
 {
@@ -213,6 +214,7 @@ impl<D: Disk> PartSink for Stage<D> {
             → Rose (D.faults self.old.disk) (D.faults self.new.disk) }
         ensures failed { result ≡ Err SinkFault.Failed → self.old.failed ≡ true }
         ensures memory { result ≡ Err SinkFault.OutOfMemory → ⊥ }
+        ensures full { result ≡ Err SinkFault.Full → most_generation ≤ self.old.generation }
         ensures rewinds { OnOk result (self.new.walked ≡ 0) }
     {
         match self.cut_back(point) {

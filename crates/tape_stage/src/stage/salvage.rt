@@ -12,13 +12,13 @@ pub struct Salvage<D: Disk> {
     pub(crate) disk: D,
     /// The byte offset of the damage, if there is any.
     pub(crate) broken: Option<u64>,
-    /// The weight of the parts that remain.
+    /// The weight of the remaining parts.
     pub(crate) weight: u64,
-    /// A buffer for the part that is lent.
+    /// A buffer for the part that is returned.
     pub(crate) buffer: Vec<u8>,
-    /// The weight of the parts that a walk has lent.
+    /// The weight of the parts that a walk has returned.
     pub(crate) walked: u64,
-    /// How many calls to it as a sink were refused.
+    /// The number of refused calls to this type as a sink.
     pub(crate) refused: u64,
     ghost long: { 256 + weight ≤ D.length_of disk },
     ghost behind: { walked ≤ weight },

@@ -1,4 +1,4 @@
-//! A stage that is opened for reading only, intact or damaged.
+//! Opening a stage, intact or damaged, for reading only.
 
 ghost use Rattle.std.specs.Prelude.{◌≡◌, ◌≤◌, ◌+◌, ◌-◌, ℕ, List, IfOk, IfErr};
 ghost use Rattle.std.specs.Prelude.{IfSome, Err, false};
@@ -36,7 +36,8 @@ fn standing(staged: u64, broken: Option<u64>) -> u64
     }
 }
 
-/// Returns the checkpoint of the current slot, and where its frames are damaged, if they are.
+/// Returns the checkpoint of the current slot, and the offset at which its frames are damaged, if
+/// they are.
 fn remains<D: Disk>(disk: &mut D) -> Result<(Checkpoint, Option<u64>), StageFault>
     ensures found { D.is_honest disk.old → IfOk result (λ found. (g : ℕ) × (parts : List Portion)
         × Remains (D.seen disk.old) g found.0 found.1 parts) }
@@ -54,9 +55,9 @@ fn remains<D: Disk>(disk: &mut D) -> Result<(Checkpoint, Option<u64>), StageFaul
 }
 
 impl<D: Disk> Salvage<D> {
-    /// Opens a stage for reading: the checkpoint that was acknowledged last, and its parts, or
-    /// those before the first damaged frame. Nothing is written or cut. A changed byte inside a
-    /// part is not detected.
+    /// Opens a stage for reading: the last acknowledged checkpoint, and its parts, or the parts
+    /// before the first damaged frame. Nothing is written or removed. A changed byte inside a part
+    /// is not detected.
     ///
     /// # Errors
     ///
@@ -76,7 +77,7 @@ impl<D: Disk> Salvage<D> {
         ensures not_failed { IfErr result (λ refused. refused.fault ≡ StageFault.Failed → ⊥) }
         ensures cause { IfErr result (λ refused. refused.fault ≡ StageFault.Device
             → Rose (D.faults disk) (D.faults refused.disk)) }
-        // Nothing is written to any disk, and no length changes.
+        // Nothing is written to the disk, honest or not, and its length does not change.
         ensures reads { IfOk result (λ opened. OnlyReads D.Disk disk opened.0.disk) }
         ensures refused { IfErr result (λ refused. OnlyReads D.Disk disk refused.disk) }
     {
@@ -113,8 +114,8 @@ impl<D: Disk> Salvage<D> {
     }
 }
 
-/// A read-only sink: it refuses each call that would change it with `Failed`. It makes no claim
-/// about crashes.
+/// A read-only sink: refuses each call that would change it with `Failed`. It makes no claim about
+/// crashes.
 impl<D: Disk> PartSink for Salvage<D> {
     ghost holds = { λ s parts. HoldsRest s parts };
 
@@ -128,7 +129,7 @@ impl<D: Disk> PartSink for Salvage<D> {
 
     ghost survived_now = { λ s t none. none };
 
-    // The trait alone would allow each of these changes to succeed.
+    // The trait's contract alone would allow each of these changes to succeed.
     fn put(&mut self, _part: Part<'_>) -> Result<(), SinkFault>
         ensures refused { result ≡ Err SinkFault.Failed }
         ensures same { (parts : List Portion) → HoldsRest self.old parts

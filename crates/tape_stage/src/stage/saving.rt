@@ -18,8 +18,8 @@ use crate::stage::{CLOSED, MOST_GENERATION, OPEN, Stage, StageFault};
 use tape_core::Checkpoint;
 
 impl<D: Disk> Stage<D> {
-    /// Returns the next generation to save: `Failed` if the disk failed, and `Full` if there is
-    /// none.
+    /// Returns the next generation to save, `Failed` if the disk failed, or `Full` if no generation
+    /// is left.
     fn next_generation(&self) -> Result<u64, StageFault>
         ensures next { IfOk result (λ generation. generation ≡ self.now.generation + 1) }
         ensures room { OnOk result (self.now.generation < most_generation) }
@@ -37,7 +37,7 @@ impl<D: Disk> Stage<D> {
         Ok(self.generation + 1)
     }
 
-    /// Makes a checkpoint the acknowledged one; the parts are unchanged.
+    /// Makes `point` the acknowledged checkpoint; the parts are unchanged.
     pub(crate) fn acknowledge(&mut self, point: &Checkpoint) -> Result<(), StageFault>
         requires { point.now.staged ≤ self.old.weight }
         ensures pending { IsErrOf result StageFault.Device → self.new.pending ≡ Some point.now }
@@ -87,11 +87,11 @@ impl<D: Disk> Stage<D> {
         }
     }
 
-    /// Returns the checkpoint that was acknowledged last: by creating, opening, saving or rolling
-    /// back.
+    /// Returns the last acknowledged checkpoint: that of the last successful creating, opening,
+    /// saving or rolling back.
     pub fn acknowledged(&self) -> Checkpoint
         ensures value { result ≡ self.now.acknowledged }
-        // Whatever a crash leaves now represents the checkpoint and its parts.
+        // Whatever a crash leaves now represents this checkpoint and its parts.
         ensures stands { D.is_honest self.now.disk → (acked parts : List Portion)
             → IsStage self.now acked parts
             → (bytes : List ℕ) → D.may_leave self.now.disk bytes
@@ -111,8 +111,9 @@ impl<D: Disk> Stage<D> {
     ///
     /// # Errors
     ///
-    /// Returns `Failed` if the disk failed before, and `Full` if no generation is left: nothing is
-    /// changed. After `Device` the checkpoint is pending, and the stage must be opened again.
+    /// Returns `Failed` if the disk failed before, and `Full` if no generation is left; in both
+    /// cases nothing is changed. After `Device` the checkpoint is pending, and the stage must be
+    /// opened again.
     pub fn save(&mut self, point: &Checkpoint) -> Result<(), StageFault>
         requires { point.now.staged ≡ self.old.weight }
         ensures pending { IsErrOf result StageFault.Device → self.new.pending ≡ Some point.now }
@@ -132,13 +133,13 @@ impl<D: Disk> Stage<D> {
         self.acknowledge(point)
     }
 
-    /// Acknowledges the first parts under a checkpoint, and drops the others.
+    /// Acknowledges the first parts under a checkpoint, and drops the other parts.
     ///
     /// # Errors
     ///
-    /// Returns `Failed` if the disk failed before, and `Full` if no generation is left: nothing is
-    /// changed. After `Device` the checkpoint is pending or already acknowledged, and the stage
-    /// must be opened again.
+    /// Returns `Failed` if the disk failed before, and `Full` if no generation is left; in both
+    /// cases nothing is changed. After `Device` the checkpoint is pending or already acknowledged,
+    /// and the stage must be opened again.
     pub fn restart(&mut self, point: &Checkpoint) -> Result<(), StageFault>
         requires { point.now.staged ≤ self.old.weight }
         ensures pending { IsErrOf result StageFault.Device
@@ -157,8 +158,8 @@ impl<D: Disk> Stage<D> {
         ensures ends { EndsCall self.old result self.new }
     {
         let staged = point.staged;
-        // Saved first and then cut: cutting first could drop parts that the older checkpoint
-        // counts.
+        // The checkpoint is saved before the cut: cutting first could drop parts that the older
+        // checkpoint counts.
         match self.acknowledge(point) {
             Ok(()) => self.cut_parts(staged),
             Err(fault) => Err(fault),
@@ -173,7 +174,7 @@ fn gate_place(second: bool) -> u64
     if second { 128 } else { 0 }
 }
 
-/// Closes the gate of the older slot, if it is open; syncs in either case.
+/// Closes the gate of the older slot, if it is open, and syncs in either case.
 pub(crate) fn close_gate<D: Disk>(
     disk: &mut D,
     in_second: bool,
@@ -192,14 +193,14 @@ pub(crate) fn close_gate<D: Disk>(
     ensures synced { EndsSynced D.Disk disk.old result disk.new }
 {
     // A closed gate is not written again: a torn write could leave it open before a body that was
-    // never acknowledged. The sync is needed in either case, since it makes the frames durable.
+    // never acknowledged. The sync is needed in either case, because it makes the frames durable.
     if is_open {
         return write_kept(disk, gate_place(!in_second), &[CLOSED]);
     }
     disk.sync()
 }
 
-/// Writes the next generation and its checkpoint after the gate, which is closed.
+/// Writes the next generation and its checkpoint after the closed gate.
 pub(crate) fn fill_slot<D: Disk>(
     disk: &mut D,
     in_second: bool,
@@ -223,12 +224,13 @@ pub(crate) fn fill_slot<D: Disk>(
     ensures long { OnOk result (D.length_of disk.new ≡ D.length_of disk.old) }
     ensures synced { EndsSynced D.Disk disk.old result disk.new }
 {
-    // Whatever a crash leaves of these bytes does not count, for their gate is closed on the disk.
+    // Whatever a crash leaves of these bytes does not count, because their gate is closed on the
+    // disk.
     let body = body_bytes(generation, next);
     write_kept(disk, gate_place(!in_second) + 1, &body)
 }
 
-/// Opens the gate of the slot that was written.
+/// Opens the gate of the slot that was filled.
 pub(crate) fn open_gate<D: Disk>(disk: &mut D, in_second: bool) -> Result<(), DiskFault>
     requires { 256 ≤ D.length_of disk.old }
     ensures opened { D.is_honest disk.old
@@ -244,12 +246,13 @@ pub(crate) fn open_gate<D: Disk>(disk: &mut D, in_second: bool) -> Result<(), Di
     ensures long { OnOk result (D.length_of disk.new ≡ D.length_of disk.old) }
     ensures synced { EndsSynced D.Disk disk.old result disk.new }
 {
-    // One byte, after the sync of all that it makes valid: a crash leaves it open or not.
+    // A single byte, after everything that it makes valid was synced: a crash leaves the gate open
+    // or closed.
     write_kept(disk, gate_place(!in_second), &[OPEN])
 }
 
-/// Replaces the older slot by the next generation. A crash leaves the current generation or the
-/// next one.
+/// Replaces the older slot with the next generation. A crash leaves the current or the next
+/// generation.
 pub(crate) fn replace_slot<D: Disk>(
     disk: &mut D,
     in_second: bool,

@@ -9,7 +9,8 @@ use std::io;
 use std::io::BufWriter;
 use tape_run::{EngineFault, RunFault, check_to};
 
-/// Reports what is on the images named in the arguments. On error, the site says where it occurred.
+/// Reports the sections on the images that the arguments name. On error, `site` says where it
+/// occurred.
 pub fn check<'a, R: Host>(rt: &R, named: &Named<'a>, site: &mut FaultSite<'a>) -> End {
     let mut text = String::new(rt.alloc());
     match names_of(rt, named, &mut text, site) {
@@ -21,7 +22,7 @@ pub fn check<'a, R: Host>(rt: &R, named: &Named<'a>, site: &mut FaultSite<'a>) -
     }
 }
 
-/// Reports what is on the images with these names, and returns whether all sections were found.
+/// Reports the sections on the images named `names`, and returns whether all sections were found.
 fn check_files<R: Host>(rt: &R, named: &Named<'_>, names: &[&str]) -> Result<bool, EngineFault> {
     let Ok(mut report) = BufWriter::new(rt.alloc(), io::writer(rt)) else {
         return Err(EngineFault::Run(RunFault::OutOfMemory));

@@ -1,4 +1,4 @@
-//! The system's message about a file with a fault.
+//! The system's message for a fault of a file.
 use super::FaultSite;
 use crate::fault::{FileFault, ToolFault};
 use crate::write::run::split;
@@ -9,8 +9,8 @@ use std::{fs, io};
 use tape_image::ImageCause;
 use tape_writer::system::folder_of;
 
-/// Accesses the file with this fault again, and returns the system's error. Returns `None` if there
-/// is no error now, and for faults that are not those of a file that can be read.
+/// Accesses the file with the fault again, and returns the system's error. Returns `None` if there
+/// is no error now, or if the fault is not that of a file that can be read.
 pub fn reason_of<R: Runtime>(rt: &R, fault: ToolFault, site: FaultSite<'_>) -> Option<io::Error> {
     match fault {
         ToolFault::File(FileFault::NotOpened | FileFault::ReadFailed) => {}
@@ -22,7 +22,10 @@ pub fn reason_of<R: Runtime>(rt: &R, fault: ToolFault, site: FaultSite<'_>) -> O
             rt, path,
         ),
         FaultSite::Input(word) => unread(rt, split(word).1),
-        FaultSite::Out(path) | FaultSite::New(path) => not_there(rt, folder_of(path)),
+        FaultSite::Out(path) | FaultSite::New(path) | FaultSite::Log(path) => not_there(
+            rt,
+            folder_of(path),
+        ),
         FaultSite::Folder(path) | FaultSite::Images(path) | FaultSite::Volume(path, _, _) =>
             not_there(rt, path),
         FaultSite::Unknown
@@ -33,12 +36,12 @@ pub fn reason_of<R: Runtime>(rt: &R, fault: ToolFault, site: FaultSite<'_>) -> O
     }
 }
 
-/// Returns why there is nothing at this path.
+/// Returns why the lookup of `path` finds nothing.
 fn not_there<R: Runtime>(rt: &R, path: &str) -> Option<io::Error> {
     fs::metadata(rt, path).err()
 }
 
-/// Returns why the file at this path cannot be read. A pipe or a device is not opened, since that
+/// Returns why the file at `path` cannot be read. A pipe or a device is not opened, since that
 /// might block.
 fn unread<R: Runtime>(rt: &R, path: &str) -> Option<io::Error> {
     match fs::metadata(rt, path) {

@@ -16,8 +16,8 @@ use std::{fs, io};
 use tape_run::{Place, WriteFailed};
 use tape_writer::system::{LockFault, found, locked, sync_folder_of};
 
-/// Returns whether the output may be written in place if no draft could be created, for this
-/// reason: in a directory that accepts no new file, and in one that does not exist, where nothing
+/// Returns whether the output may be written in place after creating a draft failed with error
+/// `kind`: in a directory that accepts no new file, or in one that does not exist, where nothing
 /// can be lost.
 pub fn is_written_in_place(kind: ErrorKind, there: bool) -> bool
     ensures { result ≡ is_written_in_place kind there }
@@ -53,7 +53,7 @@ pub struct OutName<'a, R: Host> {
     name: &'a str,
     /// The draft, which is locked as long as this is open: until it gets the output's name or is
     /// removed.
-    _lock: File,
+    lock: File,
     /// The file found under the output's name, before anything was read.
     before: Option<FileId>,
     /// Whether the draft has a name of its own.
@@ -74,16 +74,16 @@ impl<'a, R: Host> OutName<'a, R> {
             rt,
             draft,
             name,
-            _lock: lock,
+            lock,
             before,
             is_draft: true,
             is_taken: false,
         }
     }
 
-    /// Gives a draft the owner and the permissions of the file that it will replace, as far as this
-    /// user may. Set-user-ID and set-group-ID permissions are not copied to a file with other
-    /// contents.
+    /// Gives a draft the owner and the permissions of the file that it will replace, as far as the
+    /// user is allowed to. Set-user-ID and set-group-ID permissions are not copied to a file with
+    /// other contents.
     fn keep_rights(&self, draft: &File) -> io::Result<()> {
         let there = fs::metadata(self.rt, self.name)?;
         let _ = fchown(draft, Some(there.uid()), Some(there.gid()));
@@ -108,7 +108,7 @@ impl<'a, R: Host> OutName<'a, R> {
         sync_folder_of(self.rt, self.name)
     }
 
-    /// Returns the file that has the output's name now, if there is one.
+    /// Returns the file that has the output's name now, if any.
     fn now(&self) -> Result<Option<FileId>, FileFault> {
         match found(fs::symlink_metadata(self.rt, self.name))? {
             Some(there) => Ok(Some(FileId::of(&there))),
@@ -142,7 +142,7 @@ impl<'a, R: Host> OutName<'a, R> {
         Ok(())
     }
 
-    /// Removes the draft, if it did not take the name.
+    /// Removes the draft, unless it took the output's name.
     fn clear(&mut self) {
         if self.is_draft {
             remove(self.rt, self.draft.as_str());
@@ -150,8 +150,20 @@ impl<'a, R: Host> OutName<'a, R> {
         }
     }
 
-    /// Ends a run with this result: removes the draft, and reports whether another file prevented
-    /// it from taking its name.
+    /// Whether the draft took the output's name.
+    pub fn has_taken(&self) -> bool {
+        !self.is_draft
+    }
+
+    /// Removes the output, if the draft took its name and no other file has it now.
+    pub fn give_back(&mut self) {
+        if self.has_taken() && has_name(self.rt, &self.lock, self.name) {
+            remove(self.rt, self.name);
+        }
+    }
+
+    /// Ends a run with `end`: removes the draft, and reports whether another file prevented it from
+    /// taking its name.
     pub fn ended(&mut self, end: End) -> End {
         self.clear();
         if self.is_taken {
@@ -165,7 +177,11 @@ impl<R: Host> Place<BufWriter<DraftFile>> for OutName<'_, R> {
     ghost stands = { λ _. None };
 
     fn place(&mut self, out: BufWriter<DraftFile>) -> Result<(), WriteFailed> {
-        match self.take(&out.get_ref().file) {
+        // The buffer is written before the file gets its name.
+        let Ok(draft) = out.into_inner() else {
+            return Err(WriteFailed);
+        };
+        match self.take(&draft.file) {
             Ok(()) => Ok(()),
             Err(_) => Err(WriteFailed),
         }
@@ -235,8 +251,8 @@ impl<R: Host> Write for Draft<'_, R> {
     }
 }
 
-/// Returns the name of the draft with this number. It is short, since the output's name may be as
-/// long as the system permits, and only this program uses such names.
+/// Returns the name of draft `number`. It is short, since the output's name may be as long as the
+/// system permits, and only this program uses such names.
 fn draft_name(alloc: Global, name: &str, number: u16) -> Result<String, AllocError> {
     let folder = match name.rfind('/') {
         Some(end) => &name[..end + 1],
@@ -245,8 +261,9 @@ fn draft_name(alloc: Global, name: &str, number: u16) -> Result<String, AllocErr
     format!(in alloc; "{folder}.tape-{number}.part")
 }
 
-/// Creates a file with this name and locks it for as long as the draft is open. Returns `None` if
-/// another run has a file of this name. A file that a killed run left has no lock, and is removed.
+/// Creates a file at `path` and locks it for as long as the draft is open. Returns `None` if
+/// another run has a file with this name. A file that a killed run left has no lock, and is
+/// removed.
 fn make_new<R: Host>(rt: &R, path: &str) -> Result<Option<File>, ErrorKind> {
     if let Err(error) = fs::symlink_metadata(rt, path) {
         if error.kind() != ErrorKind::NotFound {
@@ -275,7 +292,7 @@ fn lock_new<R: Host>(rt: &R, path: &str, file: File) -> Result<Option<File>, Err
     }
 }
 
-/// Removes a plain file with this name that no run has locked, and returns whether it did.
+/// Removes the regular file at `path`, unless a run has locked it, and returns whether it did.
 fn remove_left<R: Host>(rt: &R, path: &str) -> bool {
     let mut options = OpenOptions::new();
     options.read(true).write(true);
@@ -289,7 +306,7 @@ fn remove_left<R: Host>(rt: &R, path: &str) -> bool {
     file.try_lock().is_ok() && has_name(rt, &file, path) && rt.remove_file(path).is_ok()
 }
 
-/// Returns whether the open file is the one with this name.
+/// Returns whether the open file is the one at `path`.
 fn has_name<R: Host>(rt: &R, file: &File, path: &str) -> bool {
     match (file.metadata(), fs::symlink_metadata(rt, path)) {
         (Ok(open), Ok(named)) => FileId::of(&open).is_same(&FileId::of(&named)),

@@ -26,22 +26,22 @@ const FRONTS: &[(usize, &[u8])] = &[
     (144, b"TPCK"),
 ];
 
-/// The number of bytes that these tests need.
+/// The number of bytes that the tests need.
 const FRONT: usize = 148;
 
 /// How an output is to be written, and the file found under its name before.
 #[derive(Clone, Copy)]
 pub enum Way {
-    /// To a new file, which takes the name once it is complete.
+    /// To a new file, which gets the name when it is complete.
     Renamed(Option<FileId>),
-    /// The same, for a name that does not exist: it is never written in place.
+    /// To a new file, too, under a name that does not exist: it is never written in place.
     New,
     /// The name is that of a pipe, a device or a link: it is written to.
     InPlace(Option<FileId>),
 }
 
 impl Way {
-    /// Returns the file found under the name, if there was one.
+    /// Returns the file found under the name, if any.
     pub fn before(&self) -> Option<FileId> {
         match self {
             Way::Renamed(before) | Way::InPlace(before) => *before,
@@ -50,7 +50,7 @@ impl Way {
     }
 }
 
-/// Returns how the output is to be written, with images of these names; see `way_to_out`.
+/// Returns how the output is to be written, given the names of the images; see `way_to_out`.
 ///
 /// # Errors
 ///
@@ -80,7 +80,7 @@ const STANDARD_INPUT: &str = "/dev/stdin";
 ///
 /// # Errors
 ///
-/// Returns `Words` if the output is the stage, also if that does not exist yet, or one of the
+/// Returns `Words` if the output is the stage (even one that does not exist yet) or one of the
 /// images: the same file, whatever name or link leads to it. Returns `Faulted` with `Exists` if it
 /// might be a tape: it is not empty, and is named `.tap`, begins like an image, or is compressed,
 /// an archive or a stage; with `NotOpened` or `ReadFailed` if that cannot be determined.
@@ -116,7 +116,7 @@ fn way_to_new<R: Runtime>(rt: &R, out: &str, stage: Option<&str>) -> Result<Way,
     way_to(rt, out, None)
 }
 
-/// Returns whether both paths are the same name in the same directory.
+/// Returns whether both paths name the same entry of the same directory.
 fn is_one_name<R: Runtime>(rt: &R, one: &str, other: &str) -> Result<bool, Refusal> {
     if one == other {
         return Ok(true);
@@ -130,7 +130,7 @@ fn is_one_name<R: Runtime>(rt: &R, one: &str, other: &str) -> Result<bool, Refus
     }
 }
 
-/// Returns how to write to the file with this name. A missing file can be created, and a link is
+/// Returns how to write to the file at `path`. A missing file can be created, and a link is
 /// followed.
 fn way_to<R: Runtime>(rt: &R, path: &str, before: Option<FileId>) -> Result<Way, Refusal> {
     match found(fs::symlink_metadata(rt, path)) {
@@ -140,7 +140,7 @@ fn way_to<R: Runtime>(rt: &R, path: &str, before: Option<FileId>) -> Result<Way,
     }
 }
 
-/// Refuses with this text if the path leads to the file that was found.
+/// Refuses with the message `text` if `path` leads to the file that was found.
 fn differs<R: Runtime>(
     rt: &R,
     there: &Metadata,
@@ -199,7 +199,7 @@ fn holds_no_image<R: Runtime + AllocGlobal>(rt: &R, path: &str) -> Result<(), Re
 ///
 /// # Errors
 ///
-/// `Device` and `OutOfMemory`, if it cannot be determined.
+/// `Device` and `OutOfMemory`, if this cannot be determined.
 fn begins_as_image<R: Read>(alloc: Global, device: &mut R) -> Result<bool, ImageCause> {
     let mut image = match ImageReader::new(alloc, device) {
         Ok(image) => image,
@@ -213,7 +213,7 @@ fn begins_as_image<R: Read>(alloc: Global, device: &mut R) -> Result<bool, Image
     }
 }
 
-/// Returns whether a file with this error at its beginning is an image: it is not, or it could not
+/// Returns whether a file is an image, given the fault at its beginning: it is not, or it could not
 /// be read.
 fn unseen(fault: ImageFault) -> Result<bool, ImageCause> {
     match fault.cause {

@@ -18,7 +18,7 @@ pub struct OutFile<'a, R: Host> {
 }
 
 impl<'a, R: Host> OutFile<'a, R> {
-    /// Returns the file at this path, which is not touched yet.
+    /// Returns the file at `path`, without touching it.
     pub fn new(rt: &'a R, path: &'a str, before: Option<FileId>) -> OutFile<'a, R> {
         OutFile {
             rt,
@@ -29,7 +29,7 @@ impl<'a, R: Host> OutFile<'a, R> {
         }
     }
 
-    /// Returns the reason why it could not be created, if it could not.
+    /// Returns the reason why the file could not be created, if it could not.
     pub fn refused(&self) -> Option<FileFault> {
         self.refused
     }

@@ -35,7 +35,7 @@ pub fn extract<'a, R: Host>(rt: &R, order: &Extract<'a>, site: &mut FaultSite<'a
     }
 }
 
-/// Recovers the file from the images with these names.
+/// Recovers the file from the images named `names`.
 fn extract_from<'a, R: Host>(
     rt: &R,
     order: &Extract<'a>,
@@ -101,7 +101,7 @@ pub fn extract_file<'a, R: Host, P: Write>(
     }
 }
 
-/// Recovers the file over the stage at this path.
+/// Recovers the file over the stage at `path`.
 fn on_stage<'a, R: Host, P: Write>(
     rt: &R,
     task: &Task<'a>,
@@ -124,8 +124,8 @@ fn on_stage<'a, R: Host, P: Write>(
     end
 }
 
-/// A draft of the output, if it is written that way and its directory accepts new files. `None` if
-/// the output is written in place.
+/// Returns a draft of the output, or `None` if the output is written in place: because of its kind,
+/// or because its directory accepts no new files.
 pub fn draft_of<'a, R: Host>(
     rt: &'a R,
     out: &'a str,
@@ -162,8 +162,8 @@ fn in_memory<'a, R: Host, P: Write>(
     }
 }
 
-/// Recovers the file without a stage: its records are written as they come if there is a draft, and
-/// otherwise held in memory.
+/// Recovers the file without a stage: writes its records as they come if there is a draft, and
+/// otherwise keeps them in memory.
 fn at_once<'a, R: Host, P: Write>(
     rt: &'a R,
     task: &Task<'a>,
@@ -211,7 +211,7 @@ fn into_draft<R: Host, P: Write>(
     name.ended(end)
 }
 
-/// A session whose records go to this file.
+/// Returns a session whose records are written to `file`.
 fn session_into<F: Write + Drop>(
     alloc: Global,
     task: &Task<'_>,
@@ -226,7 +226,7 @@ fn session_into<F: Write + Drop>(
     }
 }
 
-/// The result: a part that could not be kept was a record that could not be written.
+/// Returns the result: if a part could not be stored, a record could not be written.
 fn end_as_written(answer: Result<Option<Want>, EngineFault>) -> End {
     match answer {
         Err(EngineFault::Run(RunFault::Sink(SinkFault::Device))) => {
@@ -236,7 +236,7 @@ fn end_as_written(answer: Result<Option<Want>, EngineFault>) -> End {
     }
 }
 
-/// Reads the images into the session, and writes the file if it is complete.
+/// Reads the images into the session, and writes the recovered file if it is complete.
 fn gather<'a, R: Host, S: PartWalk + Drop, P: Write>(
     rt: &'a R,
     task: &Task<'a>,
@@ -252,7 +252,7 @@ fn gather<'a, R: Host, S: PartWalk + Drop, P: Write>(
     }
 }
 
-/// Reads the images into the session, and writes the file to the draft if it is complete.
+/// Reads the images into the session, and writes the recovered file to the draft if it is complete.
 fn drafted<R: Host, S: PartWalk + Drop, P: Write>(
     rt: &R,
     task: &Task<'_>,
@@ -269,7 +269,7 @@ fn drafted<R: Host, S: PartWalk + Drop, P: Write>(
     draft.name.ended(end)
 }
 
-/// Reads the images into the session, and writes the file in place if it is complete.
+/// Reads the images into the session, and writes the recovered file in place if it is complete.
 fn in_place<R: Host, S: PartWalk + Drop, P: Write>(
     rt: &R,
     task: &Task<'_>,
@@ -289,7 +289,7 @@ fn in_place<R: Host, S: PartWalk + Drop, P: Write>(
     }
 }
 
-/// Reads the images into the session, and writes the file to the writer if it is complete.
+/// Reads the images into the session, and writes the recovered file to `out` if it is complete.
 fn written_to<R: Host, S: PartWalk + Drop, W: Write, P: Write>(
     task: &Task<'_>,
     images: &mut Images<'_, R>,
@@ -305,8 +305,8 @@ fn written_to<R: Host, S: PartWalk + Drop, W: Write, P: Write>(
     extract_end(answer)
 }
 
-/// Recovers a file from the images that have its sections, and prints the last line if it is
-/// complete. The last image stays open and is read on.
+/// Recovers a file from the images with its sections, and prints the last line if it is complete.
+/// The last image stays open, so that the next file can continue there.
 pub fn extract_whole<'a, R: Host, P: Write>(
     rt: &'a R,
     task: &Task<'a>,
@@ -336,7 +336,7 @@ pub fn extract_whole<'a, R: Host, P: Write>(
     name.ended(end)
 }
 
-/// The result if the file is complete.
+/// Returns the result if the file is complete.
 fn end_reported(reported: Result<(), WriteFailed>) -> End {
     match reported {
         Ok(()) => End::Done,

@@ -10,6 +10,10 @@ pub const FOLDER_OF_FILES: &str = "Existing directory for the files and their st
 pub const FORM_OF_FILES: &str = "lines: end each record with a line feed;
 raw: do not";
 
+/// What salvaging files is.
+pub const SALVAGE_FILES: &str = "Write what is readable of each incomplete file as NAME.salvaged,
+and where it has gaps as NAME.gaps";
+
 /// Too many images.
 pub const TOO_MANY_TO_UNPACK: &str =
     "unpack takes up to 256 IMAGEs, and any number of names from a list:
@@ -32,6 +36,8 @@ One line per file:
            written, 25 records
   FILE ABC001 2 AWAITS 2 2 14 ../out/ABC001.2.LEDGER.stage
            incomplete: file, section, block (and part) missing; its stage
+  FILE ABC001 2 SALVAGED 90 ../out/ABC001.2.LEDGER.salvaged
+           with --salvage: the readable records of an incomplete file
   FILE ABC001 3 EXISTS ../out/ABC001.3.TAXES
            a file of this name exists; it was not changed
   FILE ABC001 4 CONFLICT
@@ -51,6 +57,10 @@ replaces '%', unprintable characters and those that some file system refuses,
 and spaces at the end are left out. A file gets its name when it is complete,
 and its stage, NAME.stage, is then removed. Existing files are never
 overwritten.
+
+With --salvage, NAME.gaps names the images and has the lines of 'tape salvage'.
+Both files are written anew by each run and removed when the file is complete,
+unless somebody changed them.
 
 Exit status: 0 all files complete and all images read, 1 error, 2 usage error,
 3 a file is incomplete, in conflict or not found, an image was not read to its

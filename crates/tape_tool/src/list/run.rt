@@ -54,7 +54,7 @@ fn list_input<R: Print + AllocGlobal, I: Read + Drop>(
     list_from(rt, &mut reader, offsets)
 }
 
-/// Lists the rest of this reader.
+/// Lists the rest of an image.
 fn list_from<R: Print + AllocGlobal, I: Read>(
     rt: &R,
     reader: &mut I,

@@ -9,7 +9,7 @@ use crate::words::{at_most_one, flag_of};
 use clap::{ArgMatches, Error};
 use std::alloc::Global;
 
-/// What `list` lists: the image at this path, or that on standard input.
+/// The request to `list`: an image at a path, or standard input.
 #[derive(Clone, Copy)]
 pub struct Listing<'a> {
     pub image: Option<&'a str>,

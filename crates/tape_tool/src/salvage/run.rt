@@ -13,7 +13,7 @@ use std::{fs, io};
 use tape_run::salvage_to;
 use tape_writer::system::found;
 
-/// Recovers what is readable of the file that the arguments name. On error, the site says where it
+/// Recovers the readable parts of the file that the arguments name. On error, `site` says where it
 /// occurred.
 pub fn salvage<'a, R: Host>(rt: &R, order: &SalvageOrder<'a>, site: &mut FaultSite<'a>) -> End {
     let mut text = String::new(rt.alloc());
@@ -26,7 +26,7 @@ pub fn salvage<'a, R: Host>(rt: &R, order: &SalvageOrder<'a>, site: &mut FaultSi
     }
 }
 
-/// Recovers it from the images with these names. An existing file is never overwritten: it may
+/// Recovers the file from the images named `names`. An existing file is never overwritten: it may
 /// contain more of the file than can be read now.
 fn salvage_images<R: Host>(rt: &R, order: &SalvageOrder<'_>, names: &[&str]) -> End {
     match found(fs::symlink_metadata(rt, order.out)) {

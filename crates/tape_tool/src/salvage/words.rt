@@ -1,6 +1,6 @@
 //! The arguments of `salvage`.
 
-ghost use Rattle.std.specs.Prelude.{◌≡◌, ◌≢◌, codes, IfOk, IfErr, Some};
+ghost use Rattle.std.specs.Prelude.{◌≡◌, ◌≢◌, ◌↔◌, codes, IfOk, IfErr, Some};
 ghost use Rattle.clap.specs.Words.{found_of, rows_of, first_of};
 ghost use Rattle.tape_run.specs.declared.salvage.Content.TheVariants.{Records, Blocks};
 ghost use Rattle.tape_tool.specs.Words.{AsksToSalvage, IsForm, IsNoExtract, IsNoSet, IsNoTask};
@@ -101,10 +101,10 @@ fn out_in<'a>(alloc: Global, matches: &ArgMatches<'a>) -> Result<&'a str, Error>
     Ok(out)
 }
 
-/// Returns what is recovered of each block.
+/// Returns whether records or blocks are recovered.
 fn content_in(matches: &ArgMatches<'_>) -> Content
-    ensures { result ≡ Blocks → first_of (codes "form") (rows_of (found_of matches.now))
-        ≡ Some (codes "blocks") }
+    ensures { (result ≡ Blocks) ↔ (first_of (codes "form") (rows_of (found_of matches.now))
+        ≡ Some (codes "blocks")) }
 {
     match option_of(matches, "form") {
         Some("blocks") => Content::Blocks,
@@ -114,7 +114,8 @@ fn content_in(matches: &ArgMatches<'_>) -> Content
 
 /// Returns how records are written. Blocks are written without terminators.
 fn form_with(matches: &ArgMatches<'_>, content: Content) -> Form
-    ensures { content ≡ Records → IsForm (rows_of (found_of matches.now)) result }
+    ensures form { content ≡ Records → IsForm (rows_of (found_of matches.now)) result }
+    ensures raw { content ≡ Blocks → result ≡ Form.Raw }
 {
     match content {
         Content::Records => form_of(matches),

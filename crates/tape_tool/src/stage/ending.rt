@@ -4,8 +4,8 @@ use tape_set::Want;
 /// What follows the parts of a stage that was shown.
 #[derive(Clone, Copy, Debug, PartialEq, Eq)]
 pub enum StageEnding {
-    /// All frames are intact; this is missing of the file, if anything.
+    /// All frames are intact; the missing part of the file, if any.
     Whole(Option<Want>),
-    /// The frames are damaged at this offset of the stage.
+    /// The offset of the stage at which the frames are damaged.
     Broken(u64),
 }

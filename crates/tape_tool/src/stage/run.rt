@@ -50,8 +50,8 @@ fn way_of<R: Host>(rt: &R, order: &StageOrder<'_>) -> Result<Option<Way>, Refusa
     }
 }
 
-/// Opens the file of the stage at this path for reading only, unless another run is writing to it.
-/// On a file system without locks other runs are not excluded.
+/// Opens the file of the stage at `path` for reading only, unless another run is writing to it. On
+/// a file system without locks other runs are not excluded.
 fn disk_of<R: Host>(rt: &R, path: &str) -> Result<StageDisk, ToolFault> {
     let Ok(file) = File::open(rt, path) else {
         return Err(ToolFault::File(FileFault::NotOpened));
@@ -80,7 +80,7 @@ fn show_disk<'a, R: Host>(
     }
 }
 
-/// The same, with the records written to the draft.
+/// Shows the stage on a disk, and writes the records to the draft.
 fn show_drafted<R: Host>(
     rt: &R,
     order: &StageOrder<'_>,
@@ -95,7 +95,7 @@ fn show_drafted<R: Host>(
     draft.name.ended(end)
 }
 
-/// The same, with the records written to the file with the output's name.
+/// Shows the stage on a disk, and writes the records to the file with the output's name.
 fn show_in_place<R: Host>(
     rt: &R,
     order: &StageOrder<'_>,
@@ -114,7 +114,7 @@ fn show_in_place<R: Host>(
     }
 }
 
-/// Shows the stage on a disk, with the records written to this writer.
+/// Shows the stage on a disk, and writes the records to `out`.
 fn show_to<R: Host, W: Write>(rt: &R, order: &StageOrder<'_>, disk: StageDisk, out: &mut W) -> End {
     let mut report = io::writer(rt);
     if order.damaged {

@@ -24,9 +24,9 @@ use tape_run::{EngineFault, WriteFailed, flush, last_line, write_file, write_tex
 use tape_set::Want;
 use tape_stage::{Disk, Salvage, Stage, StageFault};
 
-/// Prints the file of the stage on this disk, its number of complete records, and the last line
-/// that `extract` would print. The records, from the beginning of the file, are written to `out`
-/// and flushed before anything is printed. Returns what is missing of the file.
+/// Prints the file of the stage on `disk`, its number of complete records, and the last line that
+/// `extract` would print. The records, from the beginning of the file, are written to `out` and
+/// flushed before anything is printed. Returns the missing part of the file, if any.
 ///
 /// Opening a stage cuts what follows its staged end and syncs: to leave the stage unchanged, pass a
 /// disk that only simulates that.
@@ -54,7 +54,7 @@ pub fn show_stage<D: Disk + Drop, W: Write, P: Write>(
     }
 }
 
-/// Prints the file and the parts of a sink that was saved up to this checkpoint, and writes its
+/// Prints the file and the parts of a sink that was saved up to checkpoint `point`, and writes its
 /// records.
 fn show_opened<S: PartWalk + Drop, W: Write, P: Write>(
     sink: S,
@@ -85,9 +85,9 @@ fn show_opened<S: PartWalk + Drop, W: Write, P: Write>(
     Ok(want)
 }
 
-/// Does the same for a damaged stage: it prints and writes its complete records before the damage,
-/// and prints the offset of the damage in place of what is missing. For an intact stage it does the
-/// same as `show_stage`. The disk is only read.
+/// Shows a damaged stage: prints and writes its complete records before the damage, and prints the
+/// offset of the damage in place of the missing part. For an intact stage this is the same as
+/// `show_stage`. The disk is only read.
 ///
 /// # Errors
 ///
@@ -110,7 +110,7 @@ pub fn show_damaged<D: Disk + Drop, W: Write, P: Write>(
     }
 }
 
-/// Prints the file and what remains of the parts up to this checkpoint, and writes its records.
+/// Prints the file and the remaining parts up to checkpoint `point`, and writes its records.
 fn show_rest<D: Disk + Drop, W: Write, P: Write>(
     salvage: Salvage<D>,
     point: &Checkpoint,
@@ -169,7 +169,11 @@ fn show_parts<S: PartWalk, W: Write, P: Write>(
 /// Returns the fault of writing the records: if the parts could not be read, it is a fault of the
 /// stage.
 fn as_read(fault: EngineFault) -> ToolFault
-    ensures { EndsInPart result }
+    ensures ends { EndsInPart result }
+    ensures written { fault ≡ EngineFault.WriteFailed
+        → result ≡ ToolFault.File FileFault.WriteFailed }
+    ensures read { result ≡ ToolFault.File FileFault.WriteFailed
+        → fault ≡ EngineFault.WriteFailed }
 {
     match fault {
         EngineFault::WriteFailed => ToolFault::File(FileFault::WriteFailed),
@@ -196,7 +200,7 @@ fn tell<P: Write>(
 /// The maximum length of both lines.
 type Lines = ArrayVec<u8, 512>;
 
-/// Returns the line of the stage, and that of what follows its parts.
+/// Returns the line about the stage, and the line about what follows its parts.
 fn lines_of(point: &Checkpoint, ending: StageEnding, records: u64) -> Lines
     ensures { result.items ≡ told_with point.now ending records }
 {
@@ -206,7 +210,8 @@ fn lines_of(point: &Checkpoint, ending: StageEnding, records: u64) -> Lines
     lines
 }
 
-/// Appends what is missing, or that the file is complete; or where the frames are damaged.
+/// Appends the line about what follows the parts: the missing part, or that the file is complete,
+/// or where the frames are damaged.
 fn put_ending(lines: &mut Lines, ending: StageEnding, records: u64)
     requires { array_vec_len lines.old ≤ 200 }
     ensures { lines.new.items ≡ lines.old.items ++ ending_line ending records }
@@ -227,7 +232,7 @@ fn put_break(lines: &mut Lines, place: u64)
     put(lines, b"\n");
 }
 
-/// Appends the line of a stage: set, file, and number of complete records.
+/// Appends the line about a stage: set, file, and number of complete records.
 fn put_stage(lines: &mut Lines, point: &Checkpoint, records: u64)
     requires { array_vec_len lines.old ≡ 0 }
     ensures items { lines.new.items ≡ lines.old.items ++ stage_line point.now records }

@@ -20,8 +20,7 @@ pub struct StageOrder<'a> {
     pub damaged: bool,
 }
 
-/// `stage`. It accepts any number of outputs, so that the error for a second one has a text of its
-/// own.
+/// `stage`. It accepts any number of outputs, so that a second one can have its own error message.
 pub const STAGE: CommandSpec = CommandSpec {
     name: "stage",
     called: "tape stage",

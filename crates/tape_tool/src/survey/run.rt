@@ -21,8 +21,8 @@ pub fn survey<'a, R: Host>(rt: &R, order: &Survey<'a>, site: &mut FaultSite<'a>)
     }
 }
 
-/// Describes the images with these names, and returns whether nothing is missing and every image
-/// was read completely.
+/// Describes the images named `names`, and returns whether nothing is missing and every image was
+/// read completely.
 fn survey_files<R: Host>(rt: &R, order: &Survey<'_>, names: &[&str]) -> Result<bool, EngineFault> {
     let Ok(mut report) = BufWriter::new(rt.alloc(), io::writer(rt)) else {
         return Err(EngineFault::Run(RunFault::OutOfMemory));

@@ -23,19 +23,19 @@ pub fn end_of<H: Host>(rt: &H, line: &str) -> Result<End, Fail> {
     Ok(perform(rt, words.as_slice()).end)
 }
 
-/// The line ends like this.
+/// Fails unless the call with this line ends as expected.
 pub fn ends<H: Host + Abort>(rt: &H, line: &str, wanted: End) -> Result<(), Fail> {
     let end = end_of(rt, line)?;
     assert!(rt; end == wanted, "{line}: {end:?}");
     Ok(())
 }
 
-/// The line ends with this fault.
+/// Fails unless the call with this line ends with the given fault.
 fn fails<H: Host + Abort>(rt: &H, line: &str, fault: ToolFault) -> Result<(), Fail> {
     ends(rt, line, End::Faulted(fault))
 }
 
-/// Each line ends as the table says.
+/// Fails unless each call ends as its row says.
 pub fn each_ends<H: Host + Abort>(rt: &H, cases: &[(&str, End)]) -> Result<(), Fail> {
     for (line, wanted) in cases {
         ends(rt, line, *wanted)?;
@@ -43,7 +43,7 @@ pub fn each_ends<H: Host + Abort>(rt: &H, cases: &[(&str, End)]) -> Result<(), F
     Ok(())
 }
 
-/// Each line ends with the fault beside it.
+/// Fails unless each call ends with the fault in its row.
 pub fn each_fails<H: Host + Abort>(rt: &H, cases: &[(&str, ToolFault)]) -> Result<(), Fail> {
     for (line, fault) in cases {
         fails(rt, line, *fault)?;
@@ -51,7 +51,7 @@ pub fn each_fails<H: Host + Abort>(rt: &H, cases: &[(&str, ToolFault)]) -> Resul
     Ok(())
 }
 
-/// None of these lines names anything that exists.
+/// Fails unless each line, which names no existing file, is a usage error.
 pub fn each_is_wrong<H: Host + Abort>(rt: &H, lines: &[&str]) -> Result<(), Fail> {
     for line in lines {
         ends(rt, line, End::WrongWords)?;
@@ -62,45 +62,45 @@ pub fn each_is_wrong<H: Host + Abort>(rt: &H, lines: &[&str]) -> Result<(), Fail
 /// A step of a test: an action and its expected result.
 #[derive(Clone, Copy)]
 pub enum Step<'a> {
-    /// The program is called with this line, and ends like this.
+    /// A call of the program with a line, and how it ends.
     Ends(&'a str, End),
-    /// The program is called with this line, and ends with this fault.
+    /// A call of the program with a line, and the fault with which it ends.
     Fails(&'a str, ToolFault),
     /// Creates a directory.
     Folder(&'a str),
-    /// Creates a file with these bytes.
+    /// Creates a file with the given bytes.
     Put(&'a str, &'a [u8]),
     /// Creates a file with the worked image, or with its first bytes.
     PutWorked(&'a str, usize),
-    /// Creates a file with a volume of which this block is unreadable.
+    /// Creates a file with a volume, one block of which is unreadable.
     PutDamaged(&'a str, usize),
     /// Creates a file with the worked volume without its second block.
     PutLost(&'a str),
     /// Creates a file with the records of the worked volume.
     PutRecords(&'a str),
-    /// Creates a link with this name to that path.
+    /// Creates a link to a path.
     Link(&'a str, &'a str),
-    /// Gives a file this name, in addition to its own.
+    /// Makes a second name for a file.
     Name(&'a str, &'a str),
     /// Removes the file, if it exists.
     Remove(&'a str),
-    /// The file has these bytes.
+    /// The file contains the given bytes.
     Holds(&'a str, &'a [u8]),
     /// The file is the worked image.
     IsWorked(&'a str),
-    /// The file has this many bytes.
+    /// The file has the given length.
     HasLength(&'a str, usize),
-    /// The file has this text at this offset.
+    /// The file has the given text at an offset.
     HasText(&'a str, usize, &'a [u8]),
     /// There is no such file.
     IsMissing(&'a str),
-    /// The file gets these permissions.
+    /// Sets the permissions of the file.
     Allow(&'a str, u32),
-    /// The file has these permissions.
+    /// The file has the given permissions.
     IsAllowed(&'a str, u32),
 }
 
-/// Takes these steps, one after another: each has its expected result.
+/// Takes the steps, one after another, and fails unless each has its expected result.
 pub fn take_all<H: Host + Abort>(rt: &H, steps: &[Step<'_>]) -> Result<(), Fail> {
     for (number, step) in steps.iter().enumerate() {
         assert!(rt; take(rt, step)?, "the step behind {number} others");
@@ -146,7 +146,7 @@ fn take<H: Host>(rt: &H, step: &Step<'_>) -> Result<bool, Fail> {
     }
 }
 
-/// Creates a file with these bytes.
+/// Creates a file with the given bytes.
 pub fn put<H: Runtime>(rt: &H, path: &str, bytes: &[u8]) -> Result<bool, Fail> {
     let mut file = File::create(rt, path)?;
     file.write_all(bytes)?;
@@ -173,7 +173,7 @@ fn remove<H: Runtime>(rt: &H, path: &str) -> bool {
     true
 }
 
-/// Returns whether the file has these bytes.
+/// Returns whether the file contains exactly these bytes.
 pub fn holds<H: Runtime + AllocGlobal>(rt: &H, path: &str, bytes: &[u8]) -> Result<bool, Fail> {
     let found = fs::read(rt, path)?;
     Ok(found.as_slice() == bytes)
@@ -184,13 +184,13 @@ fn is_worked<H: Runtime + AllocGlobal>(rt: &H, path: &str) -> Result<bool, Fail>
     holds(rt, path, image.bytes.as_slice())
 }
 
-/// Returns whether the file has this many bytes.
+/// Returns whether the file has the given length.
 fn has_length<H: Runtime + AllocGlobal>(rt: &H, path: &str, length: usize) -> Result<bool, Fail> {
     let found = fs::read(rt, path)?;
     Ok(found.len() == length)
 }
 
-/// Returns whether the file has this text at this offset.
+/// Returns whether the file has the text at offset `place`.
 fn has_text<H: Runtime + AllocGlobal>(
     rt: &H,
     path: &str,
@@ -201,7 +201,7 @@ fn has_text<H: Runtime + AllocGlobal>(
     Ok(stands(found.as_slice(), place, text))
 }
 
-/// Returns whether the text is at this offset.
+/// Returns whether the text is at offset `place` of the bytes.
 pub fn stands(bytes: &[u8], place: usize, text: &[u8]) -> bool {
     match bytes.get(place..) {
         Some(rest) => rest.starts_with(text),
@@ -214,7 +214,7 @@ fn is_missing<H: Runtime + AllocGlobal>(rt: &H, path: &str) -> bool {
     fs::read(rt, path).is_err()
 }
 
-/// The line followed by this many names of images that do not exist.
+/// Returns the line followed by the names of `count` images that do not exist.
 pub fn with_images(alloc: Global, line: &str, count: u16) -> Result<String, AllocError> {
     let mut line = line.to_string(alloc)?;
     for _ in 0..count {

@@ -13,7 +13,7 @@ use tape_run::RunFault;
 use tape_stage::StageFault;
 use tape_writer::Prefix;
 
-/// Whether the text has one to three lines of at most 79 columns, none of them empty.
+/// Returns whether the text has one to three lines of at most 79 columns, none of them empty.
 fn fits(text: &str) -> bool {
     let count = text.lines().count();
     let narrow = text
@@ -92,7 +92,7 @@ const SITES: &[(&str, Option<FaultSite<'_>>)] = &[
     ),
 ];
 
-/// The line ends with a fault, which has this site.
+/// Fails unless the call with this line ends with a fault that has the given site.
 fn is_at<H: Host + Abort>(rt: &H, line: &str, site: Option<FaultSite<'_>>) -> Result<(), Fail> {
     let words = words_of(rt.alloc(), line)?;
     let outcome = perform(rt, words.as_slice());
@@ -118,7 +118,7 @@ const CUT_OFF: ToolFault = ToolFault::Image(ImageFault {
     cause: ImageCause::Truncated,
 });
 
-/// What `list` says of a gzip.
+/// The line that `list` prints for a gzip file.
 const NO_IMAGE: ToolFault = ToolFault::Image(ImageFault {
     place: 0,
     cause: ImageCause::Reserved(529_205_248),
@@ -151,6 +151,11 @@ const TOLD: &[(ToolFault, FaultSite<'_>, &str)] = &[
         ToolFault::File(FileFault::Exists),
         FaultSite::Out("a.tap"),
         "  OUT: a.tap\n  OUT already exists and might be a tape image,",
+    ),
+    (
+        ToolFault::File(FileFault::NotOpened),
+        FaultSite::Image("a\n\u{9b}"),
+        "  Image: a\\u000A\\u009B\n  The image could not be opened.",
     ),
     (
         ToolFault::File(FileFault::WriteFailed),

@@ -1,10 +1,11 @@
 //! `extract` as it is called: arguments, files, ends.
 use super::calls::{Step, each_is_wrong, ends, take_all, with_images};
 use super::words::words_of;
+use crate::command_line::call_of;
 use crate::extract::words::Extract;
 use crate::fault::{FileFault, ToolFault};
 use crate::program::{End, extract_end};
-use crate::words::{Order, call_of};
+use crate::words::Order;
 use std::test::Fail;
 use tape_blocks::Form;
 use tape_core::SinkFault;
@@ -56,8 +57,8 @@ fn a_file_that_cannot_be_made(rt: HostRuntime) -> Result<(), Fail> {
     take_all(&rt, NOT_MADE)
 }
 
-/// Files that a slip would destroy are unchanged: the stage, the images by whatever name, and an
-/// image that is not named like one.
+/// Files that a typing error would destroy are unchanged: the stage, the images under any name, and
+/// an image that is not named like one.
 const NEVER_OUT: &[Step<'_>] = &[
     Step::PutWorked("only.tap", 2484),
     Step::PutWorked("other.tap", 2484),
@@ -73,7 +74,7 @@ const NEVER_OUT: &[Step<'_>] = &[
     Step::Ends("extract ABC001 1 linked.tap only.tap", End::WrongWords),
     Step::Ends("extract ABC001 1 only.tap linked.tap", End::WrongWords),
     Step::Ends("extract ABC001 1 named.tap only.tap", End::WrongWords),
-    // The same if a list names it, and the list itself.
+    // The same if a list contains the name, and for the list itself.
     Step::Put("only.names", b"other.tap\nonly.tap"),
     Step::Ends(
         "extract ABC001 1 linked.tap --files-from only.names",
@@ -192,7 +193,7 @@ const DRAFTS: &[Step<'_>] = &[
     Step::HasLength("kept.txt", 2025),
     Step::IsAllowed("kept.txt", 0o640),
     Step::IsMissing(".tape-1.part"),
-    // Through a link its target is written.
+    // If the output is a link, its target is written.
     Step::Put("behind.txt", b"kept"),
     Step::Remove("before.txt"),
     Step::Link("before.txt", "behind.txt"),

@@ -16,18 +16,18 @@ use std::time::{Clock, Duration};
 /// The contents of standard input: an image of one mark.
 const STANDARD_INPUT: &[u8] = b"\0\0\0\0\xff\xff\xff\xff";
 
-/// The end of the path of an image that accepts no byte.
+/// The end of the path of an image that accepts no bytes.
 const FULL: &str = "/FUL001.tap";
 
 /// What the system refuses, or does in addition.
 #[derive(Clone, Copy)]
 pub enum Odd<'a> {
     Nothing,
-    /// Looking up this name fails in this way.
+    /// Looking up a name fails with an error.
     Look(&'a str, ErrorKind),
-    /// What has this name is not opened, for this reason.
+    /// Opening a name fails with an error.
     Open(&'a str, ErrorKind),
-    /// A file gets no second name, for this reason.
+    /// Giving a file a second name fails with an error.
     Link(ErrorKind),
     /// No file gets another name.
     Rename,
@@ -48,7 +48,7 @@ struct FakeSystem<'a> {
     out: &'a RefCell<String>,
     told: &'a RefCell<String>,
     /// The paths that were opened, each followed by a space, or by a question mark and a space if
-    /// opening failed.
+    /// opening it failed.
     opened: &'a RefCell<String>,
 }
 
@@ -56,7 +56,7 @@ struct FakeSystem<'a> {
 pub const MINE: &[u8] = b"mine";
 
 impl FakeSystem<'_> {
-    /// Makes looking up this path fail, if the test says so.
+    /// Makes looking up `path` fail, if the test says so.
     fn look(&self, path: &str) -> io::Result<()> {
         match self.odd {
             Odd::Look(name, kind) if path == name => Err(io::Error::from(kind)),
@@ -64,7 +64,7 @@ impl FakeSystem<'_> {
         }
     }
 
-    /// Does what the test says when this path is opened.
+    /// Does what the test specifies for opening `path`.
     fn open(&self, path: &str) -> io::Result<()> {
         match self.odd {
             Odd::Open(name, kind) if path == name => Err(io::Error::from(kind)),
@@ -256,7 +256,8 @@ pub struct Seen {
 }
 
 impl Seen {
-    /// Returns whether this was the result; what was opened is compared or not.
+    /// Returns whether the call had this result; compares the list of opened files if `opened` is
+    /// given.
     pub fn comes_to(&self, status: u8, out: &str, told: &str, opened: Option<&str>) -> bool {
         let is_opened = match opened {
             Some(paths) => self.opened.as_str() == paths,
@@ -266,12 +267,12 @@ impl Seen {
     }
 }
 
-/// Calls the program with a line; standard output accepts what is printed, or nothing.
+/// Calls the program with a line; standard output accepts everything, or nothing.
 pub fn called(rt: &HostRuntime, line: &str, takes: bool) -> Result<Seen, Fail> {
     called_oddly(rt, line, takes, Odd::Nothing)
 }
 
-/// The same, on a system with this peculiarity.
+/// Calls the program with a line, on a system with a peculiarity.
 pub fn called_oddly(rt: &HostRuntime, line: &str, takes: bool, odd: Odd<'_>) -> Result<Seen, Fail> {
     let words = words_of(rt.alloc(), line)?;
     let out = RefCell::new(String::new(rt.alloc()));
@@ -287,7 +288,7 @@ pub fn called_oddly(rt: &HostRuntime, line: &str, takes: bool, odd: Odd<'_>) -> 
         opened: &opened,
     });
     let opened = opened.into_inner();
-    // First of all the numbers of the standard streams are checked.
+    // First, the numbers of the standard streams are checked.
     let Some(opened) = opened.as_str().strip_prefix("/ ") else {
         return Err(Fail::from("the root is opened first"));
     };

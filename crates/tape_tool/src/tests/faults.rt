@@ -57,7 +57,7 @@ const OTHER_FAULTS: &[(ToolFault, &str)] = &[
     (ToolFault::StageInUse, "tape: stage fault 7\n"),
 ];
 
-/// Fails unless a command with this fault ends with it and prints this line.
+/// Fails unless a command with this fault ends with it, and prints this line.
 fn prints<H: Host + Abort>(rt: &H, fault: ToolFault, line: &str) {
     let ends = end_of(Err(fault)) == End::Faulted(fault);
     let printed = format!(in rt.alloc(); "{}", FaultLine(fault));

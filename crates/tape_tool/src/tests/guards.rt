@@ -7,7 +7,8 @@ use crate::program::End;
 use std::io::ErrorKind;
 use std::test::Fail;
 
-/// What goes wrong, a line, the exit status, the output, and a file with its contents afterwards.
+/// The failure, a command line, the exit status, the output, and a file with its contents
+/// afterwards.
 type Row<'a> = (Odd<'a>, &'a str, u8, &'a str, &'a str, &'a str, &'a [u8]);
 
 const KEPT: &[u8] = b"kept";

@@ -20,7 +20,7 @@ impl Image {
         }
     }
 
-    /// The first bytes of this image.
+    /// Returns the image truncated to its first `length` bytes.
     pub fn cut(mut self, length: usize) -> Image {
         self.bytes.truncate(length);
         self
@@ -71,8 +71,8 @@ impl Image {
     }
 }
 
-/// The 25 records of the worked volume, each followed by these bytes. Record i is i in four digits
-/// and 76 spaces.
+/// Returns the 25 records of the worked volume, each followed by the bytes `behind`. Record i is i
+/// in four digits and 76 spaces.
 pub fn payroll(alloc: Global, behind: &[u8]) -> Result<Vec<u8>, AllocError> {
     let mut bytes = Vec::new(alloc);
     for number in 1..26u8 {
@@ -82,7 +82,7 @@ pub fn payroll(alloc: Global, behind: &[u8]) -> Result<Vec<u8>, AllocError> {
     Ok(bytes)
 }
 
-/// A record of the worked volume.
+/// Returns a record of the worked volume.
 fn record(number: u8) -> [u8; 80] {
     let mut record = [b' '; 80];
     record[..2].fill(b'0');

@@ -36,7 +36,7 @@ const MENDED: &[Step<'_>] = &[
     ),
 ];
 
-/// OUT must be a new name, whatever has it.
+/// OUT must be a name that does not exist, whatever kind of file has it.
 const NEW_NAME: &[Step<'_>] = &[
     Step::PutWorked("name1.tap", 2484),
     Step::Put("name2.tap", b""),
@@ -49,7 +49,7 @@ const NEW_NAME: &[Step<'_>] = &[
     Step::IsMissing("name1.tap.part"),
 ];
 
-/// Readings that differ, and a reading that lost a block, with itself.
+/// Readings that differ, and a reading that lost a block, compared with itself.
 const DIFFERENT: &[Step<'_>] = &[
     Step::PutWorked("other1.tap", 2484),
     Step::PutLost("other2.tap"),
@@ -79,6 +79,42 @@ const CUT: &[Step<'_>] = &[
         End::Done,
     ),
     Step::IsWorked("merge_whole.tap"),
+];
+
+/// The log of two readings with different unreadable blocks.
+const LOG: &[u8] = b"ITEM\tKIND\tlog1.tap\tlog2.tap
+6\tBLOCK 400\tBAD\tGOOD
+7\tBLOCK 400\tGOOD\tBAD
+";
+
+/// The log is a new file too, which exists exactly with OUT.
+const LOGGED: &[Step<'_>] = &[
+    Step::PutDamaged("log1.tap", 1),
+    Step::PutDamaged("log2.tap", 2),
+    Step::PutWorked("log3.tap", 2484),
+    Step::Ends(
+        "merge --log log.tsv logged.tap log1.tap log2.tap",
+        End::Done,
+    ),
+    Step::Holds("log.tsv", LOG),
+    Step::HasText("logged.tap", 676, b"\x90\x01\x00\x00"),
+    Step::Fails("merge --log log.tsv log4.tap log1.tap log2.tap", EXISTS),
+    Step::Fails("merge --log log1.tap log4.tap log1.tap log2.tap", EXISTS),
+    Step::Fails("merge --log log4.tap log4.tap log1.tap log2.tap", EXISTS),
+    Step::Fails(
+        "merge --log missing/log.tsv log4.tap log1.tap log2.tap",
+        ToolFault::File(FileFault::NotOpened),
+    ),
+    Step::Ends(
+        "merge --log log4.tsv log4.tap log1.tap log3.tap",
+        End::Incomplete,
+    ),
+    Step::Ends("merge --log - log4.tap log1.tap log2.tap", End::WrongWords),
+    Step::Holds("log.tsv", LOG),
+    Step::IsMissing("log4.tap"),
+    Step::IsMissing("log4.tsv"),
+    Step::IsMissing(".tape-1.part"),
+    Step::IsMissing(".tape-2.part"),
 ];
 
 const WORDS: &[Step<'_>] = &[
@@ -120,6 +156,7 @@ fn readings_are_merged(rt: HostRuntime) -> Result<(), Fail> {
             ("new name", NEW_NAME),
             ("different", DIFFERENT),
             ("cut", CUT),
+            ("logged", LOGGED),
             ("words", WORDS),
         ],
     )

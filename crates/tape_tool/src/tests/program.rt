@@ -2,9 +2,9 @@
 
 use super::calls::{Step, each_ends, take_all};
 use super::words::words_of;
+use crate::command_line::call_of;
 use crate::fault::{FileFault, OUT_OF_MEMORY, ToolFault};
 use crate::program::{End, finish, refuse, without_words};
-use crate::words::call_of;
 use std::alloc::{AllocError, Global};
 use std::cell::RefCell;
 use std::fmt::Display;
@@ -50,7 +50,7 @@ impl Streams {
         }
     }
 
-    /// Returns whether exactly this was printed.
+    /// Returns whether exactly `text` was printed.
     fn has_told(self, text: &str) -> bool {
         self.told.into_inner().as_str() == text
     }
@@ -132,7 +132,7 @@ const STATUSES: &[(End, u8, &str)] = &[
     (End::Faulted(OUT_OF_MEMORY), 1, "tape: run fault 4\n"),
 ];
 
-/// The end has this status, and this message if standard error is open.
+/// Fails unless the end has this status, and prints this message if standard error is open.
 fn is_told<H: Abort + AllocGlobal>(rt: &H, end: End, status: u8, text: &str) {
     let open = Streams::new(rt.alloc(), true);
     let closed = Streams::new(rt.alloc(), false);
@@ -148,7 +148,8 @@ fn statuses_and_fault_lines(rt: HostRuntime) {
     }
 }
 
-/// Without arguments for this reason a run ends like this, with this message.
+/// Fails unless a run without arguments, for the reason `kind`, ends as expected, with this
+/// message.
 fn is_without_words<H: Abort + AllocGlobal>(rt: &H, kind: ErrorKind, wanted: End, text: &str) {
     let streams = Streams::new(rt.alloc(), true);
     let end = without_words(&streams, kind);
@@ -165,7 +166,7 @@ and rename it, or use 'tape list < NAME'\n";
     is_without_words(&rt, ErrorKind::OutOfMemory, no_memory, "");
 }
 
-/// A line that asks for nothing ends like this, with or without a message.
+/// Fails unless a line that requests nothing ends as expected, with or without a message.
 fn is_refused<H: Abort + AllocGlobal>(
     rt: &H,
     line: &str,
@@ -194,7 +195,7 @@ const REFUSED: &[(&str, bool, End)] = &[
     ("lost", false, End::WrongWords),
 ];
 
-/// Help that could not be written is an error; a usage error stays one even if its message could
+/// Help that could not be written is an error; a usage error remains one even if its message could
 /// not be written.
 #[test]
 fn help_not_written(rt: HostRuntime) -> Result<(), Fail> {
@@ -204,7 +205,7 @@ fn help_not_written(rt: HostRuntime) -> Result<(), Fail> {
     Ok(())
 }
 
-/// If the argument parser runs out of memory, the only message is the line of the fault.
+/// If the argument parser runs out of memory, the only message is the line for that fault.
 #[test]
 fn no_memory_for_words(rt: HostRuntime) {
     let streams = Streams::new(rt.alloc(), true);

@@ -4,7 +4,7 @@ use crate::fault::{FileFault, ToolFault};
 use crate::program::End;
 use std::test::Fail;
 
-/// If nothing is missing it is the file, and an existing file is never overwritten.
+/// If nothing is missing, the output is the file, and an existing file is never overwritten.
 const COMPLETE: &[Step<'_>] = &[
     Step::PutWorked("salvage1.tap", 2484),
     Step::Ends("salvage ABC001 1 salvaged.txt salvage1.tap", End::Done),
@@ -53,7 +53,7 @@ const DAMAGED: &[Step<'_>] = &[
     Step::HasLength("salvaged.four", 1215),
 ];
 
-/// Images that cannot be opened, and files that are on none.
+/// Images that cannot be opened, and files that no image contains.
 const MISSING: &[Step<'_>] = &[
     Step::PutWorked("salvage5.tap", 2484),
     Step::Ends(

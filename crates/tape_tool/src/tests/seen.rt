@@ -4,8 +4,8 @@ use super::fake_system::{Seen, called};
 use super::volumes::{first_of_two, second_of_two};
 use std::test::Fail;
 
-/// A line, the exit status, standard output and standard error, and, if compared, what is opened:
-/// each path, with a question mark if that failed.
+/// A line, the exit status, standard output and standard error, and, if compared, the files opened:
+/// each path, with a question mark if opening failed.
 type Row<'a> = (&'a str, u8, &'a str, &'a str, Option<&'a str>);
 
 const MADE: &[Step<'_>] = &[
@@ -144,7 +144,7 @@ const ROWS: &[Row<'_>] = &[
         "",
         None,
     ),
-    // An image that accepts nothing, and an output through a link for a file without records.
+    // An image that accepts nothing, and a file without records whose output is a link.
     (
         "write . FUL 100000 ONE=seen_one.txt",
         1,
@@ -206,7 +206,7 @@ fn whole_calls(rt: HostRuntime) -> Result<(), Fail> {
     take_all(&rt, LEFT)
 }
 
-/// Calls that read images: what is opened before them, and the end of the output for 300 of them
+/// Calls that read images: the files opened before them, and the end of the output for 300 images
 /// that do not exist.
 const READERS: &[(&str, &str, &str)] = &[
     ("check", "many.names ", "\nIMAGE 300 0 NOT OPENED\n"),
@@ -223,21 +223,22 @@ const READERS: &[(&str, &str, &str)] = &[
     ("unpack many", "many.names ", ""),
 ];
 
-/// Whether 300 images were tried, after what was opened first, and this is printed last.
+/// Returns whether opening 300 images was tried after the files `first` were opened, and `last` was
+/// printed at the end.
 fn looks_for_all(seen: &Seen, first: &str, last: &str) -> bool {
     let (opened, out) = (seen.opened.as_str(), seen.out.as_str());
     let looked_for = opened.len() == first.len() + 300 * "lost.tap? ".len();
     seen.status == 3 && opened.starts_with(first) && looked_for && out.ends_with(last)
 }
 
-/// A call with this line, 256 further images and those of a list.
+/// Makes a call with this line, 256 further images and the images of a list.
 fn called_with_all(rt: &HostRuntime, line: &str) -> Result<Seen, Fail> {
     let mut line = with_images(rt.alloc(), line, 256)?;
     line.push_str(" --files-from many.names")?;
     called(rt, line.as_str(), true)
 }
 
-/// No image is left out, however many arguments and lines of a list name them.
+/// No image is left out, however many are named by arguments and a list.
 #[test]
 fn many_images(rt: HostRuntime) -> Result<(), Fail> {
     let mut names = Vec::new(rt.alloc());

@@ -13,7 +13,8 @@ use tape_blocks::Form;
 use tape_label::Field;
 use tape_stage::{MemoryDisk, StageFault};
 
-/// The stage of a volume on which this block of five records is unreadable; with 9 none is.
+/// Returns the stage of a volume of five blocks of records, block `bad` of which is unreadable (9
+/// means none).
 fn staged(alloc: Global, bad: usize) -> Result<Option<MemoryDisk>, AllocError> {
     let image = damaged(alloc, bad)?;
     let disk = MemoryDisk::new(alloc);
@@ -27,14 +28,15 @@ fn staged(alloc: Global, bad: usize) -> Result<Option<MemoryDisk>, AllocError> {
     Ok(Some(session.into_sink().into_disk()))
 }
 
-/// The unreadable block, the lines about the stage, and how many bytes its records have.
+/// The number of the unreadable block, the lines about the stage, and the size of its records in
+/// bytes.
 const TOLD: &[(usize, &str, usize)] = &[
     (3, "STAGE ABC001 1 15\nAWAITS 1 1 3\n", 1215),
     (0, "STAGE ABC001 1 0\nAWAITS 1 1 0\n", 0),
     (9, "STAGE ABC001 1 25\nCOMPLETE 25\n", 2025),
 ];
 
-/// These are the lines about the stage, and its records are the first ones.
+/// The lines about the stage are these, and its records are the first ones.
 fn is_told<H: Abort + AllocGlobal>(
     rt: &H,
     bad: usize,
@@ -60,8 +62,8 @@ fn records_before_what_is_wanted(rt: HostRuntime) -> Result<(), Fail> {
     Ok(())
 }
 
-/// How many bytes remain of a stage of 25 records of 80 bytes, the lines about it, and how many
-/// bytes its records have.
+/// How many bytes remain of a stage of 25 records of 80 bytes, the lines about it, and the size of
+/// its records in bytes.
 const TORN: &[(usize, &str, usize)] = &[
     (2381, "STAGE ABC001 1 25\nCOMPLETE 25\n", 2025),
     (2380, "STAGE ABC001 1 24\nTRUNCATED AT 2296\n", 1944),
@@ -70,7 +72,7 @@ const TORN: &[(usize, &str, usize)] = &[
     (256, "STAGE ABC001 1 0\nTRUNCATED AT 256\n", 0),
 ];
 
-/// These are the lines about what remains of the stage, and its records are the first ones.
+/// The lines about the rest of the stage are these, and its records are the first ones.
 fn is_told_torn<H: Abort + AllocGlobal>(
     rt: &H,
     bytes: &[u8],
@@ -117,7 +119,7 @@ const MADE: &[Step<'_>] = &[
     Step::HasLength("shown_raw.txt", 1200),
     // For an intact stage the lines are the same without the option.
     Step::Ends("stage shown.stage --damaged", End::Incomplete),
-    // The stage is unchanged, and what might be a tape is never overwritten.
+    // The stage is unchanged, and a file that might be a tape is never overwritten.
     Step::HasLength("shown.stage", 1531),
     Step::Ends("stage shown.stage shown.stage", End::WrongWords),
     Step::Ends("stage shown.stage one.txt two.txt", End::WrongWords),

@@ -62,7 +62,7 @@ const DAYS: &[Step<'_>] = &[
     Step::HasLength("days_again.txt", 2025),
 ];
 
-/// A reel that lost a block, before a good one and alone: nothing of it is kept in the stage.
+/// A reel that lost a block, before a good one and alone: none of its data is stored in the stage.
 const IN_DOUBT: &[Step<'_>] = &[
     Step::PutLost("doubt.tap"),
     Step::PutWorked("sure.tap", 2484),
@@ -82,7 +82,7 @@ const IN_DOUBT: &[Step<'_>] = &[
     Step::HasText("doubt.txt", 810, b"0011  "),
 ];
 
-/// A stage of file 1 of the set ABC001, and what is not a stage and is unchanged.
+/// A stage of file 1 of the set ABC001; and files that are not stages, which are unchanged.
 const REFUSED: &[Step<'_>] = &[
     Step::PutDamaged("refused.tap", 3),
     Step::Remove("refused.stage"),
@@ -137,8 +137,8 @@ const REFUSED: &[Step<'_>] = &[
 
 const UNMADE: &str = "extract ABC001 1 unmade.txt unmade.tap --stage unmade.stage";
 
-/// The remains of an unfinished new stage, for example after the disk was full, and what might be a
-/// user's file.
+/// The remains of an unfinished new stage, for example after the disk was full, and a file that
+/// might be a user's.
 const NOT_MADE: &[Step<'_>] = &[
     Step::PutWorked("unmade.tap", 2484),
     Step::Put("unmade.stage", b"C"),

@@ -15,8 +15,8 @@ use tape_stage::{BufferedFile, MemoryDisk, Refused, Stage, StageFault, buffered_
 /// A session over the stage in a file.
 type FileSession = Session<Stage<BufferedFile<File>>>;
 
-/// One day: the session is opened, reads the reel with an unreadable block, and is saved. The
-/// result is the disk, and what is missing next.
+/// Runs one day: opens the session, reads the reel with an unreadable block, and saves. Returns the
+/// disk, and what is missing next.
 fn read(
     alloc: Global,
     disk: MemoryDisk,
@@ -34,7 +34,7 @@ fn read(
     Ok(Some((session.into_sink().into_disk(), want)))
 }
 
-/// The disk after a day: this is missing next, and it has this many bytes.
+/// Checks the disk after a day: what is missing next, and its size in bytes.
 fn day<H: Abort + AllocGlobal>(
     rt: &H,
     disk: MemoryDisk,
@@ -77,7 +77,7 @@ fn a_damaged_volume_over_two_days(rt: HostRuntime) -> Result<(), Fail> {
     Ok(())
 }
 
-/// The fault with which there is no session for this file over a disk, and the disk.
+/// The fault with which opening a session for this file over a disk fails, and the disk.
 fn fault_of(
     alloc: Global,
     disk: MemoryDisk,
@@ -90,8 +90,8 @@ fn fault_of(
     }
 }
 
-/// Sets and files that are requested one after another on a disk that is empty at first, the fault,
-/// and the length of the disk then.
+/// The sets and files that are requested one after another on a disk that is empty at first, with
+/// the fault and the length of the disk after each.
 const ASKED: &[(&[u8; 6], u16, Option<StagingFault>, usize)] = &[
     (b"ABC001", 0, Some(StagingFault::OtherFile), 0),
     (b"ABC001", 10_000, Some(StagingFault::OtherFile), 0),
@@ -138,7 +138,7 @@ fn a_disk_that_fails(rt: HostRuntime) -> Result<(), AllocError> {
     Ok(())
 }
 
-/// A session over the stage in a file.
+/// Returns a session over the stage in a file.
 fn session_in(rt: &HostRuntime, path: &str) -> io::Result<Option<FileSession>> {
     let mut options = OpenOptions::new();
     options.read(true).write(true).create(true);

@@ -25,7 +25,7 @@ const AT_ONCE: &[Step<'_>] = &[
     Step::Holds("unpacked/ABC001.1.PAYROLL", b"kept"),
 ];
 
-/// Damaged copies, one a day: the last one alone lacks what the others contributed.
+/// Damaged copies, one a day: the last one alone does not have all that the others contributed.
 const DAY_BY_DAY: &[Step<'_>] = &[
     Step::Folder("days"),
     Step::PutDamaged("day1.tap", 1),
@@ -36,7 +36,7 @@ const DAY_BY_DAY: &[Step<'_>] = &[
     Step::Ends("unpack days day1.tap --form raw", End::Done),
     Step::HasLength("days/ABC001.1.PAYROLL", 2000),
     Step::IsMissing("days/ABC001.1.PAYROLL.stage"),
-    // On one day both copies complete each other, in either order.
+    // On one day two copies complete each other, in either order.
     Step::Remove("days/ABC001.1.PAYROLL"),
     Step::Ends("unpack days day1.tap day2.tap", End::Done),
     Step::HasText("days/ABC001.1.PAYROLL", 1944, b"0025  "),
@@ -62,10 +62,55 @@ const FAILED: &[Step<'_>] = &[
         ToolFault::File(FileFault::NotOpened),
     ),
     Step::HasLength("failed2.txt", 0),
-    // A link that leads nowhere is something that exists.
+    // A link that leads nowhere counts as existing.
     Step::Link("failed/ABC001.1.PAYROLL", "lost.txt"),
     Step::Ends("unpack failed failed1.tap", End::Done),
     Step::IsMissing("failed/ABC001.1.PAYROLL"),
+];
+
+/// Each run writes the readable records of an incomplete file anew, and removes them when the file
+/// is complete, but only if they are unchanged since the last run.
+const SALVAGED: &[Step<'_>] = &[
+    Step::Folder("gaps"),
+    Step::PutDamaged("gaps1.tap", 1),
+    Step::PutDamaged("gaps2.tap", 2),
+    Step::Ends("unpack gaps gaps1.tap --salvage", End::Incomplete),
+    // 20 of 25 records of 80 bytes, each with a line feed.
+    Step::HasLength("gaps/ABC001.1.PAYROLL.salvaged", 1620),
+    Step::HasLength("gaps/ABC001.1.PAYROLL.gaps", 190),
+    Step::HasText(
+        "gaps/ABC001.1.PAYROLL.gaps",
+        0,
+        b"FROM 1 gaps1.tap\nSECTION 1 1 5\nGAP 1 1 1 5\nSALVAGED 20\nSUMS ",
+    ),
+    Step::IsMissing("gaps/.tape-1.part"),
+    Step::IsMissing("gaps/.tape-2.part"),
+    Step::Ends("unpack gaps gaps2.tap --salvage", End::Incomplete),
+    Step::HasText(
+        "gaps/ABC001.1.PAYROLL.gaps",
+        31,
+        b"GAP 1 2 2 10\nSALVAGED 20\n",
+    ),
+    Step::Ends("unpack gaps gaps1.tap --salvage", End::Done),
+    Step::IsMissing("gaps/ABC001.1.PAYROLL.salvaged"),
+    Step::IsMissing("gaps/ABC001.1.PAYROLL.gaps"),
+    Step::HasLength("gaps/ABC001.1.PAYROLL", 2025),
+    // Files that were changed are kept, and so is one of the two files alone.
+    Step::Remove("gaps/ABC001.1.PAYROLL"),
+    Step::Ends("unpack gaps gaps1.tap --salvage", End::Incomplete),
+    Step::Put("gaps/ABC001.1.PAYROLL.salvaged", b"changed"),
+    Step::Ends("unpack gaps gaps1.tap --salvage", End::Incomplete),
+    Step::Holds("gaps/ABC001.1.PAYROLL.salvaged", b"changed"),
+    Step::HasLength("gaps/ABC001.1.PAYROLL.gaps", 190),
+    Step::Remove("gaps/ABC001.1.PAYROLL.salvaged"),
+    Step::Put("gaps/ABC001.1.PAYROLL.gaps", b"mine"),
+    Step::Ends("unpack gaps gaps2.tap gaps1.tap --salvage", End::Done),
+    Step::Holds("gaps/ABC001.1.PAYROLL.gaps", b"mine"),
+    // A complete copy leaves no salvaged files.
+    Step::Folder("gaps3"),
+    Step::PutWorked("gaps3.tap", 2484),
+    Step::Ends("unpack gaps3 gaps3.tap --salvage", End::Done),
+    Step::IsMissing("gaps3/ABC001.1.PAYROLL.gaps"),
 ];
 
 /// Two sets with one identifier, and a blank volume.
@@ -108,13 +153,14 @@ fn every_file_is_unpacked(rt: HostRuntime) -> Result<(), Fail> {
             ("at once", AT_ONCE),
             ("day by day", DAY_BY_DAY),
             ("failed", FAILED),
+            ("salvaged", SALVAGED),
             ("missed", MISSED),
             ("words", WORDS),
         ],
     )
 }
 
-/// A volume with only the second file of its set, which has no records.
+/// Returns a volume with only the second file of its set, which has no records.
 fn second_alone(alloc: Global) -> Result<Image, AllocError> {
     let mut image = Image::new(alloc);
     let header = "HDR1LEDGER           ABC00100010002000100 00000 00000 000000";

@@ -47,8 +47,8 @@ fn close(image: &mut Image, texts: &[&str]) -> Result<(), AllocError> {
     end(image)
 }
 
-/// A volume with one section: its header labels, data blocks of 400 characters with these high
-/// bytes in their length words, so that 0x80 is a bad one, and its trailer labels.
+/// Returns a volume with one section: its header labels, data blocks of 400 characters with these
+/// high bytes in their length words (0x80 marks a bad block), and its trailer labels.
 fn reel(
     alloc: Global,
     headers: &[&str],
@@ -64,19 +64,20 @@ fn reel(
     Ok(image)
 }
 
-/// The worked volume: 25 records of 80 characters in blocks of 800, 2,484 bytes.
+/// Returns the worked volume: 25 records of 80 characters in blocks of 800, 2,484 bytes.
 pub fn worked(alloc: Global) -> Result<Image, AllocError> {
     payroll_volume(alloc, &[EOF_THREE, EOF2])
 }
 
-/// The worked file on a volume that is too small for its end: three blocks, and an end of volume.
+/// Returns the worked file on a volume that is too small for its end: three blocks, and an end of
+/// volume.
 pub fn first_of_two(alloc: Global) -> Result<Image, AllocError> {
     let trailer = "EOV1PAYROLL          ABC00100010001000100 00000 00000 000003";
     let second = "EOV2F0080000080                                   00";
     payroll_volume(alloc, &[trailer, second])
 }
 
-/// The labels and records of the worked volume, and these trailer labels.
+/// Returns the labels and records of the worked volume, followed by these trailer labels.
 fn payroll_volume(alloc: Global, trailers: &[&str]) -> Result<Image, AllocError> {
     let mut image = Image::new(alloc);
     image.headers()?;
@@ -85,13 +86,13 @@ fn payroll_volume(alloc: Global, trailers: &[&str]) -> Result<Image, AllocError>
     Ok(image)
 }
 
-/// The second volume of the worked file: an empty section, and the end of the file.
+/// Returns the second volume of the worked file: an empty section, and the end of the file.
 pub fn second_of_two(alloc: Global) -> Result<Image, AllocError> {
     let trailer = "EOF1PAYROLL          ABC00100020001000100 00000 00000 000000";
     reel(alloc, &[VOL2, HDR1_NEXT, FIXED], &[], &[trailer, EOF2])
 }
 
-/// The worked volume without its second block, which its trailer still counts.
+/// Returns the worked volume without its second block, which its trailer still counts.
 pub fn lost(alloc: Global) -> Result<Image, AllocError> {
     let mut image = Image::new(alloc);
     image.headers()?;
@@ -110,7 +111,7 @@ fn lost_blocks(image: &mut Image, records: &[u8]) -> Result<(), AllocError> {
     Ok(())
 }
 
-/// A volume of the 25 worked records in blocks of 400, one of which is unreadable.
+/// Returns a volume of the 25 worked records in blocks of 400, one of which is unreadable.
 pub fn damaged(alloc: Global, bad: usize) -> Result<Image, AllocError> {
     let mut image = Image::new(alloc);
     labels(&mut image, &[VOL1, HDR1, FIXED_400])?;

@@ -7,7 +7,7 @@ use std::test::Fail;
 use tape_label::Field;
 use tape_writer::system::Ended;
 
-/// Takes all bytes, and fails at each flush.
+/// Accepts all bytes, and fails at each flush.
 #[derive(Drop)]
 struct Unflushed {
     taken: Vec<u8>,
@@ -24,7 +24,7 @@ impl Write for Unflushed {
     }
 }
 
-/// The lines, and no more if they cannot be passed on.
+/// The lines, and nothing more if flushing them fails.
 #[test]
 fn what_is_printed(rt: HostRuntime) -> Result<(), Fail> {
     let mut text = Vec::new(rt.alloc());

@@ -12,7 +12,8 @@ const EXISTS: ToolFault = ToolFault::File(FileFault::Exists);
 const WRITE: &str = "write worked ABC 100000 PAYROLL=payroll.bin \
     --format F --block 800 --record 80 --form raw";
 
-/// The worked image; over a blank volume; and not over a written one.
+/// The worked image in a new file, over a blank volume, and over a written volume, which is
+/// refused.
 const WORKED_VOLUME: &[Step<'_>] = &[
     Step::PutRecords("payroll.bin"),
     Step::Folder("worked"),
@@ -38,7 +39,7 @@ const FOLDER: &[Step<'_>] = &[
     ),
 ];
 
-/// Files that a slip would destroy, or that are not plain files, are found before anything is
+/// Inputs that would be destroyed, or that are not regular files, are found before anything is
 /// written.
 const UNFIT: &[Step<'_>] = &[
     Step::Put("apart.txt", b"AB\n"),
@@ -56,7 +57,7 @@ const UNFIT: &[Step<'_>] = &[
     Step::Ends("write . UNF 100000 A=refusal.txt", End::WrongWords),
     Step::HasLength("UNF001.tap", 100),
     Step::HasLength("UNF002.tap", 100),
-    // A device and a directory, among images some of which would be written before them.
+    // A device and a directory among the images, some of which would be written before them.
     Step::Remove("UND003.tap"),
     Step::Link("UND003.tap", "/dev/null"),
     Step::Fails("write . UND 100000 A=apart.txt", EXISTS),

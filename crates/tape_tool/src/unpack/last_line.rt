@@ -19,7 +19,7 @@ impl LastLine {
         }
     }
 
-    /// The line, without its line feed.
+    /// Returns the line, without its line feed.
     pub fn text(&self) -> &[u8] {
         &self.text
     }

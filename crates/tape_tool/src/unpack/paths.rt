@@ -10,7 +10,7 @@ pub struct Paths {
     pub stage: String,
 }
 
-/// Returns the paths of a file of this name in a directory.
+/// Returns the paths of the file named `name` in a directory.
 pub fn paths_of(alloc: Global, folder: &str, name: &[u8]) -> Result<Paths, AllocError> {
     let mut out = String::new(alloc);
     out.push_str(folder)?;

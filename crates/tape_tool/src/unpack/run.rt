@@ -2,6 +2,7 @@
 
 use super::last_line::LastLine;
 use super::paths::{Paths, paths_of};
+use super::salvaged::Salvaged;
 use super::words::{UNPACK, Unpack};
 use crate::diagnostics::FaultLine;
 use crate::explain::FaultSite;
@@ -18,8 +19,9 @@ use std::io::{BufWriter, Write};
 use std::{fs, io};
 use tape_label::Field;
 use tape_run::{
-    FoundFiles, Heading, Mounted, SetFile, UnpackOutcome, WriteFailed, file_line, file_name,
-    find_files, flush, left_over_line, numbers_line, unpack_outcome_text, write_text,
+    Content, FoundFiles, Heading, Mounted, SalvageTask, SetFile, UnpackOutcome, WriteFailed,
+    file_line, file_name, find_files, flush, left_over_line, numbers_line, set_of,
+    unpack_outcome_text, write_text,
 };
 use tape_writer::system::found;
 
@@ -51,7 +53,7 @@ pub fn unpack<'a, R: Host>(rt: &R, order: &Unpack<'a>, site: &mut FaultSite<'a>)
     }
 }
 
-/// Recovers every file on the images with these names.
+/// Recovers every file on the images named `names`.
 fn unpack_images<R: Host>(rt: &R, order: &Unpack<'_>, names: &[&str]) -> End {
     if let Err(refusal) = is_folder(rt, order.folder) {
         return end_refused(rt, &UNPACK, refusal);
@@ -70,7 +72,7 @@ fn unpack_images<R: Host>(rt: &R, order: &Unpack<'_>, names: &[&str]) -> End {
     }
 }
 
-/// Refuses what is not a directory. An image in its place was named without a directory before it.
+/// Refuses anything that is not a directory: if it is an image, DIR was forgotten.
 fn is_folder<R: Host>(rt: &R, path: &str) -> Result<(), Refusal> {
     match fs::metadata(rt, path) {
         Ok(found) if found.is_dir() => Ok(()),
@@ -123,7 +125,7 @@ fn unpack_all<R: Host, P: Write>(
 /// How the unpacking of a file ends or, as an error, how the run ends with it.
 type Ended = Result<End, End>;
 
-/// Returns the number after that of the previous file, if this one belongs to its set, otherwise 1.
+/// Returns the number after that of the previous file, if both belong to the same set, otherwise 1.
 fn number_after(before: Option<(Field<6>, u16)>, set_id: &Field<6>) -> u16 {
     match before {
         Some((set, number)) if set == *set_id => number.saturating_add(1),
@@ -159,7 +161,7 @@ fn unpack_file<R: Host, P: Write>(
     }
 }
 
-/// Unpacks a file to these paths, unless something has its name.
+/// Unpacks a file to the given paths, unless a file with its name exists.
 fn unpack_to<R: Host, P: Write>(
     rt: &R,
     order: &Unpack<'_>,
@@ -172,7 +174,13 @@ fn unpack_to<R: Host, P: Write>(
     let mut last = LastLine::new();
     match unpacked(rt, order, shelf, file, paths, &mut last) {
         Ok(end @ End::Done) => tell(rt, file, last.text(), out, end, report),
-        Ok(end) => tell(rt, file, last.text(), stage, end, report),
+        Ok(end) => {
+            let end = tell(rt, file, last.text(), stage, end, report)?;
+            match order.salvage {
+                true => salvage_file(rt, order, shelf, file, out, end, report),
+                false => Ok(end),
+            }
+        }
         // It existed before, or was created meanwhile.
         Err(ToolFault::File(FileFault::Exists)) => {
             tell(
@@ -213,15 +221,62 @@ fn unpacked<R: Host>(
         end => {
             if end == End::Done {
                 remove(rt, stage);
+                if order.salvage {
+                    salvaged_at(rt, paths.out.as_str())?.remove(rt)?;
+                }
             }
             Ok(end)
         }
     }
 }
 
-/// Recovers a file: if all its sections are intact, from the images that have these, in one reading
-/// of each; any other file, and one that was not complete then, on its stage, pass by pass. The
-/// last line of both is remembered.
+/// Writes the readable records of an incomplete file, with a report of its gaps, and prints a line
+/// about them. The images are those that may have blocks of its set.
+fn salvage_file<R: Host, P: Write>(
+    rt: &R,
+    order: &Unpack<'_>,
+    shelf: &Source<'_, Image<R>>,
+    file: &SetFile,
+    out: &str,
+    end: End,
+    report: &mut P,
+) -> Ended {
+    let salvaged = match salvaged_at(rt, out) {
+        Ok(salvaged) => salvaged,
+        Err(fault) => return Err(End::Faulted(fault)),
+    };
+    let mut names = Vec::new(rt.alloc());
+    for (name, image) in shelf.names.iter().zip(shelf.met.images.as_slice()) {
+        if set_of(image).is_none_or(|set_id| set_id == file.set_id) && names.push(*name).is_err() {
+            return Err(End::Faulted(OUT_OF_MEMORY));
+        }
+    }
+    let task = SalvageTask {
+        set_id: file.set_id,
+        file: file.file,
+        content: Content::Records,
+        form: order.form,
+    };
+    let mut last = LastLine::new();
+    match salvaged.write(rt, &task, names.as_slice(), &mut last) {
+        End::Faulted(ToolFault::File(FileFault::Exists)) => {
+            let exists = unpack_outcome_text(UnpackOutcome::Exists);
+            tell(rt, file, exists, salvaged.path(), end, report)
+        }
+        End::Faulted(OUT_OF_MEMORY) => Err(End::Faulted(OUT_OF_MEMORY)),
+        End::Faulted(fault) => tell_failed(rt, file, salvaged.path(), fault, report),
+        _ => tell(rt, file, last.text(), salvaged.path(), end, report),
+    }
+}
+
+/// Returns the paths of the salvaged records of the file with this path, and of their report.
+fn salvaged_at<R: Host>(rt: &R, out: &str) -> Result<Salvaged, ToolFault> {
+    Salvaged::of(rt.alloc(), out).map_err(|_| OUT_OF_MEMORY)
+}
+
+/// Recovers a file. If all its sections are intact, reads the images that have them once. Any other
+/// file, or one that is still incomplete then, is recovered on its stage, in passes. The last line
+/// of both is remembered.
 fn gather<R: Host>(
     rt: &R,
     order: &Unpack<'_>,
@@ -247,7 +302,7 @@ fn gather<R: Host>(
         let end = extract_whole(rt, &at_once, images, &mut shelf.mounted, locations, last);
         if end != End::Incomplete {
             if end != End::Done {
-                // Nothing is proved of an image that a fault left open.
+                // Nothing is proved about an image that a fault left open.
                 shelf.mounted = None;
             }
             return end;

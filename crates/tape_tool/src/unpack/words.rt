@@ -6,7 +6,7 @@ ghost use Rattle.tape_tool.specs.Words.{AsksToUnpack, IsNoUnpack, RefusedFor};
 use crate::command_spec::{CommandSpec, Kind, Word, mistake};
 use crate::help;
 use crate::images::Named;
-use crate::words::{FORMS, form_of, named, text_of};
+use crate::words::{FORMS, flag_of, form_of, named, text_of};
 use clap::{ArgMatches, Error};
 use std::alloc::Global;
 use tape_blocks::Form;
@@ -17,6 +17,7 @@ pub struct Unpack<'a> {
     pub folder: &'a str,
     pub images: Named<'a>,
     pub form: Form,
+    pub salvage: bool,
 }
 
 /// `unpack`.
@@ -36,6 +37,7 @@ pub const UNPACK: CommandSpec = CommandSpec {
             Kind::NameOption("FORM", FORMS, &["lines"]),
             help::FORM_OF_FILES,
         ),
+        Word("salvage", Kind::Flag, help::SALVAGE_FILES),
     ],
 };
 
@@ -54,5 +56,6 @@ pub fn unpack_order<'a>(alloc: Global, matches: &ArgMatches<'a>) -> Result<Unpac
         folder,
         images: named(alloc, matches, command_spec, help::TOO_MANY_TO_UNPACK)?,
         form: form_of(matches),
+        salvage: flag_of(matches, "salvage"),
     })
 }

@@ -14,14 +14,15 @@ use tape_writer::system::{VOLUMES, image_path};
 ///
 /// Returns `Words` if an input is an image that the set may be written to: the same file, whatever
 /// name or link leads to it. Returns `Faulted` with `NotOpened` if a directory has the name of such
-/// an image, or one of these files cannot be looked at; with `Exists` if anything else does that is
-/// not a plain file, such as a pipe or a device; with `OutOfMemory` if an allocation was refused.
+/// an image, or looking up one of these files fails; with `Exists` if another file that is not a
+/// regular one has such a name, for example a pipe or a device; with `OutOfMemory` if an allocation
+/// was refused.
 pub fn look_ahead<R: Runtime + AllocGlobal>(rt: &R, order: &WriteOrder<'_>) -> Result<(), Refusal> {
     let images = images_of(rt, order)?;
     differ(rt, order.files.as_slice(), images.as_slice())
 }
 
-/// Refuses an input that is one of these images.
+/// Refuses an input that is one of the images.
 fn differ<R: Runtime>(rt: &R, files: &[&str], images: &[Metadata]) -> Result<(), Refusal> {
     if images.is_empty() {
         return Ok(());
@@ -54,7 +55,7 @@ fn images_of<R: Runtime + AllocGlobal>(
     Ok(images)
 }
 
-/// Returns what has the name of the image with this number, if anything.
+/// Returns the file with the name of image `number`, if any.
 fn image_at<R: Runtime + AllocGlobal>(
     rt: &R,
     order: &WriteOrder<'_>,
@@ -69,7 +70,7 @@ fn image_at<R: Runtime + AllocGlobal>(
     }
 }
 
-/// Refuses what is not a plain file.
+/// Refuses anything but a regular file.
 fn plain(found: Metadata) -> Result<Option<Metadata>, Refusal> {
     if found.is_file() {
         Ok(Some(found))
@@ -80,7 +81,7 @@ fn plain(found: Metadata) -> Result<Option<Metadata>, Refusal> {
     }
 }
 
-/// An allocation was refused.
+/// Returns the fault of an allocation that was refused.
 fn no_memory() -> Refusal {
     Refusal::Faulted(OUT_OF_MEMORY)
 }

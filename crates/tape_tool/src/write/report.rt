@@ -17,8 +17,8 @@ type Line = ArrayVec<u8, 64>;
 ///
 /// # Errors
 ///
-/// Returns `WriteFailed` if the writer or its flush fails. What was printed is a prefix of these
-/// lines.
+/// Returns `WriteFailed` if the writer or its flush fails. The text printed so far is a prefix of
+/// the lines.
 pub fn say<W: Write>(writer: &mut W, files: u64, ended: &[Ended]) -> Result<(), WriteFailed>
     ensures ok { OnOk result
         (Appends (W.contents writer.old) (W.contents writer.new) (report files ended.now)) }
@@ -32,7 +32,7 @@ pub fn say<W: Write>(writer: &mut W, files: u64, ended: &[Ended]) -> Result<(), 
     flush(writer)
 }
 
-/// The line of a volume.
+/// Returns the line about a volume.
 fn volume_line(ended: &Ended) -> Line
     ensures { result.items ≡ volume_line ended.now }
 {
@@ -45,7 +45,7 @@ fn volume_line(ended: &Ended) -> Line
     line
 }
 
-/// The last line.
+/// Returns the last line.
 fn files_line(files: u64, volumes: u64) -> Line
     ensures { result.items ≡ files_line files volumes }
 {

@@ -45,7 +45,7 @@ fn write_set<'a, R: Host>(
     write_files(rt, &plan, files.as_mut_slice())
 }
 
-/// Writes these files to volumes, and reports the volumes.
+/// Writes the files to volumes, and reports the volumes.
 fn write_files<R: Host>(
     rt: &R,
     plan: &FolderPlan<'_>,
@@ -110,7 +110,7 @@ fn record_length(order: &WriteOrder<'_>) -> u32
     }
 }
 
-/// Checks the identifiers of all files. Nothing of them is kept, since there may be thousands.
+/// Checks the identifiers of all files. None of them is kept, since there may be thousands.
 fn check_ids<'a>(order: &WriteOrder<'a>, site: &mut FaultSite<'a>) -> Result<(), ToolFault> {
     for word in order.files.as_slice() {
         *site = FaultSite::Input(*word);
@@ -119,7 +119,7 @@ fn check_ids<'a>(order: &WriteOrder<'a>, site: &mut FaultSite<'a>) -> Result<(),
     Ok(())
 }
 
-/// The head of the file that this argument names.
+/// Returns the head of the file that argument `word` names.
 fn head_for(word: &str) -> Result<Head1, ToolFault> {
     let (id, _) = split(word);
     match Field::new(id) {
@@ -128,7 +128,7 @@ fn head_for(word: &str) -> Result<Head1, ToolFault> {
     }
 }
 
-/// A file's identifier and its path, before and after the first equals sign.
+/// Returns a file's identifier and its path: the text before and after the first equals sign.
 pub fn split<'a>(word: &'a str) -> (&'a str, &'a str)
     ensures id { result.0.now ≡ before_first (λ byte. byte == 61) word.now }
     ensures path { result.1.now ≡ after_first (λ byte. byte == 61) word.now }
@@ -171,7 +171,7 @@ fn find_inputs<'r, 'a: 'r, R: Runtime + AllocGlobal>(
     Ok(inputs)
 }
 
-/// The input that this argument names.
+/// Returns the input that argument `word` names.
 fn input_of<'a, R: Runtime>(
     rt: &'a R,
     word: &'a str,

@@ -1,4 +1,4 @@
--- Bytes read ahead, of which some were used.
+-- Bytes read ahead, some of which were used.
 use Rattle.std.proofs.Common.{◌≡◌, ℕ, ◌+◌, ◌-◌, min, List, length, take, drop, slice_range, sym, ap}
 use Rattle.std.proofs.Common.{◌∙◌, arith, length-take, drop-drop}
 use Rattle.std.proofs.lemmas.List.{drop-take, drop_min}

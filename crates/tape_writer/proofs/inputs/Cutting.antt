@@ -1,4 +1,4 @@
--- Records of what was read so far.
+-- The records of the bytes read so far.
 use Rattle.std.proofs.Common.{◌≡◌, ℕ, List, [], ◌∷◌, ◌++◌, Bool, true, false, Option, Some, None}
 use Rattle.std.proofs.Common.{take, drop, refl, sym, ap, subst, ◌∙◌, append_assoc}
 use Rattle.std.proofs.Common.{take-append-drop}
@@ -9,7 +9,7 @@ use Rattle.tape_image.specs.Reader.{IfKnown}
 use Rattle.tape_writer.specs.declared.inputs.cut.Cut.{Cut}
 use Rattle.tape_writer.specs.Records.{records_from, records_of, last_record, to_come, given, Adds}
 
--- These bytes of the input were read, and they are the beginning of a record.
+-- The bytes read from the input are the beginning of a record.
 pub record SoFar (cut : Cut) (all left : Option (List ℕ)) (r : List ℕ) : Type 0 where
   pub consumed : Consumes all left r
   pub same : (ys : List ℕ) → records_from cut [] (r ++ ys) ≡ records_from cut r ys
@@ -67,7 +67,7 @@ known_last cut r front more (Some xs) None same last c e = absurd c
 known_last cut r front more (Some xs) (Some ys) same last c e =
     ap (records_of cut) (c ∙ ap (λ l. front ++ l) e) ∙ same [] ∙ last
 
--- the input is over, and what was read of a record is its last
+-- the input has ended, and the bytes read are its last record
 pub last_of : (cut : Cut) (all next : Option (List ℕ)) (r : List ℕ) (more : Bool)
     → SoFar cut all next r → IsAtEnd next
     → MatchBool more (last_record cut r ≡ r ∷ []) (last_record cut r ≡ [])
@@ -90,7 +90,7 @@ piece_taken cut old new bytes ahead rest content taken ended same is grown all a
   λ no. grown ∙ ap (λ n. old ++ take n bytes) (all no),
 )
 
--- the same, by the cut that a reading has
+-- one more piece, with the cut of the reader
 pub piece_more : (cut here : Cut) (all left next : Option (List ℕ)) (r new piece : List ℕ)
     (ended : Bool) → SoFar cut all left r → Consumes left next piece → here ≡ cut → ended ≡ false
     → Adds here r piece new ended × (ended ≡ false → new ≡ r ++ piece) → SoFar cut all next new
@@ -98,7 +98,7 @@ piece_more cut here all left next r new piece ended s c is not (adds, grown) =
     one_piece cut all left next r new piece s c (grown not)
     (subst (λ x. Adds x r piece new false) is (subst (λ x. Adds here r piece new x) not adds))
 
--- what was read of the input is what is buffered of a record
+-- the bytes read from the input are the buffered bytes of the record
 pub taken : (cut : Cut) (all left next : Option (List ℕ)) (r now : List ℕ) → SoFar cut all left r
     → Keeps left next → now ≡ r → IfKnown all next (λ xs ys. xs ≡ now ++ ys)
 taken cut all left next r now s kept same =

@@ -1,4 +1,4 @@
--- Files written one after another.
+-- Files that are written one after another.
 use Rattle.std.proofs.Common.{◌≡◌, ℕ, suc, ◌+◌, ◌<◌, List, [], ◌∷◌, ◌++◌, Option, Some, None}
 use Rattle.std.proofs.Common.{length, map, drop, get_or, slice_set, refl, sym, ap, subst, ◌∙◌}
 use Rattle.std.proofs.Common.{arith, append_assoc, append-nil, length-append}
@@ -11,7 +11,7 @@ use Rattle.tape_writer.specs.declared.inputs.cut.Cut.{Cut}
 use Rattle.tape_writer.specs.Records.{records_of}
 use Rattle.tape_writer.specs.ToldFiles.{told_files, IfAllKnown}
 
--- the files up to this one are written, and the others are as they were
+-- the files before index `at` are written, and the others are unchanged
 pub record Wrote (X : Type 0) (view : X → Head1 × Option (List ℕ)) (set_id : List ℕ) (shape : Shape)
     (cut : Cut) (first now : List X) (at : ℕ) (old new : List Told → Type 0) : Type 0 where
   pub done : List X
@@ -113,6 +113,6 @@ wrote_one X view set_id shape cut first now at old mid new x y d within is w ste
           (λ b n. one_told new set_id shape cut told fs (view x).0 b n)));
     }
 
--- if nothing unfit was found, all was fit
+-- if no file was unfit, all were fit
 pub was_fit : {A B C D : Type 0} → (A → B → C × ⊥) → A → B → D
 was_fit never a b = absurd (never a b).1

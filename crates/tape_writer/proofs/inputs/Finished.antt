@@ -1,4 +1,4 @@
--- A finished writer over images.
+-- A finished writer of images.
 use Rattle.std.proofs.Common.{◌≡◌, ℕ, List, [], ◌∷◌, Bool, Option, Some, None}
 use Rattle.std.proofs.Common.{refl, sym, subst, ◌∙◌}
 use Rattle.std.specs.Prelude.{IfSome}
@@ -57,7 +57,7 @@ some_cut : (P : Cut → Type 0) (cut : Option Cut) (c : Cut) → cut ≡ Some c 
 some_cut P None c e p = tt
 some_cut P (Some d) c e p = let same : c ≡ d = cc in subst P same p
 
--- where the cut is known it is this one
+-- a property of the known cut holds for the option
 pub if_cut : (P : Cut → Type 0) (cut other : Option Cut) (c : Cut) → other ≡ Some c → other ≡ cut
     → P c → IfSome cut P
 if_cut P cut other c e f p = some_cut P cut c (sym f ∙ e) p

@@ -1,4 +1,4 @@
--- Heads that can't be labelled.
+-- Heads that cannot be labelled.
 use Rattle.std.proofs.Common.{◌≡◌, ℕ, ◌+◌, List, [], ◌∷◌, Option, Some, None, map, inl, inr, refl}
 use Rattle.std.specs.Prelude.{◌⊎◌}
 use Rattle.std.specs.List.{AllByRecursion}
@@ -57,7 +57,7 @@ head_or_not h = elim (both_or_not _ _ (text_or_not h.file_id)
       ))
     ]
 
--- if not all heads can be labelled, the first that cannot is one of these files'
+-- if not all heads can be labelled, the fault is that of one of the files
 pub head_fault : (X : Type 0) (view : X → Head1 × Option (List ℕ)) (capacity : ℕ) (shape : Shape)
     (cut : Cut) (n : ℕ) (xs : List X) → (AllByRecursion (λ x. IsTextHead (view x).0) xs → ⊥)
     → IsFilesFault capacity shape cut n (map view xs) (Write BadField)

@@ -1,4 +1,4 @@
--- What is left of files from inputs, whatever fault stops them.
+-- The contents of the tapes after a fault, in terms of the files and their inputs.
 use Rattle.std.proofs.Common.{◌≡◌, ℕ, ◌+◌, ◌<◌, ◌≤◌, List, [], ◌∷◌, ◌++◌, Bool, true, false, Option}
 use Rattle.std.proofs.Common.{Some, None, length, map, drop, get_or, refl, sym, ap, subst, ◌∙◌}
 use Rattle.std.proofs.Common.{append-nil, inl, inr}
@@ -36,7 +36,7 @@ use Rattle.tape_writer.proofs.inputs.Putting.{with_records-one}
 use Rattle.tape_writer.proofs.inputs.Filing.{Wrote}
 use Rattle.tape_writer.proofs.inputs.Finished.{all_known, if_known}
 
--- a fault ends the writer, or leaves it as it was
+-- a fault ends the writer, or leaves it unchanged
 is_ending : {T : Type 0} (f : WriteFault)
     → IsEnding f ⊎ ((old new : SetState T) → Leaves old new f → new ≡ old)
 is_ending faults.OutOfVolumes = inl tt
@@ -44,7 +44,7 @@ is_ending faults.Device = inl tt
 is_ending faults.OutOfMemory = inl tt
 is_ending _ = inr (λ old new l. l)
 
--- a call that was refused ended the writer, or left it as it was
+-- a refused call ended the writer, or left it unchanged
 pub refused_left : {T : Type 0} (H : T → Tapes → Type 0) (old new : SetState T) (f : WriteFault)
     (P : Type 0) (told : List Told) → Leaves old new f → IsWriting (H old.out) old told
     → (new ≡ old → IsWriting (H new.out) new told → P) → (IsEnding f → P) → P
@@ -104,7 +104,7 @@ read_left H w G fault told' n file cut here a b all left old p is e same m told 
     (inside_writing H w file (with_records told p.put.records) is (p.put.told told h))
     (λ e. all_writing H w file (with_records told p.put.records) is (p.put.told told h))
 
--- no fault that ends the writer is one of an input
+-- no fault that ends the writer is a fault of an input
 pub ending_other : (f : WriteFault) → IsEnding f → IsOfInput (Write f) → ⊥
 ending_other faults.RecordLength ends is = ends
 ending_other _ ends is = is
@@ -112,24 +112,24 @@ ending_other _ ends is = is
 pub of_writer : (f g : WriteFault) → Write f ≡ Write g → f ≡ g
 of_writer f g e = cc
 
--- nor one for which a file is not begun
+-- no fault of beginning a file is a fault of an input
 pub begin_other : (capacity n : ℕ) (head : Head1) (shape : Shape) (f : WriteFault)
     → IsBeginFault capacity n head shape f → IsOfInput (Write f) → ⊥
 begin_other capacity n head shape faults.RecordLength due is = due
 begin_other capacity n head shape _ due is = is
 
--- nor one for which a set is not ended, or none is written
+-- no fault of finishing or creating a set is a fault of an input
 pub finish_other : (n : ℕ) (f : WriteFault) → IsFinishFault n f → IsOfInput (Write f) → ⊥
 finish_other n faults.RecordLength due is = due
 finish_other n _ due is = is
 
--- a fault at a file's end ends the writer
+-- a fault at the end of a file ends the writer
 pub end_ends : (file : Opened) (phase : Phase) (f : WriteFault) → IsInFile file phase
     → IfFiling phase (λ _. IsEnding f) → IsEnding f
 end_ends file (Filing o) f is ends = ends
 end_ends file _ f is ends = absurd is
 
--- the next record was not put
+-- the next record was not written
 pub put_left : {T : Type 0} (H : T → Tapes → Type 0) (mid w : SetState T) (G : Type 0)
     (file : Opened) (cut : Cut) (a b c : Bool) (all left next : Option (List ℕ))
     (old : List Told → Type 0) (r : List ℕ) (f : WriteFault)
@@ -163,7 +163,7 @@ put_left H mid w G file cut a b c all left next old r f p is k leaves grew ends 
 
 -- ---- a file
 
--- it was begun, and no record was passed
+-- the file has begun, and no record was passed
 pub none_left : {T : Type 0} (H : Tapes → Type 0) (w : SetState T) (G : Type 0) (fault : SetFault)
     (told : List Told) (records : List (List ℕ)) → IsLeftInside H w told
     → (IsOfInput fault → ⊥) → IsLeftOf H w G fault told records
@@ -176,7 +176,7 @@ none_left H w G fault told records left other = record {
   all = λ e. absurd (other e);
 }
 
--- it was not begun, or no record was passed
+-- the file did not begin, or no record was passed
 pub begin_left : {T : Type 0} (H : T → Tapes → Type 0) (old w : SetState T) (G : Type 0)
     (f : WriteFault) (told more : List Told) (records : List (List ℕ)) (capacity n : ℕ)
     (head : Head1) (shape : Shape) → IsBeginFault capacity n head shape f → Leaves old w f
@@ -195,7 +195,7 @@ begin_left H old w G f told more records capacity n head shape due leaves held b
       | inr begun ↦ inr (none_left (H w.out) w G (Write f) more records begun other)
     ])
 
--- the tapes were refused a growth in a part of the call
+-- an allocation of the tapes failed in a part of the call
 pub left_more : {T : Type 0} (H : Tapes → Type 0) (w : SetState T) (G G' : Type 0)
     (fault : SetFault) (told : List Told) (records : List (List ℕ)) → (G → G')
     → IsLeftOf H w G fault told records → IsLeftOf H w G' fault told records
@@ -211,7 +211,7 @@ left_more H w G G' fault told records f l = record {
   all = l.all;
 }
 
--- its records were not all put
+-- not all records of the file were written
 pub file_left : {T : Type 0} (H : Tapes → Type 0) (w : SetState T) (G G' : Type 0)
     (fault : SetFault) (first told : List Told) (cut here : Cut) (over : Bool)
     (input all : Option (List ℕ)) → (G → G') → all ≡ input → here ≡ cut → over ≡ false
@@ -247,7 +247,7 @@ all_left H w G fault told cut over (Some xs) (Some ys) mid put other grew left =
   all = λ e. absurd (other e);
 }
 
--- it was to be ended
+-- the end of the file was not written
 pub ended_left : {T : Type 0} (H : T → Tapes → Type 0) (mid w : SetState T) (f : WriteFault)
     (file : Opened) → IsInFile file mid.phase → Leaves mid w f
     → ((told : List Told) → IsWriting (H mid.out) mid told → IsEnding f
@@ -260,7 +260,7 @@ ended_left H mid w f file is leaves ends told held =
     (subst (λ z. IsInFile file z.phase) (sym same) is) writing))
     (ends told held)
 
--- all its records were put, and it was not ended
+-- all records of the file were written, but not its end
 pub end_left : {T : Type 0} (H : Tapes → Type 0) (w : SetState T) (G : Type 0) (fault : SetFault)
     (first told : List Told) (cut here : Cut) (over : Bool) (input all next : Option (List ℕ))
     (mid : List Told → Type 0) → all ≡ input → here ≡ cut → over ≡ false
@@ -283,7 +283,7 @@ behind_more H w G G' fault first told records more (inr l) =
 
 -- ---- one of the files
 
--- the file that comes after those that are written
+-- the file after those already written
 pub wrote_left : {T : Type 0} (H : Tapes → Type 0) (w : SetState T) (G G' : Type 0)
     (fault : SetFault) (X : Type 0)
     (view : X → Head1 × Option (List ℕ)) (set_id : List ℕ) (shape : Shape) (cut : Cut)
@@ -316,7 +316,7 @@ wrote_left H w G G' fault X view set_id shape cut first now at old mid here x d 
 
 -- ---- a set
 
--- over tapes that take no memory no growth was refused
+-- on tapes that do not allocate, no allocation failed
 pub left_without : {T : Type 0} (H : Tapes → Type 0) (w : SetState T) (G : Type 0)
     (fault : SetFault) (set_id : List ℕ) (told : List Told) (shape : Shape) (cut : Cut)
     (given : List (Head1 × Option (List ℕ))) → (G → ⊥)

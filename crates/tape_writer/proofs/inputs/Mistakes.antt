@@ -30,7 +30,7 @@ use Rattle.tape_writer.proofs.inputs.set.write_set.Reads as write_set
 
 -- ---- inputs cut into records
 
--- carriage_return_dropped: of a line that ends with a carriage return this is left out
+-- carriage_return_dropped: the carriage return at the end of a line is left out
 carriage_return_dropped : (κs : _) (a : _) (z : _) (s : _) → piece.Learnt-named κs a z s
     → a.0 ≡ Lines → a.1.0 ≡ 0 → a.1.1.0.now ≡ codes "\r\n"
     → z ≡ record { content = 0; taken = 2; ended = true } → ⊥
@@ -43,13 +43,13 @@ carriage_return_dropped κs a z s l cut held bytes w =
     = subst (λ v. Adds Lines [] (take 2 v) ([] ++ take 0 v) true) bytes c in
     absurd (let n : 1 ≡ 0 = ap (λ v. length (get_or v 0 [])) (e []) in omega arith)
 
--- last_line_of_one_byte_dropped: one byte at the end of an input of lines is no record
+-- last_line_of_one_byte_dropped: one byte at the end of an input of lines is not a record
 last_line_of_one_byte_dropped : (κs : _) (s : _) → is_last.Learnt κs (Lines, (1, tt)) false s → ⊥
 last_line_of_one_byte_dropped κs s h =
     let e : last_record Lines (65 ∷ []) ≡ [] = h (65 ∷ []) refl in
     absurd (let n : 1 ≡ 0 = ap length e in omega arith)
 
--- what `next` gives of an input whose bytes are known
+-- the results of `next` for an input whose bytes are known
 gives : (R : _) (L : _) (g : _) (d : _) (h : _) (κs : _) (a : _) (more : _) (s : _) (xs ys : List ℕ)
     → next.Learnt-named R L g d h κs a (Ok more) s → left_of g.remaining a.0.now ≡ Some xs
     → left_of g.remaining s.0.now ≡ Some ys → to_come a.0.now.cut a.0.now.over xs
@@ -60,12 +60,12 @@ gives R L g d h κs a more s xs ys l old new =
     subst (λ v. IfKnown (Some xs) v k) new
     (subst (λ v. IfKnown v (left_of g.remaining s.0.now) k) old l.given)
 
--- the records to come of these bytes
+-- the records to come of the given bytes
 to_come_of : (cut : Cut) (over : _) (xs : List ℕ) (c : Cut) → cut ≡ c → over ≡ false
     → to_come cut over xs ≡ to_come c false xs
 to_come_of cut over xs c e f = ap (λ v. to_come v over xs) e ∙ ap (λ v. to_come c v xs) f
 
--- empty_line_dropped: an empty line is first, and the line after it is returned
+-- empty_line_dropped: an empty line comes first, but the line after it is returned
 empty_line_dropped : (R : _) (L : _) (g : _) (d : _) (h : _) (κs : _) (a : _) (s : _) (ys : List ℕ)
     → next.Learnt-named R L g d h κs a (Ok true) s → a.0.now.cut ≡ Lines → a.0.now.over ≡ false
     → left_of g.remaining a.0.now ≡ Some (codes "\nA\n") → left_of g.remaining s.0.now ≡ Some ys
@@ -75,7 +75,7 @@ empty_line_dropped R L g d h κs a s ys l cut over old new w =
     ∙ gives R L g d h κs a true s (codes "\nA\n") ys l old new in
     absurd (let n : 0 ≡ 1 = ap (λ v. length (get_or v 0 [])) e ∙ ap length w in omega arith)
 
--- rest_padded: the last piece of an input has two bytes, and it is filled up with a space
+-- rest_padded: the last piece of an input has two bytes, and is padded with a space
 rest_padded : (R : _) (L : _) (g : _) (d : _) (h : _) (κs : _) (a : _) (s : _) (ys : List ℕ)
     → next.Learnt-named R L g d h κs a (Ok true) s → a.0.now.cut ≡ Length 80
     → a.0.now.over ≡ false → left_of g.remaining a.0.now ≡ Some (codes "AB")
@@ -85,7 +85,7 @@ rest_padded R L g d h κs a s ys l cut over old new w =
     ∙ gives R L g d h κs a true s (codes "AB") ys l old new in
     absurd (let n : 2 ≡ 3 = ap (λ v. length (get_or v 0 [])) e ∙ ap length w in omega arith)
 
--- longest_record_refused: a record that has just as many bytes as the limit is reported as too long
+-- longest_record_refused: a record of exactly the maximum length is reported as too long
 longest_record_refused : (R : _) (L : _) (g : _) (d : _) (h : _) (κs : _) (a : _) (s : _)
     (xs : List ℕ) (r : List ℕ) (rs : List (List ℕ))
     → next.Learnt-named R L g d h κs a (Err TooLong) s → left_of g.remaining a.0.now ≡ Some xs
@@ -96,14 +96,13 @@ longest_record_refused R L g d h κs a s xs r rs l old e len =
     (subst (λ v. IfSome v (λ xs. first (to_come a.0.now.cut a.0.now.over xs))) old (l.long refl)) in
     absurd (omega (arith, w, len))
 
--- line_gathered_to_its_end: of a line without an end a byte more is held than any record may have
+-- line_gathered_to_its_end: of an infinite line, one byte more is buffered than any record may have
 line_gathered_to_its_end : (R : _) (L : _) (g : _) (d : _) (h : _) (κs : _) (a : _) (answer : _)
     (s : _) → next.Learnt-named R L g d h κs a answer s
     → length s.0.now.record.items ≡ a.0.now.limit + 1 → ⊥
 line_gathered_to_its_end R L g d h κs a answer s l w = absurd (omega (arith, l.within, w))
 
--- memory_gives_out_with_room: the next record is no longer than the buffer has room for, and it is
--- reported that there was no memory
+-- memory_gives_out_with_room: the next record fits in the buffer, but `OutOfMemory` is returned
 memory_gives_out_with_room : (R : _) (L : _) (g : _) (d : _) (h : _) (κs : _) (a : _) (s : _)
     (xs : List ℕ) (r : List ℕ) (rs : List (List ℕ))
     → next.Learnt-named R L g d h κs a (Err inputs.OutOfMemory) s
@@ -116,7 +115,8 @@ memory_gives_out_with_room R L g d h κs a s xs r rs l old e room =
     (l.memory refl)) in
     absurd (omega (arith, w, room))
 
--- bytes_lost_at_a_failed_read: two bytes were read of a record, the reader fails, and they are gone
+-- bytes_lost_at_a_failed_read: two bytes of a record were read, the reader fails, and the bytes are
+-- lost
 bytes_lost_at_a_failed_read : (R : _) (L : _) (g : _) (d : _) (h : _) (κs : _) (a : _) (s : _)
     → next.Learnt-named R L g d h κs a (Err ReadFailed) s
     → left_of g.remaining a.0.now ≡ Some (codes "AB") → left_of g.remaining s.0.now ≡ Some []
@@ -128,14 +128,14 @@ bytes_lost_at_a_failed_read R L g d h κs a s l old new none =
     (subst (λ v. IfKnown v (left_of g.remaining s.0.now) k) old l.taken) in
     absurd (let n : 2 ≡ 0 = ap length e ∙ ap (λ r. length (r ++ [])) none in omega arith)
 
--- read_failure_behind_the_end: the input's end was met, and a failed read is reported
+-- read_failure_behind_the_end: the end of the input was reached, but a failed read is reported
 read_failure_behind_the_end : (R : _) (L : _) (g : _) (d : _) (h : _) (κs : _) (a : _) (s : _)
     → next.Learnt-named R L g d h κs a (Err ReadFailed) s → a.0.now.over ≡ true → ⊥
 read_failure_behind_the_end R L g d h κs a s l over =
     let n : true ≡ false = sym over ∙ (l.due refl).0 in
     absurd (cc)
 
--- raw_counted_as_one_record: a raw input is taken for one record of format D
+-- raw_counted_as_one_record: a raw input is accepted as one record of format D
 raw_counted_as_one_record : (κs : _) (a : _) (s : _) → cut_for.Learnt κs a (Some Whole) s
     → a.0 ≡ forms.Raw → a.1.0.now.format ≡ Counted → ⊥
 raw_counted_as_one_record κs a s h raw counted =
@@ -146,13 +146,13 @@ raw_counted_as_one_record κs a s h raw counted =
 
 -- ---- files
 
--- no record of this input has a length that the shape has not
+-- no record of this input has a length that the shape does not allow
 fits_all : (shape : Shape) (r : List ℕ) → HasRecordLength shape.format shape.rec_len (length r)
     → OneIsOther shape (r ∷ []) → ⊥
 fits_all shape r has (inl other) = other has
 fits_all shape r has (inr none) = none
 
--- RecordLength is no fault of a file whose one record has a length of the shape
+-- RecordLength is not a fault of a file whose only record has a length that the shape allows
 no_length_fault : (capacity : ℕ) (shape : Shape) (cut : Cut) (n : ℕ) (head : Head1) (bytes r : List
     ℕ)
     → records_of cut bytes ≡ r ∷ [] → HasRecordLength shape.format shape.rec_len (length r)
@@ -164,7 +164,8 @@ no_length_fault capacity shape cut n head bytes r e has (inl (inr other)) =
     fits_all shape r has (subst (OneIsOther shape) e other)
 no_length_fault capacity shape cut n head bytes r e has (inr none) = none
 
--- empty_record_told_as_wrong_length: an empty line is refused where the shape has empty records
+-- empty_record_told_as_wrong_length: an empty line is refused although the shape allows empty
+-- records
 empty_record_told_as_wrong_length : (T : _) (R : _) (LT : _) (LR : _) (g : _) (d : _) (e : _) (h :
     _)
     (f : _) (κs : _) (a : _) (s : _) (head : Head1)
@@ -182,8 +183,8 @@ empty_record_told_as_wrong_length T R LT LR g d e h f κs a s head l between one
     (subst (λ v. IsFilesFault a.1.0.now.capacity a.1.1.1.0 a.1.1.1.1.0 (length a.1.0.now.files) v
     (sets.Write write_faults.RecordLength)) one (l.due between))
 
--- read_failure_told_as_record_length: an input fails whose one record has a length of the shape,
--- and a record of another length is reported
+-- read_failure_told_as_record_length: an input fails after its only record, which has a valid
+-- length, but a wrong record length is reported
 read_failure_told_as_record_length : (T : _) (R : _) (LT : _) (LR : _) (g : _) (d : _) (e : _) (h :
     _)
     (f : _) (κs : _) (a : _) (s : _) (head : Head1)
@@ -201,7 +202,7 @@ read_failure_told_as_record_length T R LT LR g d e h f κs a s head l between on
     (subst (λ v. IsFilesFault a.1.0.now.capacity a.1.1.1.0 a.1.1.1.1.0 (length a.1.0.now.files) v
     (sets.Write write_faults.RecordLength)) one (l.due between))
 
--- every_other_file_left_out: of two inputs the first alone is written
+-- every_other_file_left_out: only the first of two inputs is written
 every_other_file_left_out : (T : _) (R : _) (LT : _) (LR : _) (g : _) (d : _) (e : _) (h : _)
     (f : _) (κs : _) (a : _) (s : _) (x y : Head1) (b c : List ℕ)
     → write_files.Learnt-named T R LT LR g d e h f κs a (Ok tt) s
@@ -224,7 +225,8 @@ only_shape : (plan : _) (inputs : _) (fault : _) → IsSetFault plan inputs faul
     → cut_of plan.form plan.shape ≡ None → fault ≡ sets.Write write_faults.BadShape
 only_shape plan inputs fault h none = subst (λ v. IsFaultOfCut plan inputs v fault) none h
 
--- raw_counted_told_as_no_file: a form that cannot cut the shape is reported as a set without a file
+-- raw_counted_told_as_no_file: a form that is impossible for the shape is reported as a set without
+-- files
 raw_counted_told_as_no_file : (R : _) (S : _) (D : _) (LR : _) (LS : _) (LD : _) (g : _) (d : _)
     (h : _) (e : _) (i : _) (f : _) (j : _) (k : _) (κs : _) (a : _) (refused : _) (s : _)
     → write_set.Learnt-named R S D LR LS LD g d h e i f j k κs a (Err refused) s
@@ -236,8 +238,8 @@ raw_counted_told_as_no_file R S D LR LS LD g d h e i f j k κs a refused s l non
     let n : sets.Write write_faults.NoFile ≡ sets.Write write_faults.BadShape = sym w ∙ r in
     absurd (cc)
 
--- device_lent_at_a_refusal: a form that cannot cut the shape is refused, and one device of the
--- store is gone
+-- device_lent_at_a_refusal: a form that is impossible for the shape is refused, but one device of
+-- the store is gone
 device_lent_at_a_refusal : (R : _) (S : _) (D : _) (LR : _) (LS : _) (LD : _) (g : _) (d : _)
     (h : _) (e : _) (i : _) (f : _) (j : _) (k : _) (κs : _) (a : _) (refused : _) (s : _)
     → write_set.Learnt-named R S D LR LS LD g d h e i f j k κs a (Err refused) s
@@ -246,8 +248,8 @@ device_lent_at_a_refusal : (R : _) (S : _) (D : _) (LR : _) (LS : _) (LD : _) (g
 device_lent_at_a_refusal R S D LR LS LD g d h e i f j k κs a refused s l none four three =
     absurd (let n : 3 ≡ 4 = sym three ∙ ap h.left (l.nothing (inl none)).0 ∙ four in omega arith)
 
--- volume_begun_for_no_shape: a set of one file is refused, whose blocks are too large for the
--- volumes, and an image is current
+-- volume_begun_for_no_shape: a set of one file is refused because its blocks are too large for the
+-- volumes, but an image is current
 volume_begun_for_no_shape : (R : _) (S : _) (D : _) (LR : _) (LS : _) (LD : _) (g : _) (d : _)
     (h : _) (e : _) (i : _) (f : _) (j : _) (k : _) (κs : _) (a : _) (refused : _) (s : _)
     → write_set.Learnt-named R S D LR LS LD g d h e i f j k κs a (Err refused) s
@@ -266,7 +268,7 @@ has_a_file plan input (Some cut) (inr (inl (inl (inr put)))) = put
 has_a_file plan input (Some cut) (inr (inl (inr none))) = none
 has_a_file plan input (Some cut) (inr (inr end)) = absurd (omega (arith, end))
 
--- one_file_told_as_none: a set of one file is reported as a set without a file
+-- one_file_told_as_none: a set of one file is reported as a set without files
 one_file_told_as_none : (R : _) (S : _) (D : _) (LR : _) (LS : _) (LD : _) (g : _) (d : _)
     (h : _) (e : _) (i : _) (f : _) (j : _) (k : _) (κs : _) (a : _) (refused : _) (s : _)
     (input : Head1 × Option (List ℕ))

@@ -1,5 +1,5 @@
 -- Refusals of sets and of files from inputs that their contracts exclude: each is returned without
--- its cause, as a wrong body would.
+-- its cause, as a wrong body would do.
 use Rattle.std.proofs.Common.{◌≡◌, ◌≢◌, inl, inr, ℕ, ◌≤◌, List, [], ◌∷◌, ◌++◌, length}
 use Rattle.std.proofs.Common.{refl, sym, subst, arith}
 use Rattle.std.specs.Prelude.{Option, Some, None, Err, IfSome, Bool, false, map}
@@ -28,11 +28,11 @@ use Rattle.tape_writer.proofs.MistakesOfFronts.{open_of}
 use Rattle.tape_writer.proofs.inputs.files.write_files.Reads as write_files
 use Rattle.tape_writer.proofs.inputs.set.write_set.Reads as write_set
 
--- each of these inputs says its bytes
+-- the bytes of each input are known
 abbrev AreKnown : List (Head1 × Option (List ℕ)) → Type 0
 AreKnown inputs = AllByRecursion (λ i. i.1 ≢ None) inputs
 
--- what is said where they are known is so
+-- a claim about known bytes holds if they are known
 known_there : (before after : List (Head1 × Option (List ℕ))) (input : Head1 × Option (List ℕ))
     (P : List (Head1 × List ℕ) → List ℕ → Type 0) → AreKnown (before ++ input ∷ after)
     → IfAllKnown before (λ fs. IfSome input.1 (λ bytes. P fs bytes))
@@ -44,7 +44,7 @@ known_there ((head, Some b) ∷ before) after input P known h =
     let k = known_there before after input (λ fs bytes. P ((head, b) ∷ fs) bytes) known.1 h in
     ((head, b) ∷ k.0, k.1, k.2)
 
--- a writer that gives up is on its last volume, in an open section
+-- a writer without a volume left is on its last volume, in an open section
 record IsOnLast {T : Type 0} (H : Tapes → Type 0) (w : SetState T) : Type 0 where
   file : Opened
   draft : Draft
@@ -63,8 +63,8 @@ on_last H w set_id told shape cut inputs g known =
       none_left = k.2.out.stuck.none_left;
     }
 
--- third_file_has_no_volume: the second of three volumes is current, and files are refused for lack
--- of a volume
+-- third_file_has_no_volume: the second of three volumes is current, but files are refused because
+-- no volume is left
 third_file_has_no_volume : (T : _) (R : _) (LT : _) (LR : _) (g : _) (d : _) (e : _) (h : _)
     (f : _) (κs : _) (a : _) (s : _) (told : List Told)
     → write_files.Learnt-named T R LT LR g d e h f κs a (Err (Write OutOfVolumes)) s
@@ -81,7 +81,8 @@ not_rose : Rose 3 3 → ⊥
 not_rose (inl e) = absurd (omega (arith, e))
 not_rose (inr e) = absurd (omega (arith, e))
 
--- read_failure_told_as_device: an input fails, and it is reported that the device of the tapes did
+-- read_failure_told_as_device: an input fails, but the fault says that the device of the tapes
+-- failed
 read_failure_told_as_device : (T : _) (R : _) (LT : _) (LR : _) (g : _) (d : _) (e : _) (h : _)
     (f : _) (κs : _) (a : _) (s : _)
     → write_files.Learnt-named T R LT LR g d e h f κs a (Err (Write Device)) s
@@ -91,7 +92,7 @@ read_failure_told_as_device T R LT LR g d e h f κs a s l was is =
     not_rose (subst (λ v. Rose 3 v.device) is
     (subst (λ v. Rose v.device (g.failures s.1.0.now.out).device) was (l.cause refl)))
 
--- tapes on which a writer gave up have a current image
+-- image tapes of a writer without a volume left have a current image
 under_way : {S : Type 0} (H : S → Bool → List (List ℕ) → Type 0) (store : S) (plan : SetPlan)
     (cut : Cut) (inputs : List (Head1 × Option (List ℕ)))
     → GaveUpSet (Holds H) (λ t. (t.store ≡ store) × (t.image ≡ None)) plan cut inputs
@@ -114,8 +115,8 @@ none_under_way H store plan inputs cut (inr gave) one is known =
     GaveUpSet (Holds H) (λ t. (t.store ≡ store) × (t.image ≡ None)) plan d inputs)) is gave)
     known
 
--- files_counted_as_volumes: there are more files than volumes, and the set is refused for lack of a
--- volume while no image is current
+-- files_counted_as_volumes: there are more files than volumes, and the set is refused because no
+-- volume is left, although no image is current
 files_counted_as_volumes : (R : _) (S : _) (D : _) (LR : _) (LS : _) (LD : _) (g : _) (d : _)
     (h : _) (e : _) (i : _) (f : _) (j : _) (k : _) (κs : _) (a : _) (refused : _) (s : _)
     (cut : Cut)
@@ -136,7 +137,7 @@ files_counted_as_volumes R S D LR LS LD g d h e i f j k κs a refused s cut l is
 
 -- ---- an input or the device fails
 
--- an image that is written takes more, and there are devices
+-- an image that is being written accepts further items, and devices are left
 takes_more : (left : ℕ) (image : Option Writer) (w : Writer) → HasStopped left image → left ≡ 3
     → image ≡ Some w → w.standing ≡ standings.writing → w.size ≡ 1000 → ⊥
 takes_more left image w (inl none) three there is size = absurd (omega (arith, none, three))
@@ -146,8 +147,8 @@ takes_more left image w (inr stopped) three there is size =
       | inr full ↦ absurd (omega (arith, full, size))
     ]
 
--- refusals_told_as_device: a set is refused as if the device had failed, and it has not, and there
--- are more devices
+-- refusals_told_as_device: a set is refused as if the device had failed, although it did not fail
+-- and devices are left
 refusals_told_as_device : (R : _) (S : _) (D : _) (LR : _) (LS : _) (LD : _) (g : _) (d : _)
     (h : _) (e : _) (i : _) (f : _) (j : _) (k : _) (κs : _) (a : _) (refused : _) (s : _)
     (w : Writer)
@@ -157,7 +158,7 @@ refusals_told_as_device : (R : _) (S : _) (D : _) (LR : _) (LS : _) (LD : _) (g 
 refusals_told_as_device R S D LR LS LD g d h e i f j k κs a refused s w l is three there =
     takes_more (h.left refused.images) refused.under_way w (l.device is) three there
 
--- where an input failed an image is current
+-- if an input failed, an image is current
 image_there : {S : Type 0} (H : S → Bool → List (List ℕ) → Type 0) (store : S) (plan : SetPlan)
     (cut : Cut) (inputs : List (Head1 × Option (List ℕ)))
     (l : IsLeftSet (Holds H) (λ t. (t.store ≡ store) × (t.image ≡ None)) ReadFailed plan cut inputs)
@@ -176,8 +177,8 @@ image_there H store plan cut inputs l (inl k) known =
           o.0)) l.on_tapes.1 o.1.held.0)
     ]
 
--- reader_failed_before_a_file: a set of known inputs is refused as if one had failed, and no image
--- is current
+-- reader_failed_before_a_file: a set of known inputs is refused as if an input had failed, but no
+-- image is current
 reader_failed_before_a_file : (R : _) (S : _) (D : _) (LR : _) (LS : _) (LD : _) (g : _) (d : _)
     (h : _) (e : _) (i : _) (f : _) (j : _) (k : _) (κs : _) (a : _) (refused : _) (s : _)
     (cut : Cut)
@@ -205,7 +206,7 @@ reader_failed_before_a_file R S D LR LS LD g d h e i f j k κs a refused s cut l
           image_there h.holds refused.images a.1.0 cut inputs n n.left known
     ]
 
--- head_judged_at_its_turn: a head can't be labelled, and an image is current
+-- head_judged_at_its_turn: a head cannot be labelled, but an image is current
 head_judged_at_its_turn : (R : _) (S : _) (D : _) (LR : _) (LS : _) (LD : _) (g : _) (d : _)
     (h : _) (e : _) (i : _) (f : _) (j : _) (k : _) (κs : _) (a : _) (refused : _) (s : _)
     → write_set.Learnt-named R S D LR LS LD g d h e i f j k κs a (Err refused) s

@@ -1,4 +1,4 @@
--- What a prefix of some bytes does to a record.
+-- The effect of a prefix of some bytes on a record.
 use Rattle.std.proofs.Common.{◌≡◌, ◌≢◌, ◌<◌, ◌≤◌, ℕ, zero, suc, ◌+◌, ◌∙◌, List, [], ◌∷◌, ◌++◌, Bool}
 use Rattle.std.proofs.Common.{true, false, length, take, get_or, sym, ap, subst, arith}
 use Rattle.std.proofs.Common.{append_assoc, append-nil, length-append}
@@ -49,7 +49,7 @@ pub line_inside : (hay r : List ℕ) → ((k : ℕ) → k < length hay → get_o
     → Adds Lines r hay (r ++ hay) false
 line_inside hay r none = λ more. line_goes_on hay r more (no_feed hay none)
 
--- a record that has the length already is never whole
+-- a record that already exceeds the length is never complete
 longer_goes_on : (n : ℕ) (l r ys : List ℕ) → n ≤ length r
     → records_from (Length n) r (l ++ ys) ≡ records_from (Length n) (r ++ l) ys
 longer_goes_on n [] r ys long = ap (λ x. records_from (Length n) x ys) (sym (append-nil r))

@@ -1,4 +1,4 @@
--- Records put one after another.
+-- Records that are written one after another.
 use Rattle.std.proofs.Common.{◌≡◌, ℕ, List, [], ◌∷◌, ◌++◌, Bool, true, false, Option, Some}
 use Rattle.std.proofs.Common.{None, refl, sym, ap}
 use Rattle.std.proofs.Common.{subst, ◌∙◌, append_assoc, append-nil, ◌≤◌, length, arith}
@@ -12,7 +12,7 @@ use Rattle.tape_writer.specs.declared.inputs.cut.Cut.{Cut}
 use Rattle.tape_writer.specs.Records.{to_come, records_of, given}
 use Rattle.tape_writer.specs.ToldFiles.{with_records}
 
--- these records were given, and the writer, who was at `old`, is at `new` with them
+-- records were returned and written, which moved the writer from `old` to `new`
 pub record Put (cut : Cut) (over over' : Bool) (all left : Option (List ℕ))
     (old new : List Told → Type 0) : Type 0 where
   pub records : List (List ℕ)
@@ -47,7 +47,7 @@ pub with_records-one : (told : List Told) (rs : List (List ℕ)) (r : List ℕ)
 with_records-one told [] r = refl
 with_records-one told (s ∷ rs) r = with_records-one (with_record told s) rs r
 
--- and none of these records has more bytes than n
+-- the same, and none of the records is longer than n
 pub record PutWithin (n : ℕ) (cut : Cut) (over over' : Bool) (all left : Option (List ℕ))
     (old new : List Told → Type 0) : Type 0 where
   pub put : Put cut over over' all left old new
@@ -60,7 +60,7 @@ within_none n cut over all old = record {
   within = tt;
 }
 
--- one record more, for which there is room
+-- one more record, for which there is room
 pub within_one : (n m : ℕ) (cut : Cut) (a b c : Bool) (all left next : Option (List ℕ))
     (old mid new : List Told → Type 0) (r : List ℕ) → PutWithin n cut a b all left old mid
     → IfKnown left next (λ xs ys. to_come cut b xs ≡ given true r (to_come cut c ys))
@@ -88,7 +88,7 @@ known_all cut a r rs (Some xs) None new told h k = absurd k
 known_all cut a r rs (Some xs) (Some ys) new told h k =
     subst (λ l. new (with_records told l)) (sym (k ∙ append-nil rs)) h
 
--- all records to come were put
+-- all remaining records were written
 pub put_all : (cut : Cut) (a b c : Bool) (all left next : Option (List ℕ))
     (old new : List Told → Type 0) (r : List ℕ) → Put cut a b all left old new
     → IfKnown left next (λ xs ys. to_come cut b xs ≡ given false r (to_come cut c ys)) → c ≡ true
@@ -107,7 +107,7 @@ with_last [] file before r = refl
 with_last (t ∷ []) file before r = refl
 with_last (t ∷ u ∷ ts) file before r = ap (λ l. t ∷ l) (with_last (u ∷ ts) file before r)
 
--- the records of a file just begun
+-- the records of a file that has just begun
 pub of_file : (told : List Told) (file : Opened) (before rs : List (List ℕ))
     → with_records (told ++ record { file = file; records = before } ∷ []) rs
     ≡ told ++ record { file = file; records = before ++ rs } ∷ []
@@ -118,7 +118,7 @@ of_file told file before (r ∷ rs) =
     ∙ of_file told file (before ++ r ∷ []) rs
     ∙ ap (λ l. told ++ record { file = file; records = l } ∷ []) (append_assoc before (r ∷ []) rs)
 
--- what a reading returned, described with the cut that was there at first
+-- the result of a reader, in terms of the cut that it had at first
 pub given_cut : (cut here then' : Cut) (b c : Bool) (more m : Bool) (r : List ℕ)
     (left next : Option (List ℕ)) → here ≡ cut → then' ≡ here → more ≡ m
     → IfKnown left next (λ xs ys. to_come here b xs ≡ given more r (to_come then' c ys))
@@ -147,7 +147,7 @@ told_known told file cut (Some xs) None mid last h ends = absurd h
 told_known told file cut (Some xs) (Some ys) mid last h ends =
     ends _ (subst mid (of_file told file [] (records_of cut xs)) h)
 
--- a file was begun, the records of its input were put, and it was ended
+-- a file began, the records of its input were written, and it ended
 pub file_told : (told : List Told) (file : Opened) (cut here : Cut) (over : Bool) (input all
     next : Option (List ℕ)) (mid last : List Told → Type 0) → all ≡ input → here ≡ cut
     → over ≡ false

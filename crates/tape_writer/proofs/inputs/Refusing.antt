@@ -1,4 +1,4 @@
--- Faults of `write` where they are due.
+-- The causes of the faults of writing from inputs.
 use Rattle.std.proofs.Common.{◌≡◌, ◌<◌, ◌≤◌, ℕ, ◌+◌, List, [], ◌∷◌, ◌++◌, Bool, true, false, Option}
 use Rattle.std.proofs.Common.{Some, None, length, map, take, drop, get_or, refl, sym, ap, subst}
 use Rattle.std.proofs.Common.{◌∙◌, arith, append_assoc, take-append-drop, length-append, inl, inr}
@@ -43,7 +43,7 @@ first_by most true full r s xs ys zs a b c = a
 first_by most false true r s xs ys zs a b c = b
 first_by most false false r s xs ys zs a b c = c
 
--- a record that is too long already is the first one
+-- a record that is already too long is the first one that is
 first_long : (most : ℕ) (cut : Cut) (r bytes : List ℕ) → most < length r
     → IsFirstLong most (records_from cut r bytes)
 first_long most Lines [] [] l = absurd (omega (arith, l))
@@ -63,7 +63,7 @@ first_added most cut r front new rest true adds l = subst (IsFirstLong most) (sy
 first_added most cut r front new rest false adds l =
     subst (IsFirstLong most) (sym (adds rest)) (first_long most cut new rest l)
 
--- a piece that is refused makes it too long
+-- a piece that is refused makes the record too long
 pub grows_long : (most : ℕ) (cut : Cut) (r bytes : List ℕ) (content taken : ℕ) (ended : Bool)
     → content ≤ taken → taken ≤ length bytes → most < length r + content
     → Adds cut r (take taken bytes) (r ++ take content bytes) ended → GrowsLong most cut r bytes
@@ -92,7 +92,7 @@ long_known most cut r ahead front (Some xs) None c same g = absurd c
 long_known most cut r ahead front (Some xs) (Some ys) c same g =
     subst (IsFirstLong most) (sym (ap (records_of cut) c ∙ same (ahead ++ ys))) (g ys)
 
--- what was read of a record, and what is read ahead
+-- the bytes read of a record, and those read ahead, show that it is too long
 pub too_long : (most limit : ℕ) (cut here : Cut) (over : Bool) (r ahead : List ℕ)
     (all device : Option (List ℕ))
     → SoFar cut all (prepend_known ahead device) r → limit ≡ most → here ≡ cut → over ≡ false
@@ -107,7 +107,7 @@ pub less_long : (most n : ℕ) (rs : List (List ℕ)) → most ≤ n → IsFirst
 less_long most n [] le l = l
 less_long most n (r ∷ rs) le l = omega (arith, le, l)
 
--- what is to be held has no room
+-- the bytes to be buffered have no room
 pub no_room : (most n : ℕ) (cut here : Cut) (over : Bool) (r ahead : List ℕ)
     (all left device : Option (List ℕ)) → SoFar cut all left r
     → Keeps left (prepend_known ahead device) → most ≤ n → here ≡ cut → over ≡ false
@@ -161,7 +161,7 @@ known_other shape cut a c r rs (Some xs) None k o = absurd k
 known_other shape cut a c r rs (Some xs) (Some ys) k o =
     subst (OneIsOther shape) (sym k) (other_behind shape rs (r ∷ to_come cut c ys) (inl o))
 
--- the record that was read last has another length
+-- the record that was read last has an invalid length
 pub put_other : (shape : Shape) (cut : Cut) (a b c : Bool) (all left next : Option (List ℕ))
     (old mid : List Told → Type 0) (r : List ℕ) → Put cut a b all left old mid
     → IfKnown left next (λ xs ys. to_come cut b xs ≡ given true r (to_come cut c ys))
@@ -181,7 +181,7 @@ of_put o bytes other faults.Device due f = tt
 of_put o bytes other faults.OutOfMemory due f = tt
 of_put o bytes other _ due f = absurd due
 
--- a record was not put in this file
+-- a record was not written in the file
 pub put_fault : (file : Opened) (phase : Phase) (bytes r : List ℕ) (other : Type 0)
     (fault : WriteFault) → IsInFile file phase → bytes ≡ r
     → IfFiling phase (λ o. IsPutFault o bytes fault)
@@ -193,7 +193,7 @@ put_fault file (Filing o) bytes r other fault is same due f =
     (subst (λ z. HasLength o z → ⊥) same wrong)))
 put_fault file _ bytes r other fault is same due f = absurd is
 
--- a fault that ends the writer may come of any records
+-- a fault that ends the writer is possible with any records
 pub of_ending : (other : Type 0) (fault : WriteFault) → IsEnding fault → IsPuttingFault other fault
 of_ending other faults.OutOfVolumes e = tt
 of_ending other faults.Device e = tt
@@ -225,7 +225,7 @@ told_input other inputs.ReadFailed f = tt
 told_input other inputs.TooLong f = f refl
 told_input other inputs.OutOfMemory f = tt
 
--- an input has no volumes to be out of
+-- no fault of an input says that no volume is left
 pub not_told : (fault : InputFault) → told_as fault ≡ Write faults.OutOfVolumes → ⊥
 not_told inputs.ReadFailed e = cc
 not_told inputs.TooLong e = cc
@@ -236,7 +236,7 @@ pub next_fault : (other : Type 0) (fault : InputFault) (told : SetFault) → tol
     → (fault ≡ inputs.TooLong → other) → IsInputFault other told
 next_fault other fault told is f = subst (IsInputFault other) (sym is) (told_input other fault f)
 
--- the records of an input were not put, as a property of the input
+-- the records of an input were not written, in terms of the input
 pub input_fault : (shape : Shape) (cut here : Cut) (over : Bool) (input all : Option (List ℕ))
     (fault : SetFault) → all ≡ input → here ≡ cut → over ≡ false
     → IsInputFault (IfSome all (λ xs. OneIsOther shape (to_come here over xs))) fault
@@ -249,7 +249,7 @@ input_fault shape cut here over input all fault a e f p =
 
 -- ---- one of the files
 
--- the fault is that of the file after these
+-- the fault is that of the file after the given files
 fault_behind : (capacity : ℕ) (shape : Shape) (cut : Cut) (n m : ℕ)
     (xs ys : List (Head1 × Option (List ℕ))) (x : Head1 × Option (List ℕ)) (fault : SetFault)
     → m ≡ n + length xs → IsFileFault capacity shape cut m x fault
@@ -260,7 +260,7 @@ fault_behind capacity shape cut n m [] ys x fault e p =
 fault_behind capacity shape cut n m (y ∷ xs) ys x fault e p =
     inr (fault_behind capacity shape cut (n + 1) m xs ys x fault (omega (arith, e)) p)
 
--- the file that comes after those that are written
+-- the file after those already written
 pub wrote_fault : (X : Type 0) (view : X → Head1 × Option (List ℕ)) (set_id : List ℕ)
     (shape : Shape) (cut : Cut) (first now : List X) (at : ℕ) (old mid : List Told → Type 0)
     (capacity here n m : ℕ) (x d : X) (fault : SetFault)

@@ -1,4 +1,4 @@
--- Records in the subject's words: lines, and pieces of one length.
+-- Records in terms of the input: lines, and pieces of one length.
 use Rattle.std.proofs.Common.{◌≡◌, ◌<◌, ℕ, ◌+◌, ◌∙◌, List, [], ◌∷◌, ◌++◌, Bool, true}
 use Rattle.std.proofs.Common.{false, length, sym, ap, arith, append_assoc, append-nil}
 use Rattle.std.proofs.Common.{length-append}

@@ -36,7 +36,7 @@ known_out H w told cut a c rs (Some xs) None k out = absurd k
 known_out H w told cut a c rs (Some xs) (Some ys) k out =
     record { front = rs; back = to_come cut c ys; split = k; out = out }
 
--- the next record was not put
+-- the next record was not written
 pub gave_up : {T : Type 0} (H : Tapes → Type 0) (w : SetState T) (cut : Cut) (a b c : Bool)
     (all left next : Option (List ℕ)) (old mid : List Told → Type 0) (r : List ℕ)
     → Put cut a b all left old mid
@@ -50,7 +50,7 @@ gave_up H w cut a b c all left next old mid r p k stuck told h =
     (subst (λ z. IsOutOfVolumes H w z) (sym (with_records-one told p.records r))
     (stuck (with_records told p.records) (p.told told h)))
 
--- the same of the input
+-- the same for the input
 pub file_out : {T : Type 0} (H : Tapes → Type 0) (w : SetState T) (told : List Told)
     (cut here : Cut) (over : Bool) (input all : Option (List ℕ)) → all ≡ input → here ≡ cut
     → over ≡ false → IfSome all (λ xs. GaveUp H w told (to_come here over xs))
@@ -74,7 +74,7 @@ known_end H w told cut over (Some xs) (Some ys) mid put stuck = record {
   out = stuck _ put;
 }
 
--- all its records were put, and the file was not ended
+-- all records of the file were written, but not its end
 pub end_out : {T : Type 0} (H : Tapes → Type 0) (w : SetState T) (told : List Told)
     (cut here : Cut) (over : Bool) (input all next : Option (List ℕ)) (mid : List Told → Type 0)
     → all ≡ input → here ≡ cut → over ≡ false
@@ -85,7 +85,7 @@ end_out H w told cut here over input all next mid a e f put stuck =
     file_out H w told cut here over input all a e f
     (known_end H w told here over all next mid put stuck)
 
--- the file that comes after those that are written
+-- the file after those already written
 pub wrote_out : {T : Type 0} (H : Tapes → Type 0) (w : SetState T) (X : Type 0)
     (view : X → Head1 × Option (List ℕ)) (set_id : List ℕ) (shape : Shape) (cut : Cut)
     (first now : List X) (at : ℕ) (old mid : List Told → Type 0) (here : List ℕ) (x d : X)
@@ -118,7 +118,7 @@ grows_then a b c k l = (omega (arith, k.0, l.0), omega (arith, k.1, l.1))
 pub grows_self : (a : Failures) → Grows a a
 grows_self a = (omega arith, omega arith)
 
--- a call of the writer, after others
+-- a call of the writer after other calls
 pub stops : (a b c : Failures) (fault : WriteFault) (told : SetFault)
     → Grows a b → (fault ≡ Device → Rose b.device c.device) → told ≡ Write fault
     → told ≡ Write Device → Rose a.device c.device

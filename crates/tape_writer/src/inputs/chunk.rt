@@ -8,10 +8,10 @@ use std::alloc::{AllocError, Global};
 use std::io::Read;
 use std::marker::Model;
 
-/// The maximum number of bytes that are read at once.
+/// The maximum number of bytes read at once.
 const ROOM: usize = 8_192;
 
-/// Bytes that were read from a reader and not used yet.
+/// Bytes that were read from a reader and have not been used yet.
 #[derive(Drop)]
 pub struct Chunk {
     bytes: Vec<u8>,
@@ -51,14 +51,14 @@ impl Chunk {
         &self.bytes[self.start..self.end]
     }
 
-    /// Returns true if there are none.
+    /// Returns true if no bytes are left.
     pub fn is_empty(&self) -> bool
         ensures { MatchBool result (self.now ≡ []) (0 < length self.now) }
     {
         self.start == self.end
     }
 
-    /// Uses `count` of them, or all if there are fewer.
+    /// Skips `count` bytes, or all bytes if there are fewer.
     pub fn skip(&mut self, count: usize)
         ensures { self.new ≡ drop count self.old }
     {
@@ -66,7 +66,7 @@ impl Chunk {
         self.start += left.min(count);
     }
 
-    /// Reads once if there are none.
+    /// Reads once if no bytes are left.
     pub fn fill<R: Read>(&mut self, reader: &mut R) -> Result<(), InputFault>
         ensures bytes { Keeps (prepend_known self.old (R.remaining reader.old))
             (prepend_known self.new (R.remaining reader.new)) }
@@ -89,7 +89,7 @@ impl Chunk {
     }
 }
 
-/// Reads once, replacing these bytes.
+/// Reads once, and replaces `bytes`.
 fn read_over<R: Read>(reader: &mut R, bytes: &mut Vec<u8>) -> Result<usize, InputFault>
     ensures len { vec_len bytes.new ≡ vec_len bytes.old }
     ensures within { IfOk result (λ n. n ≤ vec_len bytes.new) }
@@ -102,7 +102,7 @@ fn read_over<R: Read>(reader: &mut R, bytes: &mut Vec<u8>) -> Result<usize, Inpu
 {
     match reader.read(bytes.as_mut_slice()) {
         Ok(count) => Ok(count),
-        // An interruption is a failure too.
+        // An interruption is also a failure.
         Err(_) => Err(InputFault::ReadFailed),
     }
 }

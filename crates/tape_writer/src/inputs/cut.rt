@@ -1,34 +1,35 @@
-//! Where an input is cut into records.
+//! The cutting of an input into records.
 ghost use Rattle.std.specs.Prelude.{◌≡◌, ◌<◌, ◌≤◌, ◌++◌, ◌∷◌, [], ℕ, List, take, false, MatchBool};
 ghost use Rattle.std.specs.Prelude.{length as count};
 ghost use Rattle.tape_writer.specs.Records.{Adds, last_record};
 
 use memchr::memchr;
 
-/// Where an input is cut into records.
+/// How an input is cut into records.
 #[derive(Clone, Copy)]
 pub enum Cut {
-    /// After each line feed, which is in no record.
+    /// After each line feed, which belongs to no record.
     Lines,
-    /// Into records of this length.
+    /// Into records of the given length.
     Length(u32),
-    /// Nowhere: the whole input is one record.
+    /// Not at all: the whole input is one record.
     Whole,
 }
 
 /// A prefix of some bytes, which continues a record.
 #[derive(Clone, Copy)]
 pub struct Piece {
-    /// How many of the bytes are in the record.
+    /// The number of bytes that belong to the record.
     pub content: usize,
-    /// How many of them are used: these, and a line feed that follows them.
+    /// The number of bytes that are used: those of the record, and a line feed after them, if there
+    /// is one.
     pub taken: usize,
-    /// Whether the record ends with them.
+    /// Whether the record ends with these bytes.
     pub ended: bool,
 }
 
 impl Cut {
-    /// Returns the first of these bytes that continue a record of `held` bytes.
+    /// Returns the first of `bytes` that continue a record of which `held` bytes were read.
     pub fn piece(self, held: usize, bytes: &[u8]) -> Piece
         ensures within { (result.content ≤ result.taken) × (result.taken ≤ count bytes.now) }
         ensures some { 0 < count bytes.now → 0 < result.taken }
@@ -43,7 +44,7 @@ impl Cut {
         }
     }
 
-    /// Returns true if `held` bytes at the input's end are a record.
+    /// Returns true if `held` bytes at the end of the input are a record.
     pub fn is_last(self, held: usize) -> bool
         ensures { (r : List ℕ) → held ≡ count r
             → MatchBool result (last_record self r ≡ r ∷ []) (last_record self r ≡ []) }
@@ -56,7 +57,7 @@ impl Cut {
 }
 
 impl Piece {
-    /// Returns all of these bytes, which are inside a record.
+    /// Returns a piece of `length` bytes, all of them inside a record.
     fn inside(length: usize) -> Piece
         ensures { result ≡ record { content = length; taken = length; ended = false } }
     {
@@ -68,7 +69,7 @@ impl Piece {
     }
 }
 
-/// Returns the bytes up to the line feed, or all if there is none.
+/// Returns the bytes up to the line feed, or all bytes if there is none.
 fn line_piece(bytes: &[u8]) -> Piece
     ensures within { (result.content ≤ result.taken) × (result.taken ≤ count bytes.now) }
     ensures some { 0 < count bytes.now → 0 < result.taken }
@@ -86,7 +87,7 @@ fn line_piece(bytes: &[u8]) -> Piece
     }
 }
 
-/// Returns the bytes up to this length of the record, or all if it is not reached.
+/// Returns the bytes up to the length of the record, or all bytes if there are fewer.
 fn length_piece(length: u32, held: usize, bytes: &[u8]) -> Piece
     ensures within { (result.content ≤ result.taken) × (result.taken ≤ count bytes.now) }
     ensures some { 0 < count bytes.now → 0 < result.taken }
@@ -98,7 +99,7 @@ fn length_piece(length: u32, held: usize, bytes: &[u8]) -> Piece
     let all = Piece::inside(bytes.len());
     let length = length as usize;
     if held >= length {
-        // A record that is already this long is never whole. This only happens if the length is 0.
+        // A record that is already this long never ends. This happens only if the length is 0.
         return all;
     }
     let wanted = length - held;

@@ -31,7 +31,7 @@ use tape_label::Head1;
 /// A file to be written: its head, and the source of its records.
 #[derive(Drop)]
 pub struct Input<R> {
-    /// Its set identifier and the numbers of section and file are replaced.
+    /// The head of the file; its set identifier and the numbers of section and file are replaced.
     pub head: Head1,
     pub reader: R,
 }
@@ -40,8 +40,8 @@ pub struct Input<R> {
 ///
 /// # Errors
 ///
-/// `Write` with the writer's fault, with `RecordLength` as soon as a record has more bytes than any
-/// of the shape, and with `OutOfMemory` if memory of this function is refused; `ReadFailed` if an
+/// `Write` with the writer's fault, with `RecordLength` as soon as a record is longer than the
+/// shape allows, and with `OutOfMemory` if an allocation of this function fails; `ReadFailed` if an
 /// input fails.
 pub fn write_files<T: TapeOut + Drop, R: Read>(
     alloc: Global,
@@ -55,21 +55,21 @@ pub fn write_files<T: TapeOut + Drop, R: Read>(
         → OnOk result (IfAllKnown (map (λ f. (f.head, R.remaining f.reader)) files.old) (λ fs.
         IsWriting (T.holds writer.new.out) writer.new
         (told ++ told_files writer.old.set_id shape cut (length told + 1) fs))) }
-    // No fault is returned without its cause.
+    // Each fault is returned only for its cause.
     ensures due { writer.old.phase ≡ Between
         → IfErr result (IsFilesFault writer.old.capacity shape cut (length writer.old.files)
         (map (λ f. (f.head, R.remaining f.reader)) files.old)) }
-    // If no volume is left, the next block or file end of the files so far does not fit.
+    // If no volume is left, the next block, or the end of a file, does not fit.
     ensures stuck { IfErr result (λ fault. fault ≡ SetFault.Write WriteFault.OutOfVolumes
         → (told : List Told) → IsWriting (T.holds writer.old.out) writer.old told
         → GaveUpIn (T.holds writer.new.out) writer.new writer.old.set_id told shape cut
         (map (λ f. (f.head, R.remaining f.reader)) files.old)) }
-    // If no file of this shape can be written, nothing was.
+    // If no file of the shape can be written, nothing was written.
     ensures unfit { writer.old.phase ≡ Between
         → (IsWritable shape → least_capacity shape ≤ writer.old.capacity → ⊥)
         → 0 < length files.old → (writer.new ≡ writer.old) × OnOk result ⊥ }
-    // Whatever the fault: the tapes contain a prefix of what is written for the files so far, and
-    // `OutOfMemory` has its cause.
+    // Whatever the fault, the tapes contain a prefix of the items that are written for the files so
+    // far, and `OutOfMemory` has its cause.
     ensures front { writer.old.phase ≡ Between
         → (told : List Told) → IsWriting (T.holds writer.old.out) writer.old told
         → IfErr result (λ fault. IsLeftIn (T.holds writer.new.out) writer.new
@@ -172,7 +172,7 @@ fn put_records<T: TapeOut + Drop, R: Read + Drop>(
         → OnOk result (IsInFile file writer.new.phase) }
     ensures files { writer.new.files ≡ writer.old.files }
 {
-    // An input may be infinite, but each record that is written takes room of the writer.
+    // An input may be infinite, but each record uses up some of the writer's room.
     'records: loop {
         match records.next() {
             Ok(true) => match writer.put(records.record()) {

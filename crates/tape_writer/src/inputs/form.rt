@@ -1,4 +1,4 @@
-//! Where an input of a form is cut into records, and the maximum length of a record.
+//! How an input of a form is cut into records, and the maximum length of a record.
 ghost use Rattle.std.specs.Prelude.{◌≡◌};
 ghost use Rattle.tape_writer.specs.Records.{longest as longest_of};
 ghost use Rattle.tape_writer.specs.WriteSet.{cut_of as cut_by};
@@ -7,8 +7,8 @@ use crate::inputs::cut::Cut;
 use tape_blocks::{Form, Shape};
 use tape_label::Format;
 
-/// Returns where inputs of this form are cut for files of this shape, or `None` for raw inputs in
-/// format D, which cannot be cut.
+/// Returns how inputs of form `form` are cut for files of shape `shape`, or `None` for raw inputs
+/// in format D, which cannot be cut.
 pub fn cut_of(form: Form, shape: &Shape) -> Option<Cut>
     ensures { result ≡ cut_by form shape.now }
 {
@@ -22,7 +22,7 @@ pub fn cut_of(form: Form, shape: &Shape) -> Option<Cut>
     }
 }
 
-/// Returns the maximum length of a record in a file of this shape.
+/// Returns the maximum length of a record in a file of shape `shape`.
 pub fn longest(shape: &Shape) -> u32
     ensures { result ≡ longest_of shape.now }
 {

@@ -1,13 +1,14 @@
-//! Laws of the definition of an input's records: functions that do nothing, with the law as their
-//! contract.
+//! Laws about the definition of an input's records, each as the contract of a function that does
+//! nothing.
 ghost use Rattle.tape_writer.specs.RecordLaws.{LinesAreCut, PiecesAreCut, WholeIsOne};
 
-/// Lines are cut at their line feeds, and are the input up to a last line feed.
+/// An input is cut into lines at the line feeds; the last line may have no line feed.
 pub fn lines_are_cut()
     ensures { LinesAreCut }
 {}
 
-/// Pieces of one length are cut there, and are the input.
+/// An input that consists of pieces of a fixed length is cut into these pieces; a shorter rest is
+/// the last record.
 pub fn pieces_are_cut()
     ensures { PiecesAreCut }
 {}

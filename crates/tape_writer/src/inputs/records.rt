@@ -15,28 +15,28 @@ use std::io::Read;
 pub enum InputFault {
     /// The reader failed, or was interrupted.
     ReadFailed,
-    /// The record has more bytes than the limit.
+    /// The record is longer than the limit.
     TooLong,
-    /// Memory was refused.
+    /// Allocating memory failed.
     OutOfMemory,
 }
 
-/// Reads an input's records, each into the same buffer.
+/// Reads the records of an input, one after another, into the same buffer.
 #[derive(Drop)]
 pub struct Records<R> {
     pub device: R,
     pub cut: Cut,
     /// The maximum length of a record.
     pub limit: u32,
-    /// Whether the end of the input was read.
+    /// Whether the end of the input was reached.
     pub over: bool,
     pub record: Vec<u8>,
     pub ahead: Chunk,
 }
 
 impl<R: Read + Drop> Records<R> {
-    /// Creates a reader for the records of this input, from its current position, each of at most
-    /// `limit` bytes. Reads nothing.
+    /// Creates a reader for the records of the input `device`, from its current position, each of
+    /// at most `limit` bytes. Reads nothing.
     pub fn new(alloc: Global, device: R, cut: Cut, limit: u32) -> Result<Self, AllocError>
         ensures device { IfOk result (λ r. (r.device ≡ device) × (r.ahead ≡ [])) }
         ensures left { IfOk result (λ r. left_of R.remaining r ≡ R.remaining device) }
@@ -62,35 +62,35 @@ impl<R: Read + Drop> Records<R> {
         self.record.as_slice()
     }
 
-    /// Reads the next record, and returns false if there is none. After the end it does not call
-    /// the reader again.
+    /// Reads the next record, and returns false if no record is left. After the end it does not
+    /// call the reader again.
     ///
     /// # Errors
     ///
     /// `ReadFailed` if the reader returns an error; `TooLong` as soon as the bytes read show that
-    /// the record has more bytes than the limit, whatever follows; `OutOfMemory`. After an error
-    /// nothing more can be read.
+    /// the record is longer than the limit, whatever follows; `OutOfMemory`. After an error nothing
+    /// more can be read.
     pub fn next(&mut self) -> Result<bool, InputFault>
         ensures given { IfOk result (λ more.
             IfKnown (left_of R.remaining self.old) (left_of R.remaining self.new) (λ xs ys.
             to_come self.old.cut self.old.over xs
             ≡ given more self.new.record.items (to_come self.new.cut self.new.over ys))) }
         ensures end { IfOk result (λ more. more ≡ false → self.new.over ≡ true) }
-        // After an error too, no more bytes of a record than the limit are kept.
+        // Even after an error, at most `limit` bytes of a record are kept.
         ensures within { length self.new.record.items ≤ self.old.limit }
         ensures long { IfErr result (λ fault. fault ≡ InputFault.TooLong
             → IfSome (left_of R.remaining self.old) (λ xs.
             IsFirstLong self.old.limit (to_come self.old.cut self.old.over xs))) }
-        // Memory is only needed if the next record is longer than the capacity of the buffer.
+        // Memory is needed only if the next record is longer than the capacity of the buffer.
         ensures memory { IfErr result (λ fault. fault ≡ InputFault.OutOfMemory
             → IfSome (left_of R.remaining self.old) (λ xs. IsFirstLong
             (vec_capacity self.old.record) (to_come self.old.cut self.old.over xs))) }
         ensures room { (vec_capacity self.old.record ≤ vec_capacity self.new.record)
             × (length self.new.record.items ≤ vec_capacity self.new.record) }
-        // The reader is called only if no bytes are left to use, and not after its end.
+        // The reader is called only if no unused bytes are left, and not after its end.
         ensures due { IfErr result (λ fault. fault ≡ InputFault.ReadFailed
             → (self.old.over ≡ false) × (self.new.ahead ≡ [])) }
-        // An error loses no byte of the input.
+        // An error loses no bytes of the input.
         ensures taken { OnErr result (IfKnown (left_of R.remaining self.old)
             (left_of R.remaining self.new) (λ xs ys. xs ≡ self.new.record.items ++ ys)) }
         ensures cut { self.new.cut ≡ self.old.cut }
@@ -114,8 +114,8 @@ impl<R: Read + Drop> Records<R> {
     }
 }
 
-/// Moves the next piece of a record from the bytes that were read ahead. Returns whether the record
-/// ends with it.
+/// Appends the next piece of a record from the bytes that were read ahead. Returns whether the
+/// record ends with the piece.
 fn take_piece(
     cut: Cut,
     limit: u32,

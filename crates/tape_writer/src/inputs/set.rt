@@ -31,8 +31,8 @@ use tape_blocks::{Form, Shape};
 use tape_image::ImageWriter;
 use tape_label::{Field, Vol1};
 
-/// How to write a set: on which volumes, all of one capacity, with all files in one shape and their
-/// inputs in one form.
+/// How to write a set: its volumes, all of one capacity, the shape of all its files, and the form
+/// of their inputs.
 #[derive(Drop)]
 pub struct SetPlan {
     pub set_id: Field<6>,
@@ -43,8 +43,7 @@ pub struct SetPlan {
     pub form: Form,
 }
 
-/// The number of files that were written, and the store that received the images of the first
-/// volumes.
+/// The number of files written, and the store, which received the images of all volumes.
 #[derive(Drop)]
 pub struct WrittenSet<S> {
     pub files: usize,
@@ -52,8 +51,8 @@ pub struct WrittenSet<S> {
     pub images: S,
 }
 
-/// Why a set was not written. The store received the images of the volumes that ended; the image of
-/// the current volume, if there is one, ends where the fault happened.
+/// Why a set was not written completely. The store received the images of the volumes that ended;
+/// the image of the current volume, if there is one, ends at the fault.
 #[derive(Drop)]
 pub struct RefusedSet<S: ImageStore + Drop> {
     pub fault: SetFault,
@@ -61,20 +60,20 @@ pub struct RefusedSet<S: ImageStore + Drop> {
     pub under_way: Option<ImageWriter<S::Device>>,
 }
 
-/// Writes files as a set, each volume as an image on a device of this store, which must not have
-/// received an image yet. Passes each image to the store before the next volume begins. Reads each
-/// input to its end, and keeps one record of it in memory.
+/// Writes files as a set, each volume as an image on a device of the store `images`, which must not
+/// have received an image yet. Passes each image to the store before the next volume begins. Reads
+/// each input to its end, and keeps one record of it in memory.
 ///
 /// # Errors
 ///
 /// `Write` with the fault of the set writer (including `OutOfVolumes` if there is no volume, and
 /// `NoFile` if there is no file); with `BadShape` if raw inputs cannot be records of the format,
 /// and with `BadField` for any head, before anything is written; with `RecordLength` as soon as a
-/// record has more bytes than any of the shape, and then no more is read; with `Device` also if the
-/// store has no device left. `ReadFailed` if an input fails. There are no other faults, and all but
-/// `Device`, `OutOfMemory` and `ReadFailed` have their cause in the plan or the inputs:
+/// record is longer than the shape allows, after which nothing is read; with `Device` also if the
+/// store has no device left. `ReadFailed` if an input fails. There are no other faults, and all
+/// except `Device`, `OutOfMemory` and `ReadFailed` have their cause in the plan or the inputs:
 /// `OutOfVolumes` is only returned if the next block of the inputs, or the end of a file, does not
-/// fit the last volume.
+/// fit on the last volume.
 pub fn write_set<R: Read, S: ImageStore + Drop>(
     alloc: Global,
     plan: SetPlan,
@@ -88,34 +87,36 @@ pub fn write_set<R: Read, S: ImageStore + Drop>(
         (told_files plan.set_id plan.shape cut 1 fs)))) }
     ensures volumes { IfOk result (λ done. done.volumes.items ≡ plan.volumes.items) }
     ensures files { IfOk result (λ done. done.files ≡ length files.old) }
-    // No fault is returned without its cause.
+    // Each fault is returned only for its cause.
     ensures due { IfErr result (λ refused.
         IsSetFault plan (map (λ f. (f.head, R.remaining f.reader)) files.old) refused.fault) }
-    // If no volume is left, the next block or file end of the inputs read so far does not fit.
+    // If no volume is left, the next block of the inputs read so far, or the end of a file, does
+    // not fit.
     ensures stuck { S.holds images false [] → IfErr result (λ refused.
         refused.fault ≡ SetFault.Write WriteFault.OutOfVolumes
         → HasNoVolume (Holds S.holds)
         (λ tapes. (tapes.store ≡ refused.images) × (tapes.image ≡ refused.under_way)) plan
         (map (λ f. (f.head, R.remaining f.reader)) files.old)) }
-    // Whatever the fault: nothing was written; or the images that the store received are complete,
-    // and together with the current one they are a prefix of what is written for the files so far,
-    // and no more; all of it if an input failed or a record has a wrong length. `OutOfMemory` is
-    // only returned when a file begins, or if a record is longer than those before it.
+    // Whatever the fault: either nothing was written; or the images that the store received are
+    // complete, and together with the current image they are a prefix of the images for the files
+    // so far, and all of that if an input failed or a record has a wrong length. `OutOfMemory` is
+    // only returned when a file begins, or for a record that is longer than those before it.
     ensures front { S.holds images false [] → IfErr result (λ refused.
         ((refused.images ≡ images) × (refused.under_way ≡ None) × (IsOfInput refused.fault → ⊥))
         ⊎ IfSome (cut_by plan.form plan.shape) (λ cut. IsLeftSet (Holds S.holds)
         (λ tapes. (tapes.store ≡ refused.images) × (tapes.image ≡ refused.under_way))
         refused.fault plan cut (map (λ f. (f.head, R.remaining f.reader)) files.old))) }
-    // If no file of this shape can be written in this capacity, nothing was.
+    // If no file of the shape can be written with the capacity, nothing was written.
     ensures unfit { (IsWritable plan.shape → least_capacity plan.shape ≤ plan.capacity → ⊥)
         → 0 < length files.old
         → IfErr result (λ refused. (refused.images ≡ images) × (refused.under_way ≡ None)) }
-    // The device failed: the store has none left, or there is no current image that accepts more.
+    // If the device failed, the store has no device left, or the current image, if there is one,
+    // accepts no further items.
     ensures device { IfErr result (λ refused. refused.fault ≡ SetFault.Write WriteFault.Device
         → HasStopped (S.left refused.images) refused.under_way) }
     ensures raw { OnOk result (cut_by plan.form plan.shape ≢ None) }
-    // If raw inputs cannot be records of the format, or the set, its volumes or a file cannot be
-    // labelled, nothing was written.
+    // If raw inputs cannot be records of the format, or the set, its volumes or a file has an
+    // invalid field, nothing was written.
     ensures nothing { (cut_by plan.form plan.shape ≡ None)
         ⊎ (IsText plan.set_id × AllByRecursion IsTextVolume plan.volumes.items
         × AllByRecursion (λ f. IsTextHead f.head) files.old → ⊥)
@@ -157,7 +158,7 @@ fn are_text_heads<R>(files: &[Input<R>]) -> bool
     true
 }
 
-/// Refuses before anything is written.
+/// Returns a refusal before anything was written.
 fn refused<S: ImageStore + Drop>(fault: WriteFault, images: S) -> RefusedSet<S>
     ensures fault { result.fault ≡ SetFault.Write fault }
     ensures images { result.images ≡ images }
@@ -170,7 +171,7 @@ fn refused<S: ImageStore + Drop>(fault: WriteFault, images: S) -> RefusedSet<S>
     }
 }
 
-/// Returns the parts of a writer whose set is not complete.
+/// Returns the parts of a writer whose set is not complete, and the fault.
 fn left<S: ImageStore + Drop>(fault: SetFault, writer: SetWriter<ImageTapes<S>>) -> RefusedSet<S>
     ensures fault { result.fault ≡ fault }
     ensures images { result.images ≡ writer.out.store }

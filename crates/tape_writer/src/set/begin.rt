@@ -29,7 +29,7 @@ use tape_label::laws::widths;
 /// The maximum number of files of a set: labels have four digits for a file's number.
 const MOST_FILES: usize = 9_999;
 
-/// A volume of a set must have room for this and a block.
+/// The capacity of a volume must be at least this number of bytes plus the block length.
 const LEAST_CAPACITY: u64 = 1_024;
 
 impl<T: TapeOut + Drop> SetWriter<T> {
@@ -40,9 +40,9 @@ impl<T: TapeOut + Drop> SetWriter<T> {
     ///
     /// `Failed` and `Finished`, `FileBegun` inside a file; `BadField` if a field of the head other
     /// than its set identifier contains a byte that is not an a-character; `BadShape` if blocks of
-    /// this shape are not written; `CapacityTooSmall` if the capacity is less than the block length
-    /// plus 1,024 bytes; `TooMany` for the 10,000th file; after these the writer is unchanged. Then
-    /// `OutOfMemory` and `Device`, in the order in which they happen.
+    /// this shape cannot be written; `CapacityTooSmall` if the capacity is less than the block
+    /// length plus 1,024 bytes; `TooMany` for the 10,000th file; after these the writer is
+    /// unchanged. Then `OutOfMemory` or `Device`, whichever happens first.
     #[tactic(auto, using(crate::proofs::Last::lasting_self, crate::proofs::Calls::leaves_failed))]
     pub fn begin_file(&mut self, head: Head1, shape: Shape) -> Result<(), WriteFault>
         ensures same { SameSet self.old self.new }
@@ -62,22 +62,22 @@ impl<T: TapeOut + Drop> SetWriter<T> {
         ensures many { self.old.phase ≡ Between → IsTextHead head → IsWritable shape
             → least_capacity shape ≤ self.old.capacity → 9999 ≤ length self.old.files
             → Refuses self.old result self.new WriteFault.TooMany }
-        // If blocks of this shape are not written, or the capacity is too small, nothing changed.
+        // If blocks of the shape cannot be written, or the capacity is too small, nothing changed.
         ensures unfit { self.old.phase ≡ Between
             → (IsWritable shape → least_capacity shape ≤ self.old.capacity → ⊥)
             → (self.new ≡ self.old) × OnOk result ⊥ }
-        // No fault is returned without its cause.
+        // Each fault is returned only for its cause.
         ensures due { self.old.phase ≡ Between
             → IfErr result (IsBeginFault self.old.capacity (length self.old.files) head shape) }
         ensures opened { OnOk result (IsInFile
             (opened_by self.old.set_id (length self.old.files + 1) head shape) self.new.phase) }
         ensures files { OnOk result (length self.new.files ≡ length self.old.files + 1) }
-        // One more file was passed, without a record.
+        // One more file was passed, without records.
         ensures told { (told : List Told) → IsWriting (T.holds self.old.out) self.old told
             → OnOk result (IsWriting (T.holds self.new.out) self.new
             (with_file self.old.set_id told head shape)) }
-        // Whatever fault ends the writer: the tapes contain a prefix of what is written up to the
-        // end of the files so far, or up to the start of this file.
+        // Whatever fault ends the writer, the tapes contain a prefix of the items up to the end of
+        // the files so far, or up to the start of this file.
         ensures front { (told : List Told) → IsWriting (T.holds self.old.out) self.old told
             → IfErr result (λ fault. IsEnding fault
             → IsLeftBehind (T.holds self.new.out) self.new told
@@ -117,7 +117,7 @@ impl<T: TapeOut + Drop> SetWriter<T> {
         }
     }
 
-    /// Checks that a file of this head and shape can begin now.
+    /// Checks that a file with this head and shape can begin now.
     fn judge_file(&self, head: &Head1, shape: &Shape) -> Result<(), WriteFault>
         ensures failed { self.now.phase ≡ Failed → result ≡ Err WriteFault.Failed }
         ensures finished { self.now.phase ≡ Finished → result ≡ Err WriteFault.Finished }
@@ -162,7 +162,7 @@ impl<T: TapeOut + Drop> SetWriter<T> {
         Ok(())
     }
 
-    /// Returns the next file of the set, with the writer's set identifier and numbers.
+    /// Returns the next file of the set, with the set's identifier and the next file number.
     fn next_file(&self, head: Head1, shape: Shape) -> Opened
         requires few { length self.now.files < 9999 }
         ensures { result ≡ opened_by self.now.set_id (length self.now.files + 1) head shape }

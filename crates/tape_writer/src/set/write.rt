@@ -27,10 +27,10 @@ impl<T: TapeOut + Drop> SetWriter<T> {
     ///
     /// # Errors
     ///
-    /// `Failed`, `Finished` and `NoFile` depending on the writer's state; `RecordLength` if the
-    /// record has none of the lengths of the file's shape; after these the writer is unchanged.
-    /// Then, in the order in which they happen, `OutOfVolumes` if the volume must be changed and
-    /// none is left, `Device` and `OutOfMemory`.
+    /// `Failed`, `Finished` or `NoFile` depending on the writer's state; `RecordLength` if the
+    /// file's shape does not allow a record of this length; after these the writer is unchanged.
+    /// Then, whichever happens first, `OutOfVolumes` if the volume must be changed and no volume is
+    /// left, `Device` or `OutOfMemory`.
     #[tactic(auto, using(crate::proofs::Last::lasting_self, crate::proofs::Calls::leaves_failed))]
     pub fn put(&mut self, bytes: &[u8]) -> Result<(), WriteFault>
         ensures same { SameSet self.old self.new }
@@ -43,11 +43,11 @@ impl<T: TapeOut + Drop> SetWriter<T> {
         ensures length { IfFiling self.old.phase (λ o. (HasLength o bytes.now → ⊥)
             → Refuses self.old result self.new WriteFault.RecordLength) }
         ensures fits { OnOk result (IfFiling self.old.phase (λ o. HasLength o bytes.now)) }
-        // No fault is returned without its cause.
+        // Each fault is returned only for its cause.
         ensures due { IfFiling self.old.phase (λ o. IfErr result (IsPutFault o bytes.now)) }
         ensures stays { (file : Opened) → IsInFile file self.old.phase
             → OnOk result (IsInFile file self.new.phase) }
-        // Each record takes room, so infinitely many records are not accepted.
+        // Each record takes room, so only finitely many records are accepted.
         ensures room { OnOk result (room_left self.new < room_left self.old) }
         ensures files { self.new.files ≡ self.old.files }
         // The last file has one more record, and the other files are unchanged.
@@ -56,12 +56,12 @@ impl<T: TapeOut + Drop> SetWriter<T> {
         ensures stuck { (told : List Told) → IsWriting (T.holds self.old.out) self.old told
             → IfErr result (λ fault. fault ≡ WriteFault.OutOfVolumes
             → IsOutOfVolumes (T.holds self.new.out) self.new (with_record told bytes.now)) }
-        // Whatever fault ends the writer: the tapes contain a prefix of what is written for the
-        // records so far, including this one.
+        // Whatever fault ends the writer, the tapes contain a prefix of the items for the records
+        // so far, including this one.
         ensures front { (told : List Told) → IsWriting (T.holds self.old.out) self.old told
             → IfErr result (λ fault. IsEnding fault
             → IsLeftInside (T.holds self.new.out) self.new (with_record told bytes.now)) }
-        // Whatever the call returns.
+        // These hold for every result of the call.
         ensures lasting { TapeLasts T.TapeOut (tape_of self.old) (tape_of self.new) }
         ensures asked { HasAsked T.TapeOut self.old → OnOk result (HasAsked T.TapeOut self.new) }
         ensures leaves { IfErr result (Leaves self.old self.new) }
@@ -90,15 +90,15 @@ impl<T: TapeOut + Drop> SetWriter<T> {
         }
     }
 
-    /// Ends the current file: writes its last block, if there is one, and its end, after a change
-    /// of the volume if they do not fit. The volume then has room for the headers of another file
-    /// and the end of a volume.
+    /// Ends the current file: writes its last block, if there is one, and its end, after changing
+    /// the volume if they do not fit. The volume then has room for the headers of another file and
+    /// the end of a volume.
     ///
     /// # Errors
     ///
-    /// `Failed`, `Finished` and `NoFile` depending on the writer's state, which is unchanged; then,
-    /// in the order in which they happen, `OutOfVolumes` if the volume must be changed and none is
-    /// left, `Device` and `OutOfMemory`.
+    /// `Failed`, `Finished` or `NoFile` depending on the writer's state, which is unchanged; then,
+    /// whichever happens first, `OutOfVolumes` if the volume must be changed and no volume is left,
+    /// `Device` or `OutOfMemory`.
     #[tactic(auto, using(crate::proofs::Last::lasting_self, crate::proofs::Calls::leaves_failed))]
     pub fn end_file(&mut self) -> Result<(), WriteFault>
         ensures same { SameSet self.old self.new }
@@ -151,8 +151,8 @@ impl<T: TapeOut + Drop> SetWriter<T> {
     ///
     /// # Errors
     ///
-    /// `Failed` and `Finished`, `FileBegun` inside a file, `NoFile` before the first one, and the
-    /// writer is unchanged; then `Device` and `OutOfMemory`, in the order in which they happen.
+    /// `Failed` and `Finished`, `FileBegun` inside a file, `NoFile` before the first file; after
+    /// these the writer is unchanged. Then `Device` or `OutOfMemory`, whichever happens first.
     #[tactic(auto, using(crate::proofs::Last::lasting_self, crate::proofs::Calls::leaves_failed))]
     pub fn finish(&mut self) -> Result<(), WriteFault>
         ensures same { SameSet self.old self.new }
@@ -166,16 +166,16 @@ impl<T: TapeOut + Drop> SetWriter<T> {
             → Refuses self.old result self.new WriteFault.NoFile }
         ensures due { self.old.phase ≡ Between
             → IfErr result (IsFinishFault self.old.course.volume) }
-        // Together with `end`: the tapes contain a complete set of the files passed.
+        // Together with `end`, this says that the tapes contain a complete set of the files passed.
         ensures told { (told : List Told) → IsWriting (T.holds self.old.out) self.old told
             → OnOk result (IsWriting (T.holds self.new.out) self.new told) }
         ensures end { OnOk result (self.new.phase ≡ Finished) }
-        // The last volume has one more mark, and the others are unchanged.
+        // The last volume has one more mark, and the other volumes are unchanged.
         ensures closes { (volumes : List (List TapeItem)) (items : List TapeItem)
             → T.holds self.old.out (UnderWay volumes items)
             → OnOk result (T.holds self.new.out
             (Ended (volumes ++ (items ++ mark_item ∷ []) ∷ []))) }
-        // The mark and the end-of-medium marker.
+        // The size of the mark and the end-of-medium marker.
         ensures used { OnOk result (self.new.course.used ≡ self.old.course.used + 8) }
         ensures front { (told : List Told) → IsWriting (T.holds self.old.out) self.old told
             → IfErr result (λ fault. IsEnding fault

@@ -1,4 +1,4 @@
-//! The meaning of answers of the system. Only one kind of error says that a file does not exist.
+//! The meaning of results of system calls. Only one kind of error says that a file does not exist.
 ghost use Rattle.std.specs.Prelude.{◌≡◌};
 ghost use Rattle.tape_writer.specs.Answers.{found_of, has_no_locks, locked_of};
 
@@ -7,7 +7,7 @@ use std::fs::{Metadata, TryLockError};
 use std::io;
 use std::io::ErrorKind;
 
-/// Returns what a lookup found: `None` only if the system says that no file exists.
+/// Returns the result of a lookup: `None` only if the system says that no file exists.
 ///
 /// # Errors
 ///
@@ -31,7 +31,7 @@ pub enum LockFault {
     Failed,
 }
 
-/// Returns Ok if a run may continue with a file that it tried to lock: it holds the lock, or the
+/// Returns Ok if a run may continue with a file after trying to lock it: it holds the lock, or the
 /// file system has no locks.
 ///
 /// # Errors
@@ -48,10 +48,10 @@ pub fn locked(attempt: Result<(), TryLockError>) -> Result<(), LockFault>
     }
 }
 
-/// The number of the error that NFS returns if it has no lock service.
+/// The number of the error that NFS returns if the lock service is missing.
 const ENOLCK: i32 = 37;
 
-/// Returns whether the error says that the file system has no locks.
+/// Returns whether `error` says that the file system has no locks.
 fn has_no_locks(error: &io::Error) -> bool
     ensures { result ≡ has_no_locks error.now }
 {

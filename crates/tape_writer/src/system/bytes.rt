@@ -1,4 +1,4 @@
-//! Writes bytes, in whatever pieces the system accepts.
+//! Writes bytes, in pieces as the system accepts them.
 ghost use Rattle.std.specs.Prelude.{OnOk, OnErr, IsOkUnless};
 ghost use Rattle.std.specs.Io.KnownBytes.{Appends};
 ghost use Rattle.tape_image.specs.Written.{AppendsFront};
@@ -6,12 +6,12 @@ ghost use Rattle.tape_image.specs.Written.{AppendsFront};
 use crate::system::fault::FileFault;
 use std::io::Write;
 
-/// Writes all of these bytes, or a prefix of them if the writer fails.
+/// Writes all of `bytes`, or a prefix of them if the writer fails.
 ///
 /// # Errors
 ///
 /// `WriteFailed` if the writer returns an error, or accepts none of the remaining bytes. An
-/// interruption is a failure too, while std's own function would try again.
+/// interruption is also a failure, whereas std's own function would try again.
 pub fn put_all<W: Write>(writer: &mut W, bytes: &[u8]) -> Result<(), FileFault>
     ensures ok { OnOk result (Appends (W.contents writer.old) (W.contents writer.new) bytes.now) }
     ensures err { OnErr result

@@ -4,17 +4,17 @@ use crate::fault::WriteFault;
 /// Why a file cannot be used.
 #[derive(Clone, Copy, Debug, PartialEq, Eq)]
 pub enum FileFault {
-    /// It already exists, and would be overwritten.
+    /// The file already exists, and would be overwritten.
     Exists,
-    /// It could not be opened or created.
+    /// The file could not be opened or created.
     NotOpened,
-    /// Reading from it failed.
+    /// Reading from the file failed.
     ReadFailed,
-    /// Writing to it failed, or the last flush did.
+    /// Writing to the file failed, or the last flush did.
     WriteFailed,
 }
 
-/// Why a set was not written on images that are files.
+/// Why a set was not written to image files.
 #[derive(Clone, Copy, Debug, PartialEq, Eq)]
 pub enum SystemFault {
     /// A file failed.

@@ -3,9 +3,8 @@ use std::fs::{File, Files, OpenFile};
 use std::io;
 use std::io::ErrorKind;
 
-/// Syncs the directory of this path. If the directory may not be read, or the file system has no
-/// such call, as with some network file systems, the system makes the names durable at a time of
-/// its own choice.
+/// Syncs the directory of `path`. If the directory may not be read, or the file system cannot sync
+/// it (as with some network file systems), the system makes the names durable when it chooses.
 ///
 /// # Errors
 ///
@@ -22,7 +21,7 @@ pub fn sync_folder_of<R: Files>(files: &R, path: &str) -> io::Result<()> {
     }
 }
 
-/// Returns the directory that this path is in.
+/// Returns the directory that contains `path`.
 pub fn folder_of(path: &str) -> &str {
     match path.rfind('/') {
         Some(0) => "/",
@@ -31,7 +30,7 @@ pub fn folder_of(path: &str) -> &str {
     }
 }
 
-/// Returns the name of this path in its directory.
+/// Returns the name of `path` in its directory.
 pub fn name_in_folder(path: &str) -> &str {
     match path.rfind('/') {
         Some(end) => &path[end + 1..],

@@ -1,4 +1,4 @@
-//! What the program requires of the system that it runs on.
+//! The system that the program requires.
 use std::fs::{File, Files};
 use std::rt::Runtime;
 

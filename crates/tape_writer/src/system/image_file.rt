@@ -1,4 +1,4 @@
-//! Files of images, created when they are first written to.
+//! Image files, each created when it is first written to.
 ghost use Rattle.std.specs.Prelude.{◌≡◌, length, None, Some, IsSome, OnSome};
 ghost use Rattle.std.specs.Prelude.{OnOk, OnErr, IfOk, IsErr};
 ghost use Rattle.std.specs.Option.{option_map_or};
@@ -18,7 +18,7 @@ use std::fs::File;
 use std::io;
 use std::io::{Error, ErrorKind, Write};
 
-/// Memory was refused.
+/// Allocating memory failed.
 pub const NO_MEMORY: SystemFault = SystemFault::Write(WriteFault::OutOfMemory);
 
 /// The file of an image. It is created at the first write; an existing file must be a blank volume.
@@ -36,7 +36,7 @@ pub struct ImageFile<'a, R: Host> {
 }
 
 impl<'a, R: Host> ImageFile<'a, R> {
-    /// Creates the value for the volume with this number, from 1 to 999. Opens nothing.
+    /// Creates the value for volume number `number`, from 1 to 999. Opens nothing.
     pub fn new(rt: &'a R, folder: &'a str, prefix: Prefix, number: u16) -> ImageFile<'a, R> {
         ImageFile {
             rt,
@@ -48,7 +48,7 @@ impl<'a, R: Host> ImageFile<'a, R> {
         }
     }
 
-    /// Returns how many bytes were accepted.
+    /// Returns the number of bytes accepted.
     pub fn size(&self) -> u64
         ensures { result ≡ option_map_or (λ file. file.size) self.now.file 0 }
     {
@@ -71,7 +71,7 @@ impl<'a, R: Host> ImageFile<'a, R> {
         self.fault
     }
 
-    /// Records a fault: from now on every call is refused.
+    /// Records a fault, after which every call is refused.
     fn fail(&mut self, fault: SystemFault) -> Error
         ensures { self.new.fault ≡ Some fault }
     {
@@ -87,7 +87,7 @@ impl<'a, R: Host> ImageFile<'a, R> {
         }
     }
 
-    /// Opens the file, once, after allocating its buffer.
+    /// Opens the file if it is not open yet, after allocating its buffer.
     fn make_ready(&mut self) -> Result<(), SystemFault>
         ensures { OnOk result (Opens self.old.file self.new.file) }
     {
@@ -101,7 +101,7 @@ impl<'a, R: Host> ImageFile<'a, R> {
         Ok(())
     }
 
-    /// Creates the file, or opens the existing one, if it is a blank volume.
+    /// Creates the file, or opens the existing one if it is a blank volume.
     fn open(&self) -> Result<File, SystemFault> {
         let path = self.path()?;
         match open_image(self.rt, path.as_str(), self.prefix, self.number) {
@@ -110,7 +110,7 @@ impl<'a, R: Host> ImageFile<'a, R> {
         }
     }
 
-    /// Accepts bytes, and opens the file for the first of them.
+    /// Accepts bytes, and opens the file when the first bytes are accepted.
     fn take(&mut self, bytes: &[u8]) -> Result<(), SystemFault>
         ensures { OnOk result (FileTakes bytes.now self.old.file self.new.file) }
     {

@@ -1,4 +1,4 @@
-//! The files of a set's images, one after another.
+//! The image files of a set, one after another.
 ghost use Rattle.std.specs.Prelude.{◌-◌};
 
 use crate::blank::{Prefix, blank_volume};
@@ -19,20 +19,20 @@ pub struct Ended {
     pub size: u64,
 }
 
-/// Lends the file of each image in turn. Closes and records each one that has ended. The contracts
-/// make no claim about the contents of files.
+/// Lends the file of each image in turn, and closes and records it when its image has ended. The
+/// contracts make no claim about the contents of files.
 #[derive(Drop)]
 pub struct ImageFiles<'a, R: Host> {
     rt: &'a R,
     folder: &'a str,
     prefix: Prefix,
-    /// How many files were lent.
+    /// The number of files lent.
     lent: u16,
     ended: Vec<Ended>,
 }
 
 impl<'a, R: Host> ImageFiles<'a, R> {
-    /// Creates the value for volumes with this prefix, in this directory. Opens nothing.
+    /// Creates the value for volumes with the given prefix in a directory. Opens nothing.
     pub fn new(
         rt: &'a R,
         folder: &'a str,
@@ -76,7 +76,7 @@ impl<'a, R: Host> ImageStore for ImageFiles<'a, R> {
 
     fn keep(&mut self, device: ImageFile<'a, R>) {
         let volume = blank_volume(self.prefix, self.lent.min(VOLUMES)).volume;
-        // There is room for all that are lent.
+        // The list has room for all files that are lent.
         let _ = self.ended.push(Ended {
             volume,
             size: device.size(),

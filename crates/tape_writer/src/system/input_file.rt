@@ -15,7 +15,7 @@ pub struct InputFile<'a, R: Files> {
 /// The state of an input.
 #[derive(Drop)]
 enum Turn<F> {
-    /// Not yet read.
+    /// Not read yet.
     Waits,
     /// Being read.
     Runs(F),
@@ -24,8 +24,8 @@ enum Turn<F> {
 }
 
 impl<'a, R: Files> InputFile<'a, R> {
-    /// Finds the input with this path, without reading it. Does not open anything but plain files,
-    /// because the writer of a pipe would see it closed again.
+    /// Finds the input at `path`, without reading it. Opens only regular files, because the writer
+    /// of a pipe would see the pipe being closed again.
     ///
     /// # Errors
     ///
@@ -47,7 +47,7 @@ impl<'a, R: Files> InputFile<'a, R> {
         })
     }
 
-    /// Takes the open file, after opening it if it was not yet read.
+    /// Takes the open file, after opening it if it was not read yet.
     fn take(&mut self) -> Result<Option<R::File>> {
         match mem::replace(&mut self.turn, Turn::Ended) {
             Turn::Waits => Ok(Some(File::open(self.files, self.path)?)),

@@ -1,4 +1,4 @@
-//! Opens the files of images.
+//! Opens image files.
 ghost use Rattle.std.specs.Prelude.{◌≡◌, ◌↔◌, min, IfOk, IfSome, IsOkUnless, IsTrue};
 ghost use Rattle.tape_writer.specs.Blank.{blank_image, blank_volume};
 
@@ -12,8 +12,8 @@ use std::fs::{File, OpenOptions};
 use std::io::{ErrorKind, Read, Seek, SeekFrom};
 use tape_image::fill;
 
-/// Creates the file of an image, or opens the existing one, if it is a blank volume. The file is
-/// locked for as long as it is open.
+/// Creates an image file, or opens the existing file if it is a blank volume. The file is locked as
+/// long as it is open.
 pub fn open_image<R: Host>(
     rt: &R,
     path: &str,
@@ -26,7 +26,7 @@ pub fn open_image<R: Host>(
     }
 }
 
-/// Creates a file that must not exist, and locks it.
+/// Creates a file that must not exist yet, and locks it.
 fn make_file<R: Host>(rt: &R, path: &str) -> Result<File, FileFault> {
     let mut options = OpenOptions::new();
     options.write(true).create_new(true);
@@ -46,7 +46,7 @@ fn lock(file: File) -> Result<File, FileFault> {
     }
 }
 
-/// Opens an existing file, if it is a blank volume, and empties it. Two runs may both see a blank
+/// Opens an existing file if it is a blank volume, and empties it. Two runs may both find a blank
 /// volume, so the run that holds the lock checks again.
 fn open_blank<R: Host>(rt: &R, path: &str, prefix: Prefix, number: u16) -> Result<File, FileFault> {
     let mut options = OpenOptions::new();
@@ -54,7 +54,7 @@ fn open_blank<R: Host>(rt: &R, path: &str, prefix: Prefix, number: u16) -> Resul
     let Ok(mut there) = options.open(rt, path) else {
         return Err(FileFault::NotOpened);
     };
-    // A file that is not blank is not locked: another run may have just created it.
+    // A file that is not blank is not locked: another run may just have created it.
     require_blank(&mut there, prefix, number)?;
     let mut there = lock(there)?;
     require_blank(&mut there, prefix, number)?;
@@ -76,7 +76,7 @@ fn require_blank(file: &mut File, prefix: Prefix, number: u16) -> Result<(), Fil
     }
 }
 
-/// Returns true if the reader contains exactly the image of this blank volume.
+/// Returns true if the reader contains exactly the image of the given blank volume.
 ///
 /// # Errors
 ///
@@ -94,13 +94,13 @@ fn is_blank<R: Read>(reader: &mut R, prefix: Prefix, number: u16) -> Result<bool
     }
 }
 
-/// Creates the image of the blank volume with this number, from 1 to 999, in a new file, and syncs
-/// the file and its directory.
+/// Creates the image of blank volume number `number`, from 1 to 999, in a new file, and syncs the
+/// file and its directory.
 ///
 /// # Errors
 ///
 /// `Exists` if the path exists, `NotOpened` if the file cannot be created, `WriteFailed` if not all
-/// bytes could be written, and if a sync fails.
+/// bytes could be written, or a sync fails.
 pub fn make_image<R: Host>(
     rt: &R,
     path: &str,

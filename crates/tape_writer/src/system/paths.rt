@@ -3,7 +3,7 @@ use crate::blank::Prefix;
 use std::alloc::{AllocError, Global};
 use std::io::Write;
 
-/// Returns the path of a volume's image: in this directory, its identifier followed by `.tap`.
+/// Returns the path of a volume's image: its identifier followed by `.tap`, in the given directory.
 pub fn image_path(
     alloc: Global,
     folder: &str,

@@ -13,11 +13,11 @@ use std::marker::Model;
 /// The size of the buffer in bytes.
 pub const ROOM: usize = 8_192;
 
-/// A device behind a write buffer of 8,192 bytes, which merges small writes. The buffer is written
+/// A device with a write buffer of 8,192 bytes, which merges small writes. The buffer is written
 /// when it is full, and when `pass_on` is called.
 ///
 /// If the device fails, it contains a prefix of the accepted bytes, and every later call is
-/// refused. Dropping it discards the buffer.
+/// refused. Dropping the value discards the buffer.
 #[derive(Drop)]
 pub struct WriteBehind<W: Write + Drop> {
     device: W,
@@ -43,7 +43,7 @@ impl<W: Write + Drop> Model for WriteBehind<W> {
 }
 
 impl<W: Write + Drop> WriteBehind<W> {
-    /// Creates it with an empty buffer. `room` was reserved for the buffer, and does not grow.
+    /// Creates a value with an empty buffer. `room` is the memory of the buffer, and does not grow.
     pub fn over(room: Vec<u8>, device: W) -> WriteBehind<W>
         requires none { room.items ≡ [] }
         requires room { 8192 ≤ vec_capacity room }
@@ -57,21 +57,21 @@ impl<W: Write + Drop> WriteBehind<W> {
         }
     }
 
-    /// Borrows the device. Buffered bytes are not in it.
+    /// Borrows the device. It does not contain the buffered bytes.
     pub fn device(&self) -> &W
         ensures { W.contents result.now ≡ self.now.device }
     {
         &self.device
     }
 
-    /// Returns how many bytes were accepted.
+    /// Returns the number of bytes accepted.
     pub fn size(&self) -> u64
         ensures { result ≡ self.now.size }
     {
         self.size
     }
 
-    /// Accepts these bytes, after all that were accepted before.
+    /// Accepts `bytes`, after all bytes accepted before.
     ///
     /// # Errors
     ///
@@ -93,7 +93,7 @@ impl<W: Write + Drop> WriteBehind<W> {
     ///
     /// # Errors
     ///
-    /// Those of `take`.
+    /// As for `take`.
     pub fn pass_on(&mut self) -> Result<(), FileFault>
         ensures ok { OnOk result (PassesOn self.old self.new) }
         ensures err { OnErr result (Stops [] self.old self.new) }
@@ -112,7 +112,8 @@ impl<W: Write + Drop> WriteBehind<W> {
         Ok(())
     }
 
-    /// Writes the buffered bytes if `count` more do not fit. Returns an error if the device failed.
+    /// Writes the buffered bytes if `count` further bytes do not fit. Returns an error if the
+    /// device failed.
     fn make_room(&mut self, count: usize) -> Result<(), FileFault>
         ensures ok { OnOk result (MakesRoom count self.old self.new) }
         ensures err { OnErr result (Stops [] self.old self.new) }
@@ -126,8 +127,8 @@ impl<W: Write + Drop> WriteBehind<W> {
         Ok(())
     }
 
-    /// Buffers bytes if they fit. More than the buffer can contain are written, and the buffer
-    /// stays empty.
+    /// Buffers `bytes` if they fit in an empty buffer; otherwise writes them, and the buffer stays
+    /// empty.
     fn hold(&mut self, bytes: &[u8]) -> Result<(), FileFault>
         requires stands { self.old.failed ≡ false }
         requires room { (length self.old.held + length bytes.now ≤ 8192) ⊎ (self.old.held ≡ []) }

@@ -1,4 +1,4 @@
-//! Writes a set on images that are files of a directory.
+//! Writes a set to image files in a directory.
 ghost use Rattle.std.specs.Prelude.{◌≡◌};
 ghost use Rattle.tape_writer.specs.Blank.{volume_id};
 ghost use Rattle.tape_writer.specs.System.{of_set};
@@ -16,7 +16,7 @@ use tape_blocks::{Form, Shape};
 use tape_label::{Field, Vol1};
 
 /// How to write a set in a directory: on up to 256 volumes whose identifiers begin with the prefix,
-/// all of one capacity, with all files in one shape and their inputs in one form.
+/// all of one capacity, with one shape for all files and one form for their inputs.
 #[derive(Clone, Copy)]
 pub struct FolderPlan<'a> {
     pub folder: &'a str,
@@ -27,12 +27,12 @@ pub struct FolderPlan<'a> {
     pub form: Form,
 }
 
-/// Writes a set, and returns its volumes. One image is open at a time. It is created when it is
-/// first written to; an existing image must be a blank volume.
+/// Writes a set, and returns its volumes. One image is open at a time. An image is created when it
+/// is first written to; an existing image must be a blank volume.
 ///
 /// # Errors
 ///
-/// Those of `write_set`, with the fault of the file instead of that of a device.
+/// As for `write_set`, but with the fault of a file instead of the fault of a device.
 pub fn write_in_folder<R: Host, I: Read>(
     rt: &R,
     plan: &FolderPlan<'_>,
@@ -50,7 +50,7 @@ pub fn write_in_folder<R: Host, I: Read>(
     }
 }
 
-/// Returns the volumes that a set may have.
+/// Returns the volumes that a set may use.
 fn volumes_of(alloc: Global, prefix: Prefix) -> Result<Vec<Vol1>, AllocError> {
     let mut volumes = Vec::new(alloc);
     for number in 1..=VOLUMES {
@@ -59,7 +59,7 @@ fn volumes_of(alloc: Global, prefix: Prefix) -> Result<Vec<Vol1>, AllocError> {
     Ok(volumes)
 }
 
-/// Returns the plan of the set on these volumes.
+/// Returns the plan of the set on `volumes`.
 fn set_plan(plan: &FolderPlan<'_>, volumes: Vec<Vol1>) -> SetPlan {
     SetPlan {
         set_id: set_id(plan.prefix),
@@ -77,8 +77,8 @@ fn set_id(prefix: Prefix) -> Field<6>
     blank_volume(prefix, 1).volume
 }
 
-/// Returns the fault of a refusal: instead of a device's fault, that of the file. Writes the
-/// buffered bytes of the current volume first.
+/// Returns the fault of a refusal: instead of the fault of a device, the fault of its file. Writes
+/// the buffered bytes of the current volume first.
 fn told<R: Host>(refused: RefusedSet<ImageFiles<'_, R>>) -> SystemFault {
     let RefusedSet {
         fault,

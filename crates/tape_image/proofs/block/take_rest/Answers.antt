@@ -6,7 +6,7 @@ use Rattle.tape_image.proofs.Taken.{FallsShort-trans}
 use Rattle.tape_image.proofs.Rests.{rest_at_once, trail_word}
 use Rattle.tape_image.proofs.block.take_rest.Goals as goal
 
--- the piece of five bytes that takes a pad byte and a word
+-- the first pads + 4 of five bytes, which take a pad byte and a word
 piece_long : (pads : ℕ) → pads ≤ 1 → length (take {A = ℕ} (pads + 4) (replicate 5 0)) ≡ pads + 4
 piece_long pads few = length-take-le {A = ℕ} (pads + 4) (replicate 5 0) (omega arith)
 

@@ -5,7 +5,7 @@ use Rattle.tape_image.specs.Written.{AppendsFront}
 use Rattle.tape_image.proofs.Pieces.{front_behind, front_more, last_front, on_err, take_one}
 use Rattle.tape_image.proofs.put.put_block.Goals as goal
 
--- the pieces of a block of n bytes after its content
+-- the pieces after the content of a block of n bytes
 abbrev behind : ℕ → List ℕ
 behind n = replicate (n % 2) 0 ++ little_bytes 4 n
 

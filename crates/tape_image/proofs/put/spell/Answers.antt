@@ -8,7 +8,8 @@ use lib.Seq.{take-add}
 use Rattle.byteorder.specs.Endian.{little_bytes}
 use Rattle.tape_image.proofs.put.spell.Goals as goal
 
--- a word, content after it and a word at the place e, over zeros: with p zeros between them
+-- a word, content after it and a word at offset e, written over zeros, have p zeros between content
+-- and second word
 over_zeros : (n p j k e : ℕ) (z word content trail : List ℕ) → j ≡ n → length word ≡ 4
     → length content ≡ n → length trail ≡ 4 → e ≡ (4 + n) + p → e + 4 ≤ length z
     → take (e + 4) (put_mid e k (put_mid 4 j (put_mid 0 4 z word) content) trail)

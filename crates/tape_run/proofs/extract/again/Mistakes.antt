@@ -1,9 +1,9 @@
--- Answers that the contract of what ends a round excludes: each is what a wrong body would give.
+-- Wrong answers that the contract about the last pass excludes.
 use Rattle.std.proofs.Common.{◌≡◌, true, false, refl, inl, inr}
 use Rattle.std.specs.Prelude.{Some}
 use Rattle.tape_run.proofs.extract.again.is_enough.Reads as is_enough
 
--- rounds_end_too_early: what is missing differs from before the pass, and there is no other pass
+-- rounds_end_too_early: less is missing than before the pass, but no other pass follows
 rounds_end_too_early : (κs : _) (before want : _) (s : _)
     → is_enough.Learnt-named κs (before, (Some want, tt)) true s → (Some want ≡ before → ⊥) → ⊥
 rounds_end_too_early κs before want s l other = elim (l.yes) [
@@ -11,7 +11,7 @@ rounds_end_too_early κs before want s l other = elim (l.yes) [
   | inr same ↦ other same
 ]
 
--- round_without_gain_is_followed: the same is missing as before the pass, and there is another pass
+-- round_without_gain_is_followed: the same is missing as before the pass, but another pass follows
 round_without_gain_is_followed : (κs : _) (want : _) (s : _)
     → is_enough.Learnt-named κs (want, (want, tt)) false s → ⊥
 round_without_gain_is_followed κs want s l = l.no.1 refl

@@ -3,7 +3,7 @@ use Rattle.tape_run.specs.Extracting.{Extracts, Stops, EndsFile, StopsAtEnd}
 use Rattle.tape_run.proofs.Fitting.{on_err_map}
 use Rattle.tape_image.proofs.Pieces.{on_err}
 use Rattle.tape_run.specs.Reeling.{goes_back}
-use Rattle.tape_run.proofs.Causes.{file_fails, images_fail}
+use Rattle.tape_run.proofs.Causes.{calm_ended, file_fails, images_fail}
 use Rattle.tape_run.proofs.Ended.{told_err}
 use Rattle.tape_run.proofs.Reporting.{if_ok_both}
 use Rattle.tape_run.proofs.Extracted.{extracted, stops_reading, stops_at_end}
@@ -29,6 +29,11 @@ pub returns-clause-cause : goal.returns-clause-cause
 returns-clause-cause g c = file_fails g.S.PartSink (goes_back c.args.session.now.notes)
     c.args.session.now c.read_images.new.session c.end_file.new.session c.end_file.result
     c.in_ok-read_images.ensures.calm c.end_file.ensures.cause
+
+pub returns-clause-calm : goal.returns-clause-calm
+returns-clause-calm g c = calm_ended g.S.PartSink c.args.session.now c.read_images.new.session
+    c.end_file.new.session c.end_file.result c.in_ok-read_images.ensures.calm c.end_file.ensures.same
+    c.end_file.ensures.calm
 
 pub returns-clause-ok : goal.returns-clause-ok
 returns-clause-ok g c =

@@ -1,5 +1,4 @@
--- Answers excluded by the contracts of a pass, and of what is done after a reel: each is what a
--- wrong body would return.
+-- Wrong answers that the contracts of a pass exclude, and those of the calls after a reel.
 use Rattle.std.proofs.Common.{◌≡◌, ◌+◌, length, ap, ◌∙◌, sym, arith, subst, true, false, Bool}
 use Rattle.std.proofs.Common.{ℕ, List, [], ◌∷◌, ◌++◌, refl, codes}
 use Rattle.std.specs.Prelude.{Ok, Option, Some, None, map, slice_get, slice_index, ◌<◌}
@@ -26,7 +25,8 @@ use Rattle.tape_run.proofs.extract.images.note.Reads as note
 use Rattle.tape_run.proofs.extract.images.read_round.Reads as read_round
 use Rattle.tape_run.proofs.extract.images.settle.Reads as settle
 
--- saved_behind_a_wrong_count: after a reel whose trailer counts other blocks a checkpoint is made
+-- saved_behind_a_wrong_count: a checkpoint is made after a reel whose trailer label has another
+-- count
 saved_behind_a_wrong_count : (S : _) (L : _) (g : _) (d : _) (κs : _) (a : _) (s : _) (label : _)
     (seen noted : _) → note.Learnt-named S L g d κs a (Ok noted) s
     → a.1.0.now.answer ≡ Useless (BlockCount label seen)
@@ -37,8 +37,8 @@ saved_behind_a_wrong_count S L g d κs a s label seen noted l count more =
       sym more ∙ ap (λ z. length z.notes) (l.doubtful (ap counts_differ count)),
     ))
 
--- saved_in_the_list_alone: after a section the session is at block 5, its first checkpoint is made,
--- and a crash leaves the start of the file
+-- saved_in_the_list_alone: after a section the session is at block 5 and makes its first
+-- checkpoint, but a crash leaves the start of the file
 saved_in_the_list_alone : (S : _) (L : _) (g : _) (d : _) (κs : _) (a : _) (s : _)
     (held there : List Portion) (older : Point) → note.Learnt-named S L g d κs a (Ok true) s
     → a.1.0.now.answer ≡ SectionDone → g.holds a.0.now.sink held → a.0.now.notes ≡ []
@@ -73,7 +73,7 @@ went back spares doubtful noted old new b d s =
     subst (λ z. IsNoted true spares z noted old new) d
     (subst (λ z. IsNoted z spares doubtful noted old new) b s)
 
--- wrong_count_not_taken_back: the trailer counts other blocks, and the session stays broken
+-- wrong_count_not_taken_back: the trailer label has another count, and the session remains broken
 wrong_count_not_taken_back : (S : _) (L : _) (g : _) (d : _) (κs : _) (a : _) (s : _) (label : _)
     (count : _) (held : _) (is : _) → settle.Learnt-named S L g d κs a (Ok is) s
     → a.1.0.now.answer ≡ Useless (BlockCount label count) → a.1.1.0 ≡ true
@@ -86,7 +86,7 @@ wrong_count_not_taken_back S L g d κs a s label count held is l told back was k
     (seen g s.0.now now) back (ap counts_differ told) noted in
     absurd (let e : Broken ≡ Over = sym (ap resting broken) ∙ ap (λ p. p.phase) w.place in cc)
 
--- taken_back_to_the_beginning: of two notes one is left, and not the last
+-- taken_back_to_the_beginning: one of two checkpoints remains, but it is not the last one
 taken_back_to_the_beginning : (S : _) (L : _) (g : _) (d : _) (κs : _) (a : _) (s : _) (label : _)
     (count : _) (held : _) (is : _) → settle.Learnt-named S L g d κs a (Ok is) s
     → a.1.0.now.answer ≡ Useless (BlockCount label count) → a.1.1.0 ≡ true
@@ -106,7 +106,7 @@ taken_back_to_the_beginning S L g d κs a s label count held is l told back was 
       took_so_many n old.notes (omega (arith, one)),
     ))
 
--- the line of the one image of a pass, which does not exist, is printed
+-- the line of the only image of a pass, which does not exist, is printed
 one_line : {L R : Type 0} (gives : Mounting L R) (remaining : R → Option (List ℕ)) (shelf left : L)
     (turns : List Turn) (p : Position) → AreTurns gives remaining shelf 0 turns left
     → ((image : Option R) (next : L) → gives shelf 0 image next → image ≡ None)

@@ -12,7 +12,7 @@ use Rattle.tape_run.proofs.reel_reader.put_parts.Given.{Over}
 use Rattle.tape_run.proofs.reel_reader.put_parts.Goals.{In-Some, then-first-seen+in-Ok, else-first-seen}
 use Rattle.tape_run.proofs.reel_reader.put_parts.Goals as goal
 
--- the place of the part among those of the block
+-- the index of the part among those of the block
 here : (g : Over) (c : In-Some g) (parts : List Portion)
     → Holds c.args.shape.now.format c.args.shape.now.rec_len c.args.shape.now.offset
     c.args.block.now parts
@@ -21,7 +21,7 @@ here g c parts h = stands_here c.new-part-items.result c.into_iter-part-iterator
     c.loop-part.part-iterator c.loop-part.yielded parts _ (c.new-part-items.ensures parts h)
     c.into_iter-part-iterator.ensures.into_iter_gives c.loop-part.yielded_by c.in-Some.ensures.steps
 
--- a block has not so many parts
+-- a block does not have this many parts
 few : (g : Over) (c : In-Some g) → c.loop-part.seen < 99999
 few g c =
     let parts = c.requires.checked.2 in

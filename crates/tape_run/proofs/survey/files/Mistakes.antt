@@ -1,5 +1,4 @@
--- An answer that the contract of which labels are those of different files excludes: a wrong body
--- would give it.
+-- A wrong answer that the contract about labels of different files excludes.
 use Rattle.std.proofs.Common.{◌≡◌, ◌∙◌, ℕ, List, sym, ap, codes, true, false}
 use Rattle.tape_label.specs.declared.values.Head1.{Head1}
 use Rattle.tape_run.specs.SurveyFiles as files
@@ -20,7 +19,7 @@ made_on day = record {
   implementation = codes "             ";
 }
 
--- dates_not_compared: two weekly backups are taken for one
+-- dates_not_compared: two weekly backups count as one
 dates_not_compared : (κs : _) (a : _) (z : _) (s : _) → is_other.Learnt κs a z s → z ≡ false
     → a.0.now ≡ made_on (codes " 85100") → a.1.0.now ≡ made_on (codes " 85107") → ⊥
 dates_not_compared κs a z s h w first second =

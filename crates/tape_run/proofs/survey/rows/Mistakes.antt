@@ -1,4 +1,5 @@
--- Rows of a survey that the contracts of their columns exclude: each is what a wrong body gives.
+-- Rows of a survey that the contracts of their columns exclude: each would be returned by a wrong
+-- body.
 use Rattle.std.proofs.Common.{◌≡◌, [], ◌++◌, length, ap, ◌∙◌, sym, arith, codes}
 use Rattle.std.specs.Prelude.{None, slice_index}
 use Rattle.tape_run.specs.SurveyRows.{sight_cells, standing_cells}
@@ -6,7 +7,7 @@ use Rattle.tape_run.specs.declared.survey.sets.Standing.TheVariants.{Missing}
 use Rattle.tape_run.proofs.survey.rows.put_sight.Reads as put_sight
 use Rattle.tape_run.proofs.survey.rows.put_standing.Reads as put_standing
 
--- row_with_a_tab_too_few: the row of an image that was not opened has a column less than others
+-- row_with_a_tab_too_few: the row of an image that was not opened has one column fewer than others
 row_with_a_tab_too_few : (κs : _) (a : _) (z : _) (s : _) → put_sight.Learnt-named κs a z s
     → a.0.now.items ≡ [] → a.1.0.now ≡ None
     → s.0.now.items ≡ codes "NOT OPENED\t\t\t\t\t\t" → ⊥
@@ -14,7 +15,7 @@ row_with_a_tab_too_few κs a z s l e none w =
     absurd (let n : 16 ≡ 17 = ap length (sym w ∙ l.items
     ∙ ap (λ v. v ++ sight_cells a.1.0.now) e ∙ ap sight_cells none) in omega arith)
 
--- wanted_row_told_as_complete: section 2 of a file was not met, and its row says COMPLETE
+-- wanted_row_told_as_complete: section 2 of a file was not found, but its row says COMPLETE
 wanted_row_told_as_complete : (κs : _) (a : _) (z : _) (s : _)
     → put_standing.Learnt-named κs a z s → a.0.now.items ≡ [] → a.1.0.now ≡ Missing 2
     → s.0.now.items ≡ codes "COMPLETE\t\t" → ⊥

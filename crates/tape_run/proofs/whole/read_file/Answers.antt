@@ -41,3 +41,10 @@ pub returns-clause-calm : goal.returns-clause-calm
 returns-clause-calm g c = on_ok c.run-made.result _ _ (λ calm. calm.calm
     ∙ (ap (λ (sink : MemorySink). sink.refused) c.in_ok-session.ensures.sink
     ∙ c.new-sink.ensures.calm)) c.run-made.ensures.calm
+
+pub returns-clause-kept : goal.returns-clause-kept
+returns-clause-kept g c = on_ok c.run-made.result _ _ (λ calm.
+    let empty : [] ≡ portions c.in_ok-session.session.sink =
+    sym (ap portions c.in_ok-session.ensures.sink ∙ c.new-sink.ensures.empty) in
+    let (now, has, kept) = calm.kept [] empty c.in_ok-session.ensures.kept in
+    rw (← has) kept) c.run-made.ensures.calm

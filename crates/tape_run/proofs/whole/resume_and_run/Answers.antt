@@ -69,6 +69,11 @@ returns-clause-cause g c = if_err c.run-result.result _ _ (λ end stops. (
   stops,
 )) c.run-result.ensures.cause
 
+pub returns-clause-kept : goal.returns-clause-kept
+returns-clause-kept g c = on_ok c.run-result.result _ _ (λ calm held was. calm.kept held
+    (subst (λ s. g.S.PartSink.holds s held) (sym c.resume-session.ensures.sink) was)
+    (c.resume-session.ensures.kept held)) c.run-result.ensures.calm
+
 pub returns-clause-calm : goal.returns-clause-calm
 returns-clause-calm g c = on_ok c.run-result.result _ _ (λ calm. calm.calm
     ∙ ap g.S.PartSink.refusals c.resume-session.ensures.sink) c.run-result.ensures.calm

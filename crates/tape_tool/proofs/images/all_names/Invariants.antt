@@ -1,8 +1,8 @@
-use Rattle.std.proofs.Common.{◌≡◌, ◌++◌, take}
+use Rattle.std.proofs.Common.{◌≡◌, ◌++◌}
 use Rattle.std.specs.List.{filter}
 use Rattle.tape_tool.specs.Names.{is_name}
 use Rattle.tape_tool.proofs.images.all_names.Given as goal
 
 abbrev pub invariant-loop-piece : goal.invariant-loop-piece
 invariant-loop-piece l = l.names.items
-    ≡ l.fn.words ++ filter (λ p. is_name p.now) (take l.piece-index l.piece-items)
+    ≡ l.fn.words ++ filter (λ p. is_name p.now) l.yielded

@@ -1,4 +1,4 @@
--- Answers that the contracts of the pieces of `stage` exclude: each is what a wrong body gives.
+-- Wrong answers that the contracts of the pieces of `stage` exclude.
 use Rattle.std.proofs.Common.{◌≡◌, ℕ, List, [], ◌∷◌, ◌++◌, length, ap, ◌∙◌, subst, sym, codes}
 use Rattle.std.proofs.Common.{arith}
 use Rattle.std.specs.Prelude.{Some, None, Ok, Err, slice_index}
@@ -13,7 +13,7 @@ use Rattle.tape_stage.specs.declared.stage.StageFault.TheVariants.{BadFrame, NoP
 use Rattle.tape_tool.specs.StageReport.{StopsSalvaging, StopsShowing, ending_of, stage_line}
 use Rattle.tape_tool.specs.declared.fault.ToolFault.TheVariants.{Stage}
 use Rattle.tape_tool.specs.declared.stage.ending.StageEnding.TheVariants.{Whole}
-use Rattle.tape_tool.proofs.ExamplesOfShowing.{no_frame, none_told}
+use Rattle.tape_tool.proofs.ExamplesOfShowing.{bad_frame, no_frame, none_told}
 use Rattle.tape_tool.proofs.stage.show.show_damaged.Reads as show_damaged
 use Rattle.tape_tool.proofs.stage.show.show_stage.Reads as show_stage
 use Rattle.tape_tool.proofs.stage.show.show_parts.Reads as show_parts
@@ -25,7 +25,7 @@ use Rattle.tape_tool.proofs.stage.show.show_rest.Reads as show_rest
 abbrev whole : List Portion
 whole = record { span = spans.Whole; bytes = codes "AB" } ∷ []
 
--- stage_records_left_out: there is a record, and nothing is written
+-- stage_records_left_out: there is a record, but nothing is written
 stage_records_left_out : (S : _) (W : _) (P : _) (LS : _) (LW : _) (LP : _) (g : _) (d : _)
     (g' : _) (d' : _) (h : _) (e : _) (i : _) (j : _) (κs : _) (a : _) (s : _)
     → show_parts.Learnt-named S W P LS LW LP g d g' d' h e i j κs a (Ok tt) s
@@ -38,7 +38,7 @@ stage_records_left_out S W P LS LW LP g d g' d' h e i j κs a s l holds form old
     (l.ok whole holds).wrote) in
     absurd (let n : 0 ≡ 3 = ap length (r ∙ ap (λ v. output_of v whole) form) in omega arith)
 
--- shown_as_complete: something is missing, and the file is reported as complete
+-- shown_as_complete: something is missing, but the file is reported as complete
 shown_as_complete : (S : _) (W : _) (P : _) (LS : _) (LW : _) (LP : _) (g : _) (d : _) (g' : _)
     (d' : _) (h : _) (e : _) (i : _) (j : _) (k : _) (κs : _) (a : _) (s : _) (want : _)
     → show_opened.Learnt-named S W P LS LW LP g d g' d' h e i j k κs a (Ok None) s
@@ -46,7 +46,7 @@ shown_as_complete : (S : _) (W : _) (P : _) (LS : _) (LW : _) (LP : _) (g : _) (
 shown_as_complete S W P LS LW LP g d g' d' h e i j k κs a s want l wants =
     absurd (let n = l.wanted ∙ wants in cc)
 
--- damage_told_as_complete: a stage is damaged, and is reported as intact, its file complete
+-- damage_told_as_complete: a stage is damaged, but it is reported as intact, with its file complete
 damage_told_as_complete : (D : _) (W : _) (P : _) (LD : _) (LW : _) (LP : _) (g : _) (d : _)
     (g' : _) (h : _) (e : _) (i : _) (j : _) (κs : _) (a : _) (s : _) (place : ℕ)
     → show_rest.Learnt-named D W P LD LW LP g d g' h e i j κs a (Ok (Whole None)) s
@@ -54,8 +54,8 @@ damage_told_as_complete : (D : _) (W : _) (P : _) (LD : _) (LW : _) (LP : _) (g 
 damage_told_as_complete D W P LD LW LP g d g' h e i j κs a s place l breaks =
     absurd (let n = l.ending ∙ ap (ending_of a.1.0.now) breaks in cc)
 
--- good_stage_told_as_none: its parts cannot be read again, and an intact stage is reported as not
--- being one
+-- good_stage_told_as_none: the parts of an intact stage cannot be read again, and it is reported as
+-- not being one
 good_stage_told_as_none : (D : _) (W : _) (P : _) (LD : _) (LW : _) (LP : _) (g : _) (d : _)
     (h : _) (e : _) (i : _) (j : _) (k : _) (κs : _) (a : _) (fault : _) (s : _) (n : _)
     (point : _) (parts : _)
@@ -68,7 +68,19 @@ good_stage_told_as_none D W P LD LW LP g d h e i j k κs a fault s n point parts
     (h.contents s.1.1.1.0.now) (i.contents a.1.1.1.1.0.now) (i.contents s.1.1.1.1.0.now)) told
     (l.err honest)) n point parts staged
 
--- damaged_stage_refused: the frames of a stage break off, and its first records are not shown
+-- bad_frame_at_zero: a frame of a stage is damaged, and its offset is reported as 0
+bad_frame_at_zero : (D : _) (W : _) (P : _) (LD : _) (LW : _) (LP : _) (g : _) (d : _)
+    (h : _) (e : _) (i : _) (j : _) (k : _) (κs : _) (a : _) (fault : _) (s : _)
+    → show_stage.Learnt-named D W P LD LW LP g d h e i j k κs a (Err fault) s
+    → g.is_honest a.1.0 → fault ≡ Stage (BadFrame 0) → ⊥
+bad_frame_at_zero D W P LD LW LP g d h e i j k κs a fault s l honest told =
+    let bad = bad_frame (g.seen a.1.0) a.1.1.0 _ _ _ _ 0
+    (subst (StopsShowing (g.seen a.1.0) a.1.1.0 (h.contents a.1.1.1.0.now)
+    (h.contents s.1.1.1.0.now) (i.contents a.1.1.1.1.0.now) (i.contents s.1.1.1.1.0.now)) told
+    (l.err honest)) in
+    omega (arith, bad.walked.low)
+
+-- damaged_stage_refused: the frames of a stage are damaged, and its first records are not shown
 damaged_stage_refused : (D : _) (W : _) (P : _) (LD : _) (LW : _) (LP : _) (g : _) (d : _)
     (h : _) (e : _) (i : _) (j : _) (k : _) (κs : _) (a : _) (fault : _) (s : _) (place : _)
     → show_damaged.Learnt-named D W P LD LW LP g d h e i j k κs a (Err fault) s

@@ -1,4 +1,4 @@
--- An answer that the contract of a part of `write` excludes: it is what a wrong body would give.
+-- A wrong answer that the contract of a part of `write` excludes.
 use Rattle.std.proofs.Common.{◌≡◌, ap, ◌∙◌, arith}
 use Rattle.std.specs.Prelude.{None}
 use Rattle.tape_label.specs.declared.values.Format.TheVariants.{Counted}

@@ -1,5 +1,5 @@
--- An answer that the contract of putting the records of an input excludes: it is what a wrong body
--- would give.
+-- A result that the contract of writing the records of an input excludes: it is the result of a
+-- wrong body.
 use Rattle.std.proofs.Common.{◌≡◌, ℕ, List, length, subst, arith, refl}
 use Rattle.std.specs.Prelude.{Err, Some, IfSome}
 use Rattle.tape_writer.specs.declared.fault.WriteFault.TheVariants.{OutOfVolumes}
@@ -10,8 +10,8 @@ use Rattle.tape_writer.specs.State.{IsWriting}
 use Rattle.tape_writer.specs.NoVolume.{GaveUp}
 use Rattle.tape_writer.proofs.inputs.files.put_records.Reads as put_records
 
--- no_more_than_a_million_records: the second of three volumes is current, and no more records are
--- put, as if there were no volume left
+-- no_more_than_a_million_records: the second of three volumes is current, but no more records are
+-- written, as if no volume were left
 no_more_than_a_million_records : (T : _) (R : _) (LT : _) (LR : _) (g : _) (d : _) (e : _) (h : _)
     (f : _) (i : _) (κs : _) (a : _) (s : _) (told : List Told) (xs : List ℕ)
     → put_records.Learnt-named T R LT LR g d e h f i κs a (Err (Write OutOfVolumes)) s

@@ -1,11 +1,12 @@
--- Answers that the contract of looking for a blank volume excludes: each is the result of a wrong
+-- A result that the contract of the check for a blank volume excludes: it is the result of a wrong
 -- body.
 use Rattle.std.proofs.Common.{◌≡◌, ◌++◌, ◌∷◌, [], length, refl, ap, subst, arith, length-append}
 use Rattle.std.specs.Prelude.{◌↔◌, IfSome, IsTrue, Ok, Some, min, true}
 use Rattle.tape_writer.specs.Blank.{blank_image, blank_volume}
 use Rattle.tape_writer.proofs.system.opening.is_blank.Reads as is_blank
 
--- longer_image_taken_for_blank: an image that continues after a blank volume's is emptied as one
+-- longer_image_taken_for_blank: an image with further bytes after those of a blank volume is
+-- accepted as blank
 longer_image_taken_for_blank : (R : _) (L : _) (g : _) (d : _) (κs : _) (a : _) (s : _)
     → is_blank.Learnt-named R L g d κs a (Ok true) s → g.remaining a.0.now
     ≡ Some (blank_image (blank_volume a.1.0.characters (min a.1.1.0 999)) ++ 0 ∷ []) → ⊥

@@ -1,5 +1,4 @@
--- Results that the contracts of bytes held before a device exclude: each is the result of a wrong
--- body.
+-- Results that the contracts of a write buffer exclude: each is the result of a wrong body.
 use Rattle.std.proofs.Common.{◌≡◌, ℕ, List, [], ◌∷◌, ◌++◌, length, sym, ap}
 use Rattle.std.proofs.Common.{◌∙◌, subst, arith, true, false, get_or, length-append}
 use Rattle.std.specs.Prelude.{Ok, Err, Some, Option}
@@ -10,13 +9,13 @@ use Rattle.tape_writer.specs.Holding.{taken}
 use Rattle.tape_writer.proofs.system.write_behind.WriteBehind.take.Reads as take
 use Rattle.tape_writer.proofs.system.write_behind.WriteBehind.pass_on.Reads as pass_on
 
--- what was appended, if it is known what was there and what is
+-- the bytes that were appended, if the contents before and after are known
 appended : (old new : Option (List ℕ)) (bytes before after : List ℕ) → Appends old new bytes
     → old ≡ Some before → new ≡ Some after → after ≡ before ++ bytes
 appended old new bytes before after h o n =
     subst (λ z. Appends (Some before) z bytes) n (subst (λ z. Appends z new bytes) o h)
 
--- held_bytes_dropped: a byte was buffered, and after the flush the device has what it had
+-- held_bytes_dropped: a byte was buffered, but after the flush the device is unchanged
 held_bytes_dropped : (W : _) (L : _) (g : _) (d : _) (f : _) (κs : _) (a : _) (s : _)
     (had : List ℕ) → pass_on.Learnt-named W L g d f κs a (Ok tt) s → a.0.now.device ≡ Some had
     → a.0.now.held ≡ 1 ∷ [] → s.0.now.device ≡ Some had → ⊥
@@ -24,7 +23,7 @@ held_bytes_dropped W L g d f κs a s had l old held new =
     let e = appended _ _ a.0.now.held had had l.ok.passed old new in
     absurd (omega (arith, ap length e, length-append had a.0.now.held, ap length held))
 
--- held_bytes_written_twice: the byte that was held is in the device twice
+-- held_bytes_written_twice: the device contains the buffered byte twice
 held_bytes_written_twice : (W : _) (L : _) (g : _) (d : _) (f : _) (κs : _) (a : _) (s : _)
     (had : List ℕ) → pass_on.Learnt-named W L g d f κs a (Ok tt) s → a.0.now.device ≡ Some had
     → a.0.now.held ≡ 1 ∷ [] → s.0.now.device ≡ Some (had ++ 1 ∷ 1 ∷ []) → ⊥
@@ -38,20 +37,20 @@ held_bytes_written_twice W L g d f κs a s had l old held new =
       length-append had (1 ∷ 1 ∷ []),
     ))
 
--- held_on_when_written: what was written stays buffered, to be written again
+-- held_on_when_written: the bytes that were written remain buffered, and will be written again
 held_on_when_written : (W : _) (L : _) (g : _) (d : _) (f : _) (κs : _) (a : _) (s : _)
     → pass_on.Learnt-named W L g d f κs a (Ok tt) s → a.0.now.held ≡ 1 ∷ []
     → s.0.now.held ≡ a.0.now.held → ⊥
 held_on_when_written W L g d f κs a s l one held =
     absurd (omega (arith, ap length one, ap length held, ap length l.ok.none))
 
--- answered_while_bytes_are_held: few bytes are held, and are not passed on
+-- answered_while_bytes_are_held: a few bytes are buffered, and are not written
 answered_while_bytes_are_held : (W : _) (L : _) (g : _) (d : _) (f : _) (κs : _) (a : _) (s : _)
     → pass_on.Learnt-named W L g d f κs a (Ok tt) s → length s.0.now.held ≡ 99 → ⊥
 answered_while_bytes_are_held W L g d f κs a s l few =
     absurd (omega (arith, few, ap length l.ok.none))
 
--- written_behind_a_failure: the device failed before, and the buffer is flushed
+-- written_behind_a_failure: the device failed before, but the flush succeeds
 written_behind_a_failure : (W : _) (L : _) (g : _) (d : _) (f : _) (κs : _) (a : _) (s : _)
     → pass_on.Learnt-named W L g d f κs a (Ok tt) s → a.0.now.failed ≡ true → ⊥
 written_behind_a_failure W L g d f κs a s l failed =
@@ -59,7 +58,7 @@ written_behind_a_failure W L g d f κs a s l failed =
     l.refused in
     absurd (cc)
 
--- new_block_before_the_held_ones: 1 was held, 2 was taken, and 2 is in the device before 1
+-- new_block_before_the_held_ones: 1 was buffered and 2 accepted, but the device contains 2 before 1
 new_block_before_the_held_ones : (W : _) (L : _) (g : _) (d : _) (f : _) (κs : _) (a : _) (s : _)
     → take.Learnt-named W L g d f κs a (Ok tt) s → a.0.now.device ≡ Some [] → a.0.now.held ≡ 1 ∷ []
     → a.1.0.now ≡ 2 ∷ [] → s.0.now.device ≡ Some (2 ∷ []) → s.0.now.held ≡ 1 ∷ [] → ⊥
@@ -72,7 +71,7 @@ new_block_before_the_held_ones W L g d f κs a s l old held bytes new left =
     = appended (taken a.0.now) (taken s.0.now) a.1.0.now _ _ l.ok.takes before after in
     absurd (let two : 2 ≡ 1 = ap (λ l. get_or l 0 0) e in omega arith)
 
--- device_failure_forgotten: the device failed, and is written to again
+-- device_failure_forgotten: the device failed, but the failure is not recorded
 device_failure_forgotten : (W : _) (L : _) (g : _) (d : _) (f : _) (κs : _) (a : _) (s : _)
     → take.Learnt-named W L g d f κs a (Err WriteFailed) s → s.0.now.failed ≡ false → ⊥
 device_failure_forgotten W L g d f κs a s l stands =

@@ -14,11 +14,11 @@ use Rattle.tape_blocks.proofs.packer.Packer.put_part.Goals as goal
 abbrev part : goal.After-self-4-1 → Portion
 part c = record { span = span_of c.self.inside.begun c.args.goes_on; bytes = c.args.bytes.now }
 
--- the packer's parts and this one
+-- the packer's parts, and the part appended
 abbrev more : goal.After-self-4-1 → List Portion
 more c = parts_in c.self.inside.shape c.self.inside.block.items c.self.inside.len ++ part c ∷ []
 
--- what is in the block after the call
+-- the contents of the block after the call
 abbrev text : goal.After-self-4-1 → List ℕ
 text c = (with_items c.self.inside.block c.put_unit.new.block).items
 

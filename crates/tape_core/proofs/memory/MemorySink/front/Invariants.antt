@@ -5,7 +5,7 @@ use Rattle.tape_core.specs.Weight.{IsFront}
 use Rattle.tape_core.specs.Memory.{portions}
 use Rattle.tape_core.proofs.memory.MemorySink.front.Given as goal
 
--- a prefix with the requested weight is one of the parts up to here
+-- any prefix with the requested weight is a prefix of the parts up to here
 abbrev pub invariant-loop-number : goal.invariant-loop-number
 invariant-loop-number l = (l.number ≤ length (portions l.self)) × ((front : List Portion)
     → IsFront front (portions l.self) → weight_of front ≡ l.most

@@ -9,7 +9,7 @@ use Rattle.tape_core.specs.Entries.{end_from}
 use Rattle.tape_core.specs.Memory.{portions}
 use Rattle.tape_core.proofs.memory.MemorySink.lent.Goals as goal
 
--- where the bytes of the part are, by the entry that was read
+-- the range of the part's bytes, from the entry that was read
 lies : (sink : MemorySink) (n : ℕ) (e : Entry) → n < length (portions sink)
     → e ≡ slice_index_or sink.entries.items n e
     → (slice_get sink.entries.items n ≡ Some e)

@@ -6,7 +6,7 @@ use Rattle.tape_core.specs.Memory.{portions}
 use Rattle.tape_core.proofs.Laid.{parts_length, weight_front, end_front}
 use Rattle.tape_core.proofs.memory.MemorySink.weight_to.Goals as goal
 
--- the first parts weigh no more than a sink holds
+-- the weight of the first parts is at most the limit of a sink
 few : (sink : MemorySink) (n end : ℕ) → n ≤ length (portions sink)
     → end ≡ end_from 0 (take n sink.entries.items) → 5 * n + end ≤ most_staged
 few sink n end within is =

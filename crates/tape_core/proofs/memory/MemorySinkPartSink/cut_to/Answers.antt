@@ -7,7 +7,7 @@ use Rattle.tape_core.specs.Memory.{portions}
 use Rattle.tape_core.proofs.Laid.{parts_cut, laid_cut}
 use Rattle.tape_core.proofs.memory.MemorySinkPartSink.cut_to.Goals as goal
 
--- what is left are the first parts
+-- the parts left are the first parts
 cut : (sink : MemorySink) (n end : ℕ) (es : List Entry) (bytes : List ℕ)
     → es ≡ take n sink.entries.items → bytes ≡ take end sink.bytes.items
     → end ≡ end_from 0 (take n sink.entries.items)

@@ -1,4 +1,4 @@
--- The position is the one that the reading makes.
+-- The position is the one that the reading reaches.
 use Rattle.std.proofs.Common.{ap, ◌∙◌}
 use Rattle.tape_core.proofs.Steps.{position_reads}
 use Rattle.tape_core.proofs.reader.ReaderCore.position.Goals as goal

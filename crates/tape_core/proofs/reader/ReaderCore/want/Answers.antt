@@ -1,4 +1,4 @@
--- The position is the one that the reading makes.
+-- The result is the part needed next at the position that the reading reaches.
 use Rattle.std.proofs.Common.{ap, ◌∙◌}
 use Rattle.tape_core.proofs.Steps.{position_reads}
 use Rattle.tape_set.specs.Position.{want_at}

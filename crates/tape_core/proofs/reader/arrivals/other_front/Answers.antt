@@ -28,7 +28,7 @@ new-each-items-requires c =
     let h = judged_found s.format s.rec_len s.offset r.0 r.1 c.args.block.now s.some_record j in
     (r.0, r.1, h.0, h.1, h.2)
 
--- what is left of the parts of the block
+-- the remaining parts of the block
 parts_all : (form : FileForm) (block : List ℕ) (before end : Bool) (format : Format) (rec_len
     offset : ℕ) (s t : Parts) (xs : List Part) → (format ≡ Fixed → 1 ≤ rec_len)
     → format ≡ form.format → rec_len ≡ form.rec_len → offset ≡ form.offset

@@ -8,7 +8,7 @@ use Rattle.tape_image.proofs.Pieces.{on_err}
 use Rattle.tape_run.proofs.RecordFronts.{front_records}
 use Rattle.tape_run.proofs.extract.front.write_rest.Goals as goal
 
--- this many records are left after those that were skipped
+-- the number of records left after those that were skipped
 left_is : (all passed left : ℕ) (first rest : List Portion)
     → all ≡ length (join (first ++ rest)).records → length first ≡ passed → EachEnds first
     → left ≡ all - passed → left ≡ length (join rest).records

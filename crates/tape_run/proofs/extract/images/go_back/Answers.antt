@@ -1,5 +1,4 @@
 use Rattle.std.proofs.Common.{◌≡◌, ◌+◌, ◌-◌, length, arith}
-use Rattle.tape_image.proofs.Pieces.{on_err}
 use Rattle.tape_run.proofs.Lasting.{last_went}
 use Rattle.tape_run.proofs.Left.{restart_left}
 use Rattle.tape_run.proofs.Causes.{back_fails, calm_back, on_both, on_pair}
@@ -32,7 +31,6 @@ returns g c =
       calm = on_both c.restart.result _ _ _ (λ ok (calm, notes). calm_back sink old new n calm notes
           ok) c.restart.ensures.ok (on_pair c.restart.result _ _ c.restart.ensures.calm
           c.restart.ensures.notes);
-      left = on_err c.restart.result _ (λ held was kept.
-          restart_left sink old
-          new held n count (c.restart.ensures.crash held was kept));
+      left = λ held was kept.
+          restart_left sink old new held n count (c.restart.ensures.crash held was kept);
     }

@@ -3,10 +3,9 @@ use Rattle.std.specs.Bool.{OnFalse}
 use Rattle.tape_run.specs.Reeling.{IsNoted}
 use Rattle.tape_run.specs.Seen.{seen}
 use Rattle.tape_run.proofs.Lasting.{last_kept}
-use Rattle.tape_image.proofs.Pieces.{on_err}
 use Rattle.tape_run.proofs.Causes.{calm_saved, step_fails}
 use Rattle.tape_run.proofs.Ended.{told_err}
-use Rattle.tape_run.proofs.Left.{save_left}
+use Rattle.tape_run.proofs.Left.{save_left, stays_left}
 use Rattle.tape_run.proofs.extract.images.note.Goals.{else-spares-via-else-spares}
 use Rattle.tape_run.proofs.extract.images.note.Goals.{else-spares-via-then-spares+else-noted}
 use Rattle.tape_run.proofs.extract.images.note.Goals as goal
@@ -52,8 +51,14 @@ returns-in_err-save-clause-cause g c =
 
 pub returns-in_err-save-clause-left : goal.returns-in_err-save-clause-left
 returns-in_err-save-clause-left g c =
-    on_err c.from_residual.result _ (λ back held was.
+    λ back held was.
     let (now, has, fails) = c.in_err-save.ensures.err held was in
     save_left g.S.PartSink back
     c.args.session.now c.save.new.self held now c.in_err-save.field-0.0 has fails
-    (c.save.ensures.crash held was))
+    (c.save.ensures.crash held was)
+
+pub returns-clause-left : goal.returns-clause-left
+returns-clause-left g c = λ back held was.
+    let (now, has, (keeps, saved)) = c.in_ok-save.ensures.ok held was in
+    stays_left g.S.PartSink back c.args.session.now c.save.new.self held now has
+    (saved.place, saved.parts) (c.save.ensures.crash held was)

@@ -1,6 +1,4 @@
-use Rattle.std.proofs.Common.{rules, ◌≡◌, None, subst}
-use Rattle.tape_image.specs.Written.{AppendsFront}
-use Rattle.tape_run.specs.ReelLine.{reel_line}
+use Rattle.std.proofs.Common.{None}
 use Rattle.tape_image.proofs.Pieces.{on_err}
 use Rattle.tape_run.proofs.Turns.{part_line}
 use Rattle.tape_run.proofs.Left.{same_left}

@@ -1,12 +1,9 @@
-use Rattle.std.proofs.Common.{rules, ◌≡◌, Some, refl, subst}
-use Rattle.std.specs.Io.KnownBytes.{Appends}
+use Rattle.std.proofs.Common.{Some, refl}
 use Rattle.tape_run.specs.declared.fault.EngineFault.TheVariants.{Run}
 use Rattle.tape_run.specs.Seen.{seen}
-use Rattle.tape_image.specs.Written.{AppendsFront}
-use Rattle.tape_run.specs.ReelLine.{reel_line}
 use Rattle.tape_run.specs.Reeling.{Opened, counts_differ}
 use Rattle.tape_image.proofs.Pieces.{on_err}
-use Rattle.tape_run.proofs.Turns.{part_line, whole_line, noted, kept_for, kept_behind}
+use Rattle.tape_run.proofs.Turns.{part_line, noted, kept_for, kept_behind}
 use Rattle.tape_run.proofs.Lasting.{last_stays, last_then}
 use Rattle.tape_run.proofs.Causes.{calm_then, calm_reel, step_fails, then_fails}
 use Rattle.tape_run.proofs.Ended.{told_err}
@@ -17,11 +14,6 @@ pub returns-in_err-write_line-clause-err : goal.returns-in_err-write_line-clause
 returns-in_err-write_line-clause-err g c =
     on_err c.from_residual-in_err-write_line.result _
     (part_line c.args.number (Some c.in_ok-answer.answer) _ _ c.in_err-write_line.ensures.err)
-
-pub returns-in_err-settle-clause-err : goal.returns-in_err-settle-clause-err
-returns-in_err-settle-clause-err g c =
-    on_err c.from_residual-in_err-settle.result _
-    (whole_line c.args.number (Some c.in_ok-answer.answer) _ _ c.in_ok-write_line.ensures.ok)
 
 pub returns-clause-ok : goal.returns-clause-ok
 returns-clause-ok g c =
@@ -53,6 +45,7 @@ returns-clause-ok g c =
                 seen sink c.settle.new.session behind,
                 record {
                   waits = c.requires.waits;
+                  behind = c.reel.new.self.core;
                   answers = c.in_ok-answer.ensures.answer;
                   reeled = noted back c.args.spares opened.had opened
                       (seen sink c.args.session.now held) mid
@@ -98,9 +91,13 @@ returns-in_err-answer-clause-left g c =
 pub returns-in_err-write_line-clause-left : goal.returns-in_err-write_line-clause-left
 returns-in_err-write_line-clause-left g c =
     on_err c.from_residual-in_err-write_line.result _ (λ held was kept.
-    nothing_left g.S.PartSink
-    c.args.back c.args.session.now c.reel.new.self held
-    (c.reel.ensures.crash held was))
+    let (now, has, (front, keeps, reeled)) = c.in_ok-answer.ensures.ok held was in
+    let still = kept_for c.args.back (seen g.S.PartSink c.args.session.now held)
+    (seen g.S.PartSink c.reel.new.self now) keeps kept in
+    left_then g.S.PartSink
+    c.args.back c.args.session.now c.reel.new.self c.settle.new.session held
+    now c.in_ok-answer.ensures.notes front kept (c.reel.ensures.crash held was)
+    (c.settle.ensures.left now has still))
 
 pub returns-in_err-settle-clause-left : goal.returns-in_err-settle-clause-left
 returns-in_err-settle-clause-left g c =
@@ -111,4 +108,4 @@ returns-in_err-settle-clause-left g c =
     left_then g.S.PartSink
     c.args.back c.args.session.now c.reel.new.self c.settle.new.session held
     now c.in_ok-answer.ensures.notes front kept (c.reel.ensures.crash held was)
-    (c.in_err-settle.ensures.left now has still))
+    (c.settle.ensures.left now has still))

@@ -15,7 +15,7 @@ returns-then-ends_section-clause-ok g c =
     (λ held was.
     let (now, has, (front, keeps, reeled)) = c.in_ok-answer.ensures.ok held was in
     (now, has, reeled))
-    (held_front had left core answer c.file_key-file.result
+    (held_front had left core c.reel.new.self.core answer c.file_key-file.result
     (not_finished core.position c.requires.waits)
     (c.file_key-file.ensures.set_id ∙ c.reel.ensures.file.0)
     (c.file_key-file.ensures.file ∙ c.reel.ensures.file.1) c.if-ends_section.ensures.yes

@@ -17,7 +17,7 @@ returns-then-ends_section-clause-ok g c whole before =
     (λ held was.
     let (now, has, (front, keeps, reeled)) = c.in_ok-answer.ensures.ok held was in
     (now, has, reeled))
-    (held_on whole had left core answer c.args.held.file c.file_key-file.result waits
+    (held_on whole had left core c.reel_behind.new.self.core answer c.args.held.file c.file_key-file.result waits
     c.requires.same_set c.requires.later
     (c.file_key-file.ensures.set_id ∙ c.reel_behind.ensures.file.0)
     (c.file_key-file.ensures.file ∙ c.reel_behind.ensures.file.1) c.if-ends_section.ensures.yes before

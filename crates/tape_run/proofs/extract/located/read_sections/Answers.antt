@@ -1,88 +1,152 @@
-use Rattle.std.proofs.Common.{◌≡◌, ◌≢◌, inl, inr, refl, sym, subst, ap, ◌∙◌, arith, rules}
-use Rattle.std.specs.Prelude.{not, true, false, Some, None}
+use Rattle.std.proofs.Common.{◌≡◌, ℕ, inl, inr, refl, sym, subst, ap, ◌∙◌, arith, rules}
+use Rattle.std.specs.Prelude.{not, is_some, true, false, List, Option, Some, None}
 use Rattle.std.specs.Map.{lookup}
 use Rattle.tape_set.specs.Position.{want_at}
-use Rattle.tape_set.specs.declared.position.Position.TheVariants.{Awaits}
+use Rattle.tape_set.specs.declared.position.Want.{Want}
+use Rattle.tape_core.specs.State.{State}
 use Rattle.tape_run.specs.Lacks.{key_at}
 use Rattle.tape_run.specs.Noted.{same_key}
-use Rattle.tape_run.specs.ExtractingLocated.{IsHeld, held_behind}
+use Rattle.tape_run.specs.ExtractingLocated.{IsHeld, BeginsOn, NextBeginsOn, held_behind}
+use Rattle.tape_run.specs.SurveyLocations.{Located}
+use Rattle.tape_run.specs.declared.survey.files.FileKey.{FileKey}
 use Rattle.tape_run.proofs.Located.{nothing_read, section_read, read_some, section_failed}
+use Rattle.tape_run.proofs.Located.{nothing_open, read_open, located_open}
 use Rattle.tape_run.proofs.Located.{sections_read, not_none, is_none_then, wanted_sect}
 use Rattle.tape_run.proofs.extract.located.read_sections.Goals as goal
 
-pub sections-init : goal.sections-init
-sections-init g c whole held = (
-  nothing_read g.S.PartSink g.L.ImageSource.gives g.R.Read.remaining c.args.session.now
-      c.args.images.now whole c.args.mounted.now held,
-  λ some. absurd (omega arith),
+-- the image found for the expected section is that of the missing section, if any
+next_on : (entries : List Located) (core : State) (key : FileKey) (want : Want)
+    (image : Option ℕ) → key.set_id ≡ core.set_id → key.file ≡ core.file
+    → Some want ≡ want_at core.file core.position
+    → lookup (same_key (key_at key.set_id key.file want.sect)) entries ≡ image
+    → NextBeginsOn entries core image
+next_on entries core key want image set file wants found = λ sect block part at.
+    let is : want.sect ≡ sect = ap wanted_sect (wants ∙ ap (want_at core.file) at) in
+    ap (λ k. lookup (same_key k) entries)
+    (ap (λ x. key_at x core.file sect) (sym set) ∙ ap (λ x. key_at key.set_id x sect) (sym file)
+    ∙ ap (λ x. key_at key.set_id key.file x) (sym is)) ∙ found
+
+-- on that image a section of the file begins
+begins_on : (entries : List Located) (core first : State) (key : FileKey) (sect image : ℕ)
+    → key.set_id ≡ core.set_id → key.file ≡ core.file → core.set_id ≡ first.set_id
+    → core.file ≡ first.file
+    → lookup (same_key (key_at key.set_id key.file sect)) entries ≡ Some image
+    → BeginsOn entries first image
+begins_on entries core first key sect image set file same_set same_file found = (
+  sect,
+  ap (λ k. lookup (same_key k) entries)
+      (ap (λ x. key_at x first.file sect) (sym (set ∙ same_set))
+      ∙ ap (λ x. key_at key.set_id x sect) (sym (file ∙ same_file))) ∙ found,
 )
 
+pub sections-init : goal.sections-init
+sections-init g c = record {
+  set_id = refl;
+  file = refl;
+  reads = λ whole held. (
+    nothing_read g.S.PartSink _ g.L.ImageSource.gives g.R.Read.remaining c.args.session.now
+        c.args.images.now (is_some c.args.mounted.now) whole c.args.mounted.now held,
+    nothing_open g.S.PartSink _ g.L.ImageSource.gives g.R.Read.remaining c.args.session.now
+        c.args.images.now (is_some c.args.mounted.now) whole c.args.mounted.now held,
+    λ some. absurd (omega arith),
+  );
+}
+
 pub sections-preserved : goal.sections-preserved
-sections-preserved g c whole held =
-    let s = (c.sections.invariant whole held).0 in
-    let reads = c.in_ok-mounted.ensures.ok (held_behind whole s.stretches)
-    (subst (λ m. IsHeld g.R.Read.remaining m (held_behind whole s.stretches))
-    (sym c.take-held.ensures.value) s.held) in
-    let some = not_none _ (c.is_none.ensures ∙ ap not c.if-is_none.false) in (
-      section_read g.S.PartSink g.L.ImageSource.gives g.R.Read.remaining c.args.session.now
-          c.sections.session c.read_section.new.session c.args.images.now c.sections.images
-          c.read_section.new.images whole c.sections.mounted _ s reads some,
-      λ _. read_some g.S.PartSink g.L.ImageSource.gives g.R.Read.remaining c.args.session.now
-          c.sections.session c.read_section.new.session c.args.images.now c.sections.images
-          c.read_section.new.images whole c.sections.mounted _ s reads some,
-    )
+sections-preserved g c =
+    let inv = c.sections.invariant in
+    let on = begins_on c.args.locations.now.entries c.sections.session.core c.args.session.now.core
+    c.file_key-set_id.result c.in-Some.want.sect c.in-Some-get.field-0.now
+    c.file_key-set_id.ensures.set_id c.file_key-set_id.ensures.file inv.set_id inv.file
+    (search rules) in
+    let some = not_none _ (c.is_none.ensures ∙ ap not c.if-is_none.false) in
+    record {
+      set_id = c.in_ok-mounted.ensures.file.0 ∙ inv.set_id;
+      file = c.in_ok-mounted.ensures.file.1 ∙ inv.file;
+      reads = λ whole held.
+          let (s, is_open, more) = inv.reads whole held in
+          let reads = located_open g.S.PartSink g.L.ImageSource.gives g.R.Read.remaining
+          c.in-Some-get.field-0.now c.sections.session c.read_section.new.session c.sections.images
+          c.read_section.new.images _ _ (held_behind whole s.stretches) _
+          (ap is_some c.take-held.ensures.value ∙ is_open)
+          (c.in_ok-mounted.ensures.ok (held_behind whole s.stretches)
+          (subst (λ m. IsHeld g.R.Read.remaining m (held_behind whole s.stretches))
+          (sym c.take-held.ensures.value) s.held)) in (
+            section_read g.S.PartSink _ g.L.ImageSource.gives g.R.Read.remaining
+                c.args.session.now c.sections.session c.read_section.new.session
+                c.args.images.now c.sections.images c.read_section.new.images
+                (is_some c.args.mounted.now) whole
+                c.sections.mounted _ s c.in-Some-get.field-0.now on reads some,
+            c.is_none.ensures ∙ ap not c.if-is_none.false
+                ∙ sym (read_open g.S.PartSink _ g.L.ImageSource.gives g.R.Read.remaining
+                c.args.session.now c.sections.session c.read_section.new.session
+                c.args.images.now c.sections.images c.read_section.new.images
+                (is_some c.args.mounted.now) whole
+                c.sections.mounted _ s c.in-Some-get.field-0.now on reads some),
+            λ _. read_some g.S.PartSink _ g.L.ImageSource.gives g.R.Read.remaining
+                c.args.session.now c.sections.session c.read_section.new.session
+                c.args.images.now c.sections.images c.read_section.new.images
+                (is_some c.args.mounted.now) whole
+                c.sections.mounted _ s c.in-Some-get.field-0.now on reads some,
+          );
+    }
 
 pub returns-then-is_none-clause-ok : goal.returns-then-is_none-clause-ok
 returns-then-is_none-clause-ok g c whole held =
-    let s = (c.sections.invariant whole held).0 in
+    let inv = c.sections.invariant in
+    let (s, is_open, more) = inv.reads whole held in
+    let key = c.file_key-set_id.ensures in
     let none = is_none_then _ (c.is_none.ensures ∙ ap not c.if-is_none.true) in
     section_failed g.S.PartSink g.L.ImageSource.gives g.R.Read.remaining
     c.args.locations.now.entries c.args.session.now
     c.sections.session c.read_section.new.session c.args.images.now c.sections.images
-    c.read_section.new.images whole c.sections.mounted _ s
+    c.read_section.new.images (is_some c.args.mounted.now) whole c.sections.mounted _ s
+    c.in-Some-get.field-0.now
+    (begins_on c.args.locations.now.entries c.sections.session.core c.args.session.now.core
+    c.file_key-set_id.result c.in-Some.want.sect c.in-Some-get.field-0.now key.set_id key.file
+    inv.set_id inv.file (search rules))
+    (next_on c.args.locations.now.entries c.sections.session.core c.file_key-set_id.result
+    c.in-Some.want (Some c.in-Some-get.field-0.now) key.set_id key.file
+    (sym c.in-Some.is ∙ c.want.ensures) (search rules))
+    (located_open g.S.PartSink g.L.ImageSource.gives g.R.Read.remaining
+    c.in-Some-get.field-0.now c.sections.session c.read_section.new.session c.sections.images
+    c.read_section.new.images _ _ (held_behind whole s.stretches) _
+    (ap is_some c.take-held.ensures.value ∙ is_open)
     (c.in_ok-mounted.ensures.ok (held_behind whole s.stretches)
     (subst (λ m. IsHeld g.R.Read.remaining m (held_behind whole s.stretches))
-    (sym c.take-held.ensures.value) s.held))
+    (sym c.take-held.ensures.value) s.held)))
     none (c.in_ok-mounted.ensures.unfinished none)
 
 pub returns-then-from-next-clause-ok : goal.returns-then-from-next-clause-ok
 returns-then-from-next-clause-ok g c whole held =
-    let (s, some) = c.sections.invariant whole held in
+    let (s, is_open, some) = c.sections.invariant.reads whole held in
     sections_read g.S.PartSink g.L.ImageSource.gives g.R.Read.remaining
     c.args.locations.now.entries false c.args.session.now
-    c.sections.session c.args.images.now c.sections.images c.sections.images whole
-    c.sections.mounted c.sections.mounted s (inl refl) s.held
-    (search rules, inr (inl (some (omega arith))))
+    c.sections.session c.args.images.now c.sections.images c.sections.images
+    (is_some c.args.mounted.now) whole c.sections.mounted c.sections.mounted s s.held
+    (search rules, inl (refl, inr (some (omega arith))))
 
 pub returns-in_default-get-clause-ok : goal.returns-in_default-get-clause-ok
 returns-in_default-get-clause-ok g c whole held =
-    let s = (c.sections.invariant whole held).0 in
+    let s = (c.sections.invariant.reads whole held).0 in
     sections_read g.S.PartSink g.L.ImageSource.gives g.R.Read.remaining
     c.args.locations.now.entries false c.args.session.now
-    c.sections.session c.args.images.now c.sections.images c.sections.images whole
-    c.sections.mounted c.sections.mounted s (inl refl) s.held (
+    c.sections.session c.args.images.now c.sections.images c.sections.images
+    (is_some c.args.mounted.now) whole c.sections.mounted c.sections.mounted s s.held (
       search rules,
-      inl (λ sect number part at.
-          let core = c.sections.session.core in
-          let none : lookup (same_key (key_at c.file_key-set_id.result.set_id
-          c.file_key-set_id.result.file c.in-Some.want.sect)) c.args.locations.now.entries ≡ None =
-          search rules in
-          let wants : Some c.in-Some.want ≡ want_at core.file (Awaits sect number part) =
-          sym c.in-Some.is ∙ c.want.ensures ∙ ap (want_at core.file) at in
-          let is : c.in-Some.want.sect ≡ sect = ap wanted_sect wants in
-          let key = c.file_key-set_id.result in
-          let same : key_at core.set_id core.file sect ≡ key_at key.set_id key.file c.in-Some.want.sect
-          = ap (λ x. key_at x core.file sect) (sym c.file_key-set_id.ensures.set_id)
-          ∙ ap (λ x. key_at key.set_id x sect) (sym c.file_key-set_id.ensures.file)
-          ∙ ap (λ x. key_at key.set_id key.file x) (sym is) in
-          ap (λ k. lookup (same_key k) c.args.locations.now.entries) same ∙ none),
+      inl (
+        refl,
+        inl (next_on c.args.locations.now.entries c.sections.session.core
+            c.file_key-set_id.result c.in-Some.want None c.file_key-set_id.ensures.set_id
+            c.file_key-set_id.ensures.file (sym c.in-Some.is ∙ c.want.ensures) (search rules)),
+      ),
     )
 
 pub returns-clause-ok : goal.returns-clause-ok
 returns-clause-ok g c whole held =
-    let s = (c.sections.invariant whole held).0 in
+    let s = (c.sections.invariant.reads whole held).0 in
     sections_read g.S.PartSink g.L.ImageSource.gives g.R.Read.remaining
     c.args.locations.now.entries true c.args.session.now
-    c.sections.session c.args.images.now c.sections.images c.sections.images whole
-    c.sections.mounted c.sections.mounted s (inl refl) s.held
-    (search rules)
+    c.sections.session c.args.images.now c.sections.images c.sections.images
+    (is_some c.args.mounted.now) whole c.sections.mounted c.sections.mounted s s.held
+    (search rules, refl)

@@ -9,6 +9,29 @@ use Rattle.tape_run.specs.Puts.{refused_point}
 use Rattle.tape_run.proofs.Places.{shape_fits, from_taken, refused_set, refused_file}
 use Rattle.tape_run.proofs.reel_reader.ReelReader.put_block.Goals as goal
 
+pub returns-in-Err-clause-stops : goal.returns-in-Err-clause-stops
+returns-in-Err-clause-stops g c =
+    let behind = rest_of c.args.self.now.core in
+    let before = c.args.before.now in
+    let n = c.in-Err.refused.part in
+    let begun = c.in-Err.refused.begun in
+    let first : c.part_of-first.result ≡ part_of before.position =
+    c.part_of-first.ensures ∙ ap (λ (z : Point). part_of z.position) c.before-2.view_is in
+    let point_is : c.refused_point-point.result ≡ refused_point before (saved behind 0) n begun =
+    c.refused_point-point.ensures
+    ∙ ap (λ (z : Point). refused_point before z n begun) c.save-after.ensures.value in
+    let is_set = ap (λ (z : Point). z.set_id) point_is
+    ∙ refused_set before (saved behind 0) n _ behind.set_id c.requires.same_set refl in
+    let is_file = ap (λ (z : Point). z.file) point_is
+    ∙ refused_file before (saved behind 0) n _ behind.file c.requires.same_file refl in (
+      n,
+      begun,
+      subst (λ (f : ℕ). f ≤ n) first c.in-Err.ensures.within.0,
+      from_taken c.restart.result _ c.restart.ensures.there
+          (c.restart.ensures.taken is_set is_file)
+          ∙ ap place_of point_is,
+    )
+
 pub returns-in-Err-clause-err : goal.returns-in-Err-clause-err
 returns-in-Err-clause-err g c = λ held parts k known_is h was.
     let behind = rest_of c.args.self.now.core in

@@ -15,7 +15,7 @@ use Rattle.tape_run.proofs.reel_reader.ReelReader.read.Given.{Over}
 use Rattle.tape_run.proofs.reel_reader.ReelReader.read.Goals.{In_ok-answer}
 use Rattle.tape_run.proofs.reel_reader.ReelReader.read.Goals as goal
 
--- the core processed the event, and the sink what it delivers
+-- the core processed the event, and the sink the parts that it delivered
 took : (g : Over) (c : In_ok-answer g) → Grows (g.S.PartSink.holds c.items.self.sink)
     (g.S.PartSink.holds c.take.new.self.sink) (IsTaken (arrival c.event_of-fault.result.0)
     c.in_ok-answer.answer c.items.self.core c.take.new.self.core)
@@ -70,7 +70,8 @@ items-preserved g c =
 
 pub returns-in_err-answer-clause-err : goal.returns-in_err-answer-clause-err
 returns-in_err-answer-clause-err g c =
-    let (content, is, gives, delivers) = block_given _ _ _ _ _ c.event_of-fault.ensures.comes
+    let (content, is, gives, delivers, stops) = block_given _ _ _ _ _ _
+    c.event_of-fault.ensures.comes
     c.in_err-answer.ensures.delivery
     (from_going _ _ _ c.next.follows.holds-at-none c.items.invariant.on) in
     on_err c.from_residual.result _ (λ held was.
@@ -82,11 +83,12 @@ returns-in_err-answer-clause-err g c =
 
 pub returns-in_err-answer-clause-taken : goal.returns-in_err-answer-clause-taken
 returns-in_err-answer-clause-taken g c =
-    let (content, is, gives, delivers) = block_given _ _ _ _ _ c.event_of-fault.ensures.comes
+    let (content, is, gives, delivers, stops) = block_given _ _ _ _ _ _
+    c.event_of-fault.ensures.comes
     c.in_err-answer.ensures.delivery
     (from_going _ _ _ c.next.follows.holds-at-none c.items.invariant.on) in
-    on_err c.from_residual.result _ (reads_to_block _ _ _ c.args.image.now.left
-    c.items.invariant.answers gives delivers)
+    on_err c.from_residual.result _ (reads_to_block _ _ _ c.args.image.now.left _
+    c.items.invariant.answers gives delivers stops)
 
 pub returns-in_err-answer-clause-crash : goal.returns-in_err-answer-clause-crash
 returns-in_err-answer-clause-crash g c =

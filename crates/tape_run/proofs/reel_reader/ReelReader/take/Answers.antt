@@ -1,4 +1,4 @@
-use Rattle.std.proofs.Common.{◌≡◌, ◌++◌, Some, take, drop, sym, ap, subst, ◌∙◌, refl}
+use Rattle.std.proofs.Common.{◌≡◌, ◌≤◌, ◌++◌, Some, take, drop, sym, ap, subst, ◌∙◌, refl}
 use Rattle.tape_blocks.specs.Judged.{begun_behind}
 use Rattle.tape_image.specs.Tape.{block}
 use Rattle.tape_set.specs.Position.{part_of}
@@ -6,7 +6,7 @@ use Rattle.tape_core.specs.Arrive.{arrival}
 use Rattle.tape_core.specs.Place.{place_of, rest_of}
 use Rattle.tape_core.specs.Point.{Point}
 use Rattle.tape_core.specs.State.{State}
-use Rattle.tape_core.specs.Table.{saved}
+use Rattle.tape_core.specs.Table.{Outcome, saved}
 use Rattle.tape_run.specs.Puts.{refused_point}
 use Rattle.tape_run.specs.Taking.{TakesItem}
 use Rattle.tape_run.proofs.ByTable.{puts_delivered, puts_none, puts_front}
@@ -18,6 +18,28 @@ use Rattle.tape_run.proofs.Places.{no_block}
 use Rattle.tape_image.proofs.Pieces.{on_err}
 use Rattle.tape_run.proofs.Taken.{checked_parts, takes_other, takes_block, refuses_block}
 use Rattle.tape_run.proofs.reel_reader.ReelReader.take.Goals as goal
+
+pub returns-in_err-put_block-clause-delivery : goal.returns-in_err-put_block-clause-delivery
+returns-in_err-put_block-clause-delivery g c =
+    let core = c.args.self.now.core in
+    let mid = c.step-answer.new.self in
+    let step = c.step-answer.ensures.table in
+    let saved_is = c.save-before.ensures.value in
+    let (part, begun, from, there) = c.in_err-put_block.ensures.stops in
+    on_err c.from_residual.result _ (
+      c.in-Block.block.now,
+      ap arrival c.in-Block.is,
+      sym (ap (λ (z : Outcome). z.0) step) ∙ c.in-Deliver.is,
+      (
+        part,
+        begun,
+        subst (λ (z : Point). part_of z.position ≤ part) saved_is from,
+        there
+            ∙ (ap (λ (z : Point). place_of (refused_point z (saved mid 0) part begun)) saved_is
+            ∙ ap (λ (z : Outcome). place_of (refused_point (saved core 0) (saved z.1 0) part begun))
+            step),
+      ),
+    )
 
 pub returns-in_err-put_block-clause-err : goal.returns-in_err-put_block-clause-err
 returns-in_err-put_block-clause-err g c = on_err c.from_residual.result _ (λ held was.
@@ -73,7 +95,7 @@ returns-in_ok-put_block-clause-ok g c = λ held was.
           held),
     )
 
--- what is delivered is a block
+-- the event that delivers parts is a block
 pub returns-in_default-event : goal.returns-in_default-event
 returns-in_default-event g c =
     let checked = checked_of (arrival c.args.event) c.args.self.now.core c.step-answer.new.self

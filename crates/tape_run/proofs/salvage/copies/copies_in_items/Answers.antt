@@ -6,7 +6,7 @@ use Rattle.tape_run.specs.SalvageCopies.{of_file}
 use Rattle.tape_run.proofs.SalvageSeen.{starts, one_more, at_end, at_fault}
 use Rattle.tape_run.proofs.salvage.copies.copies_in_items.Goals as goal
 
--- what follows from what an Ok leaves
+-- a consequence of the state after an Ok
 on_ok : {A E P Q : Type 0} (r : Result A E) → (P → Q) → OnOk r P → OnOk r Q
 on_ok (Ok x) f h = f h
 on_ok (Err e) f h = tt

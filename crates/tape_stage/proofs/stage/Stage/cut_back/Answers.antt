@@ -1,11 +1,12 @@
-use Rattle.std.proofs.Common.{◌≡◌, true, false, rules, subst, sym}
+use Rattle.std.proofs.Common.{◌≡◌, ◌∙◌, true, false, rules, subst, sym, Result, Ok, Err}
+use Rattle.std.specs.Prelude.{IfErr}
 use Rattle.tape_core.specs.Point.{Point}
 use Rattle.tape_stage.specs.Parts.{IsFront}
 use Rattle.tape_stage.proofs.Results.{on_ok, if_err}
 use Rattle.tape_stage.specs.declared.disk.Disk.{Ghosts}
 use Rattle.tape_stage.specs.declared.stage.Stage.{Stage}
 use Rattle.tape_stage.specs.declared.stage.StageFault.{StageFault}
-use Rattle.tape_stage.specs.declared.stage.StageFault.TheVariants.{Device}
+use Rattle.tape_stage.specs.declared.stage.StageFault.TheVariants.{Device, Full}
 use Rattle.tape_stage.specs.Stages.{HasRefused}
 use Rattle.tape_stage.proofs.stage.Stage.cut_back.Goals as goal
 
@@ -38,3 +39,16 @@ returns-then-self-staged-clause-ends g c = record {
   honest = search rules;
   back = search rules;
 }
+
+-- cutting parts off fails by the disk alone
+not_full : (result : Result (Unit {0}) StageFault) → IfErr result (λ fault. fault ≡ Device)
+    → result ≡ Err Full → ⊥
+not_full (Ok done) h full = absurd (cc full)
+not_full (Err fault) h full =
+    let same : fault ≡ Full = cc full in
+    let device : Full ≡ Device = sym same ∙ h in
+    absurd (cc device)
+
+pub returns-then-self-staged-clause-full : goal.returns-then-self-staged-clause-full
+returns-then-self-staged-clause-full g c full = absurd (not_full c.cut_parts.result
+    (if_err c.cut_parts.result (λ fault is. is.0) c.cut_parts.ensures.refused) full)

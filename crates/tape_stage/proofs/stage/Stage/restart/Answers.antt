@@ -45,7 +45,7 @@ returns-in-Ok-clause-any_moment g c honest acked parts front is of =
     inr (rw (point, c.in-Ok.ensures.generation, c.in-Ok.ensures.slot) at now))
     (c.cut_parts.ensures.any_moment honest1 front parts mid))
 
--- a failed cut, since the acknowledged stage
+-- a cut that failed after the checkpoint was acknowledged
 cut_refused : {D : Type 0} {disk : Ghosts D} (old mid new : Stage D disk) (fault : StageFault)
     → old.failed ≡ false → mid.weight ≡ old.weight → (fault ≡ Device) × (new.failed ≡ true)
     × (new.weight ≡ mid.weight) → HasRefused old new fault

@@ -53,7 +53,7 @@ pub returns-in_err-write_at-clause-kept : goal.returns-in_err-write_at-clause-ke
 returns-in_err-write_at-clause-kept g c honest =
     torn_keeps c.args.place _ _ _ _ (omega arith) (c.in_err-write_at.ensures.partly honest)
 
--- whether it was written or not
+-- whether or not the bytes were written
 torn_either : {A B : Type 0} (r : Result A B) (place : ℕ) (bytes old new : List ℕ)
     → place ≤ length old → OnOk r (Holds old place bytes new)
     → OnErr r (Torn place (length bytes) old new) → Torn place (length bytes) old new

@@ -7,13 +7,13 @@ use Rattle.std.specs.Prelude.{◌↔◌, IfSome, IsTrue}
 use Rattle.tape_image.specs.Device.{Fills}
 use Rattle.tape_writer.proofs.system.opening.is_blank.Goals as goal
 
--- what was read is all that the reader had, if there was room for more
+-- the bytes read are all bytes of the reader, if the buffer had room for more
 all_taken : (xs ys buffer : List ℕ) (n : ℕ) → Fills (Some xs) (Some ys) buffer n
     → n < length buffer → take n buffer ≡ xs
 all_taken xs ys buffer n fills short = sym (fills.taken
     ∙ ap (λ rest. take n buffer ++ rest) (fills.short short) ∙ append-nil (take n buffer))
 
--- so it is a shorter image exactly if the reader had exactly that
+-- so they are equal to a shorter image exactly if the reader's bytes are
 is_image : (told : Bool) (old new : Option (List ℕ)) (buffer : List ℕ) (n : ℕ)
     (slice image : List ℕ) → (IsTrue told ↔ (take n buffer ≡ slice)) → slice ≡ image
     → Fills old new buffer n → length slice < length buffer

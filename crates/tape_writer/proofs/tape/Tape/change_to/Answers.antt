@@ -1,4 +1,4 @@
--- A section's end and the next volume, or a prefix of them.
+-- The end of a section and the beginning of the next volume, or a prefix of them.
 use Rattle.std.proofs.Common.{◌++◌, ◌∷◌, [], ◌+◌, List, false, subst, ap, ◌∙◌}
 use Rattle.tape_image.specs.Tape.{TapeItem, block, mark}
 use Rattle.tape_writer.specs.Tapes.{UnderWay}

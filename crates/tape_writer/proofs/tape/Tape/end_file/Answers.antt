@@ -1,4 +1,4 @@
--- A file's last block and its end, in the current section, and after a change.
+-- The last block and the end of a file, in the current section or after a change of the volume.
 use Rattle.std.proofs.Common.{rules, arith, refl, true, sym, subst, inl}
 use Rattle.std.specs.Prelude.{Ok, Err}
 use Rattle.std.proofs.lemmas.Result.{err_from_is_err_and}

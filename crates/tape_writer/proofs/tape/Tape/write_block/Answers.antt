@@ -1,4 +1,4 @@
--- A block in the current section, and one after a change.
+-- A block in the current section or after a change of the volume.
 use Rattle.std.proofs.Common.{rules, arith, refl, ◌∷◌, []}
 use Rattle.std.specs.Prelude.{Ok}
 use Rattle.tape_image.specs.Tape.{block}

@@ -7,7 +7,7 @@ use Rattle.tape_stage.proofs.HoldingLaws.{begun_stays, begun_allows}
 use Rattle.tape_stage.proofs.Results.{on_ok}
 use Rattle.tape_stage.proofs.disk.write_behind.WriteBehindDisk.write_at.Goals as goal
 
--- ---- added to those that are held
+-- ---- bytes appended to the buffer
 
 pub returns-then-continues-clause-written : goal.returns-then-continues-clause-written
 returns-then-continues-clause-written g c honest =
@@ -41,7 +41,7 @@ returns-then-continues-clause-time g c honest =
     same_elapses g.D.Disk.moment g.D.Disk.left_since g.D.Disk.may_leave _ _ _ _ _ _ _ _ added.disk
     added.start added.bytes (more_elapses _ _ _ _ _ c.args.bytes.now)
 
--- ---- passed on, and held anew
+-- ---- the buffer written, and then bytes buffered
 
 pub returns-in_err-pass_on-clause-crash : goal.returns-in_err-pass_on-clause-crash
 returns-in_err-pass_on-clause-crash g c honest x left = (
@@ -64,7 +64,7 @@ returns-clause-any g c honest =
     begun_allows g.D.Disk.may_leave _ _ _ _ _ _ _ _ _ passed.empty added.disk added.start
     added.bytes (passed.stays honest)
 
--- ---- passed on, and more written than is ever held
+-- ---- the buffer written, and then more bytes than fit in it
 
 pub returns-then-not-fits-clause-stays : goal.returns-then-not-fits-clause-stays
 returns-then-not-fits-clause-stays g c honest =

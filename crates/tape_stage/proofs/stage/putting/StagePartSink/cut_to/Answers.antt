@@ -7,7 +7,7 @@ use Rattle.tape_stage.proofs.Held.{stage_holds}
 use Rattle.tape_stage.proofs.Backs.{adds_this, adds_refused}
 use Rattle.tape_stage.proofs.stage.putting.StagePartSink.cut_to.Goals as goal
 
--- parts that precede others are the first of them, up to their weight
+-- parts that precede others are the first parts of their weight
 front_of : (staged : ℕ) (front rest : List Portion) → weight_of front ≡ staged
     → IsFront staged front (front ++ rest)
 front_of staged front rest weighs = record { rest = rest; whole = refl; weighs = weighs }

@@ -9,7 +9,7 @@ use Rattle.tape_stage.specs.Stages.{Returns}
 use Rattle.tape_stage.proofs.Backs.{returned_kept, returned_now, adds_this, adds_refused}
 use Rattle.tape_stage.proofs.stage.putting.StagePartSink.keep.Goals as goal
 
--- what is being saved is a checkpoint
+-- there is a pending checkpoint while one is being saved
 saved_none : {pending : Option Point} {point : Point} → pending ≡ Some point → pending ≡ None → ⊥
 saved_none some none = cc
 

@@ -1,0 +1,302 @@
+//! The two files that `unpack --salvage` writes for an incomplete file: its readable records, and
+//! the report of its gaps. The last line of the report has the sums of both, so that a later run
+//! replaces or removes them only if they are unchanged.
+
+ghost use Rattle.std.specs.Prelude.{None};
+
+use super::last_line::LastLine;
+use crate::extract::{Draft, DraftFile, HELD};
+use crate::fault::{FileFault, OUT_OF_MEMORY, ToolFault};
+use crate::host::Host;
+use crate::images::Images;
+use crate::left::remove;
+use crate::program::{End, check_end};
+use crate::refusal::FileId;
+use hex::encode;
+use sha2::{Digest, Sha256};
+use std::alloc::{AllocError, Global};
+use std::fs::File;
+use std::io::{BufWriter, Read, Write};
+use std::{fs, io};
+use tape_run::{Place, SalvageTask, WriteFailed, flush, name_text, salvage_to, write_text};
+use tape_writer::system::found;
+
+/// The length of the last line of a report: `SUMS`, two sums of 64 digits, two spaces and a line
+/// feed.
+const SUMS: usize = 135;
+
+/// The number of bytes of one read.
+const PIECE: usize = 4_096;
+
+/// The paths of the records and of the report of a file.
+#[derive(Drop)]
+pub struct Salvaged {
+    records: String,
+    report: String,
+}
+
+/// The files at the two paths.
+#[derive(Clone, Copy)]
+enum Earlier {
+    Nothing,
+    /// The files that an earlier run left there, unchanged.
+    Own(FileId, FileId),
+    Other,
+}
+
+/// A new file, with the sum of its bytes and with its last line.
+#[derive(Drop)]
+struct Summed {
+    out: BufWriter<DraftFile>,
+    sum: Sha256,
+    last: LastLine,
+}
+
+impl Summed {
+    /// Buffers the bytes that are written to this file, and adds them to the sum.
+    fn new(alloc: Global, file: DraftFile) -> Result<Summed, End> {
+        match BufWriter::with_capacity(alloc, HELD, file) {
+            Ok(out) => Ok(Summed {
+                out,
+                sum: Sha256::new(),
+                last: LastLine::new(),
+            }),
+            Err(_) => Err(End::Faulted(OUT_OF_MEMORY)),
+        }
+    }
+}
+
+impl Write for Summed {
+    fn write(&mut self, buf: &[u8]) -> io::Result<usize> {
+        let count = self.out.write(buf)?;
+        if let Some(written) = buf.get(..count) {
+            self.sum.update(written);
+            self.last.write_all(written)?;
+        }
+        Ok(count)
+    }
+
+    fn flush(&mut self) -> io::Result<()> {
+        self.out.flush()
+    }
+}
+
+/// A place that keeps a file without giving it a name.
+#[derive(Drop)]
+struct Kept(Option<Summed>);
+
+impl Place<Summed> for Kept {
+    ghost stands = { λ _. None };
+
+    fn place(&mut self, out: Summed) -> Result<(), WriteFailed> {
+        self.0 = Some(out);
+        Ok(())
+    }
+}
+
+impl Salvaged {
+    /// Returns the paths for the file with this path.
+    pub fn of(alloc: Global, out: &str) -> Result<Salvaged, AllocError> {
+        Ok(Salvaged {
+            records: format!(in alloc; "{out}.salvaged")?,
+            report: format!(in alloc; "{out}.gaps")?,
+        })
+    }
+
+    /// Returns the path of the records.
+    pub fn path(&self) -> &str {
+        self.records.as_str()
+    }
+
+    /// Writes the readable records of a file on the images with these names, and remembers the last
+    /// line of `salvage`. Ends with `Exists` if a file at one of the paths was not left there by an
+    /// earlier run, unchanged.
+    pub fn write<R: Host>(
+        &self,
+        rt: &R,
+        task: &SalvageTask,
+        names: &[&str],
+        last: &mut LastLine,
+    ) -> End {
+        let (records, report) = match self.earlier(rt) {
+            Ok(Earlier::Nothing) => (None, None),
+            Ok(Earlier::Own(records, report)) => (Some(records), Some(report)),
+            Ok(Earlier::Other) => return End::Faulted(ToolFault::File(FileFault::Exists)),
+            Err(fault) => return End::Faulted(fault),
+        };
+        let Draft { mut name, file } = match draft(rt, self.records.as_str(), records) {
+            Ok(draft) => draft,
+            Err(fault) => return End::Faulted(fault),
+        };
+        let end = match draft(rt, self.report.as_str(), report) {
+            Ok(
+                Draft {
+                    name: mut of_report,
+                    file: lines,
+                },
+            ) => {
+                let end = match written(rt, task, names, file, lines, last) {
+                    Ok((records, report)) => end_placed(
+                        of_report.place(report).and_then(|()| name.place(records)),
+                    ),
+                    Err(end) => end,
+                };
+                of_report.ended(end)
+            }
+            Err(fault) => End::Faulted(fault),
+        };
+        name.ended(end)
+    }
+
+    /// Removes the files that an earlier run left there, unless they have changed since then.
+    pub fn remove<R: Host>(&self, rt: &R) -> Result<(), ToolFault> {
+        if let Earlier::Own(_, _) = self.earlier(rt)? {
+            remove(rt, self.report.as_str());
+            remove(rt, self.records.as_str());
+        }
+        Ok(())
+    }
+
+    /// Returns which files have the two paths.
+    fn earlier<R: Host>(&self, rt: &R) -> Result<Earlier, ToolFault> {
+        let records = found(fs::symlink_metadata(rt, self.records.as_str()))?;
+        let report = found(fs::symlink_metadata(rt, self.report.as_str()))?;
+        let (Some(records), Some(report)) = (&records, &report) else {
+            return Ok(match (records, report) {
+                (None, None) => Earlier::Nothing,
+                _ => Earlier::Other,
+            });
+        };
+        if records.is_file() && report.is_file() && self.is_own(rt, records.len(), report.len())? {
+            return Ok(Earlier::Own(FileId::of(records), FileId::of(report)));
+        }
+        Ok(Earlier::Other)
+    }
+
+    /// Returns whether the last line of the report has the sums of both files, given their lengths.
+    fn is_own<R: Host>(&self, rt: &R, records: u64, report: u64) -> Result<bool, ToolFault> {
+        let Some(lines) = report.checked_sub(SUMS as u64) else {
+            return Ok(false);
+        };
+        let mut file = opened(rt, self.report.as_str())?;
+        let of_lines = sum_of(&mut file, lines)?;
+        let mut last = [0; SUMS];
+        read_all(&mut file, &mut last)?;
+        let of_records = sum_of(&mut opened(rt, self.records.as_str())?, records)?;
+        match sums_line(rt.alloc(), &of_records, &of_lines) {
+            Ok(line) => Ok(last.as_slice() == line.as_bytes()),
+            Err(_) => Err(OUT_OF_MEMORY),
+        }
+    }
+}
+
+/// Creates the draft of a file that is never written in place.
+fn draft<'a, R: Host>(
+    rt: &'a R,
+    path: &'a str,
+    before: Option<FileId>,
+) -> Result<Draft<'a, R>, ToolFault> {
+    match Draft::make(rt.alloc(), rt, path, before)? {
+        Some(draft) => Ok(draft),
+        None => Err(ToolFault::File(FileFault::NotOpened)),
+    }
+}
+
+/// Writes the records and the report, which begins with the names of the images and ends with the
+/// sums, and returns both files. Neither has its name yet.
+fn written<R: Host>(
+    rt: &R,
+    task: &SalvageTask,
+    names: &[&str],
+    records: DraftFile,
+    lines: DraftFile,
+    last: &mut LastLine,
+) -> Result<(BufWriter<DraftFile>, BufWriter<DraftFile>), End> {
+    let alloc = rt.alloc();
+    let mut report = Summed::new(alloc, lines)?;
+    for (number, name) in names.iter().enumerate() {
+        let Ok(line) = image_line(alloc, number, *name) else {
+            return Err(End::Faulted(OUT_OF_MEMORY));
+        };
+        write_text(&mut report, line.as_slice()).map_err(|_| NOT_WRITTEN)?;
+    }
+    let mut kept = Kept(None);
+    let images = &mut Images::new(rt, names);
+    let out = Summed::new(alloc, records)?;
+    if let Err(fault) = salvage_to(alloc, task, images, out, &mut kept, &mut report) {
+        return Err(check_end(Err(fault)));
+    }
+    let Some(records) = kept.0 else {
+        return Err(NOT_WRITTEN);
+    };
+    let Summed {
+        mut out,
+        sum,
+        last: told,
+    } = report;
+    *last = told;
+    let Ok(line) = sums_line(alloc, &records.sum.finalize(), &sum.finalize()) else {
+        return Err(End::Faulted(OUT_OF_MEMORY));
+    };
+    write_text(&mut out, line.as_bytes()).map_err(|_| NOT_WRITTEN)?;
+    flush(&mut out).map_err(|_| NOT_WRITTEN)?;
+    Ok((records.out, out))
+}
+
+/// A file could not be written.
+const NOT_WRITTEN: End = End::Faulted(ToolFault::File(FileFault::WriteFailed));
+
+/// Returns how the unpacking of an incomplete file ends, given whether its records and their report
+/// got their names.
+fn end_placed(placed: Result<(), WriteFailed>) -> End {
+    match placed {
+        Ok(()) => End::Incomplete,
+        Err(WriteFailed) => NOT_WRITTEN,
+    }
+}
+
+/// Returns the line of the report that names an image: `FROM`, its number from 1, and its name.
+fn image_line(alloc: Global, number: usize, name: &str) -> Result<Vec<u8>, AllocError> {
+    let front = format!(in alloc; "FROM {} ", number.saturating_add(1))?;
+    let mut line = Vec::from_slice(alloc, front.as_bytes())?;
+    line.extend_from_slice(name_text(alloc, name)?.as_slice())?;
+    line.push(b'\n')?;
+    Ok(line)
+}
+
+/// Returns the last line of a report: the sums of the records, and of the lines before it.
+fn sums_line(alloc: Global, records: &[u8; 32], lines: &[u8; 32]) -> Result<String, AllocError> {
+    let records = encode(alloc, records.as_slice())?;
+    let lines = encode(alloc, lines.as_slice())?;
+    format!(in alloc; "SUMS {records} {lines}\n")
+}
+
+/// Opens a file of an earlier run.
+fn opened<R: Host>(rt: &R, path: &str) -> Result<File, ToolFault> {
+    match File::open(rt, path) {
+        Ok(file) => Ok(file),
+        Err(_) => Err(ToolFault::File(FileFault::NotOpened)),
+    }
+}
+
+/// Fills the buffer with the next bytes of a file.
+fn read_all(file: &mut File, buffer: &mut [u8]) -> Result<(), ToolFault> {
+    match file.read_exact(buffer) {
+        Ok(()) => Ok(()),
+        Err(_) => Err(ToolFault::File(FileFault::ReadFailed)),
+    }
+}
+
+/// Returns the SHA-256 of the next `length` bytes of a file.
+fn sum_of(file: &mut File, length: u64) -> Result<[u8; 32], ToolFault> {
+    let mut sum = Sha256::new();
+    let mut buffer = [0; PIECE];
+    let mut left = length;
+    for _ in 0..length.div_ceil(PIECE as u64) {
+        let room = left.min(PIECE as u64) as usize;
+        read_all(file, &mut buffer[..room])?;
+        sum.update(&buffer[..room]);
+        left = left.saturating_sub(PIECE as u64);
+    }
+    Ok(sum.finalize())
+}
