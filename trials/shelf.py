@@ -10,7 +10,8 @@ Their order is random. What can be recovered from them is calculated here too, b
 
 Three commands follow: `survey`, `unpack`, and `unpack` again with the missing reels found. Each file that can be
 recovered must exist, byte for byte, and no other; for each other one the missing block must be reported. The files that
-`survey --tsv` lists must be those of the catalogue's description. Prints each wrong result, and counts; exit status 1
+`survey --tsv` lists must be those of the catalogue's description, and the volumes that `survey` lists those of the
+set, with one missing volume for each run of lost reels. Prints each wrong result, and counts; exit status 1
 if there is one.
 
 --times: `survey` against `list` of each image, `unpack` against `extract` of each file, and 10,000 names from a list.
@@ -25,7 +26,7 @@ import time
 from pathlib import Path
 
 sys.dont_write_bytecode = True
-from reels import headers_of, lacking, make_shelf, sections_of, wanted
+from reels import headers_of, lacking, listed_volumes, make_shelf, sections_of, truly_there, wanted
 
 HERE = Path(__file__).resolve().parent
 
@@ -70,6 +71,38 @@ def check_survey(trial, shelf, there, names):
                 right = row[5:7] == want and (section is None) == (row[5] == "COMPLETE")
                 trial.is_so(right, f"survey: {set_id} {file.number}: {row}, {section}")
     return len(rows)
+
+
+def lines_of_volumes(text):
+    """The volumes of each set in a survey in words."""
+    found, set_id = {}, None
+    for line in text.splitlines():
+        if line.startswith("Set "):
+            set_id = line[4:].split(":")[0]
+        elif line.startswith("  Volumes: "):
+            found[set_id] = line[11:]
+        elif line.startswith(" " * 11) and set_id in found and found[set_id].endswith(","):
+            found[set_id] += " " + line[11:]
+    return {set_id: line.split(", ") for set_id, line in found.items()}
+
+
+def check_volumes(trial, shelf, there, names):
+    """The volumes of each set, with those that are missing; and the lines are at most 100 columns long."""
+    done = trial.run("survey", names=names)
+    trial.is_so((done.returncode, done.stderr) == (3, ""), f"survey: status {done.returncode}, {done.stderr!r}")
+    trial.is_so(all(len(line) <= 100 for line in done.stdout.splitlines() if line.startswith("  ")), "survey: a long line")
+    told, missing, by_hand = lines_of_volumes(done.stdout), 0, 0
+    for set_id in shelf.files:
+        reels = [reel for reel in there if reel.set_id == set_id]
+        want = listed_volumes(reels)
+        trial.is_so(told.pop(set_id, []) == want, f"survey: volumes of {set_id}, wanted {want}")
+        missing += sum(volume.startswith("missing") for volume in want)
+        if want and set_id != shelf.mixed:
+            true = truly_there([reel for reel in shelf.reels if reel.set_id == set_id], lambda reel: reel in there)
+            by_hand += true is not None
+            trial.is_so(true in (None, want), f"survey: volumes of {set_id}, wanted {want}, truly {true}")
+    trial.is_so(not told, f"survey: volumes of no set: {told}")
+    return f"{missing} volumes missing, {by_hand} sets of which each volume is whole or lost"
 
 
 def check_unpack(trial, shelf, there, names, day):
@@ -178,10 +211,12 @@ def main():
         count = sum(map(len, shelf.files.values()))
         print(f"{len(names)} images, {len(shelf.reels) - len(there)} lost, {count} files of {len(shelf.files)} sets")
         print(f"survey: {check_survey(trial, shelf, there, names)} rows")
+        print(f"survey: {check_volumes(trial, shelf, there, names)}")
         print(f"unpack: {check_unpack(trial, shelf, there, names, 1)}")
         for reel in shelf.reels:
             (folder / reel.name).write_bytes(reel.image())
         names = [*(reel.name for reel in shelf.reels), *shelf.others]
+        print(f"survey with the lost reels: {check_volumes(trial, shelf, shelf.reels, names)}")
         print(f"unpack with the lost reels: {check_unpack(trial, shelf, shelf.reels, names, 2)}")
         if options.times:
             take_times(trial, shelf, names)

@@ -58,11 +58,13 @@ mod PlacedSoFar
 mod PlacedExamples
 mod Reporting
 pub mod SurveyGaps
+pub mod SurveyChain
 pub mod SurveyDigest
 pub mod SurveyCompared
 pub mod SurveyCopies
 pub mod SurveyShown
 pub mod SurveyConflicts
+mod SurveyListed
 pub mod SurveySound
 mod SurveyJoins
 mod SurveyProblems

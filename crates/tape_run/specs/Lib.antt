@@ -57,11 +57,13 @@ pub mod SurveyGlance
 pub mod SurveyFiles
 pub mod SurveyDigest
 pub mod SurveyCopies
+pub mod SurveyTally
 pub mod SurveyRead
 pub mod SurveyLine
 pub mod SurveyLocations
 pub mod Dates
 pub mod SurveyProblems
+pub mod SurveyChain
 pub mod SurveySets
 pub mod SurveyRows
 pub mod SurveyCompared

@@ -81,9 +81,11 @@ const ROWS: &[Row<'_>] = &[
         3,
         "lost.tap                  not opened\n\
          seen1.tap                 ok           volume ABC001, 1 section\n\
-         Set ABC001: 0 of 1 files complete\n   \
+         Set ABC001: 0 of 1 files complete\n  \
+            Volumes: ABC001, missing (follows ABC001)\n   \
             1 PAYROLL                        incomplete\n        \
-            section 2 missing, after volume ABC001\n",
+            section 2 missing, after volume ABC001\n\
+         2 images: 1 ok, 1 not opened\n",
         "",
         Some("lost.tap? seen1.tap "),
     ),
@@ -213,7 +215,7 @@ const READERS: &[(&str, &str, &str)] = &[
     (
         "survey",
         "many.names ",
-        "\nlost.tap                  not opened\n",
+        "\nlost.tap                  not opened\n300 images: 0 ok, 300 not opened\n",
     ),
     (
         "extract ABC001 1 many.txt",
