@@ -149,7 +149,8 @@ once named rows n (inr twice) = n.once twice
 
 no_merge : (order : Merge) (rows : List Row) → AsksToMerge rows order → IsNoMerge rows → ⊥
 no_merge order rows asked (inl dash) = asked.named dash
-no_merge order rows asked (inr many) = few order.images rows asked.images many
+no_merge order rows asked (inr (inl dash)) = asked.log_named dash
+no_merge order rows asked (inr (inr many)) = few order.images rows asked.images many
 
 both : (name : List ℕ) (rows : List Row) (order : Order) → IsOrderOf name rows order
     → IsNoOrderOf name rows → ⊥

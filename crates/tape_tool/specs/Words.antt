@@ -268,11 +268,14 @@ pub record AsksToWrite (rows : List Row) (order : WriteOrder) : Type 0 where
 pub record AsksToMerge (rows : List Row) (order : Merge) : Type 0 where
   pub out : order.out.now ≡ text_in rows (codes "OUT")
   pub named : text_in rows (codes "OUT") ≢ codes "-"
+  pub log : option_map (λ t. t.now) order.log ≡ first_of (codes "log") rows
+  pub log_named : first_of (codes "log") rows ≢ Some (codes "-")
   pub images : NamesImages rows order.images
 
 -- why `merge` is refused
 abbrev pub IsNoMerge : List Row → Type 0
-IsNoMerge rows = (text_in rows (codes "OUT") ≡ codes "-") ⊎ AreTooMany rows
+IsNoMerge rows = (text_in rows (codes "OUT") ≡ codes "-")
+    ⊎ ((first_of (codes "log") rows ≡ Some (codes "-")) ⊎ AreTooMany rows)
 
 -- ---- a command line
 
