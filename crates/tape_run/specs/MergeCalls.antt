@@ -99,7 +99,7 @@ Puts None some old new = (some ≡ false) × (new ≡ old)
 Puts (Some x) some old new = (some ≡ true) × PutItem x old new
 
 -- The readings were read to their ends, and the items of the least tape of which they are readings
--- were written and counted. The log has their rows.
+-- were written and counted. The log has the rows of these items.
 pub record Merges {R : Type 0} (firsts nows : List (Reading R)) (m : Merged) (old new : Writer)
     (log logged : Option (List ℕ)) : Type 0 where
   pub readings : List (List TapeItem)

@@ -75,11 +75,11 @@ abbrev pub one_if : Bool → ℕ
 one_if true = 1
 one_if false = 0
 
--- what each reading has after so many items, if it has as many
+-- the item of each reading after a number of items, if it has as many
 abbrev pub column : ℕ → List (List TapeItem) → List (Option TapeItem)
 column j rs = map (λ r. slice_get r j) rs
 
--- how many of these could be read
+-- how many of these items could be read
 abbrev pub goods_in : List (Option TapeItem) → ℕ
 goods_in [] = 0
 goods_in (x ∷ xs) = one_if (is_good_one x) + goods_in xs

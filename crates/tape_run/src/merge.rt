@@ -126,7 +126,7 @@ fn ask_all<R: Read>(
 }
 
 /// Reads the readings side by side, item by item, and writes the tape that they make together. The
-/// log gets a row for each item that fewer than two readings have, or one has as bad.
+/// log gets a row for each item that fewer than two readings have, or that is bad in one.
 ///
 /// `best` and `other` hold the item under way: the best one that was read, and one that differs
 /// from it. At a difference every reading was asked for its item, and its `verdict` says how the

@@ -94,7 +94,7 @@ impl Candidate {
         matches!(self.kind, Kind::Bad)
     }
 
-    /// What the item is, if there is one.
+    /// The kind of the item, if there is one.
     pub(crate) fn kind(&self) -> Option<ItemKind>
         ensures none { self.now ≡ None → result ≡ None }
         ensures some { IfSome self.now (λ x. result ≡ Some (kind_at x)) }
