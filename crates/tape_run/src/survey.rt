@@ -43,7 +43,7 @@ use std::io::{Read, Write};
 use texts::{sections_text, sets_text};
 use view::{Findings, ImageSurvey};
 
-/// How a survey is printed.
+/// The form in which a survey is printed.
 #[derive(Clone, Copy)]
 pub enum Wording {
     /// In words, for people.

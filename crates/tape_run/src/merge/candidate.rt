@@ -18,7 +18,7 @@ use std::io::Write;
 use std::marker::Model;
 use tape_image::{ImageWriteFault, ImageWriter, Item};
 
-/// What a candidate is.
+/// The kind of a candidate.
 #[derive(Clone, Copy)]
 pub(crate) enum Kind {
     /// No reading has an item here.
@@ -107,7 +107,8 @@ impl Candidate {
         }
     }
 
-    /// What is expected after the item on a labelled volume, and the section that it completes.
+    /// Returns what is expected after the item on a labelled volume, and the section that the item
+    /// completes.
     pub(crate) fn step(&self, phase: Phase) -> (Phase, Option<Told>)
         requires { blocks_of phase < most_blocks }
         ensures { IfSome self.now (λ x. result ≡ step phase x) }

@@ -28,7 +28,7 @@ use std::alloc::{AllocError, Global};
 use std::io::{Read, Write};
 use tape_image::{Ending, ImageWriteFault, ImageWriter};
 
-/// What came of merging.
+/// The result of merging.
 #[derive(Clone, Copy, Debug, PartialEq, Eq)]
 pub enum MergeEnd {
     /// The merged image is complete, as far as its readings show.
@@ -39,12 +39,13 @@ pub enum MergeEnd {
     Differs,
 }
 
-/// Why there is no merged image, although no two readings were found to differ.
+/// The reason why there is no merged image, although no two readings were found to differ.
 #[derive(Clone, Copy, Debug, PartialEq, Eq)]
 pub enum MergeStop {
-    /// The image with this number, counted from 0, could not be opened.
+    /// The image with the given number, counted from 0, could not be opened.
     NotOpened(usize),
-    /// The merged image would be longer than an image may be: it has this number of bytes so far.
+    /// The merged image would be longer than an image may be. The number is that of its bytes so
+    /// far.
     TooLong(u64),
     OutOfMemory,
     /// The merged image or the report could not be written.
@@ -256,8 +257,9 @@ fn whole_or_partial(merged: &Merged, end: MergedEnd) -> MergeEnd
     }
 }
 
-/// Returns how the merged image ends: as one of its longest readings, with an end-of-medium marker
-/// if one of them does.
+/// Returns the end of the merged image: an end-of-medium marker if one of the longest readings has
+/// one, otherwise the end of its bytes if one of them reached it, otherwise the fault at which all
+/// of them stopped.
 fn end_of<R: Read>(readings: &[Reading<'_, R>], items: u64) -> MergedEnd
     ensures { EndsAs items readings.now result }
 {
@@ -274,7 +276,7 @@ fn end_of<R: Read>(readings: &[Reading<'_, R>], items: u64) -> MergedEnd
     end
 }
 
-/// Reports a line for each reading.
+/// Writes the line of each reading to the report.
 fn report_readings<R: Read, P: Write>(
     alloc: Global,
     readings: &[Reading<'_, R>],
