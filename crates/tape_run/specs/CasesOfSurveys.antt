@@ -111,7 +111,7 @@ date year month day = record { year = year; month = month; day = day }
 
 -- single images
 pub record CasesOfGlances : Type 0 where
-  -- what images begin with
+  -- the classes of images by their first items
   pub nothing : glance_of [] ≡ blank_glance
   pub noise : first_of (block (7 ∷ 8 ∷ [])) ≡ firsts.Block 2
   pub begins_bad : first_of bad ≡ firsts.Bad
@@ -126,7 +126,7 @@ pub record CasesOfGlances : Type 0 where
   pub unread : (f : LabelFault) → unread_with 2 (Err f) ≡ Some 2
   pub read : (h : Head2) → unread_with 2 (Ok h) ≡ None
   pub no_second_label : (b : List ℕ) → unread_by 2 None b ≡ None
-  -- a mark as the first item leaves the order at once
+  -- a mark as the first item breaks the order at once
   pub mark_first : course_of (mark ∷ []) ≡ Leaves 1 wanted.Volume
   pub bad_first : course_of (bad ∷ mark ∷ []) ≡ Leaves 1 wanted.Volume
   -- a volume with its label and two marks is blank; with one mark it has not ended
@@ -205,7 +205,7 @@ pub record CasesOfWholes : Type 0 where
   pub no_date : date_text (date_of (codes " 00000")) ≡ codes "          "
   pub past_the_year : date_of (codes " 85366") ≡ None
   pub other_century : date_of (codes "185113") ≡ None
-  -- spaces at the end are left out
+  -- trailing spaces are left out
   pub trimmed : trimmed_text (codes "A B   ") ≡ codes "A B"
   pub all_spaces : trimmed_text (codes "      ") ≡ []
 

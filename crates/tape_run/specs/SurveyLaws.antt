@@ -71,7 +71,7 @@ pub record IsVolumeInOrder (items : List TapeItem) : Type 0 where
 
 -- ---- what a glance says
 
--- how far items follow the order of a volume
+-- the extent to which items are in the order of a volume
 abbrev pub course_of : List TapeItem → LabelOrder
 course_of items = (glance_of items).course
 
@@ -80,8 +80,8 @@ abbrev pub has_left : LabelOrder → Bool
 has_left (Leaves n w) = true
 has_left _ = false
 
--- The item with this number, counted from 1, is the first that is not in the order of a volume:
--- those before it follow the order, and with it they do not.
+-- Item n, counted from 1, is the first that breaks the order of a volume: the items before it are
+-- in that order, and together with it they are not.
 pub record IsFirstAstray (items : List TapeItem) (n : ℕ) : Type 0 where
   pub before : List TapeItem
   pub item : TapeItem
@@ -91,7 +91,7 @@ pub record IsFirstAstray (items : List TapeItem) (n : ℕ) : Type 0 where
   pub follow : has_left (course_of before) ≡ false
   pub leaves : has_left (course_of (before ++ item ∷ [])) ≡ true
 
--- If a summary says that an item leaves the order, it is the first that does.
+-- If a summary says that an item breaks the order, it is the first that does so.
 abbrev pub LeavesThere : Type 0
 LeavesThere = (items : List TapeItem) (n : ℕ) (w : ExpectedItem) → course_of items ≡ Leaves n w
     → IsFirstAstray items n

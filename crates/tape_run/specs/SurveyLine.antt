@@ -29,11 +29,11 @@ use Rattle.tape_run.specs.SurveyTally.{is_no_image, state_of}
 abbrev pub is_space : ℕ → Bool
 is_space byte = byte == 32
 
--- the length of bytes without the spaces at their end
+-- the length of bytes without trailing spaces
 abbrev pub trimmed_len : List ℕ → ℕ
 trimmed_len bytes = length bytes - suffix_len is_space bytes
 
--- an identifier without the spaces at its end
+-- an identifier without trailing spaces
 abbrev pub trimmed_text : List ℕ → List ℕ
 trimmed_text bytes = map printed (take (trimmed_len bytes) bytes)
 
@@ -52,12 +52,12 @@ abbrev pub written_text : List ℕ → List ℕ
 written_text system =
     if nat_lt 0 (trimmed_len system) then codes ", written by " ++ trimmed_text system else []
 
--- the same, if a header label says so
+-- the name of the system, if a header label gives it
 abbrev pub system_text : Option Head1 → List ℕ
 system_text None = []
 system_text (Some head) = written_text head.implementation
 
--- how many sections it has
+-- the text of the number of sections
 abbrev pub files_text : ℕ → List ℕ
 files_text n =
     if n == 0 then [] else if n == 1 then codes ", 1 section"
@@ -65,7 +65,7 @@ files_text n =
 
 -- Each further fact is preceded by the text between two facts.
 
--- how many blocks are unreadable
+-- the text of the number of unreadable blocks
 abbrev pub bad_text : List ℕ → ℕ → List ℕ
 bad_text between n =
     if n == 0 then [] else if n == 1 then between ++ codes "1 unreadable block"
@@ -105,13 +105,13 @@ abbrev pub damages_text : List ℕ → ImageSummary → List ℕ
 damages_text between g = damaged_text between g.damage ++ (more_text between g.more
     ++ damaged_text between g.unfinished)
 
--- what an image contains
+-- the text of the contents of an image
 abbrev pub glance_text : List ℕ → ImageSummary → List ℕ
 glance_text between g =
     first_text g.first ++ (system_text g.head ++ (files_text g.files ++ (bad_text between g.bad
     ++ (late_text between g.late ++ unread_text between g.unread))))
 
--- the item that is missing where the order is left
+-- the text for the item that was expected where another item breaks the label order
 abbrev pub wanted_text : ExpectedItem → List ℕ
 wanted_text wanted.Volume = codes "is not VOL1"
 wanted_text wanted.Section = codes "is not HDR1"
@@ -127,7 +127,7 @@ abbrev pub is_told : ExpectedItem → Bool
 is_told wanted.Volume = false
 is_told _ = true
 
--- the item that leaves the order
+-- the text about the item that breaks the label order
 abbrev pub left_text : List ℕ → ℕ → ExpectedItem → List ℕ
 left_text between n w =
     if is_told w
@@ -141,7 +141,7 @@ early_text between (Fault fault) = []
 early_text between Marked = between ++ codes "ends before the end of the volume"
 early_text between Physical = between ++ codes "ends before the end of the volume"
 
--- how far the items follow the order of a volume
+-- the text that says how far the items are in the order of a volume
 abbrev pub course_text : List ℕ → LabelOrder → ImageStop → List ℕ
 course_text between Ended stop = []
 course_text between (Leaves n w) stop = left_text between n w
@@ -157,7 +157,7 @@ course_shown (firsts.Block n) course = course
 course_shown firsts.Bad course = course
 course_shown firsts.Mark course = course
 
--- what it probably is then
+-- the text of what the image probably is then
 abbrev pub guess_text : ImageFault → List ℕ
 guess_text fault =
     if is_no_image fault then codes ": not a SIMH image, or compressed (try zcat)" else []
@@ -178,7 +178,7 @@ stop_text between (Fault fault) = fault_text between fault
 stop_text between Marked = []
 stop_text between Physical = []
 
--- what an image is
+-- the description of an image
 abbrev pub seen_text : List ℕ → ImageSurvey → List ℕ
 seen_text between s = glance_text between s.glance
     ++ (course_text between (course_shown s.glance.first s.glance.course) s.stop ++ (stop_text between s.stop
@@ -197,7 +197,7 @@ state_word states.NotTape = codes "not a tape   "
 abbrev pub opened_text : ImageSurvey → List ℕ
 opened_text s = state_word (state_of s) ++ (seen_text (codes "\n    ") s ++ codes "\n")
 
--- the same, or that it was not opened
+-- the description of an image, or the text that it was not opened
 abbrev pub sight_text : Option ImageSurvey → List ℕ
 sight_text (Some s) = opened_text s
 sight_text None = codes "not opened\n"

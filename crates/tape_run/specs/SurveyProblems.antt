@@ -22,11 +22,11 @@ damage_line Words sect entry =
 damage_line Rows sect entry =
     decimal sect ++ (codes ":" ++ (state_text entry.state ++ codes ";"))
 
--- of one that was found, if it is damaged
+-- a section that was found, if it is damaged
 abbrev pub found_line : Wording → ℕ → Entry → List ℕ
 found_line y sect entry = if is_good entry.state then [] else damage_line y sect entry
 
--- where to look for missing sections, if the section before them is known
+-- the text that says where to look for missing sections, if the section before them is known
 abbrev pub where_text : Option Entry → List ℕ
 where_text (Some before) = codes " missing, after volume " ++ trimmed_text before.volume
 where_text None = codes " not found"
@@ -72,8 +72,8 @@ ends None = false
 abbrev pub next_text : Wording → ℕ → Option Entry → List ℕ
 next_text y first last = if ends last then [] else missing_line y first (first + 1) last
 
--- the sections of a file from this one on, n of them, if those from the first number up to it were
--- not found, and the one after the last
+-- n sections of a file, beginning with this one, if those from the first number up to it were
+-- not found, and the section after the last
 abbrev pub sections_from : Wording → List Told → List ℕ → ℕ → ℕ → ℕ → ℕ → List ℕ
 sections_from y c set_id file first sect zero =
     next_text y first (entry_at c (key_at set_id file (first - 1)))
@@ -82,6 +82,7 @@ sections_from y c set_id file first sect (suc n) =
     known_text y c set_id file first sect entry
     ++ sections_from y c set_id file (first_after first sect entry) (sect + 1) n
 
--- each damaged section of a file, and those that are missing before or after it
+-- each damaged section of a file, and the sections that are missing before or after the sections
+-- found
 unfoldable pub problem_lines : Wording → List Told → List ℕ → ℕ → List ℕ
 problem_lines y c set_id file = sections_from y c set_id file 1 1 9999

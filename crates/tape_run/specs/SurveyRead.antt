@@ -16,8 +16,9 @@ use Rattle.tape_run.specs.SurveyGlance.{glance_of}
 use Rattle.tape_run.specs.SurveyLocations.{Located, located_in, next_image}
 use Rattle.tape_run.specs.SurveyTally.{is_whole_sight, state_of, no_images, with_state}
 
--- what is known of sections and of files, whether every image was read completely, on which image
--- each section is, its good copies, and how many images there were, in all and in each state
+-- the results of reading images: the sections and files found, whether every image was read
+-- completely, the image of each section, its good copies, and the number of images, in all and in
+-- each state
 pub record Found : Type 0 where
   pub sections : List Told
   pub files : List Filed
@@ -39,8 +40,8 @@ nothing_found = record {
   tally = no_images;
 }
 
--- All items that a reader of the image with this number returned were looked at, and the sections
--- and header labels in them were added, where the sections are, and the good copies. Before the
+-- All items that a reader of the image with this number returned were surveyed: the sections and
+-- header labels in them were added, the places of the sections, and the good copies. Before the
 -- call the reader had the bytes `before`, and then the bytes `after`.
 pub record ViewsItems (before after : Option (List ℕ)) (image : ℕ) (sections : List Told)
     (files : List Filed) (located : List Located) (known : Copied) (sight : ImageSurvey)

@@ -37,12 +37,12 @@ head_cells (Some head) =
     trimmed_text head.set_id ++ codes "\t" ++ trimmed_text head.implementation
 head_cells None = codes "\t"
 
--- how many items there are, sections and bad blocks
+-- the numbers of items, sections and bad blocks
 abbrev pub count_cells : ImageSummary → List ℕ
 count_cells g =
     decimal g.items ++ codes "\t" ++ decimal g.files ++ codes "\t" ++ decimal g.bad
 
--- what an image is
+-- the description of an image
 abbrev pub seen_cells : ImageSurvey → List ℕ
 seen_cells s =
     whole_cell (is_sound s) ++ codes "\t" ++ volume_cell s.glance.first ++ codes "\t"

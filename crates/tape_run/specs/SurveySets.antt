@@ -101,7 +101,7 @@ is_sure d set_id file =
     is_whole_file d.sections set_id file && (not (is_mixed (note_at d.files key))
     && is_none (dispute_at d.copies key))
 
--- how many of n files of a set, from this one on, are complete
+-- the number of complete files among n files of a set, from this one on
 abbrev pub sure_files : Found → List ℕ → ℕ → ℕ → ℕ
 sure_files d set_id file zero = 0
 sure_files d set_id file (suc n) =

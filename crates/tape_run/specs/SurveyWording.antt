@@ -15,7 +15,7 @@ use Rattle.tape_run.specs.SurveyRows.{image_row, section_row, file_row}
 use Rattle.tape_run.specs.SurveyTally.{tally_line}
 use Rattle.tape_run.specs.SurveySets.{file_lines, set_line, sure_files, strays_text, is_all, last_text}
 
--- what is said of an image
+-- the text about an image
 abbrev pub image_text : Wording → List ℕ → Option ImageSurvey → List ℕ
 image_text Words name sight = image_line name sight
 image_text Rows name sight = image_row name sight
@@ -57,7 +57,7 @@ set_texts y d sets = flat_map (set_text y d) sets
 abbrev pub sets_text : Wording → Found → List ℕ
 sets_text y d = set_texts y d (sets_from [] d.sections)
 
--- what precedes the sets: in rows, each section that was found
+-- the text before the sets: in rows, each section that was found
 abbrev pub sections_text : Wording → List Told → List ℕ
 sections_text Words c = []
 sections_text Rows c = flat_map section_row c
@@ -67,7 +67,7 @@ abbrev pub end_text : Wording → Found → List ℕ
 end_text Words d = tally_line d.tally ++ last_text (is_all d)
 end_text Rows d = []
 
--- what follows the images with these names
+-- the text after the images with these names
 abbrev pub summary : Wording → List (List ℕ) → Found → List ℕ
 summary y names d = sections_text y d.sections
     ++ (sets_text y d ++ (strays_text y d.sections ++ (copies_text y names d.copies.notes

@@ -124,7 +124,7 @@ fit_first n bytes =
     if n == 0 then fit_last 32
     else flat_map fit (take (n - 1) bytes) ++ fit_last (get_or bytes (n - 1) 32)
 
--- a file identifier, without the spaces at its end
+-- a file identifier without trailing spaces
 abbrev pub fit_text : List ℕ → List ℕ
 fit_text bytes = fit_first (trimmed_len bytes) bytes
 

@@ -48,7 +48,7 @@ use tally::TallyLine;
 use texts::{sections_text, sets_text};
 use view::{Findings, ImageSurvey};
 
-/// How a survey is printed.
+/// The form in which a survey is printed.
 #[derive(Clone, Copy)]
 pub enum Wording {
     /// In words, for people.

@@ -5,8 +5,8 @@ ghost use Rattle.tape_run.specs.SurveyConflicts.{CopiesAreShown};
 ghost use Rattle.tape_run.specs.SurveyDigest.{TellsWordsApart};
 ghost use Rattle.tape_run.specs.SurveyLaws.{LeavesThere, EndedIsVolume, VolumesAreListed};
 
-/// If an item is reported to leave the order of a volume, those before it follow the order, and
-/// with it they do not.
+/// If an item is reported to break the order of a volume, the items before it are in that order,
+/// and together with it they are not.
 pub fn leaves_there()
     ensures { LeavesThere }
 {}

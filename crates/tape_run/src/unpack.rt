@@ -187,7 +187,7 @@ fn add_files(
     Ok(())
 }
 
-/// Adds the files of the set at an index to those of the sets before it.
+/// Adds the files of the set at index `place` to those of the sets before it.
 fn add_place(
     files: &mut Vec<SetFile>,
     findings: &Findings,

@@ -43,7 +43,7 @@ pub enum FaultSite<'a> {
     Out(&'a str),
     /// Where the merged image goes.
     New(&'a str),
-    /// Where the log of a merge goes.
+    /// The path of the log of a merge.
     Log(&'a str),
     /// Where recovered data is saved.
     Stage(&'a str),

@@ -17,7 +17,7 @@ use std::fmt;
 use tape_image::ImageFault;
 use tape_label::{Field, Head1};
 
-/// What an image begins with.
+/// The kind of item that an image begins with.
 #[derive(Clone, Copy)]
 struct FirstText<'a>(&'a First);
 
@@ -77,7 +77,7 @@ impl fmt::Display for WrittenText<'_> {
     }
 }
 
-/// How many sections it has.
+/// The text of the number of sections.
 #[derive(Clone, Copy)]
 struct FilesText(u32);
 
@@ -94,7 +94,7 @@ impl fmt::Display for FilesText {
     }
 }
 
-/// How many blocks are unreadable.
+/// The number of unreadable blocks.
 #[derive(Clone, Copy)]
 struct BadText(&'static str, u32);
 
@@ -143,7 +143,7 @@ impl fmt::Display for UnreadText {
     }
 }
 
-/// How far it follows the order of a volume.
+/// The extent to which the items are in the order of a volume.
 #[derive(Clone, Copy)]
 struct CourseText(&'static str, LabelOrder, ImageStop);
 
@@ -194,7 +194,7 @@ impl fmt::Display for EarlyText {
     }
 }
 
-/// The item that leaves the order.
+/// The text about the item that breaks the label order.
 #[derive(Clone, Copy)]
 struct LeftText(&'static str, u32, ExpectedItem);
 
@@ -222,7 +222,7 @@ fn is_told(wanted: ExpectedItem) -> bool
     }
 }
 
-/// Returns what the item that leaves the order is not.
+/// Returns the text for the item that was expected in its place.
 fn wanted_text(wanted: ExpectedItem) -> &'static str
     ensures { result.now ≡ wanted_text wanted }
 {

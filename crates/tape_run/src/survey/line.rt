@@ -133,7 +133,7 @@ impl fmt::Display for LineEnd<'_> {
     }
 }
 
-/// What an image is, or that it was not opened, at the end of its row.
+/// The description of an image at the end of its row, or the text that it was not opened.
 #[derive(Clone, Copy)]
 pub(crate) struct WordsCell<'a>(pub(crate) &'a Option<ImageSurvey>);
 

@@ -64,7 +64,7 @@ impl fmt::Display for Numbers {
     }
 }
 
-/// Where to look for missing sections, if the section before them is known.
+/// The text that says where to look for missing sections, if the section before them is known.
 #[derive(Clone, Copy)]
 struct Where(Option<Entry>);
 

@@ -315,7 +315,7 @@ fn is_complete(alloc: Global, sections: &Sections) -> Result<bool, AllocError>
     Ok(found)
 }
 
-/// Returns whether the section at an index is complete.
+/// Returns whether the section at index `place` is complete.
 fn good_at(sections: &Sections, place: usize) -> bool
     requires { place < length sections.now.entries }
     ensures { all_good (take (place + 1) sections.now.entries)

@@ -1,4 +1,4 @@
-//! What a survey says after its images: of sections, sets and files, in words or in rows.
+//! The part of a survey after its images: sections, sets and files, in words or in rows.
 ghost use Rattle.std.specs.List.{flat_map};
 ghost use Rattle.std.specs.Prelude.{◌≡◌, ◌<◌, ◌+◌, ◌-◌, ◌++◌, length, take, IfOk, OnOk};
 ghost use Rattle.tape_run.specs.SurveyGaps.{gap_first, gap_text};
@@ -127,7 +127,7 @@ fn add_set(
     Ok(())
 }
 
-/// Appends the text for the set at an index.
+/// Appends the text for the set at index `place`.
 fn add_place(
     texts: &mut Vec<u8>,
     findings: &Findings,

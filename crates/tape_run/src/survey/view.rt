@@ -27,7 +27,7 @@ use std::io::Read;
 use std::marker::Model;
 use tape_image::{ImageReader, Item};
 
-/// What an image is: what its items are at a glance, and how they stop.
+/// The survey of an image: the summary of its items, and how they end.
 #[derive(Clone, Copy)]
 pub struct ImageSurvey {
     pub glance: ImageSummary,
@@ -46,7 +46,7 @@ pub(crate) struct Findings {
     pub(crate) locations: Locations,
     /// The complete copies of each section.
     pub(crate) copies: Copies,
-    /// How many images there were.
+    /// The number of images.
     images: usize,
     /// How many there were in each state.
     pub(crate) tally: Tally,

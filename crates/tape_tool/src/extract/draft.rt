@@ -155,7 +155,7 @@ impl<'a, R: Host> OutName<'a, R> {
         !self.is_draft
     }
 
-    /// Removes the output, if the draft took its name and no other file has it now.
+    /// Removes the output, if the draft took its name and no other file has that name now.
     pub fn give_back(&mut self) {
         if self.has_taken() && has_name(self.rt, &self.lock, self.name) {
             remove(self.rt, self.name);

@@ -15,8 +15,8 @@ use tape_image::{ImageCause, ImageFault};
 use tape_run::{MergeEnd, MergeStop, Place, WriteFailed, merge_now};
 use tape_writer::system::found;
 
-/// Merges the readings named in the arguments into a new image, and creates its log if one was
-/// asked for. On error, the site says where it occurred.
+/// Merges the readings named in the arguments into a new image, and creates the log if it was
+/// requested. On error, the site says where it occurred.
 pub fn merge<'a, R: Host>(rt: &R, order: &Merge<'a>, site: &mut FaultSite<'a>) -> End {
     let mut text = String::new(rt.alloc());
     let names = match readings_of(rt, &order.images, &mut text, site) {
@@ -51,8 +51,8 @@ pub fn merge<'a, R: Host>(rt: &R, order: &Merge<'a>, site: &mut FaultSite<'a>) -
     name.ended(end)
 }
 
-/// Merges the images with these names, and creates the log. It gets its name before the merged
-/// image does, and loses it again if that cannot be placed.
+/// Merges the images with these names, and creates the log. The log gets its name before the merged
+/// image does, and loses it again if the image cannot be placed.
 fn merge_logged<'a, R: Host>(
     rt: &R,
     order: &Merge<'a>,
@@ -150,8 +150,8 @@ fn readings_of<'t, 'a: 't, R: Host>(
     }
 }
 
-/// Merges the images with these names, and writes the rows of the log. If the error is in an image
-/// or the log, that is the site.
+/// Merges the images with these names, and writes the rows of the log. If an image or the log
+/// caused the error, it is the site.
 fn merge_files<'a, R: Host, W: Write + Drop, O: Place<W>, G: Write>(
     rt: &R,
     named: &Named<'a>,

@@ -17,7 +17,7 @@ use std::alloc::Global;
 pub struct Merge<'a> {
     /// The image that is created.
     pub out: &'a str,
-    /// The log that is created.
+    /// The path of the log to be created.
     pub log: Option<&'a str>,
     pub images: Named<'a>,
 }

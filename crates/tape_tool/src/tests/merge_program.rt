@@ -87,7 +87,7 @@ const LOG: &[u8] = b"ITEM\tKIND\tlog1.tap\tlog2.tap
 7\tBLOCK 400\tGOOD\tBAD
 ";
 
-/// The log is a new file too, which exists exactly with OUT.
+/// The log is a new file too, and exists exactly if OUT does.
 const LOGGED: &[Step<'_>] = &[
     Step::PutDamaged("log1.tap", 1),
     Step::PutDamaged("log2.tap", 2),
