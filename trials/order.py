@@ -150,6 +150,7 @@ def stage_is_synced(t):
     run = t([*EXTRACT, "one.tap", "--stage", "s"], REELS)
     yield in_order(run.first(is_write("s")), run.first(is_sync("s")), run.printed("AWAITS")), "a new stage is synced"
     yield in_order(run.first(lambda name, at, rest: name == "openat" and at == "s"), run.first(is_sync(".")), run.printed("REEL")), "so is its directory"
+    yield in_order(run.last(is_write("s")), run.last(is_sync("s")), run.printed("REEL")), "a reel is saved before its line is printed"
     yield any(name == "flock" and at == "s" and "LOCK_EX" in rest for name, at, rest in run.events), "it is locked for this run alone"
 
 

@@ -46,7 +46,7 @@ save_stays OutOfMemory old new h =
     (ap (λ (s : Seen). s.place) h, ap (λ (s : Seen). s.parts) h)
 save_stays OtherFile old new h = absurd h
 
--- a checkpoint was made of the session's position, or was to be made
+-- a checkpoint of the session's position was made, or was to be made
 pub stays_left : {S : Type 0} (g : Ghosts S) (goes : Bool) (a b : SessionState S)
     (held now : List Portion) → g.holds b.sink now
     → ((seen g b now).place ≡ (seen g a held).place) × (now ≡ held)
@@ -75,7 +75,7 @@ pub save_left : {S : Type 0} (g : Ghosts S) (goes : Bool) (a b : SessionState S)
 save_left g goes a b held now fault has fails =
     stays_left g goes a b held now has (save_stays fault (seen g a held) (seen g b now) fails)
 
--- the session went back, or did not
+-- the session rolled back, or did not
 pub restart_left : {S : Type 0} (g : Ghosts S) (a b : SessionState S) (held : List Portion) (n : ℕ)
     → length a.notes ≡ n + 1
     → AddsOnly (IsNoteOf n (seen g a held)) (g.crashes a.sink) (g.crashes b.sink)

@@ -1,5 +1,5 @@
 -- Images that stay open, and are read file by file.
-use Rattle.std.proofs.Common.{◌≡◌, ◌≢◌, ◌⊎◌, inl, inr, ℕ, ◌<◌, Bool, false, List, [], ◌∷◌, ◌++◌}
+use Rattle.std.proofs.Common.{◌≡◌, ◌≢◌, ◌⊎◌, inl, inr, ℕ, Bool, false, List, [], ◌∷◌, ◌++◌}
 use Rattle.std.proofs.Common.{Option, Some, None, refl, sym, ap, subst, ◌∙◌, true, length, arith}
 use Rattle.std.proofs.Common.{length-append}
 use Rattle.tape_set.specs.declared.position.Position.TheVariants.{Finished}
@@ -268,7 +268,7 @@ read_some g on gives remaining session mid new shelf left next opened whole held
 read_some g on gives remaining session mid new shelf left next opened whole held after s number is
     (inr (inr (gave, same, none))) some = absurd (some none)
 
--- so an image is open
+-- an image is open then
 pub read_open : {S L R : Type 0} (g : Ghosts S) (on : ℕ → Type 0) (gives : Mounting L R)
     (remaining : R → Option (List ℕ)) (session mid new : SessionState S) (shelf left next : L)
     (opened : Bool) (whole : Option (List ℕ)) (held after : Option (Mounted R))

@@ -1,6 +1,6 @@
 -- The order in which the images of a file are read.
 use Rattle.std.proofs.Common.{◌≡◌, ◌≢◌, ◌⊎◌, ◌<◌, ◌||◌, ◌==◌, ℕ, Bool, true, false, List, [], ◌∷◌, ◌++◌}
-use Rattle.std.proofs.Common.{length, refl, sym, ap, ◌∙◌, arith, inl, inr}
+use Rattle.std.proofs.Common.{length, refl, sym, ◌∙◌, arith, inl, inr}
 use Rattle.std.specs.Prelude.{get_or}
 use Rattle.std.proofs.Math.ListN.{set}
 use Rattle.std.proofs.lemmas.List.{length-set, get_or-set_same, get_or-set_other}
@@ -38,7 +38,7 @@ marked taken numbers number same within n less = elim (same_or n number) [
     not_last : n ≢ number → (is_in n numbers || (number == n)) ≡ is_in n numbers
     not_last other = grind (arith, nat_tests, other)
 
--- what comes after two lists, one after the other
+-- the rest after two lists, one after the other
 pub followed_twice : (size : ℕ) (before xs ys : List ℕ)
     → followed_by size before (xs ++ ys) ≡ followed_by size (followed_by size before xs) ys
 followed_twice size before [] ys = refl

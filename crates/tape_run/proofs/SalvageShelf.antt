@@ -1,5 +1,7 @@
--- A file recovered from the images of a source.
-use Rattle.std.proofs.Common.{◌≡◌, ℕ, Bool, not, List, ◌++◌, Option, Some, None, refl, sym, ap, subst, ◌∙◌}
+-- A file recovered from the images of a shelf.
+use Rattle.std.proofs.Common.{◌≡◌, ℕ, Bool, not, List, [], ◌++◌, Option, Some, None, refl, sym, ap}
+use Rattle.std.proofs.Common.{subst, ◌∙◌, append-nil}
+use Rattle.tape_image.specs.Written.{AppendsFront}
 use Rattle.std.specs.Prelude.{option_map}
 use Rattle.std.specs.Io.KnownBytes.{Appends, Keeps}
 use Rattle.std.proofs.KnownBytes.{Appends-trans}
@@ -19,7 +21,7 @@ kept (Some xs) None c t h k = absurd h
 kept (Some xs) (Some ys) None t h k = absurd k
 kept (Some xs) (Some ys) (Some zs) t h k = k ∙ h
 
--- the contents of a report after a line that might have been written
+-- the contents of a report after text that might have been written
 abbrev with_line : Option (List ℕ) → List ℕ → Option (List ℕ)
 with_line w line = option_map (λ xs. xs ++ line) w
 
@@ -73,25 +75,35 @@ file_salvaged contents size gives remaining task out shelf middle left cs ds old
           (subst (Appends w one) text wrote)) last;
     }
 
--- the same, whether or not the last line was written
+-- the same if only a prefix of the last line was written
 pub file_placed : {W L R : Type 0} (contents : W → Option (List ℕ)) (size : L → ℕ)
     (gives : Mounting L R) (remaining : R → Option (List ℕ)) (task : SalvageTask) (out : W)
     (shelf middle left : L) (cs ds : List SectionCopy) (old new : Recovery W) (written flushed : W)
-    (stands said found w : Option (List ℕ)) (records : ℕ) (line : List ℕ)
+    (stands said found w says : Option (List ℕ)) (records : ℕ) (line : List ℕ)
     → FindsAll size gives remaining task.set_id task.file shelf middle cs said found
     → TakesFile contents gives remaining ds task.content middle left old new found w → ds ≡ cs
     → HasSalvaged contents (record { had = contents out; form = task.form }) old none_salvaged
     → written ≡ new.mender.out → Keeps (contents written) (contents flushed)
     → stands ≡ contents flushed → records ≡ new.mender.records
-    → line ≡ last_line (not new.missing) records
-    → (complete : Bool) × (says : Option (List ℕ))
-    × Salvages contents size gives remaining task out shelf left stands said says complete
+    → line ≡ last_line (not new.missing) records → AppendsFront w says line
+    → (complete : Bool) × (all : Option (List ℕ))
+    × Salvages contents size gives remaining task out shelf left stands said all complete
+    × ((rest : List ℕ) × Appends says all rest)
 file_placed contents size gives remaining task out shelf middle left cs ds old new written flushed
-    stands said found w records line finds takes same begins gave keeps placed counts is =
-    let one = with_line w line in (
+    stands said found w says records line finds takes same begins gave keeps placed counts is
+    (front, rest, wrote, whole) =
+    let all = with_line says rest in (
       not new.missing,
-      one,
+      all,
       file_salvaged contents size gives remaining task out shelf middle left cs ds old new written
-          flushed stands said found w one one records line finds takes same begins gave keeps placed
-          counts is (grows w line) (stays one),
+          flushed stands said found w all all records line finds takes same begins gave keeps placed
+          counts is (subst (Appends w all) (sym whole)
+          (Appends-trans w says all front rest wrote (grows says rest))) (stays all),
+      (rest, grows says rest),
     )
+
+-- all of a text was written, but the flush failed
+pub wrote_all : (w one says : Option (List ℕ)) (line : List ℕ) → Appends w one line → Keeps one says
+    → AppendsFront w says line
+wrote_all w one says line wrote keeps =
+    (line, [], kept w one says line wrote keeps, sym (append-nil line))

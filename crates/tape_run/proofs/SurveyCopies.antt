@@ -2,8 +2,6 @@
 use Rattle.std.proofs.Common.{◌≡◌, ℕ, ◌+◌, Bool, true, false, List, [], ◌∷◌, ◌++◌, Option, Some, None}
 use Rattle.std.proofs.Common.{refl, sym, ap, ◌∙◌, append_assoc, append-nil}
 use Rattle.std.specs.Prelude.{if◌then◌else◌}
-use Rattle.std.specs.List.{flat_map}
-use Rattle.std.proofs.lemmas.Grind.{flat_map-append}
 use Rattle.tape_image.specs.Tape.{TapeItem, block, bad, mark}
 use Rattle.tape_run.specs.declared.passing.Phase.{Phase}
 use Rattle.tape_run.specs.declared.passing.Phase.TheVariants.{Volume, Labels, Second, Headers, Data}
@@ -12,8 +10,8 @@ use Rattle.tape_run.specs.Noted.{is_good}
 use Rattle.tape_run.specs.Passing.{Told, step, phase_after}
 use Rattle.tape_run.specs.SurveyCopies.{Copy, blocks_with, good_told, copies_from, copies_on, Copied}
 use Rattle.tape_run.specs.SurveyCopies.{with_good, with_told, with_copies, copied_in, digest_in}
-use Rattle.tape_run.specs.SurveyDigest.{digest_over, digest_of, digest_with, words_of}
-use Rattle.tape_run.proofs.SurveyDigest.{digest_over-append}
+use Rattle.tape_run.specs.SurveyDigest.{digest_of, digest_with}
+use Rattle.tape_run.proofs.SurveyDigest.{digest_all-append}
 
 -- the data blocks of the section that is being read, after these items
 abbrev pub blocks_after : List (List ℕ) → Phase → List TapeItem → List (List ℕ)
@@ -61,10 +59,7 @@ told_is image c (Some t) blocks = told_if image c t blocks (is_good t.1.state)
 
 digest_push : (blocks : List (List ℕ)) (b : List ℕ)
     → digest_with (digest_of blocks) b ≡ digest_of (blocks ++ b ∷ [])
-digest_push blocks b =
-    sym (ap (digest_over 0) (flat_map-append words_of blocks (b ∷ [])
-    ∙ ap (λ (r : List ℕ). flat_map words_of blocks ++ r) (append-nil (words_of b)))
-    ∙ digest_over-append 0 (flat_map words_of blocks) (words_of b))
+digest_push blocks b = sym (digest_all-append 0 blocks (b ∷ []))
 
 -- the digest is that of the blocks read so far
 digest_is : (blocks : List (List ℕ)) (p : Phase) (x : TapeItem)

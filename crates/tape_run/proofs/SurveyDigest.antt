@@ -1,6 +1,8 @@
 -- What changes a digest.
 use Rattle.std.proofs.Common.{◌≡◌, ℕ, ◌+◌, ◌-◌, ◌*◌, ◌/◌, ◌%◌, ◌^◌, ◌<◌, ◌≤◌, List, [], ◌∷◌, ◌++◌}
 use Rattle.std.proofs.Common.{refl, sym, ap, ◌∙◌, arith, suc, length, map, take, drop, get_or}
+use Rattle.std.proofs.Common.{append_assoc}
+use Rattle.std.specs.Prelude.{◌≢◌}
 use Rattle.std.proofs.Math.Seq.{take-suc}
 use Rattle.std.proofs.lemmas.List.{map-append, take_all}
 use Rattle.std.specs.Int.{from_le_bytes}
@@ -10,8 +12,8 @@ use Rattle.std.specs.Int.Bits.{bit_or}
 use Rattle.std.proofs.Math.Nat.{mul_assoc, mul-add, mul-one, mod-add-mod, mod-add-div'}
 use Rattle.std.proofs.Math.Nat.{add-mul-mod_self_right, mod-eq_of_lt}
 use Rattle.std.proofs.lemmas.Nat.{mul-mod_first, or_shifted, mod_below}
-use Rattle.tape_run.specs.SurveyDigest.{digest_by, digest_over, digest_with, words_of}
-use Rattle.tape_run.specs.SurveyDigest.{TellsWordsApart}
+use Rattle.tape_run.specs.SurveyDigest.{digest_by, digest_over, digest_with, digest_all, words_of}
+use Rattle.tape_run.specs.SurveyDigest.{side_by, side_over, block_digests, TellsWordsApart}
 
 -- the factor and its inverse
 abbrev factor : ℕ
@@ -82,42 +84,38 @@ same_turned : (d e : ℕ) → d < 2 ^ 64 → e < 2 ^ 64
 same_turned d e dn en same =
     halves d e dn en (sym (turned d dn) ∙ same ∙ turned e en)
 
--- ---- digests
+-- ---- chains
 
-pub digest_over-append : (d : ℕ) (ws vs : List ℕ)
-    → digest_over d (ws ++ vs) ≡ digest_over (digest_over d ws) vs
-digest_over-append d [] vs = refl
-digest_over-append d (w ∷ ws) vs = digest_over-append (digest_by d w) ws vs
+pub side_over-append : (ds ws vs : List ℕ) → side_over ds (ws ++ vs) ≡ side_over (side_over ds ws) vs
+side_over-append ds [] vs = refl
+side_over-append ds (w ∷ ws) vs = side_over-append (side_by ds w) ws vs
 
 -- one more word
-pub over_more : {X : Type 0} (f : X → ℕ) (d all next word : ℕ) (xs : List X) (i : ℕ) (x : X)
-    → i < length xs → word ≡ f (get_or xs i x) → all ≡ digest_over d (map f (take i xs))
-    → next ≡ digest_by all word → next ≡ digest_over d (map f (take (i + 1) xs))
-over_more f d all next word xs i x within is was goes =
+pub side_more : {X : Type 0} (f : X → ℕ) (ds all next : List ℕ) (word : ℕ) (xs : List X) (i : ℕ)
+    (x : X) → i < length xs → word ≡ f (get_or xs i x) → all ≡ side_over ds (map f (take i xs))
+    → next ≡ side_by all word → next ≡ side_over ds (map f (take (i + 1) xs))
+side_more f ds all next word xs i x within is was goes =
     let more : suc i ≡ i + 1 = omega arith in
-    goes ∙ ap (digest_by all) is ∙ ap (λ a. digest_by a (f (get_or xs i x))) was
-    ∙ sym (ap (λ n. digest_over d (map f (take n xs))) (sym more)
-    ∙ ap (λ ys. digest_over d (map f ys)) (take-suc xs i x within)
-    ∙ ap (digest_over d) (map-append f (take i xs) (get_or xs i x ∷ []))
-    ∙ digest_over-append d (map f (take i xs)) (f (get_or xs i x) ∷ []))
+    goes ∙ ap (side_by all) is ∙ ap (λ a. side_by a (f (get_or xs i x))) was
+    ∙ sym (ap (λ n. side_over ds (map f (take n xs))) (sym more)
+    ∙ ap (λ ys. side_over ds (map f ys)) (take-suc xs i x within)
+    ∙ ap (side_over ds) (map-append f (take i xs) (get_or xs i x ∷ []))
+    ∙ side_over-append ds (map f (take i xs)) (f (get_or xs i x) ∷ []))
 
 -- no word is left
-pub over_all : {X : Type 0} (f : X → ℕ) (d all : ℕ) (xs : List X) (i : ℕ) → length xs ≤ i
-    → all ≡ digest_over d (map f (take i xs)) → all ≡ digest_over d (map f xs)
-over_all f d all xs i none was = was ∙ ap (λ ys. digest_over d (map f ys)) (take_all i xs none)
+pub side_all : {X : Type 0} (f : X → ℕ) (ds all : List ℕ) (xs : List X) (i : ℕ) → length xs ≤ i
+    → all ≡ side_over ds (map f (take i xs)) → all ≡ side_over ds (map f xs)
+side_all f ds all xs i none was = was ∙ ap (λ ys. side_over ds (map f ys)) (take_all i xs none)
 
--- the words of a block, and its length
-pub with_block : (d : ℕ) (b : List ℕ) (front rest all : ℕ)
-    → front ≡ digest_over d (map (from_le_bytes w64) (first_chunks 8 (length b / 8) b))
-    → rest ≡ digest_over front (drop (length b / 8 * 8) b)
-    → all ≡ digest_by rest (length b) → all ≡ digest_with d b
+-- the words of a block
+pub with_words : (ds : List ℕ) (b : List ℕ) (front all : List ℕ)
+    → front ≡ side_over ds (map (from_le_bytes w64) (first_chunks 8 (length b / 8) b))
+    → all ≡ side_over front (drop (length b / 8 * 8) b) → all ≡ side_over ds (words_of b)
 unfolding words_of
-with_block d b front rest all words bytes last =
-    let eights = map (from_le_bytes w64) (first_chunks 8 (length b / 8) b) in
+with_words ds b front all words bytes =
     let ones = drop (length b / 8 * 8) b in
-    last ∙ ap (λ r. digest_by r (length b)) (bytes ∙ ap (λ f. digest_over f ones) words)
-    ∙ sym (digest_over-append d eights (ones ++ length b ∷ [])
-    ∙ digest_over-append (digest_over d eights) ones (length b ∷ []))
+    bytes ∙ ap (λ f. side_over f ones) words
+    ∙ sym (side_over-append ds (map (from_le_bytes w64) (first_chunks 8 (length b / 8) b)) ones)
 
 pub digest_below : (d w : ℕ) → digest_by d w < 2 ^ 64
 unfolding digest_by
@@ -149,9 +147,85 @@ same_before d e (w ∷ ws) dn en same =
     same_digest d e w dn en
     (same_before (digest_by d w) (digest_by e w) ws (digest_below d w) (digest_below e w) same)
 
-pub tells_words_apart : TellsWordsApart
-tells_words_apart d [] back u v dn un vn other same =
+pub over_below : (d : ℕ) (ws : List ℕ) → d < 2 ^ 64 → digest_over d ws < 2 ^ 64
+over_below d [] below = below
+over_below d (w ∷ ws) below = over_below (digest_by d w) ws (digest_below d w)
+
+-- one word of several
+one_word : (d : ℕ) (front back : List ℕ) (u v : ℕ) → d < 2 ^ 64 → u < 2 ^ 64 → v < 2 ^ 64 → u ≢ v
+    → digest_over d (front ++ u ∷ back) ≢ digest_over d (front ++ v ∷ back)
+one_word d [] back u v dn un vn other same =
     other (same_word d u v un vn
     (same_before (digest_by d u) (digest_by d v) back (digest_below d u) (digest_below d v) same))
-tells_words_apart d (w ∷ front) back u v dn un vn other same =
-    tells_words_apart (digest_by d w) front back u v (digest_below d w) un vn other same
+one_word d (w ∷ front) back u v dn un vn other same =
+    one_word (digest_by d w) front back u v (digest_below d w) un vn other same
+
+-- ---- chains of which one differs
+
+after_words : (d : ℕ) (front back ws last : List ℕ) (u v : ℕ) → d < 2 ^ 64 → u < 2 ^ 64 → v < 2 ^ 64
+    → u ≢ v → digest_over d (side_over (front ++ u ∷ back) ws ++ last)
+    ≢ digest_over d (side_over (front ++ v ∷ back) ws ++ last)
+after_words d front back [] last u v dn un vn other same =
+    one_word d front (back ++ last) u v dn un vn other
+    (ap (digest_over d) (sym (append_assoc front (u ∷ back) last)) ∙ same
+    ∙ ap (digest_over d) (append_assoc front (v ∷ back) last))
+after_words d [] back (w ∷ ws) last u v dn un vn other same =
+    after_words d back [] ws last (digest_by u w) (digest_by v w) dn (digest_below u w)
+    (digest_below v w) (λ e. other (same_digest u v w un vn e)) same
+after_words d (x ∷ front) back (w ∷ ws) last u v dn un vn other same =
+    let more = digest_by x w ∷ [] in
+    after_words d front (back ++ more) ws last u v dn un vn other
+    (ap (λ q. digest_over d (side_over q ws ++ last)) (sym (append_assoc front (u ∷ back) more))
+    ∙ same ∙ ap (λ q. digest_over d (side_over q ws ++ last)) (append_assoc front (v ∷ back) more))
+
+-- one of the words that the chains take
+taken_word : (d x : ℕ) (xs front back last : List ℕ) (u v : ℕ) → d < 2 ^ 64 → u < 2 ^ 64
+    → v < 2 ^ 64 → u ≢ v → digest_over d (side_over (x ∷ xs) (front ++ u ∷ back) ++ last)
+    ≢ digest_over d (side_over (x ∷ xs) (front ++ v ∷ back) ++ last)
+taken_word d x xs [] back last u v dn un vn other same =
+    after_words d xs [] back last (digest_by x u) (digest_by x v) dn (digest_below x u)
+    (digest_below x v) (λ e. other (same_word x u v un vn e)) same
+taken_word d x [] (w ∷ front) back last u v dn un vn other same =
+    taken_word d (digest_by x w) [] front back last u v dn un vn other same
+taken_word d x (y ∷ ys) (w ∷ front) back last u v dn un vn other same =
+    taken_word d y (ys ++ digest_by x w ∷ []) front back last u v dn un vn other same
+
+-- ---- blocks
+
+with_below : (d : ℕ) (b : List ℕ) → d < 2 ^ 64 → digest_with d b < 2 ^ 64
+with_below d b below = over_below d (block_digests b) below
+
+blocks_apart : (d : ℕ) (b c front back : List ℕ) (u v : ℕ) → d < 2 ^ 64 → u < 2 ^ 64 → v < 2 ^ 64
+    → u ≢ v → length b ≡ length c → words_of b ≡ front ++ u ∷ back → words_of c ≡ front ++ v ∷ back
+    → digest_with d b ≢ digest_with d c
+blocks_apart d b c front back u v dn un vn other long one two same =
+    let of = λ (ws : List ℕ) (n : ℕ). digest_over d (side_over (0 ∷ 0 ∷ 0 ∷ 0 ∷ []) ws ++ n ∷ []) in
+    taken_word d 0 (0 ∷ 0 ∷ 0 ∷ []) front back (length b ∷ []) u v dn un vn other
+    (ap (λ ws. of ws (length b)) (sym one) ∙ same ∙ ap (of (words_of c)) (sym long)
+    ∙ ap (λ ws. of ws (length b)) two)
+
+same_start : (d e : ℕ) (bs : List (List ℕ)) → d < 2 ^ 64 → e < 2 ^ 64
+    → digest_all d bs ≡ digest_all e bs → d ≡ e
+same_start d e [] dn en same = same
+same_start d e (b ∷ bs) dn en same =
+    same_before d e (block_digests b) dn en
+    (same_start (digest_with d b) (digest_with e b) bs (with_below d b dn) (with_below e b en) same)
+
+pub digest_all-append : (d : ℕ) (bs cs : List (List ℕ))
+    → digest_all d (bs ++ cs) ≡ digest_all (digest_all d bs) cs
+digest_all-append d [] cs = refl
+digest_all-append d (b ∷ bs) cs = digest_all-append (digest_with d b) bs cs
+
+all_apart : (d : ℕ) (before after : List (List ℕ)) (b c : List ℕ) → d < 2 ^ 64
+    → ((e : ℕ) → e < 2 ^ 64 → digest_with e b ≢ digest_with e c)
+    → digest_all d (before ++ b ∷ after) ≢ digest_all d (before ++ c ∷ after)
+all_apart d [] after b c dn apart same =
+    apart d dn (same_start (digest_with d b) (digest_with d c) after (with_below d b dn)
+    (with_below d c dn) same)
+all_apart d (x ∷ before) after b c dn apart same =
+    all_apart (digest_with d x) before after b c (with_below d x dn) apart same
+
+pub tells_words_apart : TellsWordsApart
+tells_words_apart before after b c front back u v un vn other long one two =
+    all_apart 0 before after b c (omega arith)
+    (λ e below. blocks_apart e b c front back u v below un vn other long one two)

@@ -50,7 +50,7 @@ pub record CasesOfUnpacking : Type 0 where
       → map (λ (f : SetFile). f.heading) (file_at d set_id file)
       ≡ heading_of n (is_some (dispute_at d.copies (file_key set_id file))) ∷ []
   pub no_files : files_of nothing_found ≡ []
-  -- of the images of a file none comes twice, and one that does not exist is left out
+  -- no image of a file comes twice, and an image that does not exist is left out
   pub each_once : followed_by 3 [] (2 ∷ 0 ∷ 2 ∷ 3 ∷ 0 ∷ 1 ∷ 2 ∷ []) ≡ 2 ∷ 0 ∷ 1 ∷ []
   pub up_to_a_gap : section_images on_shelf (codes "ABC001") 1 1 4 ≡ 4 ∷ 2 ∷ []
   pub of_this_file : section_images on_shelf (codes "ABC001") 2 1 4 ≡ 7 ∷ []

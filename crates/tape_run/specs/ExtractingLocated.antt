@@ -141,8 +141,8 @@ abbrev pub BeginsOn : List Located → State → ℕ → Type 0
 BeginsOn locations core image = (sect : ℕ)
     × (lookup (same_key (key_at core.set_id core.file sect)) locations ≡ Some image)
 
--- Each stretch is of the open image, if there is one, which has these bytes, or of one that the
--- source yielded, on which a section begins, and which is then open.
+-- Each stretch was read from the open image with these bytes, if there is one, or from an image
+-- that the source yielded; a section begins on that image, and then it is open.
 abbrev pub AreFrom : {L R : Type 0} → (ℕ → Type 0) → Mounting L R → (R → Option (List ℕ)) → Bool
     → Option (List ℕ) → L → List Stretch → L → Type 0
 AreFrom on gives remaining opened whole shelf [] last = last ≡ shelf
@@ -168,8 +168,8 @@ pub record ReadsPart {S R : Type 0} (g : Ghosts S) (remaining : R → Option (Li
   pub reads : IfSeen g old (λ was. IsSeen g new (λ is. ReadsOn stretch was is))
   pub held : IsHeld remaining after whole
 
--- A stretch was read of the open image or of the one with this number, which the source yielded;
--- or this cannot be opened, and nothing changed.
+-- A stretch was read from the open image, or from the image with this number, which the source
+-- yielded. Or that image cannot be opened, and nothing changed.
 abbrev pub ReadsLocated : {S L R : Type 0} → Ghosts S → Mounting L R → (R → Option (List ℕ)) → ℕ
     → SessionState S → SessionState S → L → L → Bool → Option (List ℕ) → Option (Mounted R)
     → Type 0
@@ -184,8 +184,8 @@ abbrev pub NextBeginsOn : List Located → State → Option ℕ → Type 0
 NextBeginsOn locations core image = (sect block part : ℕ) → core.position ≡ Awaits sect block part
     → lookup (same_key (key_at core.set_id core.file sect)) locations ≡ image
 
--- The file is complete; or it is not, and no image is known for the missing section, or something
--- was read, or the image of the missing section could not be opened.
+-- The file is complete. Or it is incomplete, and no image is known for the missing section, or
+-- something was read, or the image of the missing section could not be opened.
 abbrev pub EndsReading : {L R : Type 0} → Mounting L R → List Located → List Stretch → State → L → L
     → Bool → Type 0
 EndsReading gives locations stretches core mid left true =

@@ -100,21 +100,20 @@ pub record ReadsToBlock (new core : State) (bytes left : List ℕ) : Type 0 wher
   pub at : ℕ
   pub taken : Walks 0 bytes (items ++ block content ∷ []) at left
 
--- The item is a block, by the core's answer it is the expected one, and a part of it was refused.
+-- By the core's answer the item is the expected block, and a part of it was refused.
 abbrev pub IsDelivery : State → Option TapeItem → State → Type 0
 IsDelivery core came new = (content : List ℕ) × (came ≡ Some (block content))
     × ((step_of core came).0 ≡ Deliver) × StopsAt (saved core 0) (saved (step_of core came).1 0) new
 
--- What a reel answers and leaves unread, and the state then: for a complete file nothing is read.
+-- The answer of a reel, its unread bytes, and the state then: for a complete file nothing is read.
 abbrev pub Reads : Position → State → List ℕ → List ℕ → ReelAnswer → State → Type 0
 Reads Finished core bytes left answer new = (left ≡ bytes) × (answer.answer ≡ Complete)
     × (answer.fault ≡ None) × (answer.blocks ≡ 0) × (new ≡ core)
 Reads (Awaits sect number part) core bytes left answer new =
     ReadsReel (mount_of core) bytes left answer new
 
--- The bytes that a reel leaves unread if it was not read to its end, if they are known, and the
--- state then: those after the refused block, which the core in this state came to, or all of them
--- if memory was refused.
+-- The unread bytes of a reel that was not read to its end, if they are known, and the state then:
+-- the bytes after the refused block, or all bytes if memory was refused.
 abbrev pub Leaves : RunFault → State → Option (List ℕ) → Option (List ℕ) → State → Type 0
 Leaves (Sink cause) core old left new = IfKnown old left (ReadsToBlock new core)
 Leaves OutOfMemory core old left new = left ≡ old

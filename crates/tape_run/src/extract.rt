@@ -45,11 +45,11 @@ use tape_set::Want;
 /// An image is opened when its turn comes, and closed after it was read. One that cannot be opened
 /// is reported and skipped. The session is saved after each reel, except after one with a wrong
 /// count. If the session came with a checkpoint, it then rolls back to its last one, and the next
-/// reel continues from there; otherwise it stays broken: the following reels are not used, and
-/// nothing is saved. Images after the one that completes the file are not opened. `out` is written
-/// and flushed if the file is complete, and not touched otherwise; then the last line of the report
-/// is written, and the report flushed. The caller keeps the session, with the parts that were
-/// delivered to its sink.
+/// reel continues from there; otherwise it stays broken: nothing of the following reels is used,
+/// and nothing is saved. Images after the one that completes the file are not opened. `out` is
+/// written and flushed if the file is complete, and not touched otherwise; then the last line of
+/// the report is written, and the report flushed. The session remains the caller's, with what was
+/// delivered to its sink; after an error the contract says only what a crash leaves of it.
 ///
 /// Allocates only for the session, a buffer while a reel is read, checkpoints, and what opening
 /// takes.

@@ -55,7 +55,7 @@ pub fn read_file<R: Read>(
         × (began.core ≡ reader_of set_id file)
         × StopsFor ⟦<MemorySink as PartSink>⟧ steps.now end.step end.fault began read.0)) }
     ensures calm { IfOk result (λ read. OnOk read.1 (read.0.sink.refused ≡ 0)) }
-    // Then it can be used again, also if a reader does not know its bytes.
+    // Then the session can be used again, even if a reader does not know its bytes.
     ensures kept { IfOk result (λ read. OnOk read.1 (IsKept
         (seen ⟦<MemorySink as PartSink>⟧ read.0 (portions read.0.sink)))) }
     ensures number { IsFileNumber file → IsOk result }

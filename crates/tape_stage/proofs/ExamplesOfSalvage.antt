@@ -46,6 +46,8 @@ cases_of_salvage g = record {
     r.framed.breaks.none,
   );
   none_remains = λ bytes n point broken parts none r. none n point broken parts r;
+  none_said = λ bytes says. says;
+  bad_said = λ bytes place says. says;
   once = λ bytes n m point next broken other parts more law one two.
       law n m point next broken other parts more one two;
   holds_rest = λ s parts h. h;

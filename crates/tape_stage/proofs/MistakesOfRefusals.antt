@@ -6,6 +6,8 @@ use Rattle.tape_core.specs.Point.{Point}
 use Rattle.tape_stage.specs.declared.disk.DiskFault.TheVariants as disk_faults
 use Rattle.tape_stage.specs.declared.stage.StageFault.TheVariants.{Device, Full, NoPoint}
 use Rattle.tape_stage.specs.Faults.{SaysNone}
+use Rattle.tape_stage.specs.Found.{IsFaultOf}
+use Rattle.tape_stage.specs.Salvaged.{Remains}
 use Rattle.tape_stage.proofs.disk.file.FileDisk.sync_file.Reads as sync_file
 use Rattle.tape_stage.proofs.disk.file.FileDiskDisk.sync.Reads as sync
 use Rattle.tape_stage.proofs.stage.Stage.create.Reads as create
@@ -36,6 +38,16 @@ create_told_as_full D L g d κs a refused s l w = l.not_full w
 no_memory_told_as_no_stage : (D : _) (L : _) (g : _) (d : _) (κs : _) (a : _) (refused : _) (s : _)
     → create.Learnt-named D L g d κs a (Err refused) s → refused.fault ≡ NoPoint → ⊥
 no_memory_told_as_no_stage D L g d κs a refused s l w = l.not_none (subst SaysNone (sym w) tt)
+
+-- bad_frame_told_as_no_stage: a frame is damaged, and the fault says that no slot is valid
+bad_frame_told_as_no_stage : (D : _) (L : _) (g : _) (d : _) (κs : _) (a : _) (refused : _) (s : _)
+    (n : _) (point : _) (place : _) (parts : _)
+    → open_disk.Learnt-named D L g d κs a (Err refused) s → g.is_honest a.1.0
+    → Remains (g.seen a.1.0) n point (Some place) parts → refused.fault ≡ NoPoint → ⊥
+bad_frame_told_as_no_stage D L g d κs a refused s n point place parts l honest is w =
+    let says : IsFaultOf (g.seen a.1.0) NoPoint
+    = subst (IsFaultOf (g.seen a.1.0)) w (l.says honest) in
+    says n point (Some place) parts is
 
 -- ---- the checkpoint that was being saved
 

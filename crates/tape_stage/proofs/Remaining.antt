@@ -92,6 +92,7 @@ broken_bad found place parts bytes is framed = record {
   generation = found.generation;
   point = found.point;
   slot = best_of found.in_second found.generation found.point bytes is.slot is.other;
+  inside = omega (arith, framed.breaks.low, framed.holds.long);
   walked = record {
     low = framed.breaks.low;
     parts = parts;

@@ -1,8 +1,10 @@
 -- Clauses about the result of a call.
-use Rattle.std.proofs.Common.{ℕ, ◌≡◌, Result, Ok, Err, OnOk}
+use Rattle.std.proofs.Common.{ℕ, List, ◌≡◌, Result, Ok, Err, OnOk}
 use Rattle.std.specs.Prelude.{IfErr, IfOk}
 use Rattle.tape_stage.specs.declared.stage.StageFault.{StageFault}
 use Rattle.tape_stage.specs.Faults.{SaysNone, OnBadFrame}
+use Rattle.tape_stage.specs.Found.{IsFaultOf}
+use Rattle.tape_stage.specs.Salvaged.{RemainsNone}
 use Rattle.tape_stage.specs.declared.stage.StageFault.TheVariants.{NoPoint, BadFrame, Device}
 use Rattle.tape_stage.specs.declared.stage.StageFault.TheVariants.{OutOfMemory, Failed, Full}
 
@@ -21,19 +23,15 @@ if_err (Ok x) also p = tt
 if_err (Err e) also p = also e p
 
 -- an error that is passed on
-pub err_bad : {A : Type 0} {P : Type 0} (r : Result A StageFault) (e : StageFault) → r ≡ Err e
-    → (SaysNone e → P) → IfErr r (λ fault. SaysNone fault → P)
-err_bad r e is h = rw is h
+pub err_bad : {A : Type 0} (P : StageFault → Type 0) (r : Result A StageFault) (e : StageFault)
+    → r ≡ Err e → P e → IfErr r P
+err_bad P r e is h = rw is h
 
-pub on_bad : (fault : StageFault) (P Q : ℕ → Type 0) → ((place : ℕ) → P place → Q place)
-    → OnBadFrame fault P → OnBadFrame fault Q
-on_bad (BadFrame place) P Q also p = also place p
-on_bad NoPoint P Q also p = tt
-on_bad Device P Q also p = tt
-on_bad OutOfMemory P Q also p = tt
-on_bad Failed P Q also p = tt
-on_bad Full P Q also p = tt
-
-pub err_at : {A : Type 0} (P : ℕ → Type 0) (r : Result A StageFault) (e : StageFault) → r ≡ Err e
-    → OnBadFrame e P → IfErr r (λ fault. OnBadFrame fault P)
-err_at P r e is h = rw is h
+pub no_frame_says : (bytes : List ℕ) (fault : StageFault) → (SaysNone fault → RemainsNone bytes)
+    → OnBadFrame fault (λ place. ⊥) → IsFaultOf bytes fault
+no_frame_says bytes NoPoint none bad = none tt
+no_frame_says bytes (BadFrame place) none bad = absurd bad
+no_frame_says bytes Device none bad = tt
+no_frame_says bytes OutOfMemory none bad = tt
+no_frame_says bytes Failed none bad = tt
+no_frame_says bytes Full none bad = tt

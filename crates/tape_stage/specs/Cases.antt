@@ -213,7 +213,7 @@ pub record CasesOfFiles : Type 0 where
   -- if a frame is bad, the current slot counts parts, the frames before the bad one are intact, and
   -- it is not
   pub bad_place : (bytes : List ℕ) (place : ℕ) (b : IsBadPlace bytes place)
-      → WalkedTo place bytes
+      → (place ≤ length bytes) × WalkedTo place bytes
       × NoFrameAt place (min (256 + b.point.staged) (length bytes)) bytes
       × (best (slot_at false bytes) (slot_at true bytes) ≡ Some (b.generation, b.point))
   pub walked : (bytes : List ℕ) (place : ℕ) (w : WalkedTo place bytes) → (256 ≤ place)

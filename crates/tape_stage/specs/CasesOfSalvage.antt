@@ -5,12 +5,14 @@ use Rattle.std.specs.Prelude.{drop, replicate, Option, Some, None, false, true}
 use Rattle.tape_blocks.specs.declared.parts.Span.TheVariants.{Whole}
 use Rattle.tape_blocks.specs.Block.{Portion}
 use Rattle.tape_core.specs.Point.{Point}
+use Rattle.tape_stage.specs.Found.{IsBadPlace, IsFaultOf}
 use Rattle.tape_stage.specs.Frames.{AheadIn, NoFrameAt}
 use Rattle.tape_stage.specs.Parts.{frames}
 use Rattle.tape_stage.specs.Salvaged.{FramedTo, HoldsRest, Remains, RemainsNone, RemainsOnce}
 use Rattle.tape_stage.specs.Salvaged.{RestAhead}
 use Rattle.tape_stage.specs.Staged.{Holding, Staged, best, slot_at}
 use Rattle.tape_stage.specs.declared.disk.Disk.{Ghosts}
+use Rattle.tape_stage.specs.declared.stage.StageFault.TheVariants.{NoPoint, BadFrame}
 use Rattle.tape_stage.specs.declared.stage.salvage.Salvage.{Salvage}
 
 -- a whole record of one byte, A
@@ -51,6 +53,10 @@ pub record CasesOfSalvage {D : Type 0} (g : Ghosts D) : Type 0 where
   -- if something remains, it is false that nothing remains
   pub none_remains : (bytes : List ℕ) (n : ℕ) (point : Point) (broken : Option ℕ)
       (parts : List Portion) → RemainsNone bytes → Remains bytes n point broken parts → ⊥
+  -- NoPoint says that nothing remains, BadFrame where the first bad frame is
+  pub none_said : (bytes : List ℕ) → IsFaultOf bytes NoPoint → RemainsNone bytes
+  pub bad_said : (bytes : List ℕ) (place : ℕ) → IsFaultOf bytes (BadFrame place)
+      → IsBadPlace bytes place
   -- the remains are unique
   pub once : (bytes : List ℕ) (n m : ℕ) (point next : Point) (broken other : Option ℕ)
       (parts more : List Portion) → RemainsOnce bytes → Remains bytes n point broken parts

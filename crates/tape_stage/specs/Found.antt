@@ -1,10 +1,13 @@
 -- The contents of the slots of a stage file.
-use Rattle.std.specs.Prelude.{◌≡◌, ℕ, ◌+◌, min, length, true, false, not, List, Some, ◌==◌}
+use Rattle.std.specs.Prelude.{◌≡◌, ℕ, ◌+◌, ◌≤◌, min, length, true, false, not, List, Some, ◌==◌}
 use Rattle.tape_stage.specs.Staged.{best, WalkedTo}
 use Rattle.tape_stage.specs.Frames.{NoFrameAt}
 use Rattle.tape_core.specs.Point.{Point}
 use Rattle.tape_stage.specs.Staged.{gate_at, slot_at, Loses}
+use Rattle.tape_stage.specs.Salvaged.{RemainsNone}
 use Rattle.tape_stage.specs.declared.stage.Found.{Found}
+use Rattle.tape_stage.specs.declared.stage.StageFault.{StageFault}
+use Rattle.tape_stage.specs.declared.stage.StageFault.TheVariants.{NoPoint, BadFrame}
 
 -- the slot found is the current one, and `other_open` is the state of the other slot's gate
 pub record IsFound (found : Found) (bytes : List ℕ) : Type 0 where
@@ -18,5 +21,13 @@ pub record IsBadPlace (bytes : List ℕ) (place : ℕ) : Type 0 where
   pub generation : ℕ
   pub point : Point
   pub slot : best (slot_at false bytes) (slot_at true bytes) ≡ Some (generation, point)
+  pub inside : place ≤ length bytes
   pub walked : WalkedTo place bytes
   pub none : NoFrameAt place (min (256 + point.staged) (length bytes)) bytes
+
+-- What a fault of opening says about the bytes: NoPoint, that no slot is valid; BadFrame, where the
+-- first bad frame is.
+abbrev pub IsFaultOf : List ℕ → StageFault → Type 0
+IsFaultOf bytes NoPoint = RemainsNone bytes
+IsFaultOf bytes (BadFrame place) = IsBadPlace bytes place
+IsFaultOf bytes _ = Unit {0}

@@ -125,6 +125,10 @@ KeepsStaged old new = (g : ℕ) (point : Point) (parts : List Portion) → Stage
 abbrev pub blank : List ℕ
 blank = replicate 15 48 ++ replicate 112 32
 
+-- the slots of a new stage before its first gate is opened
+abbrev pub new_slots : Point → List ℕ
+new_slots point = 67 ∷ (body_text 1 point ++ 67 ∷ blank)
+
 -- the five bytes are not the header of a part of at most 99,999 bytes
 abbrev pub IsNoHeader : List ℕ → Type 0
 IsNoHeader header = (span : Span) (size : ℕ) → size ≤ longest_part

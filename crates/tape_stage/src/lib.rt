@@ -14,7 +14,7 @@ pub use disk::write_behind::WriteBehind;
 pub use disk::{Disk, DiskFault};
 pub use point::text::PointFault;
 pub use point::{read_point, write_point};
-pub use stage::open_disk::Refused;
+pub use stage::open_disk::{Refused, new_slots};
 pub use stage::part_reader::PartReader;
 pub use stage::salvage::Salvage;
 pub use stage::{Stage, StageFault};

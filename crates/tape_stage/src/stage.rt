@@ -63,7 +63,7 @@ pub enum StageFault {
     /// The disk failed in this call.
     #[error("the disk failed")]
     Device,
-    /// There was no memory for the buffer or the first slots.
+    /// There was no memory for the buffer.
     #[error("out of memory")]
     OutOfMemory,
     /// The disk failed in an earlier call. The stage must be opened again.

@@ -1,5 +1,7 @@
 -- The test cases for ends, faults, lines, names and sessions over stages.
-use Rattle.std.proofs.Common.{◌≡◌, refl, ap, get_or, arith, Bool, true, false, [], inl, inr, subst}
+use Rattle.std.proofs.Common.{◌≡◌, ◌⊎◌, ⊎_elim, inl, inr, refl, ap, subst, arith, Bool, true, false}
+use Rattle.std.proofs.Common.{ℕ, zero, suc, ◌<◌, List, [], ◌∷◌, length, get_or}
+use Rattle.std.proofs.lemmas.List.{get_or_past}
 use Rattle.std.specs.Fmt.{digits}
 use Rattle.tape_stage.specs.declared.disk.Disk.{Ghosts}
 use Rattle.tape_stage.proofs.Once.{staged_once}
@@ -9,7 +11,9 @@ use Rattle.tape_tool.specs.Cases.{CasesOfStaging}
 use Rattle.tape_tool.specs.declared.program.End.TheVariants.{Done, Incomplete}
 use Rattle.tape_tool.specs.Ends.{exit_status, IsWrongWords}
 use Rattle.tape_tool.specs.Names.{end_byte, names_in}
-use Rattle.tape_tool.specs.Staging.{IsOfFile}
+use Rattle.tape_stage.specs.Staged.{new_slots}
+use Rattle.tape_tool.specs.Staging.{IsOfFile, IsUnmade, first_point}
+use Rattle.tape_tool.proofs.Unmade.{unmade_nil}
 
 never_done : IsWrongWords Done → ⊥
 never_done (inl e) = absurd (let n : 0 ≡ 2 = ap exit_status e in omega arith)
@@ -74,6 +78,26 @@ cases_of_names = record {
   none = no_name;
 }
 
+unmade_front : (set_id : List ℕ) (file : ℕ) (bytes : List ℕ) → length bytes < 256
+    → ((i : ℕ) → (get_or bytes i 0 ≡ 0)
+    ⊎ (get_or bytes i 0 ≡ get_or (new_slots (first_point set_id file)) i 0))
+    → IsUnmade set_id file bytes
+unmade_front set_id file bytes short each = record {
+  none = λ g point broken parts r. omega (arith, r.framed.holds.long);
+  few = omega arith;
+  each = each;
+}
+
+two_zeros : (i : ℕ) → ◌≡◌ {A = ℕ} (get_or (0 ∷ 0 ∷ []) i 0) 0
+two_zeros zero = refl
+two_zeros (suc zero) = refl
+two_zeros (suc (suc i)) = get_or_past (0 ∷ 0 ∷ []) (suc (suc i)) 0 (omega arith)
+
+gate_alone : (set_id : List ℕ) (file i : ℕ) → (◌≡◌ {A = ℕ} (get_or (67 ∷ []) i 0) 0)
+    ⊎ (◌≡◌ {A = ℕ} (get_or (67 ∷ []) i 0) (get_or (new_slots (first_point set_id file)) i 0))
+gate_alone set_id file zero = inr refl
+gate_alone set_id file (suc i) = inl (get_or_past (67 ∷ []) (suc i) 0 (omega arith))
+
 pub cases_of_staging : {D : Type 0} (disk : Ghosts D) → CasesOfStaging disk
 cases_of_staging disk = record {
   first = refl;
@@ -90,7 +114,16 @@ cases_of_staging disk = record {
       let x = s.survived bytes (inl left) in (x.1, x.2, (bytes, inl left, (x.0, x.3)));
   since = λ point back parts there session s. s.since back there;
   goes_on = λ set_id read file session g. (g.staged, g.of_file.0, g.of_file.1, g.stands);
-  none_staged = λ set_id read file. (λ says. says tt, λ says. says tt);
+  unmade = λ set_id file. (
+    unmade_nil set_id file,
+    unmade_front set_id file (0 ∷ 0 ∷ []) (omega arith) (λ i. inl (two_zeros i)),
+    unmade_front set_id file (67 ∷ []) (omega arith) (gate_alone set_id file),
+    λ u. ⊎_elim (λ e. omega arith) (λ e. omega arith) (u.each 0),
+  );
+  unmade_size = λ set_id file u. omega (arith, u.few);
+  made = λ set_id read file g point broken parts remains u. u.none g point broken parts remains;
+  none_staged = λ set_id read file. (λ says. says.0 tt, λ says. says.0 tt);
+  fault_said = λ set_id read file place. (λ says. says.1, λ says. says.1);
   of_another = λ set_id read file n point parts says staged set is.
       let same = staged_once read n says.0 point says.1 parts says.2 staged says.3 in
       says.4 (subst (IsOfFile set_id file) same.1 (set, is));

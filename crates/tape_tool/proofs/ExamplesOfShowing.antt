@@ -5,6 +5,7 @@ use Rattle.std.specs.Io.KnownBytes.{Keeps}
 use Rattle.tape_blocks.specs.declared.parts.Form.{Form}
 use Rattle.tape_run.specs.declared.fault.RunFault.{RunFault}
 use Rattle.tape_stage.specs.Faults.{OnBadFrame, SaysNone}
+use Rattle.tape_stage.specs.Found.{IsBadPlace, IsFaultOf}
 use Rattle.tape_stage.specs.Salvaged.{RemainsNone}
 use Rattle.tape_stage.specs.Staged.{HoldsNone}
 use Rattle.tape_stage.specs.declared.stage.StageFault.{StageFault}
@@ -20,8 +21,8 @@ use Rattle.tape_tool.specs.CasesOfShowing.{CasesOfShowing, StopSays, SalvageSays
 
 stopped : (read : List ℕ) (form : Form) (out written said says : Option (List ℕ))
     (fault : ToolFault) → StopSays read form out written said says fault
-stopped read form out written said says fault (unopened cause is none full failed kept quiet) =
-    inl (cause, is, none, full, failed, kept, quiet)
+stopped read form out written said says fault (unopened cause is none why full failed kept quiet) =
+    inl (cause, is, none, why, full, failed, kept, quiet)
 stopped read form out written said says fault (in_part generation point parts staged front ends) =
     inr (generation, point, parts, staged, front.wrote, front.told, ends)
 
@@ -89,7 +90,8 @@ told_none cause says (inr ends) = absurd (subst SaysNone (is_device cause ends) 
 pub why_shown : (read : List ℕ) (form : Form) (out written said says : Option (List ℕ))
     (fault : ToolFault) → StopsShowing read form out written said says fault
     → Why (HoldsNone read) (Keeps out written × Keeps said says) fault
-why_shown read form out written said says fault (unopened cause is none full failed kept quiet) =
+why_shown read form out written said says fault
+    (unopened cause is none why full failed kept quiet) =
     inl (cause, is, none, full, failed, (kept, quiet))
 why_shown read form out written said says fault (in_part g point parts staged front ends) = inr ends
 
@@ -107,6 +109,13 @@ pub none_told : (read : List ℕ) (form : Form) (out written said says : Option 
     → StopsShowing read form out written said says (Stage cause) → HoldsNone read
 none_told read form out written said says cause none h =
     told_none cause none (why_shown read form out written said says (Stage cause) h)
+
+pub bad_frame : (read : List ℕ) (form : Form) (out written said says : Option (List ℕ)) (place : ℕ)
+    → StopsShowing read form out written said says (Stage (BadFrame place)) → IsBadPlace read place
+bad_frame read form out written said says place (unopened cause is none why full failed kept quiet) =
+    subst (IsFaultOf read) (sym (is_cause is)) why
+bad_frame read form out written said says place (in_part g point parts staged front ends) =
+    absurd (let d : BadFrame place ≡ Device = is_device (BadFrame place) ends in cc)
 
 pub no_frame : (read : List ℕ) (form : Form) (out written said says : Option (List ℕ)) (place : ℕ)
     → StopsSalvaging read form out written said says (Stage (BadFrame place)) → ⊥

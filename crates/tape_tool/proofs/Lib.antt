@@ -1,9 +1,11 @@
 mod Sessions
+mod Unmade
 mod StageReport
 mod LinesOfVolumes
 mod ListedNames
 mod FoundWords
 mod WordsOfWriting
+pub mod Sizing
 mod Mistakes
 mod MistakesOfNames
 mod MistakesOfWords

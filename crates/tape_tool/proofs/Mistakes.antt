@@ -1,7 +1,7 @@
 -- Wrong answers about ends, faults and stages that the contracts of the program's functions
 -- exclude.
-use Rattle.std.proofs.Common.{◌≡◌, ◌+◌, ℕ, [], length, true, false, refl, sym, ap, ◌∙◌}
-use Rattle.std.proofs.Common.{subst, arith}
+use Rattle.std.proofs.Common.{◌≡◌, ◌+◌, ℕ, [], length, get_or, true, false, refl, sym, ap, ◌∙◌}
+use Rattle.std.proofs.Common.{subst, arith, ⊎_elim}
 use Rattle.std.proofs.Math.Nat.{min-eq_left}
 use Rattle.std.specs.Prelude.{◌≤◌, Some, Ok, Err}
 use Rattle.clap.specs.declared.error.kind.ErrorKind.TheVariants as kinds
@@ -20,7 +20,7 @@ use Rattle.tape_tool.specs.Ends.{exit_status}
 use Rattle.tape_tool.specs.Fault.{no_memory}
 use Rattle.tape_stage.specs.declared.stage.StageFault.TheVariants as stage_faults
 use Rattle.tape_tool.specs.declared.staging.StagingFault.TheVariants as staging_faults
-use Rattle.tape_tool.specs.Staging.{IsOfFile, Says, SaysNoStage}
+use Rattle.tape_tool.specs.Staging.{IsOfFile, IsUnmade, Says, SaysNoStage}
 use Rattle.tape_tool.proofs.program.End.status.Reads as status
 use Rattle.tape_tool.proofs.program.end_of.Reads as end_of
 use Rattle.tape_tool.proofs.program.damaged_end.Reads as damaged_end
@@ -30,6 +30,7 @@ use Rattle.tape_tool.proofs.program.no_words_end.Reads as no_words_end
 use Rattle.tape_tool.proofs.program.check_end.Reads as check_end
 use Rattle.tape_tool.proofs.fault.number_of_file.Reads as number_of_file
 use Rattle.tape_tool.proofs.fault.number_of_write.Reads as number_of_write
+use Rattle.tape_tool.proofs.staging.is_unmade.Reads as is_unmade
 use Rattle.tape_tool.proofs.staging.open_session.Reads as open_session
 use Rattle.tape_tool.proofs.staging.same_file.Reads as same_file
 
@@ -147,6 +148,22 @@ no_stage_told_as_another_file D L g d e κs a refused s l honest some none told 
     let says : Says a.1.1.0 a.1.1.1.0 (g.seen a.1.0) staging_faults.OtherFile
     = subst (Says a.1.1.0 a.1.1.1.0 (g.seen a.1.0)) told (l.says honest some) in
     none says.0 says.1 says.2 says.3
+
+-- letter_emptied: a file that begins with D is taken for the beginning of a new stage
+letter_emptied : (D : _) (L : _) (g : _) (d : _) (κs : _) (a : _) (s : _)
+    → is_unmade.Learnt-named D L g d κs a true s → g.is_honest a.0.now
+    → get_or (g.seen a.0.now) 0 0 ≡ 68 → ⊥
+letter_emptied D L g d κs a s l honest letter =
+    let made : IsUnmade a.1.0 a.1.1.0 (g.seen a.0.now) = l.unmade honest in
+    ⊎_elim (λ zero. omega (arith, zero, letter)) (λ due. omega (arith, due, letter)) (made.each 0)
+
+-- long_file_emptied: so is a file of 257 bytes, since those after the first 256 are not read
+long_file_emptied : (D : _) (L : _) (g : _) (d : _) (κs : _) (a : _) (s : _)
+    → is_unmade.Learnt-named D L g d κs a true s → g.is_honest a.0.now
+    → length (g.seen a.0.now) ≡ 257 → ⊥
+long_file_emptied D L g d κs a s l honest long =
+    let made : IsUnmade a.1.0 a.1.1.0 (g.seen a.0.now) = l.unmade honest in
+    omega (arith, made.few, long)
 
 -- stage_of_another_file_emptied: the staged data of another file are lost from the disk
 stage_of_another_file_emptied : (D : _) (L : _) (g : _) (d : _) (e : _) (κs : _) (a : _)

@@ -1,7 +1,7 @@
 -- Examples for the definitions of ends, faults, lines, names and sessions over stages, which show
 -- that none of them is too weak or too strict. They are the contract of the call `laws::cases`.
 use Rattle.std.specs.Prelude.{◌≡◌, ℕ, Bool, true, false, List, [], ◌∷◌, map, replicate}
-use Rattle.std.specs.Prelude.{codes, Some, None, Ok, Err}
+use Rattle.std.specs.Prelude.{codes, Option, Some, None, Ok, Err}
 use Rattle.std.specs.Borrow.{Bor}
 use Rattle.std.specs.List.{join_with_byte}
 use Rattle.clap.specs.declared.error.kind.ErrorKind.TheVariants as kinds
@@ -26,6 +26,8 @@ use Rattle.tape_run.specs.declared.fault.RunFault.TheVariants as runs
 use Rattle.tape_run.specs.declared.fault.EngineFault.TheVariants as engine
 use Rattle.tape_run.specs.declared.fault.ListFault.TheVariants as list
 use Rattle.tape_run.specs.SessionState.{SessionState}
+use Rattle.tape_stage.specs.Found.{IsBadPlace}
+use Rattle.tape_stage.specs.Salvaged.{Remains, RemainsNone}
 use Rattle.tape_stage.specs.Staged.{Staged, HoldsNone, Holding}
 use Rattle.tape_stage.specs.Stages.{Returns, Returned}
 use Rattle.tape_stage.specs.declared.disk.Disk.{Ghosts}
@@ -45,7 +47,7 @@ use Rattle.tape_tool.specs.Fault.{of_list}
 use Rattle.tape_tool.specs.Names.{end_byte, pieces_of, names_in}
 use Rattle.tape_tool.specs.Report.{report}
 use Rattle.tape_tool.specs.Staging.{IsOfFile, first_point, StandsAt, GoesOn, Says, IsUnopened}
-use Rattle.tape_tool.specs.Staging.{SaysNoStage}
+use Rattle.tape_tool.specs.Staging.{SaysNoStage, IsUnmade}
 use Rattle.tape_tool.specs.Diagnostics.{fault_line}
 
 -- how runs end
@@ -196,10 +198,22 @@ pub record CasesOfStaging {D : Type 0} (disk : Ghosts D) : Type 0 where
   pub goes_on : (set_id read : List ℕ) (file : ℕ) (session : SessionState (Stage D disk))
       (g : GoesOn set_id file read session) → Staged read g.generation g.point g.parts
       × (g.point.set_id ≡ set_id) × (g.point.file ≡ file) × StandsAt g.point g.parts session
+  -- only zeros, or nothing, may be a new stage that was not completed, but no other byte in place
+  -- of the first gate; and no stage is one, not even a damaged one
+  pub unmade : (set_id : List ℕ) (file : ℕ) → IsUnmade set_id file []
+      × IsUnmade set_id file (0 ∷ 0 ∷ []) × IsUnmade set_id file (67 ∷ [])
+      × (IsUnmade set_id file (68 ∷ []) → ⊥)
+  pub unmade_size : (set_id : List ℕ) (file : ℕ) → IsUnmade set_id file (replicate 257 0) → ⊥
+  pub made : (set_id read : List ℕ) (file g : ℕ) (point : Point) (broken : Option ℕ)
+      (parts : List Portion) → Remains read g point broken parts → IsUnmade set_id file read → ⊥
   -- bytes that are not a stage contain no staged data
   pub none_staged : (set_id read : List ℕ) (file : ℕ)
       → (Says set_id file read (staging.Stage stages.NoPoint) → HoldsNone read)
       × (Says set_id file read (staging.Stage (stages.BadFrame 300)) → HoldsNone read)
+  -- if no slot is valid, nothing remains; and the reported bad frame is one
+  pub fault_said : (set_id read : List ℕ) (file place : ℕ)
+      → (Says set_id file read (staging.Stage stages.NoPoint) → RemainsNone read)
+      × (Says set_id file read (staging.Stage (stages.BadFrame place)) → IsBadPlace read place)
   -- a stage of another file does not represent a checkpoint of this one
   pub of_another : (set_id read : List ℕ) (file n : ℕ) (point : Point) (parts : List Portion)
       → Says set_id file read staging.OtherFile → Staged read n point parts

@@ -13,6 +13,7 @@ use Rattle.tape_core.specs.Point.{Point}
 use Rattle.tape_image.specs.Written.{AppendsFront}
 use Rattle.tape_run.specs.RecordText.{output_of}
 use Rattle.tape_stage.specs.Faults.{OnBadFrame, SaysNone}
+use Rattle.tape_stage.specs.Found.{IsFaultOf}
 use Rattle.tape_stage.specs.Salvaged.{Remains, RemainsNone}
 use Rattle.tape_stage.specs.Staged.{Staged, HoldsNone}
 use Rattle.tape_stage.specs.declared.stage.StageFault.{StageFault}
@@ -45,14 +46,14 @@ point_at position = record {
   staged = 0;
 }
 
--- the meaning of a fault: no stage was opened and nothing written, and NoPoint is reported only if
--- there is no stage; or a prefix of the staged records in these bytes was written, and the fault is
--- a failed write or the device
+-- the meaning of a fault: no stage was opened and nothing written, and NoPoint and BadFrame are true
+-- of the bytes; or a prefix of the staged records in these bytes was written, and the fault is a
+-- failed write or the device
 abbrev pub StopSays : List ℕ → Form → Option (List ℕ) → Option (List ℕ) → Option (List ℕ)
     → Option (List ℕ) → ToolFault → Type 0
 StopSays read form out written said says fault = StopsShowing read form out written said says fault
     → ((cause : StageFault) × (fault ≡ Stage cause) × (SaysNone cause → HoldsNone read)
-    × (cause ≢ Full) × (cause ≢ Failed) × Keeps out written × Keeps said says)
+    × IsFaultOf read cause × (cause ≢ Full) × (cause ≢ Failed) × Keeps out written × Keeps said says)
     ⊎ ((g : ℕ) × (point : Point) × (parts : List Portion) × Staged read g point parts
     × AppendsFront out written (output_of form parts)
     × AppendsFront said says (told_of point None (length (join parts).records))

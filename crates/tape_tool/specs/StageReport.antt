@@ -13,6 +13,7 @@ use Rattle.tape_image.specs.Written.{AppendsFront}
 use Rattle.tape_run.specs.RecordText.{output_of}
 use Rattle.tape_run.specs.ReelLine.{last_line}
 use Rattle.tape_stage.specs.Faults.{OnBadFrame, SaysNone}
+use Rattle.tape_stage.specs.Found.{IsFaultOf}
 use Rattle.tape_stage.specs.Salvaged.{Remains, RemainsNone}
 use Rattle.tape_stage.specs.Staged.{Staged, HoldsNone}
 use Rattle.tape_stage.specs.declared.stage.StageFault.{StageFault}
@@ -77,12 +78,12 @@ abbrev pub EndsInPart : ToolFault → Type 0
 EndsInPart fault = (fault ≡ File WriteFailed) ⊎ (fault ≡ Stage Device)
 
 -- A fault ended the run. Either no stage was opened and nothing was written; NoPoint is reported
--- only if there is no stage, and Full and Failed never. Or a prefix of the output was written, and
+-- only if no slot is valid, BadFrame with the offset of the bad frame, and Full and Failed never. Or a prefix of the output was written, and
 -- the fault is a failed write or the device.
 pub data StopsShowing (read : List ℕ) (form : Form) (out written said says : Option (List ℕ))
     (fault : ToolFault) : Type 0 where
   unopened : (cause : StageFault) → fault ≡ Stage cause → (SaysNone cause → HoldsNone read)
-      → cause ≢ Full → cause ≢ Failed
+      → IsFaultOf read cause → cause ≢ Full → cause ≢ Failed
       → Keeps out written → Keeps said says → StopsShowing read form out written said says fault
   in_part : (generation : ℕ) (point : Point) (parts : List Portion)
       → Staged read generation point parts

@@ -1,5 +1,5 @@
 -- Sessions over a stage.
-use Rattle.std.specs.Prelude.{◌≡◌, ℕ, List}
+use Rattle.std.specs.Prelude.{◌≡◌, ◌≤◌, ◌⊎◌, ℕ, List, get_or, length}
 use Rattle.tape_blocks.specs.Block.{Portion}
 use Rattle.tape_core.specs.Crash.{OnlyThis}
 use Rattle.tape_core.specs.Point.{Point}
@@ -9,7 +9,9 @@ use Rattle.tape_run.specs.CrashRuns.{IsResumed}
 use Rattle.tape_run.specs.Seen.{seen}
 use Rattle.tape_run.specs.SessionState.{SessionState}
 use Rattle.tape_stage.specs.Faults.{SaysNone, IsNotDevice}
-use Rattle.tape_stage.specs.Staged.{Staged, HoldsNone}
+use Rattle.tape_stage.specs.Found.{IsFaultOf}
+use Rattle.tape_stage.specs.Salvaged.{RemainsNone}
+use Rattle.tape_stage.specs.Staged.{Staged, HoldsNone, new_slots}
 use Rattle.tape_stage.specs.Stages.{Holds, Returns, Survives, Returned, Survived, crashes_of}
 use Rattle.tape_stage.specs.declared.disk.Disk.{Ghosts}
 use Rattle.tape_stage.specs.declared.stage.Stage.{Stage}
@@ -23,6 +25,14 @@ IsOfFile set_id file point = (point.set_id ≡ set_id) × (point.file ≡ file)
 -- the checkpoint at the start of a file
 abbrev pub first_point : List ℕ → ℕ → Point
 first_point set_id file = saved (reader_of set_id file) 0
+
+-- No slot is valid. There are at most 256 bytes, each of them zero or the byte at its offset of a
+-- new stage of this file before the first gate is opened.
+pub record IsUnmade (set_id : List ℕ) (file : ℕ) (bytes : List ℕ) : Type 0 where
+  pub none : RemainsNone bytes
+  pub few : length bytes ≤ 256
+  pub each : (i : ℕ) → (get_or bytes i 0 ≡ 0)
+      ⊎ (get_or bytes i 0 ≡ get_or (new_slots (first_point set_id file)) i 0)
 
 -- a stage as a sink, which parts are put into
 abbrev pub as_sink : {D : Type 0} {disk : Ghosts D} → sinks.Ghosts (Stage D disk)
@@ -55,10 +65,11 @@ pub record GoesOn {D : Type 0} {disk : Ghosts D} (set_id : List ℕ) (file : ℕ
   pub of_file : IsOfFile set_id file point
   pub stands : StandsAt point parts session
 
--- The meaning of the fault for the bytes that were read: they represent nothing, or a checkpoint of
--- another file or set.
+-- The meaning of the fault for the bytes that were read: they represent nothing, since no slot is
+-- valid or a frame is bad, or a checkpoint of another file or set.
 abbrev pub Says : List ℕ → ℕ → List ℕ → StagingFault → Type 0
-Says set_id file read (faults.Stage fault) = SaysNone fault → HoldsNone read
+Says set_id file read (faults.Stage fault) = (SaysNone fault → HoldsNone read)
+    × IsFaultOf read fault
 Says set_id file read faults.OtherFile = (generation : ℕ) × (point : Point)
     × (parts : List Portion) × Staged read generation point parts
     × (IsOfFile set_id file point → ⊥)

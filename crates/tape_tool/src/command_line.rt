@@ -28,8 +28,8 @@ pub const TAPE: CommandSpec = CommandSpec {
     words: &[],
 };
 
-/// Returns what the arguments ask for, the first of which is the program's name; or, with its text,
-/// a usage error, a call for help, or an allocation that was refused.
+/// Returns the request of the arguments, of which the first is the program's name; or, with its
+/// text, a usage error, a call for help, or a refused allocation.
 pub fn call_of<'a>(alloc: Global, words: &'a [String]) -> Result<Call<'a>, Error> {
     match command(alloc)?.try_get_matches_from(words) {
         Ok(matches) => call_in(alloc, &matches),
@@ -38,8 +38,9 @@ pub fn call_of<'a>(alloc: Global, words: &'a [String]) -> Result<Call<'a>, Error
     }
 }
 
-/// Returns why these arguments are refused, in a text that has them as they are printed: the parser
-/// refuses the printed arguments for the same reason, since no name of it has such characters.
+/// Returns why these arguments are refused, in a text that contains them as they are printed. The
+/// parser refuses the printed arguments for the same reason, since none of its names has a
+/// character that is printed differently.
 fn refused_as_shown(alloc: Global, words: &[String]) -> Error {
     match refusal_of(alloc, words) {
         Ok(error) => error,
@@ -47,7 +48,7 @@ fn refused_as_shown(alloc: Global, words: &[String]) -> Error {
     }
 }
 
-/// The same, if there is memory for it.
+/// Does the same; its error is that memory was refused.
 fn refusal_of(alloc: Global, words: &[String]) -> Result<Error, AllocError> {
     let mut shown = Vec::new(alloc);
     for word in words {

@@ -10,7 +10,7 @@ use tape_run::quoted_char;
 pub struct Shown<'a>(pub &'a str);
 
 impl Shown<'_> {
-    /// The name as it is. A call's result is known to be text, a field is not.
+    /// Returns the name. The result of a call is known to be text, but a field is not.
     fn name(&self) -> &str
         ensures { result.now ≡ self.now.0.now }
     {

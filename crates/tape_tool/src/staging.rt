@@ -1,15 +1,18 @@
 //! Sessions over stages, on any disk and in a file.
 
-ghost use Rattle.std.specs.Prelude.{◌≡◌, ◌↔◌, [], IfOk, IfErr, IsTrue};
+ghost use Rattle.std.specs.Prelude.{◌≡◌, ◌↔◌, ◌⊎◌, ◌<◌, ◌≤◌, ℕ, [], IfOk, IfErr, IsTrue};
+ghost use Rattle.std.specs.Prelude.{length, slice_index};
+ghost use Rattle.std.specs.Bool.{OnTrue};
 ghost use Rattle.tape_core.specs.Known.{IsFileNumber};
 ghost use Rattle.tape_core.specs.Weight.{Rose};
 ghost use Rattle.tape_stage.specs.Moments.{Untouched};
+ghost use Rattle.tape_stage.specs.OnlyReading.{OnlyReads};
 ghost use Rattle.tape_stage.specs.Staged.{HoldsNone, KeepsStaged};
 ghost use Rattle.tape_stage.specs.Stages.{OpensOver};
 ghost use Rattle.tape_run.specs.Headline.{IsStart};
 ghost use Rattle.tape_tool.specs.Guards.{locked_stage};
 ghost use Rattle.tape_run.specs.Seen.{seen};
-ghost use Rattle.tape_tool.specs.Staging.{IsOfFile, StandsAt, GoesOn, Says, IsUnopened};
+ghost use Rattle.tape_tool.specs.Staging.{IsOfFile, StandsAt, GoesOn, Says, IsUnmade, IsUnopened};
 ghost use Rattle.tape_tool.specs.Staging.{SaysNoStage, as_sink, first_point};
 
 use crate::fault::{FileFault, ToolFault};
@@ -20,7 +23,7 @@ use tape_core::{Checkpoint, ReaderCore};
 use tape_label::Field;
 use tape_label::laws::same_field;
 use tape_run::{RunFault, Session};
-use tape_stage::{BufferedFile, Disk, MemoryDisk, Refused, Stage, StageFault, buffered_file};
+use tape_stage::{BufferedFile, Disk, Refused, Stage, StageFault, buffered_file, new_slots};
 use tape_writer::system::{LockFault, locked, sync_folder_of};
 
 /// Why there is no session over a stage.
@@ -188,46 +191,82 @@ fn resume<D: Disk>(
     }
 }
 
-/// Opens a session as `open_session` does. A disk without a stage that begins like an unfinished
-/// new stage of this file, for example after the disk was full, gets a new stage.
-fn open_or_make(
+/// Opens a session as `open_session` does. If the disk has the beginning of a new stage of this
+/// file, for example after the disk was full, the stage is created again.
+fn open_or_make<D: Disk + Drop>(
     alloc: Global,
-    disk: BufferedFile<File>,
+    disk: D,
     set_id: Field<6>,
     file: u16,
-) -> Result<FileSession, Refused<BufferedFile<File>, StagingFault>> {
-    let Refused { mut disk, fault } = match open_session(alloc, disk, set_id, file) {
-        Ok(session) => return Ok(session),
-        Err(refused) => refused,
-    };
-    let is_no_stage = fault == StagingFault::Stage(StageFault::NoPoint);
-    if is_no_stage && is_unmade(alloc, &mut disk, set_id, file) && disk.cut(0).is_ok() {
+) -> Result<Session<Stage<D>>, Refused<D, StagingFault>>
+    ensures file { IfOk result (λ session.
+        (session.core.set_id ≡ set_id) × (session.core.file ≡ file)) }
+    ensures begins { D.is_honest disk → IsUnmade set_id file (D.seen disk)
+        → IfOk result (StandsAt (first_point set_id file) []) }
+    // No other disk is emptied: what is staged is opened or unchanged, at any moment of the call,
+    // and what is not a stage is unchanged.
+    ensures says { D.is_honest disk → (IsUnmade set_id file (D.seen disk) → ⊥)
+        → IfErr result (λ refused. Says set_id file (D.seen disk) refused.fault) }
+    ensures goes_on { D.is_honest disk → (IsUnmade set_id file (D.seen disk) → ⊥)
+        → IfOk result (GoesOn set_id file (D.seen disk)) }
+    ensures any_moment { D.is_honest disk → (IsUnmade set_id file (D.seen disk) → ⊥)
+        → IfOk result (λ session. OpensOver D.Disk disk session.sink.disk) }
+    ensures any_moment_err { D.is_honest disk → (IsUnmade set_id file (D.seen disk) → ⊥)
+        → IfErr result (λ refused. OpensOver D.Disk disk refused.disk) }
+    ensures foreign { D.is_honest disk → (IsUnmade set_id file (D.seen disk) → ⊥)
+        → HoldsNone (D.seen disk) → IfErr result (λ refused. Untouched D.Disk disk refused.disk) }
+    ensures kept { D.is_honest disk → (IsUnmade set_id file (D.seen disk) → ⊥)
+        → IfErr result (λ refused. KeepsStaged (D.seen disk) (D.seen refused.disk)) }
+{
+    let mut disk = disk;
+    if !is_unmade(&mut disk, set_id, file) {
         return open_session(alloc, disk, set_id, file);
     }
-    Err(Refused { disk, fault })
+    match disk.cut(0) {
+        Ok(()) => begin(alloc, disk, set_id, file),
+        Err(_) => Err(Refused {
+            disk,
+            fault: StagingFault::Stage(StageFault::Device),
+        }),
+    }
 }
 
-/// Returns whether each byte on the disk is zero, or equal to the byte at the same offset of a new
-/// stage of the file, before its first gate is opened. A file has zeros where its system lost
-/// written bytes.
-fn is_unmade<D: Disk>(alloc: Global, disk: &mut D, set_id: Field<6>, file: u16) -> bool {
+/// Returns whether the disk has at most 256 bytes, each of them zero or equal to the byte at the
+/// same offset of a new stage of the file, before its first gate is opened. A file has zeros where
+/// its system lost written bytes. The disk is only read.
+fn is_unmade<D: Disk>(disk: &mut D, set_id: Field<6>, file: u16) -> bool
+    ensures unmade { D.is_honest disk.old
+        → OnTrue result (IsUnmade set_id file (D.seen disk.old)) }
+    ensures reads { OnlyReads D.Disk disk.old disk.new }
+    ensures honest { D.is_honest disk.old → D.is_honest disk.new }
+{
     let Ok(core) = ReaderCore::new(set_id, file) else {
         return false;
     };
-    let Ok(made) = Stage::create(alloc, MemoryDisk::new(alloc), &core.save(0)) else {
-        return false;
-    };
-    let mut bytes = [0; 256];
     let len = match disk.len() {
         Ok(len) if len <= 256 => len as usize,
         _ => return false,
     };
-    if disk.read(0, &mut bytes[..len]).is_err() {
+    let mut bytes = [0; 256];
+    let bytes = &mut bytes[..len];
+    let Ok(()) = disk.read(0, bytes) else {
         return false;
+    };
+    is_begun(bytes, &new_slots(&core.save(0)))
+}
+
+/// Returns whether each byte is zero, or the byte due at its offset.
+fn is_begun(bytes: &[u8], due: &[u8; 256]) -> bool
+    requires { length bytes.now ≤ 256 }
+    ensures { OnTrue result ((i : ℕ) → i < length bytes.now → (slice_index bytes.now i ≡ 0)
+        ⊎ (slice_index bytes.now i ≡ slice_index due.now i)) }
+{
+    for (byte, due) in bytes.iter().zip(due) {
+        if *byte != 0 && byte != due {
+            return false;
+        }
     }
-    let new = made.into_disk();
-    let mut body = bytes[1..].iter().zip(new.bytes().iter().skip(1));
-    matches!(bytes[0], 0 | b'C') && body.all(|(byte, due)| *byte == 0 || byte == due)
+    true
 }
 
 /// Returns whether the checkpoint belongs to file `file` of a set with identifier `set_id`.

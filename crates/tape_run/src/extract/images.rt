@@ -144,8 +144,8 @@ fn take_image<S: PartSink, R: Read + Drop, P: Write>(
     }
 }
 
-/// Reads a reel, then saves a checkpoint or rolls back, and then prints the reel's line: so what is
-/// reported is saved.
+/// Reads a reel, saves a checkpoint or rolls back, and then prints the reel's line. So a reported
+/// reel is saved.
 fn take_reel<S: PartSink, R: Read, P: Write>(
     session: &mut Session<S>,
     device: &mut R,

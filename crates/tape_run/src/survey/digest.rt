@@ -1,12 +1,14 @@
 //! A digest of the data blocks of a section, by which its copies are compared.
-ghost use Rattle.std.specs.Prelude.{◌≡◌, map};
+ghost use Rattle.std.specs.Prelude.{◌≡◌, ◌∷◌, [], map};
 ghost use Rattle.std.specs.Int.{w64, from_le_bytes};
-ghost use Rattle.tape_run.specs.SurveyDigest.{digest_by, digest_over, digest_with};
+ghost use Rattle.tape_run.specs.SurveyDigest.{digest_by, digest_with, in_turn, side_by, side_over};
+ghost use Rattle.tape_run.specs.SurveyDigest.{words_of};
 ghost use Rattle.tape_run.specs.SurveyCopies.{digest_at, digest_past, digest_in};
 ghost use Rattle.tape_image.specs.Reader.{tape_item};
 
 use crate::passing::Phase;
 use tape_image::Item;
+
 /// An odd number, so that no two digests have one product with it.
 const MULTIPLIER: u64 = 0x9E37_79B9_7F4A_7C15;
 
@@ -19,37 +21,75 @@ fn digest_by(digest: u64, word: u64) -> u64
     sum.wrapping_mul(MULTIPLIER)
 }
 
-/// The digest after words of eight bytes.
-fn digest_words(digest: u64, words: &[[u8; 8]]) -> u64
-    ensures { result ≡ digest_over digest (map (from_le_bytes w64) words.now) }
+/// Four chains of digests: the words of a block go to them in turn, so that a word need not wait
+/// for the product of the word before it.
+#[derive(Clone, Copy)]
+struct Chains {
+    a: u64,
+    b: u64,
+    c: u64,
+    d: u64,
+}
+
+/// Returns the chains after one more word: the first chain takes the word, and becomes the last.
+fn next_chains(chains: Chains, word: u64) -> Chains
+    ensures { in_turn result ≡ side_by (in_turn chains) word }
 {
-    let mut all = digest;
+    Chains {
+        a: chains.b,
+        b: chains.c,
+        c: chains.d,
+        d: digest_by(chains.a, word),
+    }
+}
+
+/// Returns the chains after words of eight bytes.
+fn chains_of_words(chains: Chains, words: &[[u8; 8]]) -> Chains
+    ensures { in_turn result ≡ side_over (in_turn chains) (map (from_le_bytes w64) words.now) }
+{
+    let mut all = chains;
     for word in words {
-        all = digest_by(all, u64::from_le_bytes(*word));
+        all = next_chains(all, u64::from_le_bytes(*word));
     }
     all
 }
 
-/// The digest after single bytes.
-fn digest_bytes(digest: u64, bytes: &[u8]) -> u64
-    ensures { result ≡ digest_over digest bytes.now }
+/// Returns the chains after single bytes.
+fn chains_of_bytes(chains: Chains, bytes: &[u8]) -> Chains
+    ensures { in_turn result ≡ side_over (in_turn chains) bytes.now }
 {
-    let mut all = digest;
+    let mut all = chains;
     for byte in bytes {
-        all = digest_by(all, u64::from(*byte));
+        all = next_chains(all, u64::from(*byte));
     }
     all
 }
 
-/// Returns the digest after one more block: after its words of eight bytes, the bytes that are left
-/// and its length.
+/// Returns the chains of a block: of its words of eight bytes, and of the bytes after them.
+fn chains_of(block: &[u8]) -> Chains
+    ensures { in_turn result ≡ side_over (0 ∷ 0 ∷ 0 ∷ 0 ∷ []) (words_of block.now) }
+{
+    let (words, rest) = block.as_chunks::<8>();
+    let none = Chains {
+        a: 0,
+        b: 0,
+        c: 0,
+        d: 0,
+    };
+    let front = chains_of_words(none, words);
+    chains_of_bytes(front, rest)
+}
+
+/// Returns the digest after one more block: after the digests of its four chains and its length.
 pub(crate) fn digest_with(digest: u64, block: &[u8]) -> u64
     ensures { result ≡ digest_with digest block.now }
 {
-    let (words, rest) = block.as_chunks::<8>();
-    let front = digest_words(digest, words);
-    let all = digest_bytes(front, rest);
-    digest_by(all, block.len() as u64)
+    let chains = chains_of(block);
+    let a = digest_by(digest, chains.a);
+    let b = digest_by(a, chains.b);
+    let c = digest_by(b, chains.c);
+    let d = digest_by(c, chains.d);
+    digest_by(d, block.len() as u64)
 }
 
 /// Returns the digest of the data blocks of the section that is being read, after one more item.

@@ -16,11 +16,11 @@ use tape_label::Field;
 /// The greatest number of a section.
 const LAST_SECTION: u16 = 9_999;
 
-/// Numbers of images, none of them twice.
+/// Numbers of images, each at most once.
 #[derive(Drop)]
 struct Order {
     numbers: Vec<usize>,
-    /// For each image whether its number is one of them.
+    /// For each image, whether its number is one of them.
     taken: Vec<bool>,
     ghost same: { (n : ℕ) → n < length taken.items
         → get_or taken.items n false ≡ is_in n numbers.items },
@@ -28,8 +28,8 @@ struct Order {
 
 impl FoundFiles {
     /// Returns the numbers of the images in the order in which they are read for a file: first
-    /// those on which its sections begin, in the order of the sections, and then the others in
-    /// their order; of these, unless `all`, only images of the set. No number comes twice.
+    /// those on which its sections begin, in the order of the sections, then the others in their
+    /// own order; without `all`, only images of the set follow. No number occurs twice.
     ///
     /// # Errors
     ///
@@ -53,7 +53,7 @@ impl FoundFiles {
     }
 }
 
-/// Whether the section that begins first on an image is one of this set.
+/// Returns whether the first section that begins on an image belongs to this set.
 fn is_of_set(image: &Option<ImageSurvey>, set_id: Field<6>) -> bool
     ensures { result ≡ is_of_set set_id (set_of image.now) }
 {
@@ -64,7 +64,7 @@ fn is_of_set(image: &Option<ImageSurvey>, set_id: Field<6>) -> bool
 }
 
 impl Order {
-    /// Creates an order without images, of so many that there are.
+    /// Creates an order without numbers, for `size` images.
     fn new(alloc: Global, size: usize) -> Result<Order, AllocError>
         ensures none { IfOk result (λ order. order.numbers.items ≡ []) }
         ensures size { IfOk result (λ order. length order.taken.items ≡ size) }
@@ -75,7 +75,7 @@ impl Order {
         })
     }
 
-    /// Adds an image, if there is one with this number and it was not added before.
+    /// Adds an image, if one has this number and was not added before.
     fn add(&mut self, number: usize) -> Result<(), AllocError>
         ensures ok { OnOk result (self.new.numbers.items
             ≡ with_image (length self.old.taken.items) self.old.numbers.items number) }
@@ -89,8 +89,8 @@ impl Order {
         Ok(())
     }
 
-    /// Adds the images on which sections begin, of so many sections from this one on, up to the
-    /// first one that begins on no known image.
+    /// Adds the images on which sections begin: `most` sections from `from` on, up to the first
+    /// that begins on no known image.
     fn add_sections(
         &mut self,
         locations: &Locations,
@@ -118,7 +118,7 @@ impl Order {
         Ok(())
     }
 
-    /// Adds all of these images, or those of the set.
+    /// Adds all images, or only those of the set.
     fn add_images(
         &mut self,
         images: &[Option<ImageSurvey>],

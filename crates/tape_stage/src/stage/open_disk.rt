@@ -8,9 +8,9 @@ ghost use Rattle.tape_core.specs.Point.{Point};
 ghost use Rattle.tape_core.specs.Known.{most_staged};
 ghost use Rattle.tape_stage.specs.Disk.{Holds as HoldsBytes, Torn, CutShort};
 ghost use Rattle.tape_stage.specs.Moments.{Untouched, After, EndsSynced, IsDurable, Passes};
-ghost use Rattle.tape_stage.specs.Staged.{Staged, HoldsNone, KeepsStaged, Ready, blank};
-ghost use Rattle.tape_stage.specs.Faults.{SaysNone, IsNotDevice, OnBadFrame};
-ghost use Rattle.tape_stage.specs.Found.{IsBadPlace};
+ghost use Rattle.tape_stage.specs.Staged.{Staged, HoldsNone, KeepsStaged, Ready, new_slots};
+ghost use Rattle.tape_stage.specs.Faults.{SaysNone, IsNotDevice};
+ghost use Rattle.tape_stage.specs.Found.{IsFaultOf};
 ghost use Rattle.tape_stage.specs.Stages.{IsStage, IsOpened, OpensOver, Holds, Survives, Returns};
 ghost use Rattle.tape_stage.specs.Stages.{EndsFinding};
 ghost use Rattle.tape_stage.specs.Body.{body_text, FitBody, most_generation, body_of};
@@ -107,8 +107,7 @@ fn recover<D: Disk>(alloc: Global, disk: &mut D) -> Result<(Found, Vec<u8>), Sta
     ensures staged { IfOk result (λ opened. opened.0.point.staged ≤ most_staged) }
     ensures none { D.is_honest disk.old → IfErr result
         (λ fault. SaysNone fault → HoldsNone (D.seen disk.old)) }
-    ensures at { D.is_honest disk.old → IfErr result
-        (λ fault. OnBadFrame fault (IsBadPlace (D.seen disk.old))) }
+    ensures says { D.is_honest disk.old → IfErr result (IsFaultOf (D.seen disk.old)) }
     ensures any_moment { D.is_honest disk.old → OpensOver D.Disk disk.old disk.new }
     ensures cut { D.is_honest disk.old → IfOk result (λ opened.
         D.seen disk.new ≡ take (256 + opened.0.point.staged) (D.seen disk.old)) }
@@ -129,23 +128,23 @@ fn recover<D: Disk>(alloc: Global, disk: &mut D) -> Result<(Found, Vec<u8>), Sta
     Ok((found, buffer))
 }
 
-/// Returns both slots with closed gates; the first slot has generation 1 and the checkpoint.
-fn header(alloc: Global, point: Checkpoint) -> Result<Vec<u8>, AllocError>
-    ensures text { IfOk result (λ v. v.items ≡ (67 ∷ []) ++
-        (body_text 1 point ++ ((67 ∷ []) ++ blank))) }
-    ensures fit { FitBody 1 point }
+/// Returns the slots of a new stage before its first gate is opened: the first slot has generation 1
+/// and the checkpoint, and both gates are closed.
+pub fn new_slots(point: &Checkpoint) -> [u8; 256]
+    ensures text { result ≡ new_slots point.now }
+    ensures fit { FitBody 1 point.now }
 {
-    let mut header = Vec::new(alloc);
-    header.push(CLOSED)?;
-    header.extend_from_slice(&body_bytes(1, point))?;
-    header.push(CLOSED)?;
-    header.extend_from_slice(&[b'0'; 15])?;
-    header.extend_from_slice(&[b' '; 112])?;
-    Ok(header)
+    let mut slots = ArrayVec::new();
+    put(&mut slots, &[CLOSED]);
+    put(&mut slots, &body_bytes(1, *point));
+    put(&mut slots, &[CLOSED]);
+    put(&mut slots, &[b'0'; 15]);
+    put(&mut slots, &[b' '; 112]);
+    whole(slots)
 }
 
 /// Writes both slots, and then opens the first gate.
-fn make<D: Disk>(alloc: Global, disk: &mut D, point: Checkpoint) -> Result<(), StageFault>
+fn make<D: Disk>(disk: &mut D, point: Checkpoint) -> Result<(), StageFault>
     requires empty { D.length_of disk.old ≡ 0 }
     requires none { point.staged ≡ 0 }
     ensures made { D.is_honest disk.old → OnOk result
@@ -155,8 +154,7 @@ fn make<D: Disk>(alloc: Global, disk: &mut D, point: Checkpoint) -> Result<(), S
     ensures not_none { IfErr result (λ fault. SaysNone fault → ⊥) }
 {
     // The gate is opened only after both slots are durable.
-    let header = header(alloc, point)?;
-    write_kept(disk, 0, &header)?;
+    write_kept(disk, 0, &new_slots(&point))?;
     Ok(write_kept(disk, 0, &[OPEN])?)
 }
 
@@ -198,8 +196,8 @@ impl<D: Disk> Stage<D> {
             → Rose (D.faults disk) (D.faults refused.disk)) }
         ensures none { D.is_honest disk → IfErr result
             (λ refused. SaysNone refused.fault → HoldsNone (D.seen disk)) }
-        ensures at { D.is_honest disk → IfErr result
-            (λ refused. OnBadFrame refused.fault (IsBadPlace (D.seen disk))) }
+        ensures says { D.is_honest disk
+            → IfErr result (λ refused. IsFaultOf (D.seen disk) refused.fault) }
         ensures any_moment_err { D.is_honest disk
             → IfErr result (λ refused. OpensOver D.Disk disk refused.disk) }
         // The opened stage lost at most the bytes after its staged end.
@@ -273,7 +271,7 @@ impl<D: Disk> Stage<D> {
             return Err(Refused { disk, fault });
         };
         let first = *point;
-        if let Err(fault) = make(alloc, &mut disk, first) {
+        if let Err(fault) = make(&mut disk, first) {
             return Err(Refused { disk, fault });
         }
         let acknowledged = *point;

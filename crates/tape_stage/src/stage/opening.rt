@@ -7,7 +7,7 @@ ghost use Rattle.tape_blocks.specs.Block.{Portion};
 ghost use Rattle.tape_core.specs.Known.{most_staged};
 ghost use Rattle.tape_stage.specs.Moments.{IsDurable};
 ghost use Rattle.tape_stage.specs.Staged.{read_slot, slot_at, HoldsNone, Holding, Loses};
-ghost use Rattle.tape_stage.specs.Found.{IsFound, IsBadPlace};
+ghost use Rattle.tape_stage.specs.Found.{IsFound, IsFaultOf};
 ghost use Rattle.tape_stage.specs.Salvaged.{RemainsNone};
 ghost use Rattle.tape_stage.specs.Stages.{EndsFinding};
 ghost use Rattle.tape_stage.specs.Faults.{SaysNone, OnBadFrame};
@@ -131,8 +131,7 @@ pub(crate) fn look<D: Disk>(disk: &mut D) -> Result<Found, StageFault>
     ensures staged { IfOk result (λ found. found.point.staged ≤ most_staged) }
     ensures none { D.is_honest disk.old → IfErr result
         (λ fault. SaysNone fault → HoldsNone (D.seen disk.old)) }
-    ensures at { D.is_honest disk.old → IfErr result
-        (λ fault. OnBadFrame fault (IsBadPlace (D.seen disk.old))) }
+    ensures says { D.is_honest disk.old → IfErr result (IsFaultOf (D.seen disk.old)) }
     ensures durable { D.is_honest disk.old → OnOk result (IsDurable D.Disk disk.new) }
     ensures calm { OnOk result (D.faults disk.new ≡ D.faults disk.old) }
     ensures reads { OnlyReads D.Disk disk.old disk.new }

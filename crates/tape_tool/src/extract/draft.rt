@@ -53,7 +53,7 @@ pub struct OutName<'a, R: Host> {
     name: &'a str,
     /// The draft, which is locked as long as this is open: until it gets the output's name or is
     /// removed.
-    _lock: File,
+    lock: File,
     /// The file found under the output's name, before anything was read.
     before: Option<FileId>,
     /// Whether the draft has a name of its own.
@@ -74,7 +74,7 @@ impl<'a, R: Host> OutName<'a, R> {
             rt,
             draft,
             name,
-            _lock: lock,
+            lock,
             before,
             is_draft: true,
             is_taken: false,
@@ -150,6 +150,18 @@ impl<'a, R: Host> OutName<'a, R> {
         }
     }
 
+    /// Whether the draft took the output's name.
+    pub fn has_taken(&self) -> bool {
+        !self.is_draft
+    }
+
+    /// Removes the output, if the draft took its name and no other file has it now.
+    pub fn give_back(&mut self) {
+        if self.has_taken() && has_name(self.rt, &self.lock, self.name) {
+            remove(self.rt, self.name);
+        }
+    }
+
     /// Ends a run with `end`: removes the draft, and reports whether another file prevented it from
     /// taking its name.
     pub fn ended(&mut self, end: End) -> End {
@@ -165,7 +177,7 @@ impl<R: Host> Place<BufWriter<DraftFile>> for OutName<'_, R> {
     ghost stands = { λ _. None };
 
     fn place(&mut self, out: BufWriter<DraftFile>) -> Result<(), WriteFailed> {
-        // What is still buffered is written before the file gets its name.
+        // The buffer is written before the file gets its name.
         let Ok(draft) = out.into_inner() else {
             return Err(WriteFailed);
         };

@@ -68,8 +68,8 @@ const FAILED: &[Step<'_>] = &[
     Step::IsMissing("failed/ABC001.1.PAYROLL"),
 ];
 
-/// What is readable of an incomplete file is written anew by each run, and removed when the file is
-/// complete, but only while it is as the program left it.
+/// Each run writes the readable records of an incomplete file anew, and removes them when the file
+/// is complete, but only if they are unchanged since the last run.
 const SALVAGED: &[Step<'_>] = &[
     Step::Folder("gaps"),
     Step::PutDamaged("gaps1.tap", 1),
@@ -95,7 +95,7 @@ const SALVAGED: &[Step<'_>] = &[
     Step::IsMissing("gaps/ABC001.1.PAYROLL.salvaged"),
     Step::IsMissing("gaps/ABC001.1.PAYROLL.gaps"),
     Step::HasLength("gaps/ABC001.1.PAYROLL", 2025),
-    // Files that somebody changed, or one of them alone, stay.
+    // Files that were changed are kept, and so is one of the two files alone.
     Step::Remove("gaps/ABC001.1.PAYROLL"),
     Step::Ends("unpack gaps gaps1.tap --salvage", End::Incomplete),
     Step::Put("gaps/ABC001.1.PAYROLL.salvaged", b"changed"),
@@ -106,7 +106,7 @@ const SALVAGED: &[Step<'_>] = &[
     Step::Put("gaps/ABC001.1.PAYROLL.gaps", b"mine"),
     Step::Ends("unpack gaps gaps2.tap gaps1.tap --salvage", End::Done),
     Step::Holds("gaps/ABC001.1.PAYROLL.gaps", b"mine"),
-    // A copy that does not miss anything leaves nothing.
+    // A complete copy leaves no salvaged files.
     Step::Folder("gaps3"),
     Step::PutWorked("gaps3.tap", 2484),
     Step::Ends("unpack gaps3 gaps3.tap --salvage", End::Done),

@@ -230,8 +230,8 @@ fn unpacked<R: Host>(
     }
 }
 
-/// Writes what is readable of an incomplete file, with a report of its gaps, and prints a line for
-/// it. The images are those that may have blocks of its set.
+/// Writes the readable records of an incomplete file, with a report of its gaps, and prints a line
+/// about them. The images are those that may have blocks of its set.
 fn salvage_file<R: Host, P: Write>(
     rt: &R,
     order: &Unpack<'_>,
@@ -269,7 +269,7 @@ fn salvage_file<R: Host, P: Write>(
     }
 }
 
-/// Returns the paths of what is salvaged of the file with this path.
+/// Returns the paths of the salvaged records of the file with this path, and of their report.
 fn salvaged_at<R: Host>(rt: &R, out: &str) -> Result<Salvaged, ToolFault> {
     Salvaged::of(rt.alloc(), out).map_err(|_| OUT_OF_MEMORY)
 }

@@ -1,6 +1,6 @@
-//! What `unpack --salvage` writes for a file that is not complete: its readable records, and the
-//! report of its gaps. The last line of the report has the sums of both files, so that a later run
-//! replaces or removes only what it finds as this program left it.
+//! The two files that `unpack --salvage` writes for an incomplete file: its readable records, and
+//! the report of its gaps. The last line of the report has the sums of both, so that a later run
+//! replaces or removes them only if they are unchanged.
 
 ghost use Rattle.std.specs.Prelude.{None};
 
@@ -18,7 +18,6 @@ use std::alloc::{AllocError, Global};
 use std::fs::File;
 use std::io::{BufWriter, Read, Write};
 use std::{fs, io};
-use tape_image::fill;
 use tape_run::{Place, SalvageTask, WriteFailed, flush, name_text, salvage_to, write_text};
 use tape_writer::system::found;
 
@@ -26,7 +25,7 @@ use tape_writer::system::found;
 /// feed.
 const SUMS: usize = 135;
 
-/// The number of bytes that are read together.
+/// The number of bytes of one read.
 const PIECE: usize = 4_096;
 
 /// The paths of the records and of the report of a file.
@@ -36,16 +35,16 @@ pub struct Salvaged {
     report: String,
 }
 
-/// What has the two paths.
+/// The files at the two paths.
 #[derive(Clone, Copy)]
 enum Earlier {
     Nothing,
-    /// The files that a run left there, unchanged since.
+    /// The files that an earlier run left there, unchanged.
     Own(FileId, FileId),
     Other,
 }
 
-/// A new file whose bytes are summed, and whose last line is remembered.
+/// A new file, with the sum of its bytes and with its last line.
 #[derive(Drop)]
 struct Summed {
     out: BufWriter<DraftFile>,
@@ -54,7 +53,7 @@ struct Summed {
 }
 
 impl Summed {
-    /// Buffers and sums what is written to this file.
+    /// Buffers the bytes that are written to this file, and adds them to the sum.
     fn new(alloc: Global, file: DraftFile) -> Result<Summed, End> {
         match BufWriter::with_capacity(alloc, HELD, file) {
             Ok(out) => Ok(Summed {
@@ -109,8 +108,9 @@ impl Salvaged {
         self.records.as_str()
     }
 
-    /// Recovers what is readable of a file from the images with these names, and remembers the last
-    /// line of `salvage`. Ends with `Exists` if files that no run left there have the paths.
+    /// Writes the readable records of a file on the images with these names, and remembers the last
+    /// line of `salvage`. Ends with `Exists` if a file at one of the paths was not left there by an
+    /// earlier run, unchanged.
     pub fn write<R: Host>(
         &self,
         rt: &R,
@@ -148,7 +148,7 @@ impl Salvaged {
         name.ended(end)
     }
 
-    /// Removes the files that a run left there, unless they have changed since.
+    /// Removes the files that an earlier run left there, unless they have changed since then.
     pub fn remove<R: Host>(&self, rt: &R) -> Result<(), ToolFault> {
         if let Earlier::Own(_, _) = self.earlier(rt)? {
             remove(rt, self.report.as_str());
@@ -157,7 +157,7 @@ impl Salvaged {
         Ok(())
     }
 
-    /// Returns what has the two paths.
+    /// Returns which files have the two paths.
     fn earlier<R: Host>(&self, rt: &R) -> Result<Earlier, ToolFault> {
         let records = found(fs::symlink_metadata(rt, self.records.as_str()))?;
         let report = found(fs::symlink_metadata(rt, self.report.as_str()))?;
@@ -173,8 +173,7 @@ impl Salvaged {
         Ok(Earlier::Other)
     }
 
-    /// Returns whether the last line of the report has the sums of both files, which have these
-    /// lengths.
+    /// Returns whether the last line of the report has the sums of both files, given their lengths.
     fn is_own<R: Host>(&self, rt: &R, records: u64, report: u64) -> Result<bool, ToolFault> {
         let Some(lines) = report.checked_sub(SUMS as u64) else {
             return Ok(false);
@@ -182,7 +181,7 @@ impl Salvaged {
         let mut file = opened(rt, self.report.as_str())?;
         let of_lines = sum_of(&mut file, lines)?;
         let mut last = [0; SUMS];
-        filled(&mut file, &mut last)?;
+        read_all(&mut file, &mut last)?;
         let of_records = sum_of(&mut opened(rt, self.records.as_str())?, records)?;
         match sums_line(rt.alloc(), &of_records, &of_lines) {
             Ok(line) => Ok(last.as_slice() == line.as_bytes()),
@@ -247,7 +246,8 @@ fn written<R: Host>(
 /// A file could not be written.
 const NOT_WRITTEN: End = End::Faulted(ToolFault::File(FileFault::WriteFailed));
 
-/// How a file ends whose records and report got their names, or did not. It is not complete.
+/// Returns how the unpacking of an incomplete file ends, given whether its records and their report
+/// got their names.
 fn end_placed(placed: Result<(), WriteFailed>) -> End {
     match placed {
         Ok(()) => End::Incomplete,
@@ -279,24 +279,24 @@ fn opened<R: Host>(rt: &R, path: &str) -> Result<File, ToolFault> {
     }
 }
 
-/// Fills the buffer, as far as the file has bytes, and returns their number.
-fn filled(file: &mut File, buffer: &mut [u8]) -> Result<usize, ToolFault> {
-    match fill(file, buffer) {
-        Ok(count) => Ok(count),
+/// Fills the buffer with the next bytes of a file.
+fn read_all(file: &mut File, buffer: &mut [u8]) -> Result<(), ToolFault> {
+    match file.read_exact(buffer) {
+        Ok(()) => Ok(()),
         Err(_) => Err(ToolFault::File(FileFault::ReadFailed)),
     }
 }
 
-/// Returns the SHA-256 of the next bytes of a file, as many as this, if it has so many.
+/// Returns the SHA-256 of the next `length` bytes of a file.
 fn sum_of(file: &mut File, length: u64) -> Result<[u8; 32], ToolFault> {
     let mut sum = Sha256::new();
     let mut buffer = [0; PIECE];
     let mut left = length;
     for _ in 0..length.div_ceil(PIECE as u64) {
         let room = left.min(PIECE as u64) as usize;
-        let count = filled(file, &mut buffer[..room])?;
-        sum.update(&buffer[..count]);
-        left -= room as u64;
+        read_all(file, &mut buffer[..room])?;
+        sum.update(&buffer[..room]);
+        left = left.saturating_sub(PIECE as u64);
     }
     Ok(sum.finalize())
 }

@@ -1,6 +1,6 @@
 use Rattle.std.proofs.Common.{◌∙◌, inl, inr, refl}
 use Rattle.tape_image.proofs.Pieces.{on_err}
-use Rattle.tape_run.proofs.SalvageShelf.{file_salvaged, file_placed}
+use Rattle.tape_run.proofs.SalvageShelf.{file_salvaged, file_placed, wrote_all}
 use Rattle.tape_run.proofs.salvage.salvage_to.Goals as goal
 
 pub returns-in_err-copies-clause-err : goal.returns-in_err-copies-clause-err
@@ -23,21 +23,23 @@ pub returns-in_err-write_text-clause-err : goal.returns-in_err-write_text-clause
 returns-in_err-write_text-clause-err g c =
     on_err c.from_residual-in_err-write_text.result _ (inr (file_placed g.W.Write.contents
     g.L.ImageSource.size g.L.ImageSource.gives g.R.Read.remaining c.args.task.now c.args.out _ _ _ _ _ _ _
-    c.into_out-written.result c.flush.new.writer _ _ _ _ c.records-records.result
+    c.into_out-written.result c.flush.new.writer _ _ _ _ _ c.records-records.result
     c.deref.result.now c.in_ok-copies.ensures.ok c.in_ok-recover_sections.ensures.ok
     c.as_slice.ensures.value c.new-recovery.ensures c.into_out-written.ensures
     c.in_ok-flush.ensures.kept c.in_ok-place.ensures.ok c.records-records.ensures
-    (c.deref.ensures.0 ∙ c.last_line.ensures)))
+    (c.deref.ensures.0 ∙ c.last_line.ensures)
+    c.in_err-write_text.ensures.err))
 
 pub returns-in_err-flush-2-clause-err : goal.returns-in_err-flush-2-clause-err
 returns-in_err-flush-2-clause-err g c =
     on_err c.from_residual-in_err-flush-2.result _ (inr (file_placed g.W.Write.contents
     g.L.ImageSource.size g.L.ImageSource.gives g.R.Read.remaining c.args.task.now c.args.out _ _ _ _ _ _ _
-    c.into_out-written.result c.flush.new.writer _ _ _ _ c.records-records.result
+    c.into_out-written.result c.flush.new.writer _ _ _ _ _ c.records-records.result
     c.deref.result.now c.in_ok-copies.ensures.ok c.in_ok-recover_sections.ensures.ok
     c.as_slice.ensures.value c.new-recovery.ensures c.into_out-written.ensures
     c.in_ok-flush.ensures.kept c.in_ok-place.ensures.ok c.records-records.ensures
-    (c.deref.ensures.0 ∙ c.last_line.ensures)))
+    (c.deref.ensures.0 ∙ c.last_line.ensures)
+    (wrote_all _ _ _ _ c.in_ok-write_text.ensures.ok c.in_err-flush-2.ensures.kept)))
 
 pub returns-clause-ok : goal.returns-clause-ok
 returns-clause-ok g c =

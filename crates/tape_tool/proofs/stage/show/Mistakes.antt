@@ -15,7 +15,7 @@ use Rattle.tape_writer.specs.declared.system.fault.FileFault.TheVariants.{WriteF
 use Rattle.tape_tool.specs.StageReport.{StopsSalvaging, StopsShowing, ending_of, stage_line}
 use Rattle.tape_tool.specs.declared.fault.ToolFault.TheVariants.{File, Stage}
 use Rattle.tape_tool.specs.declared.stage.ending.StageEnding.TheVariants.{Whole}
-use Rattle.tape_tool.proofs.ExamplesOfShowing.{no_frame, none_told}
+use Rattle.tape_tool.proofs.ExamplesOfShowing.{bad_frame, no_frame, none_told}
 use Rattle.tape_tool.proofs.stage.show.show_damaged.Reads as show_damaged
 use Rattle.tape_tool.proofs.stage.show.show_stage.Reads as show_stage
 use Rattle.tape_tool.proofs.stage.show.show_parts.Reads as show_parts
@@ -70,6 +70,18 @@ good_stage_told_as_none D W P LD LW LP g d h e i j k κs a fault s n point parts
     (subst (StopsShowing (g.seen a.1.0) a.1.1.0 (h.contents a.1.1.1.0.now)
     (h.contents s.1.1.1.0.now) (i.contents a.1.1.1.1.0.now) (i.contents s.1.1.1.1.0.now)) told
     (l.err honest)) n point parts staged
+
+-- bad_frame_at_zero: a frame of a stage is damaged, and its offset is reported as 0
+bad_frame_at_zero : (D : _) (W : _) (P : _) (LD : _) (LW : _) (LP : _) (g : _) (d : _)
+    (h : _) (e : _) (i : _) (j : _) (k : _) (κs : _) (a : _) (fault : _) (s : _)
+    → show_stage.Learnt-named D W P LD LW LP g d h e i j k κs a (Err fault) s
+    → g.is_honest a.1.0 → fault ≡ Stage (BadFrame 0) → ⊥
+bad_frame_at_zero D W P LD LW LP g d h e i j k κs a fault s l honest told =
+    let bad = bad_frame (g.seen a.1.0) a.1.1.0 _ _ _ _ 0
+    (subst (StopsShowing (g.seen a.1.0) a.1.1.0 (h.contents a.1.1.1.0.now)
+    (h.contents s.1.1.1.0.now) (i.contents a.1.1.1.1.0.now) (i.contents s.1.1.1.1.0.now)) told
+    (l.err honest)) in
+    omega (arith, bad.walked.low)
 
 -- damaged_stage_refused: the frames of a stage are damaged, and its first records are not shown
 damaged_stage_refused : (D : _) (W : _) (P : _) (LD : _) (LW : _) (LP : _) (g : _) (d : _)

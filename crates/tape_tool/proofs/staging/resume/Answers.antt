@@ -30,6 +30,10 @@ returns-then-same_file-clause-file g c =
     c.if-same_file.ensures.0 refl in
     (ap (λ (s : State). s.set_id) place ∙ of_file.0, ap (λ (s : State). s.file) place ∙ of_file.1)
 
+pub returns-in-Err-clause-says : goal.returns-in-Err-clause-says
+returns-in-Err-clause-says g c honest =
+    (λ none. c.in-Err.ensures.none honest none, c.in-Err.ensures.says honest)
+
 pub returns-else-same_file-clause-says : goal.returns-else-same_file-clause-says
 returns-else-same_file-clause-says g c honest =
     let read = c.in-Ok.ensures.resumes honest in

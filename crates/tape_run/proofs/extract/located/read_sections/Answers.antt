@@ -1,8 +1,7 @@
-use Rattle.std.proofs.Common.{◌≡◌, ◌≢◌, ℕ, inl, inr, refl, sym, subst, ap, ◌∙◌, arith, rules}
+use Rattle.std.proofs.Common.{◌≡◌, ℕ, inl, inr, refl, sym, subst, ap, ◌∙◌, arith, rules}
 use Rattle.std.specs.Prelude.{not, is_some, true, false, List, Option, Some, None}
 use Rattle.std.specs.Map.{lookup}
 use Rattle.tape_set.specs.Position.{want_at}
-use Rattle.tape_set.specs.declared.position.Position.TheVariants.{Awaits}
 use Rattle.tape_set.specs.declared.position.Want.{Want}
 use Rattle.tape_core.specs.State.{State}
 use Rattle.tape_run.specs.Lacks.{key_at}
@@ -15,7 +14,7 @@ use Rattle.tape_run.proofs.Located.{nothing_open, read_open, located_open}
 use Rattle.tape_run.proofs.Located.{sections_read, not_none, is_none_then, wanted_sect}
 use Rattle.tape_run.proofs.extract.located.read_sections.Goals as goal
 
--- what is found for the section that is expected is the image of the missing section, if any
+-- the image found for the expected section is that of the missing section, if any
 next_on : (entries : List Located) (core : State) (key : FileKey) (want : Want)
     (image : Option ℕ) → key.set_id ≡ core.set_id → key.file ≡ core.file
     → Some want ≡ want_at core.file core.position
@@ -27,7 +26,7 @@ next_on entries core key want image set file wants found = λ sect block part at
     (ap (λ x. key_at x core.file sect) (sym set) ∙ ap (λ x. key_at key.set_id x sect) (sym file)
     ∙ ap (λ x. key_at key.set_id key.file x) (sym is)) ∙ found
 
--- so that image is one on which a section of the file begins
+-- on that image a section of the file begins
 begins_on : (entries : List Located) (core first : State) (key : FileKey) (sect image : ℕ)
     → key.set_id ≡ core.set_id → key.file ≡ core.file → core.set_id ≡ first.set_id
     → core.file ≡ first.file

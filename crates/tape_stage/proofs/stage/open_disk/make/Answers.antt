@@ -1,22 +1,16 @@
-use Rattle.std.proofs.Common.{◌≡◌, ℕ, List, ◌∷◌, ◌++◌, length}
-use Rattle.std.proofs.Common.{ap, ◌∙◌, subst, arith, length-append}
+use Rattle.std.proofs.Common.{◌≡◌, ℕ, List, ◌∷◌, length, ap, subst, arith, length-append}
 use Rattle.tape_core.specs.Point.{Point}
 use Rattle.tape_stage.proofs.Bodies.{length-body}
 use Rattle.tape_stage.specs.Disk.{Holds}
 use Rattle.tape_stage.specs.Body.{body_text, FitBody}
-use Rattle.tape_stage.specs.Staged.{blank}
+use Rattle.tape_stage.specs.Staged.{blank, new_slots}
 use Rattle.tape_stage.proofs.Makes.{made_ready}
 use Rattle.tape_stage.proofs.stage.open_disk.make.Goals as goal
 
-first_text : (deref header text : List ℕ) → deref ≡ header → header ≡ text → deref ≡ text
-first_text deref header text a b = a ∙ b
-
-header_size : (point : Point) (l : List ℕ) → FitBody 1 point
-    → l ≡ 67 ∷ (body_text 1 point ++ 67 ∷ blank) → length l ≡ 256
-header_size point l fit is =
+slots_size : (point : Point) → FitBody 1 point → length (new_slots point) ≡ 256
+slots_size point fit =
     omega (
       arith,
-      ap length is,
       length-append (body_text 1 point) (67 ∷ blank),
       length-body 1 point
           fit,
@@ -30,23 +24,19 @@ returns-clause-made g c honest =
     let h1 = c.in_ok-write_kept.ensures.synced.honest honest in
     let empty : length s0 ≡ 0 =
     omega (arith, g.met.D.Disk.long_as_seen c.args.disk.now honest, c.requires.empty) in
-    let text = first_text c.deref.result.now c.in_ok-header.header.items
-    (67 ∷ (body_text 1 c.args.point ++ 67 ∷ blank)) c.deref.ensures.value
-    c.in_ok-header.ensures.text in
-    let first : Holds s0 0 (67 ∷ (body_text 1 c.args.point ++ 67 ∷ blank)) s1 =
-    subst (λ (b : List ℕ). Holds s0 0 b s1) text (c.in_ok-write_kept.ensures.written honest) in
+    let first : Holds s0 0 (new_slots c.args.point) s1 =
+    subst (λ (b : List ℕ). Holds s0 0 b s1) c.new_slots.ensures.text
+    (c.in_ok-write_kept.ensures.written honest) in
     made_ready c.args.point s0 s1 s2 (g.D.Disk.may_leave c.write_kept-2.new.disk) c.requires.none
-    c.header.ensures.fit empty first
+    c.new_slots.ensures.fit empty first
     (c.in_ok-write_kept-2.ensures.written h1) (c.in_ok-write_kept-2.ensures.synced.durable h1)
 
 pub returns-clause-long : goal.returns-clause-long
 returns-clause-long g c =
-    let text = first_text c.deref.result.now c.in_ok-header.header.items
-    (67 ∷ (body_text 1 c.args.point ++ 67 ∷ blank)) c.deref.ensures.value
-    c.in_ok-header.ensures.text in
     omega (
       arith,
-      header_size c.args.point c.deref.result.now c.header.ensures.fit text,
+      ap length c.new_slots.ensures.text,
+      slots_size c.args.point c.new_slots.ensures.fit,
       c.requires.empty,
       c.in_ok-write_kept.ensures.long,
       c.in_ok-write_kept-2.ensures.long,

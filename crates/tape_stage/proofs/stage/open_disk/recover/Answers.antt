@@ -4,15 +4,22 @@ use Rattle.tape_stage.proofs.Openings.{look_untouched, look_keeps, look_passes}
 use Rattle.tape_stage.proofs.Openings.{cut_stopped, cut_is, cut_passes, cut_opened}
 use Rattle.tape_stage.proofs.Refusals.{each_err, on_each_err}
 use Rattle.tape_stage.proofs.Results.{err_bad}
-use Rattle.tape_stage.specs.Staged.{StandsLike}
+use Rattle.tape_stage.specs.Faults.{SaysNone}
+use Rattle.tape_stage.specs.Found.{IsFaultOf}
+use Rattle.tape_stage.specs.Staged.{StandsLike, HoldsNone}
 use Rattle.tape_stage.proofs.stage.open_disk.recover.Goals as goal
 
 -- ---- nothing was found
 
 pub returns-in_err-found-clause-none : goal.returns-in_err-found-clause-none
 returns-in_err-found-clause-none g c h =
-    err_bad c.from_residual.result c.in_err-found.field-0.0 (search rules)
-    (c.in_err-found.ensures.none h)
+    err_bad (λ fault. SaysNone fault → HoldsNone (g.D.Disk.seen c.args.disk.now))
+    c.from_residual.result c.in_err-found.field-0.0 (search rules) (c.in_err-found.ensures.none h)
+
+pub returns-in_err-found-clause-says : goal.returns-in_err-found-clause-says
+returns-in_err-found-clause-says g c h =
+    err_bad (IsFaultOf (g.D.Disk.seen c.args.disk.now)) c.from_residual.result
+    c.in_err-found.field-0.0 (search rules) (c.in_err-found.ensures.says h)
 
 pub returns-in_err-found-clause-untouched : goal.returns-in_err-found-clause-untouched
 returns-in_err-found-clause-untouched g c honest =

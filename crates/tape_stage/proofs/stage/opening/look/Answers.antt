@@ -1,21 +1,24 @@
 use Rattle.std.proofs.Common.{Some, rules}
 use Rattle.std.specs.Prelude.{None}
-use Rattle.tape_stage.specs.Found.{IsBadPlace}
+use Rattle.tape_stage.specs.Faults.{SaysNone}
+use Rattle.tape_stage.specs.Found.{IsFaultOf}
+use Rattle.tape_stage.specs.Staged.{HoldsNone}
 use Rattle.tape_stage.proofs.Remaining.{broken_none, broken_bad, framed_as, none_staged}
-use Rattle.tape_stage.proofs.Results.{err_bad, err_at, on_bad}
+use Rattle.tape_stage.proofs.Results.{err_bad, no_frame_says}
 use Rattle.tape_stage.proofs.stage.opening.look.Goals as goal
 
 pub returns-in_err-found-clause-none : goal.returns-in_err-found-clause-none
 returns-in_err-found-clause-none g c h =
-    err_bad c.from_residual.result c.in_err-found.field-0.0 (search rules)
+    err_bad (λ fault. SaysNone fault → HoldsNone (g.D.Disk.seen c.args.disk.now))
+    c.from_residual.result c.in_err-found.field-0.0 (search rules)
     (λ says. none_staged (g.D.Disk.seen c.args.disk.now) (c.in_err-found.ensures.none h says))
 
-pub returns-in_err-found-clause-at : goal.returns-in_err-found-clause-at
-returns-in_err-found-clause-at g c h =
-    err_at (IsBadPlace (g.D.Disk.seen c.args.disk.now)) c.from_residual.result
+pub returns-in_err-found-clause-says : goal.returns-in_err-found-clause-says
+returns-in_err-found-clause-says g c h =
+    err_bad (IsFaultOf (g.D.Disk.seen c.args.disk.now)) c.from_residual.result
     c.in_err-found.field-0.0 (search rules)
-    (on_bad c.in_err-found.field-0.0 (λ place. ⊥) (IsBadPlace (g.D.Disk.seen c.args.disk.now))
-    (λ place never. absurd never) c.in_err-found.ensures.no_frame)
+    (no_frame_says (g.D.Disk.seen c.args.disk.now) c.in_err-found.field-0.0
+    (c.in_err-found.ensures.none h) c.in_err-found.ensures.no_frame)
 
 pub returns-in-None-clause-parts : goal.returns-in-None-clause-parts
 returns-in-None-clause-parts g c h =
@@ -36,8 +39,8 @@ returns-in-Some-clause-none g c h says =
     framed.0 (g.D.Disk.seen c.find_on.new.disk) (g.D.Disk.seen c.args.disk.now)
     c.staged.ensures.value c.in-Some.is (c.find_on.ensures.reads.same h) framed.1)
 
-pub returns-in-Some-clause-at : goal.returns-in-Some-clause-at
-returns-in-Some-clause-at g c h =
+pub returns-in-Some-clause-says : goal.returns-in-Some-clause-says
+returns-in-Some-clause-says g c h =
     let found = c.in_ok-found.found in
     let framed = c.in_ok-break_of.ensures.framed (c.in_ok-found.ensures.ends.honest h) in
     broken_bad found c.in-Some.place framed.0 (g.D.Disk.seen c.args.disk.now)

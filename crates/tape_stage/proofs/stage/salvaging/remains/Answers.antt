@@ -1,12 +1,14 @@
 use Rattle.std.proofs.Common.{refl, rules}
 use Rattle.tape_stage.proofs.Remaining.{found_remains, framed_as}
 use Rattle.tape_stage.proofs.Results.{err_bad}
+use Rattle.tape_stage.specs.Faults.{SaysNone}
+use Rattle.tape_stage.specs.Salvaged.{RemainsNone}
 use Rattle.tape_stage.proofs.stage.salvaging.remains.Goals as goal
 
 pub returns-in_err-found-clause-none : goal.returns-in_err-found-clause-none
 returns-in_err-found-clause-none g c h =
-    err_bad c.from_residual.result c.in_err-found.field-0.0 (search rules)
-    (c.in_err-found.ensures.none h)
+    err_bad (λ fault. SaysNone fault → RemainsNone (g.D.Disk.seen c.args.disk.now))
+    c.from_residual.result c.in_err-found.field-0.0 (search rules) (c.in_err-found.ensures.none h)
 
 pub returns-clause-found : goal.returns-clause-found
 returns-clause-found g c h =

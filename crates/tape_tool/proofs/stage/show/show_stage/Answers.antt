@@ -20,4 +20,4 @@ returns-in-Ok-clause-err g c honest =
 pub returns-in-Err-clause-err : goal.returns-in-Err-clause-err
 returns-in-Err-clause-err g c honest =
     unopened c.in-Err.refused.fault refl (λ says. c.in-Err.ensures.none honest says)
-    c.in-Err.ensures.not_full c.in-Err.ensures.not_failed (Keeps-refl _) (Keeps-refl _)
+    (c.in-Err.ensures.says honest) c.in-Err.ensures.not_full c.in-Err.ensures.not_failed (Keeps-refl _) (Keeps-refl _)

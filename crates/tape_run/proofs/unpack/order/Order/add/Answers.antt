@@ -1,4 +1,4 @@
-use Rattle.std.proofs.Common.{◌≡◌, ◌<◌, ap, sym, ◌∙◌, length, true, arith}
+use Rattle.std.proofs.Common.{ap, sym, ◌∙◌, arith}
 use Rattle.tape_run.specs.ReadingOrder.{is_in}
 use Rattle.tape_run.proofs.ReadingOrder.{marked}
 use Rattle.tape_run.proofs.unpack.order.Order.add.Goals as goal

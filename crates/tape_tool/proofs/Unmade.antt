@@ -1,0 +1,86 @@
+-- Disks with the beginning of a new stage.
+use Rattle.std.proofs.Common.{◌≡◌, ◌⊎◌, inl, inr, ⊎_elim, ℕ, ◌<◌, ◌≤◌, true, false, List, []}
+use Rattle.std.proofs.Common.{◌+◌, ◌-◌, length, get_or, refl, sym, ap, ◌∙◌, subst, arith}
+use Rattle.std.proofs.lemmas.Bool.{cases_lt}
+use Rattle.std.proofs.lemmas.List.{get_or_at, get_or_past, nil_from_length, take_all}
+use Rattle.std.specs.Prelude.{slice_range}
+use Rattle.tape_stage.specs.Body.{body_text, FitBody}
+use Rattle.tape_stage.specs.OnlyReading.{OnlyReads}
+use Rattle.tape_stage.specs.Staged.{StandsLike, blank, body_at, gate_at, new_slots}
+use Rattle.tape_stage.specs.Stages.{OpensOver}
+use Rattle.tape_stage.specs.declared.disk.Disk.{Ghosts}
+use Rattle.tape_stage.proofs.Bodies.{length-body}
+use Rattle.tape_stage.proofs.Finds.{none_remains}
+use Rattle.tape_stage.proofs.Openings.{look_passes}
+use Rattle.tape_stage.proofs.Passing.{follow, weaken}
+use Rattle.tape_stage.proofs.Tears.{closed_none}
+use Rattle.tape_tool.specs.Staging.{IsUnmade, first_point}
+
+-- an empty disk is one
+pub unmade_nil : (set_id : List ℕ) (file : ℕ) → IsUnmade set_id file []
+unmade_nil set_id file = record {
+  few = omega arith;
+  each = λ i. inl (get_or_past [] i 0 (omega arith));
+  none = λ g point broken parts r. omega (arith, r.framed.holds.long);
+}
+
+-- the byte is zero or the one that is due
+abbrev IsDue : ℕ → ℕ → Type 0
+IsDue byte due = (byte ≡ 0) ⊎ (byte ≡ due)
+
+-- a gate is then not open
+closed : (byte due : ℕ) → IsDue byte due → due ≡ 67 → byte ≡ 79 → ⊥
+closed byte due (inl zero) is opened = omega arith
+closed byte due (inr same) is opened = omega arith
+
+-- bytes of which each is zero or due
+module _ (set_id : List ℕ) (file : ℕ) (bytes : List ℕ)
+    (all : (i : ℕ) → i < length bytes → IsDue (get_or bytes i 0)
+    (get_or (new_slots (first_point set_id file)) i 0)) (few : length bytes ≤ 256) where
+  each_due : (i : ℕ)
+      → IsDue (get_or bytes i 0) (get_or (new_slots (first_point set_id file)) i 0)
+  each_due i =
+      ⊎_elim (λ inside. all i inside) (λ past. inl (get_or_past bytes i 0 past))
+      (cases_lt i (length bytes))
+
+  pub unmade_read : FitBody 1 (first_point set_id file) → IsUnmade set_id file bytes
+  unmade_read fit =
+      let second : get_or (new_slots (first_point set_id file)) 128 0 ≡ 67 =
+      get_or_at (body_text 1 (first_point set_id file)) 67 blank 0 127
+      (length-body 1 (first_point set_id file) fit) in
+      record {
+        few = few;
+        each = each_due;
+        none = none_remains bytes bytes refl
+            (closed_none (gate_at false bytes) (body_at false bytes)
+            (closed (gate_at false bytes) 67 (each_due 0) refl))
+            (closed_none (gate_at true bytes) (body_at true bytes)
+            (closed (gate_at true bytes) _ (each_due 128) second));
+      }
+
+-- all bytes were read
+pub whole_read : (n : ℕ) (front now old : List ℕ) → front ≡ slice_range now 0 (0 + n) → now ≡ old
+    → length old ≤ n → front ≡ old
+whole_read n front now old is same le =
+    is ∙ take_all (0 + n - 0) now (omega (arith, le, ap length same)) ∙ same
+
+-- a disk that is not one, and was only read
+module _ {D : Type 0} (disk : Ghosts D) (a b : D) (reads : OnlyReads disk a b)
+    (honest : disk.is_honest a) where
+  pub not_empty : (set_id : List ℕ) (file : ℕ) → (IsUnmade set_id file (disk.seen a) → ⊥)
+      → disk.length_of b ≡ length (disk.seen b) → disk.length_of b ≡ 0 → ⊥
+  not_empty set_id file made long none =
+      made (subst (IsUnmade set_id file)
+      (sym (sym (reads.same honest) ∙ nil_from_length (disk.seen b) (sym long ∙ none)))
+      (unmade_nil set_id file))
+
+  pub read_opens : (d : D) → OpensOver disk b d → OpensOver disk a d
+  read_opens d opens =
+      follow disk a b d _ (look_passes disk a b reads honest (StandsLike (disk.seen a)))
+      (weaken disk b d _ _ also opens)
+    where
+      also : (c : List ℕ) → disk.may_leave b c ⊎ StandsLike (disk.seen b) c
+          → disk.may_leave a c ⊎ StandsLike (disk.seen a) c
+      also c (inl left) = inl ((reads.any_moment honest).now c left)
+      also c (inr like) =
+          inr (subst (λ (bytes : List ℕ). StandsLike bytes c) (reads.same honest) like)
