@@ -28,9 +28,9 @@ COMMANDS = {
         ("IMAGE", "IMAGES"), ("--files-from LIST", "FROM"), ("--null", "NULL"), ("--tsv", "ROWS")]),
     "compare": ("[--files-from LIST [--null]] [IMAGE]...", [
         ("IMAGE", "READINGS"), ("--files-from LIST", "FROM"), ("--null", "NULL")]),
-    "merge": ("[--files-from LIST [--null]] OUT [IMAGE]...", [
+    "merge": ("[--log LOG] [--files-from LIST [--null]] OUT [IMAGE]...", [
         ("OUT", "MERGED_OUT"), ("IMAGE", "READINGS"), ("--files-from LIST", "FROM"),
-        ("--null", "NULL")]),
+        ("--null", "NULL"), ("--log LOG", "LOG")]),
     "extract": ("[OPTIONS] SET FILE OUT [IMAGE]...", [
         ("SET", "SET"), ("FILE", "FILE"), ("OUT", "OUT"), ("IMAGE", "REELS"),
         ("--files-from LIST", "FROM"), ("--null", "NULL"),

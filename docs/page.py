@@ -27,7 +27,7 @@ PER_ROW, ROWS, STEP = 100, 20, 10
 COLUMNS = {
     "IMAGE": "name state volume set system items files bad end words",
     "SECTION": "set file section volume blocks state eof",
-    "FILE": "set file identifier created state section volume conflict",
+    "FILE": "set file identifier created state section volume conflict sections",
     "COPIES": "set file section copies name other agree",
 }
 # What an item is drawn as, and what the bar below it says of its section; the worst last.
@@ -161,14 +161,21 @@ def date_of(created):
     return day.isoformat() if day.year == first.year else ""
 
 
+def missing_of(row):
+    """The numbers of a file's missing sections: of the first one, if the row has no list of them."""
+    listed = re.findall(r"([-0-9]+):MISSING", row["sections"])
+    return listed or ([row["section"]] if row["state"] == "MISSING" else [])
+
+
 def file_row(rows, sections, copies):
     """The row of a file: its sections, what is missing, and its conflicts."""
     first = rows[0]
     cells = [cell(s["state"], f'{s["section"]} {s["state"]} on {s["volume"]}') for s in sections]
     for row in rows:
-        if row["state"] == "MISSING":
-            after = f', after {row["volume"]}' if row["volume"] else ""
-            cells.append(cell("MISSING", f'{row["section"]} MISSING{after}'))
+        for number in missing_of(row):
+            is_first = number.split("-")[0] == row["section"]
+            after = f', after {row["volume"]}' if is_first and row["volume"] else ""
+            cells.append(cell("MISSING", f"{number} MISSING{after}"))
     for row in copies:
         cells.append(cell("CONFLICT",
                           f'{row["section"]} CONFLICT: {row["name"]} and {row["other"]} differ'))

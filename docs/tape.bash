@@ -27,7 +27,8 @@ _tape() {
         COMPREPLY=($(compgen -W 'list check survey compare merge extract unpack salvage stage init write' -- "$cur"))
         return ;;
     list:-*) COMPREPLY=($(compgen -W '--offsets --explain --help' -- "$cur")); return ;;
-    check:-* | compare:-* | merge:-*) COMPREPLY=($(compgen -W '--files-from --null --explain --help' -- "$cur")); return ;;
+    merge:-*) COMPREPLY=($(compgen -W '--log --files-from --null --explain --help' -- "$cur")); return ;;
+    check:-* | compare:-*) COMPREPLY=($(compgen -W '--files-from --null --explain --help' -- "$cur")); return ;;
     survey:-*) COMPREPLY=($(compgen -W '--files-from --null --tsv --explain --help' -- "$cur")); return ;;
     unpack:-*) COMPREPLY=($(compgen -W '--files-from --null --form --salvage --explain --help' -- "$cur")); return ;;
     salvage:-*)
@@ -47,7 +48,7 @@ _tape() {
     for ((at = start + 1; at < COMP_CWORD; at++)); do
         word=${COMP_WORDS[at]}
         case $word in
-        --files-from | --form | --stage | --format | --block | --record | --offset) at=$((at + 1)) ;;
+        --files-from | --form | --stage | --log | --format | --block | --record | --offset) at=$((at + 1)) ;;
         -*) ;;
         *) place=$((place + 1)) ;;
         esac
@@ -61,7 +62,7 @@ _tape() {
     *:--files-from) compopt -o default ;;
     init:1:* | write:1:* | unpack:1:*) compopt -o dirnames ;;
     # No image is offered for OUT, which would be written over, nor for a stage.
-    extract:3:* | salvage:3:* | merge:1:* | stage:[12]:* | *:--stage)
+    extract:3:* | salvage:3:* | merge:1:* | stage:[12]:* | *:--stage | *:--log)
         compopt -o filenames
         # A name with a line feed comes in pieces, which are not offered.
         while IFS= read -r word; do

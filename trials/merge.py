@@ -7,8 +7,8 @@ Each case makes a tape of blocks, marks and unreadable items, and two to four re
 reading an item may have become unreadable; it may also be cut short, end with a fault, or not be a
 true reading at all: an item replaced, left out or doubled. One case in five is a labelled volume,
 so that the counts of its sections matter. The model determines the merged tape, or where the
-readings differ. `merge` and `compare` must print its lines and end with its status; OUT must have
-its bytes, or not exist; and no other file may be left.
+readings differ. `merge` and `compare` must print its lines and end with its status; OUT and, in two
+cases of three, the log must have its bytes, or not exist; and no other file may be left.
 """
 import os
 import random
@@ -135,6 +135,8 @@ def miscounts(items):
         return 0
     wrong = 0
     at = 1
+    while at < len(items) and (starts(items[at], b'VOL') or starts(items[at], b'UVL')):
+        at += 1  # further volume labels
     while at + 1 < len(items) and starts(items[at], b'HDR1') and starts(items[at + 1], b'HDR2'):
         head = items[at][1]
         at += 2
@@ -168,8 +170,9 @@ def kind(item):
 
 
 def model(readings, names):
-    """The lines, the status, and OUT's bytes or None."""
+    """The lines, the status, and the bytes of OUT and of the log, or None."""
     merged, alone = [], 0
+    rows = ['\t'.join(['ITEM', 'KIND', *names])]
     for place in range(max(len(r.items) for r in readings)):
         have = [r.items[place] if place < len(r.items) else None for r in readings]
         good = [item for item in have if item is not None and item != BAD]
@@ -177,6 +180,9 @@ def model(readings, names):
             return differing(readings, names, place, have, good)
         merged.append(good[0] if good else BAD)
         alone += len(good) == 1
+        if len(good) == 1 or BAD in have:
+            cells = ['' if item is None else 'BAD' if item == BAD else 'GOOD' for item in have]
+            rows.append('\t'.join([str(place + 1), kind(merged[-1]), *cells]))
     lines = [f'IMAGE {n + 1} {len(r.items)} {r.items.count(BAD)} {r.end} {names[n]}'
              for n, r in enumerate(readings)]
     ends = [r.end for r in readings if len(r.items) == len(merged)]
@@ -187,7 +193,8 @@ def model(readings, names):
     data = b''.join(written(item) for item in merged)
     if end == 'MARKED':
         data += word(0xFFFFFFFF)
-    return lines, 0 if bad == 0 and wrong == 0 and end != 'CUT' else 3, data
+    log = ''.join(row + '\n' for row in rows).encode()
+    return lines, 0 if bad == 0 and wrong == 0 and end != 'CUT' else 3, data, log
 
 
 def differing(readings, names, place, have, good):
@@ -204,7 +211,7 @@ def differing(readings, names, place, have, good):
             letter = '-' if item == BAD else 'A' if item == first else 'B' if item == second else 'C'
             offset = readings[n].offsets[place]
             lines.append(f'HAS {n + 1} {letter} {kind(item)} {offset} {names[n]}')
-    return lines, 3, None
+    return lines, 3, None, None
 
 
 def run(program, *words):
@@ -220,20 +227,33 @@ def differs(program, rnd, folder):
         with open(name, 'wb') as file:
             file.write(reading.data)
     out = os.path.join(folder, 'out.tap')
-    lines, status, data = model(readings, names)
-    merged = run(program, 'merge', out, *names)
+    log = os.path.join(folder, 'log.tsv')
+    lines, status, data, rows = model(readings, names)
+    if rnd.random() < .33:
+        merged, rows = run(program, 'merge', out, *names), None
+    else:
+        merged = run(program, 'merge', '--log', log, out, *names)
     compared = run(program, 'compare', *names)
-    there = None
-    if os.path.exists(out):
-        with open(out, 'rb') as file:
-            there = file.read()
-    others = sorted(os.listdir(folder))
-    expected = sorted([os.path.basename(n) for n in names] + ([] if data is None else ['out.tap']))
+    there = {os.path.basename(name) for name in names}
+    for name, content in ((out, data), (log, rows)):
+        if content is not None:
+            there.add(os.path.basename(name))
+    others = set(os.listdir(folder))
     what = 'differ' if data is None else f'status {status}'
-    if merged != (lines, status, '') or compared != merged or there != data or others != expected:
+    if (merged != (lines, status, '') or compared != merged or read(out) != data
+            or read(log) != rows or others != there):
         print(f'expected {status} {lines}\nmerge {merged}\ncompare {compared}\nfiles {others}')
+        print(f'log {rows}\nfound {read(log)}')
         return what, True
     return what, False
+
+
+def read(name):
+    """The bytes of a file, or None."""
+    if not os.path.exists(name):
+        return None
+    with open(name, 'rb') as file:
+        return file.read()
 
 
 def main():

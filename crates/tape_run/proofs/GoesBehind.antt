@@ -71,7 +71,7 @@ end_one first later x (Complete, s) p on = p
 end_one first later x (Useless why, s) p (inl on) = absurd (cc)
 end_one first later x (Useless why, s) p (inr on) = absurd (cc)
 
--- a reader that continues still expects something
+-- the file of a reader that continues is incomplete
 pub still_waits : (core : State) (x : TapeItem) (q : Position) → q ≡ (step_of core (Some x)).1.position
     → GoesOn (step_of core (Some x)).0 → is_finished q ≡ false
 still_waits core x (Awaits sect b part) is on = refl

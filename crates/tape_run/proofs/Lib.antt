@@ -123,6 +123,7 @@ mod Mistakes
 mod MistakesOfCatalogues
 mod MistakesOfEngines
 mod MistakesOfListing
+mod MistakesOfMerging
 mod MistakesOfPlaces
 mod MistakesOfReels
 mod MistakesOfReports
@@ -148,6 +149,7 @@ mod MergeGiven
 mod MergeBytes
 mod MergeOpening
 mod MergeNow
+mod MergeRows
 mod MergeReports
 mod MergedBetter
 mod MergedCopies

@@ -59,7 +59,7 @@ broken_step core x (Awaits sect b part) is waits e =
     ap (λ q. unless_complete core q (at_item core core.phase x)) (sym is)
     ∙ ap (λ p. at_item core p x) e ∙ broken_item core x e
 
--- no item changes it, and none delivers anything
+-- no item changes a broken reader, and none delivers a part
 broken_items : (core : State) (xs : List TapeItem) → is_finished core.position ≡ false
     → core.phase ≡ Broken
     → (behind_items core xs ≡ core) × (delivered_parts core xs ≡ [])

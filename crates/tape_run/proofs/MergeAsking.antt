@@ -4,21 +4,22 @@ use Rattle.std.proofs.Common.{◌≡◌, ◌≢◌, ◌⊎◌, inl, inr, ℕ, �
 use Rattle.std.proofs.Common.{length, take, Option, Some, None, refl, sym, ap, subst, map}
 use Rattle.std.proofs.Common.{◌∙◌, length-append, arith}
 use Rattle.std.specs.Prelude.{slice_get}
+use Rattle.std.proofs.lemmas.Option.{slice_get_past}
 use Rattle.tape_image.specs.Tape.{TapeItem}
 use Rattle.tape_image.specs.Reader.{going}
 use Rattle.tape_run.specs.declared.merge.reading.Reading.{Reading}
 use Rattle.tape_run.specs.Merging.{IsReadFrom, AreReadFrom}
 use Rattle.tape_run.specs.MergeSteps.{joined, best_items, Asked, gives, stops, AskedAll}
-use Rattle.tape_run.specs.MergeSteps.{is_good_one, one_if, HasTaken, HaveTaken, AllStopped}
+use Rattle.tape_run.specs.MergeSteps.{column, HasTaken, HaveTaken, AllStopped}
 use Rattle.tape_run.specs.MergeSteps.{AreUpTo, Judges, AreJudged, StopsAs, Compares, Takes}
-use Rattle.tape_run.specs.MergeCalls.{witnesses_at, has_first, firsts_in}
 use Rattle.tape_run.proofs.MergeReadings.{reads_self, reads_front, reads_trans, are_better}
 use Rattle.tape_run.proofs.MergePlaces.{best_better, reads_best, best_least, best_differs}
-use Rattle.tape_run.proofs.MergeTaken.{has_given, has_stopped, stopped_off, good_at, good_past}
-use Rattle.tape_run.proofs.MergeTaken.{good_last, take_past, take_last}
+use Rattle.tape_run.proofs.MergeTaken.{has_given, has_stopped, stopped_off, get_front, get_last}
+use Rattle.tape_run.proofs.MergeTaken.{take_past, take_last}
 use Rattle.tape_run.proofs.MergeVerdicts.{IsOther, none_yet, Keeps, judges, judges_stop}
 use Rattle.tape_run.proofs.MergeVerdicts.{agreed_alone, second_alone, all_keep, later_other}
-use Rattle.tape_run.proofs.MergeVerdicts.{counts_first, stops_none, next_other}
+use Rattle.tape_run.proofs.MergeVerdicts.{SeenAs, seen_item, seen_none, next_other}
+use Rattle.tape_run.proofs.MergeRows.{AreSeenAs}
 
 -- ---- readings at a place of a tape
 
@@ -37,8 +38,8 @@ pub record HaveCandidate {R : Type 0} (firsts nows : List (Reading R)) (rs : Lis
       → IsReadFrom (m ++ best_items now) tape
   pub kept : best ≢ None → now ≢ None
   pub none : now ≡ None → AllStopped nows
-  pub before : (j : ℕ) → j < length m → witnesses_at j readings ≡ witnesses_at j rs
-  pub here : witnesses_at (length m) readings ≡ firsts_in nows
+  pub before : (j : ℕ) → j < length m → column j readings ≡ column j rs
+  pub here : AreSeenAs nows (column (length m) readings)
 
 -- one reading was asked, and agreed
 record HasCandidate {R : Type 0} (f n : Reading R) (r m : List TapeItem)
@@ -53,9 +54,8 @@ record HasCandidate {R : Type 0} (f n : Reading R) (r m : List TapeItem)
       → IsReadFrom (m ++ best_items now) tape
   pub kept : best ≢ None → now ≢ None
   pub none : now ≡ None → StopsAs n.verdict n.image.status
-  pub before : (j : ℕ) → j < length m
-      → one_if (is_good_one (slice_get reading j)) ≡ one_if (is_good_one (slice_get r j))
-  pub here : one_if (is_good_one (slice_get reading (length m))) ≡ has_first n.verdict
+  pub before : (j : ℕ) → j < length m → slice_get reading j ≡ slice_get r j
+  pub here : SeenAs n.verdict (slice_get reading (length m))
   pub front : take (length m) reading ≡ r
   pub judged : (end beside : Option TapeItem) → Keeps now end None beside
       → Judges n.verdict n.image.status reading end beside
@@ -87,8 +87,9 @@ one_best f o n r m best now others h at within reads least (gives x on given com
           (best_least m r tape best x e (least tape o (reads_front r (x ∷ []) tape k)) k);
       kept = λ _. some;
       none = λ none. absurd (some none);
-      before = λ j lt. good_at r x j (omega (arith, e, lt));
-      here = good_last r x (length m) e ∙ counts_first n.verdict x best now compares;
+      before = λ j lt. get_front r x j (omega (arith, e, lt));
+      here = subst (λ t. SeenAs n.verdict t) (sym (get_last r x (length m) e))
+          (seen_item n.verdict x best now compares);
       front = take_last r x (length m) e;
       judged = λ end beside keeps. judges n.verdict n.image.status r x best now None None end
           beside given.goes_on compares none_yet keeps;
@@ -108,7 +109,8 @@ one_best f o n r m best now others h at within reads least (stops off how counts
       kept = λ some none. some (sym same ∙ none);
       none = λ _. how;
       before = λ j lt. refl;
-      here = good_past r (length m) within ∙ sym (stops_none n.verdict n.image.status how);
+      here = subst (λ t. SeenAs n.verdict t) (sym (slice_get_past r (length m) within))
+          (seen_none n.verdict n.image.status how);
       front = take_past r (length m) within;
       judged = λ end beside keeps. judges_stop n.verdict n.image.status r end beside how;
     }
@@ -140,7 +142,7 @@ all_best [] [] [] [] m best now beside others h at reads least (same, _) so =
       kept = λ some none. some (sym same ∙ none);
       none = λ _. tt;
       before = λ j lt. refl;
-      here = refl;
+      here = tt;
     }
 all_best [] [] (n ∷ nows) [] m best now beside others h at reads least asked so = absurd asked
 all_best (f ∷ firsts) (o ∷ olds) [] (r ∷ rs) m best now beside others h at reads least asked so =
@@ -170,8 +172,8 @@ all_best (f ∷ firsts) (o ∷ olds) (n ∷ nows) (r ∷ rs) m best now beside o
       least = λ tape k reads. more.least tape (k, reads.0) reads.1;
       kept = λ some. more.kept (first.kept some);
       none = λ none. (first.none (none_before mid now more.kept none), more.none none);
-      before = λ j lt. omega (arith, first.before j lt, more.before j lt);
-      here = omega (arith, first.here, more.here);
+      before = λ j lt. cc (first.before j lt, more.before j lt);
+      here = (first.here, more.here);
     }
 all_best _ _ _ _ m best now beside others h at reads least asked so = absurd h
 

@@ -104,9 +104,10 @@ take_images (bytes ∷ images) [] nows rs front h = absurd front
 take_images _ _ _ _ front h = absurd h
 
 merges_images : {R : Type 0} (images : List (List ℕ)) (firsts nows : List (Reading R))
-    (c : Merged) (old new : Writer) → AreAtFront (map Some images) firsts
-    → Merges firsts nows c old new → MergesImages images nows c old new
-merges_images images firsts nows c old new front m = record {
+    (c : Merged) (old new : Writer) (log logged : Option (List ℕ))
+    → AreAtFront (map Some images) firsts → Merges firsts nows c old new log logged
+    → MergesImages images nows c old new log logged
+merges_images images firsts nows c old new log logged front m = record {
   readings = m.readings;
   have = take_images images firsts nows m.readings front m.have;
   ended = m.ended;
@@ -114,6 +115,7 @@ merges_images images firsts nows c old new front m = record {
   is = m.is;
   count = m.count;
   wrote = m.wrote;
+  rows = m.rows;
 }
 
 -- ---- where readings differ
@@ -161,18 +163,20 @@ faults_images images firsts nows old new (faults.Differ n) front d = record {
   count = d.count;
 }
 faults_images images firsts nows old new faults.OutOfMemory front d = tt
+faults_images images firsts nows old new faults.Log front d = tt
 faults_images images firsts nows old new (faults.Write fault) front
     (mid, wrote, on, x, fits, refused) = refuses_fault x mid new fault fits on refused
 
 -- ---- as an engine answers
 
 pub ok_images : {R : Type 0} (result : Result Merged MergeFault) (firsts nows : List (Reading R))
-    (old new : Writer) → IfOk result (λ m. Merges firsts nows m old new)
+    (old new : Writer) (log logged : Option (List ℕ))
+    → IfOk result (λ m. Merges firsts nows m old new log logged)
     → IfOk result (λ m. (images : List (List ℕ)) → AreAtFront (map Some images) firsts
-    → MergesImages images nows m old new)
-ok_images (Ok m) firsts nows old new h =
-    λ images front. merges_images images firsts nows m old new front h
-ok_images (Err fault) firsts nows old new h = tt
+    → MergesImages images nows m old new log logged)
+ok_images (Ok m) firsts nows old new log logged h =
+    λ images front. merges_images images firsts nows m old new log logged front h
+ok_images (Err fault) firsts nows old new log logged h = tt
 
 pub err_images : {R : Type 0} (result : Result Merged MergeFault) (firsts nows : List (Reading R))
     (old new : Writer) → IfErr result (FitsFault firsts nows old new)

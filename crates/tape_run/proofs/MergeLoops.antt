@@ -3,6 +3,8 @@ use Rattle.std.proofs.Common.{◌≡◌, ◌≢◌, ℕ, ◌+◌, ◌≤◌, Lis
 use Rattle.std.proofs.Common.{None, Bool, true, false, Result, Err, refl, sym, ap, subst, ◌∙◌, inl}
 use Rattle.std.proofs.Common.{length-append, append-nil, arith}
 use Rattle.std.specs.Prelude.{◌==◌, is_some, IfSome, IfErr}
+use Rattle.std.specs.Io.KnownBytes.{Appends}
+use Rattle.std.proofs.KnownBytes.{Appends-nil, Appends-trans}
 use Rattle.tape_image.specs.declared.item.ImageWriteFault.{ImageWriteFault}
 use Rattle.tape_image.specs.Tape.{TapeItem}
 use Rattle.tape_image.specs.Begins.{image_limit}
@@ -16,7 +18,8 @@ use Rattle.tape_run.specs.Passing.{Told, step, phase_after, blocks_of}
 use Rattle.tape_run.specs.Merging.{IsReadFrom, AreReadFrom, IsMerged}
 use Rattle.tape_run.specs.declared.merge.reading.Reading.{Reading}
 use Rattle.tape_run.specs.MergeSteps.{best_items, AskedAll, HaveTaken, AreUpTo, nothing}
-use Rattle.tape_run.specs.MergeSteps.{is_bad_one, one_if}
+use Rattle.tape_run.specs.MergeSteps.{is_bad_one, one_if, goods_in}
+use Rattle.tape_run.specs.MergeLog.{log_rows, row_now}
 use Rattle.tape_run.specs.MergeCalls.{Counts, firsts_in, miscounted_of, Puts}
 use Rattle.tape_run.specs.MergeCalls.{Merges, DiffersAt, FitsFault, RefusesCandidate}
 use Rattle.tape_run.proofs.NotedSoFar.{one_block}
@@ -24,12 +27,13 @@ use Rattle.tape_run.proofs.MergeRefusals.{best_fits}
 use Rattle.tape_run.proofs.MergeAsking.{HaveCandidate, all_best, all_differ}
 use Rattle.tape_run.proofs.MergeCounts.{put_one_more, put_moves, was_put, was_none, CountsOne}
 use Rattle.tape_run.proofs.MergeCounts.{counts_more, phase_more, alone_kept}
+use Rattle.tape_run.proofs.MergeRows.{goods_seen, rows_kept, rows_more}
 
 -- ---- the loop
 
--- items were merged, written and counted
+-- items were merged, written, counted and logged
 pub record SoFar {R : Type 0} (firsts nows : List (Reading R)) (m : Merged) (phase : Phase)
-    (old new : Writer) : Type 0 where
+    (old new : Writer) (log logged : Option (List ℕ)) : Type 0 where
   pub readings : List (List TapeItem)
   pub have : HaveTaken firsts nows readings
   pub merged : List TapeItem
@@ -38,6 +42,7 @@ pub record SoFar {R : Type 0} (firsts nows : List (Reading R)) (m : Merged) (pha
   pub count : Counts readings merged m
   pub phase_is : phase ≡ phase_after Volume merged
   pub wrote : PutItems merged old new
+  pub rows : Appends log logged (log_rows 0 merged readings)
 
 -- nothing was read yet
 none_of : {R : Type 0} → List (Reading R) → List (List TapeItem)
@@ -67,9 +72,9 @@ unfolding none_of
 nothing_best [] = tt
 nothing_best (r ∷ rs) = (tt, nothing_best rs)
 
-pub starts : {R : Type 0} (rs : List (Reading R)) (w : Writer)
-    → SoFar rs rs (record { items = 0; bad = 0; alone = 0; miscounted = 0 }) Volume w w
-starts rs w = record {
+pub starts : {R : Type 0} (rs : List (Reading R)) (w : Writer) (log : Option (List ℕ))
+    → SoFar rs rs (record { items = 0; bad = 0; alone = 0; miscounted = 0 }) Volume w w log log
+starts rs w log = record {
   readings = none_of rs;
   have = nothing_read rs;
   merged = [];
@@ -78,14 +83,16 @@ starts rs w = record {
   count = record { items = refl; bad = refl; alone = refl; miscounted = refl };
   phase_is = refl;
   wrote = refl;
+  rows = Appends-nil log;
 }
 
 -- a round was made, and all agreed
 round : {R : Type 0} (firsts olds nows : List (Reading R)) (a : Merged) (p : Phase)
-    (old new : Writer) (now beside : Option TapeItem) → (s : SoFar firsts olds a p old new)
+    (old new : Writer) (log row : Option (List ℕ)) (now beside : Option TapeItem)
+    → (s : SoFar firsts olds a p old new log row)
     → AskedAll olds nows None now None beside → beside ≡ None
     → HaveCandidate firsts nows s.readings s.merged None now beside (λ _. Unit {0})
-round firsts olds nows a p old new now beside s asked none =
+round firsts olds nows a p old new log row now beside s asked none =
     let empty : s.merged ≡ s.merged ++ [] = sym (append-nil s.merged) in
     all_best firsts olds nows s.readings s.merged None now beside (λ _. Unit {0}) s.have s.at
     (subst (λ (l : List TapeItem). AreReadFrom s.readings l) empty s.is.all)
@@ -94,12 +101,15 @@ round firsts olds nows a p old new now beside s asked none =
 
 -- there was an item, and it was written
 pub goes_on : {R : Type 0} (firsts olds nows : List (Reading R)) (a b : Merged) (p q : Phase)
-    (have : ℕ) (old mid new : Writer) (now beside : Option TapeItem) (x : TapeItem)
-    → SoFar firsts olds a p old mid → AskedAll olds nows None now None beside → beside ≡ None
-    → have ≡ firsts_in nows → now ≡ Some x → PutItem x mid new → CountsOne a b p q have x
-    → SoFar firsts nows b q old new
-goes_on firsts olds nows a b p q have old mid new now beside x s asked none many is put one =
-    let h = round firsts olds nows a p old mid now beside s asked none in
+    (have : ℕ) (old mid new : Writer) (log row logged : Option (List ℕ))
+    (now beside : Option TapeItem) (x : TapeItem)
+    → SoFar firsts olds a p old mid log row → AskedAll olds nows None now None beside
+    → beside ≡ None → have ≡ firsts_in nows → now ≡ Some x → PutItem x mid new
+    → Appends row logged (row_now (a.items + 1) now have nows) → CountsOne a b p q have x
+    → SoFar firsts nows b q old new log logged
+goes_on firsts olds nows a b p q have old mid new log row logged now beside x s asked none many is
+    put noted one =
+    let h = round firsts olds nows a p old mid log row now beside s asked none in
     let shown : s.merged ++ best_items now ≡ s.merged ++ x ∷ [] =
     ap (λ (t : Option TapeItem). s.merged ++ best_items t) is in
     let long : length (s.merged ++ x ∷ []) ≡ length s.merged + 1 =
@@ -115,18 +125,25 @@ goes_on firsts olds nows a b p q have old mid new now beside x s asked none many
             (h.least tape tt reads);
       };
       count = counts_more s.merged x s.readings h.readings a b p q have s.count s.phase_is one
-          h.before (h.here ∙ sym many);
+          (λ j lt. ap goods_in (h.before j lt)) (goods_seen nows _ h.here ∙ sym many);
       phase_is = phase_more s.merged x a b p q have s.phase_is one;
       wrote = put_one_more s.merged old mid new x s.wrote put;
+      rows = subst (λ t. Appends log logged t)
+          (rows_more s.merged x s.readings h.readings nows (a.items + 1) have h.before h.here many
+          (ap (λ k. k + 1) s.count.items))
+          (Appends-trans log row logged (log_rows 0 s.merged s.readings)
+          (row_now (a.items + 1) (Some x) have nows) s.rows
+          (subst (λ t. Appends row logged (row_now (a.items + 1) t have nows)) is noted));
     }
 
 -- there was none: all have stopped
 pub ends : {R : Type 0} (firsts olds nows : List (Reading R)) (a : Merged) (p : Phase)
-    (old mid new : Writer) (now beside : Option TapeItem) → SoFar firsts olds a p old mid
+    (old mid new : Writer) (log row : Option (List ℕ)) (now beside : Option TapeItem)
+    → SoFar firsts olds a p old mid log row
     → AskedAll olds nows None now None beside → beside ≡ None → now ≡ None → new ≡ mid
-    → Merges firsts nows a old new
-ends firsts olds nows a p old mid new now beside s asked none is same =
-    let h = round firsts olds nows a p old mid now beside s asked none in
+    → Merges firsts nows a old new log row
+ends firsts olds nows a p old mid new log row now beside s asked none is same =
+    let h = round firsts olds nows a p old mid log row now beside s asked none in
     let shown : s.merged ++ best_items now ≡ s.merged =
     ap (λ (t : Option TapeItem). s.merged ++ best_items t) is ∙ append-nil s.merged in
     record {
@@ -143,18 +160,23 @@ ends firsts olds nows a p old mid new now beside s asked none is same =
         items = s.count.items;
         bad = s.count.bad;
         alone = s.count.alone
-            ∙ sym (alone_kept (length s.merged) s.readings h.readings h.before);
+            ∙ sym (alone_kept (length s.merged) s.readings h.readings
+            (λ j lt. ap goods_in (h.before j lt)));
         miscounted = s.count.miscounted;
       };
       wrote = subst (λ (w : Writer). PutItems s.merged old w) (sym same) s.wrote;
+      rows = subst (λ t. Appends log row t)
+          (sym (rows_kept 0 s.merged s.readings h.readings
+          (λ i lt. h.before i (omega (arith, lt))))) s.rows;
     }
 
 -- one did not agree
 pub differs : {R : Type 0} (firsts olds nows : List (Reading R)) (a : Merged) (p : Phase)
-    (old new : Writer) (now beside : Option TapeItem) → SoFar firsts olds a p old new
+    (old new : Writer) (log row : Option (List ℕ)) (now beside : Option TapeItem)
+    → SoFar firsts olds a p old new log row
     → AskedAll olds nows None now None beside → beside ≢ None
     → DiffersAt firsts nows (a.items + 1) old new
-differs firsts olds nows a p old new now beside s asked some =
+differs firsts olds nows a p old new log row now beside s asked some =
     let empty : s.merged ≡ s.merged ++ [] = sym (append-nil s.merged) in
     let h = all_differ firsts olds nows s.readings s.merged None now beside (λ _. Unit {0}) s.have
     s.at
@@ -188,27 +210,28 @@ is_none (Some x) is = absurd (cc is)
 
 -- readings differed
 pub stops_at : {R : Type 0} (firsts olds nows : List (Reading R)) (a : Merged) (p : Phase)
-    (old new : Writer) (now other : Option TapeItem) → SoFar firsts olds a p old new
+    (old new : Writer) (log row : Option (List ℕ)) (now other : Option TapeItem)
+    → SoFar firsts olds a p old new log row
     → AskedAll olds nows None now None other → is_some other ≡ true
     → DiffersAt firsts nows (a.items + 1) old new
-stops_at firsts olds nows a p old new now other s h is =
-    differs firsts olds nows a p old new now other s h (not_none other is)
+stops_at firsts olds nows a p old new log row now other s h is =
+    differs firsts olds nows a p old new log row now other s h (not_none other is)
 
 -- nothing was written
 pub comes_to_end : {R : Type 0} (firsts olds nows : List (Reading R)) (a : Merged) (p : Phase)
-    (old mid new : Writer) (now other : Option TapeItem) (some : Bool)
-    → SoFar firsts olds a p old mid
+    (old mid new : Writer) (log row : Option (List ℕ)) (now other : Option TapeItem) (some : Bool)
+    → SoFar firsts olds a p old mid log row
     → AskedAll olds nows None now None other → is_some other ≡ false → Puts now some mid new
-    → some ≡ false → Merges firsts nows a old new
-comes_to_end firsts olds nows a p old mid new now other some s h none puts is =
+    → some ≡ false → Merges firsts nows a old new log row
+comes_to_end firsts olds nows a p old mid new log row now other some s h none puts is =
     let (no_item, same) =
     was_none now mid new (subst (λ (b : Bool). Puts now b mid new) is puts) in
-    ends firsts olds nows a p old mid new now other s h (is_none other none) no_item same
+    ends firsts olds nows a p old mid new log row now other s h (is_none other none) no_item same
 
--- one item more was written and counted
+-- one item more was written, counted and logged
 pub record OneMore {R : Type 0} (firsts nows : List (Reading R)) (b : Merged) (p q : Phase)
-    (old mid new : Writer) : Type 0 where
-  pub so_far : SoFar firsts nows b q old new
+    (old mid new : Writer) (log logged : Option (List ℕ)) : Type 0 where
+  pub so_far : SoFar firsts nows b q old new log logged
   pub moves : mid.size + 4 ≤ new.size
   pub within : new.size ≤ image_limit
   pub stands : new.standing ≡ writing
@@ -234,25 +257,26 @@ one_counted a b p next have now x is_bad is stepped kind items more_bad alone mi
     }
 
 pub one_more : {R : Type 0} (firsts olds nows : List (Reading R)) (a b : Merged) (p : Phase)
-    (next : Phase × Option Told) (have : ℕ) (old mid new : Writer) (now other : Option TapeItem)
-    (some is_bad : Bool) → SoFar firsts olds a p old mid
+    (next : Phase × Option Told) (have : ℕ) (old mid new : Writer)
+    (log row logged : Option (List ℕ)) (now other : Option TapeItem)
+    (some is_bad : Bool) → SoFar firsts olds a p old mid log row
     → AskedAll olds nows None now None other → have ≡ firsts_in nows
-    → is_some other ≡ false → Puts now some mid new
-    → some ≡ true → IfSome now (λ x. next ≡ step p x)
+    → is_some other ≡ false → Puts now some mid new → some ≡ true
+    → Appends row logged (row_now (a.items + 1) now have nows) → IfSome now (λ x. next ≡ step p x)
     → is_bad ≡ is_bad_one now → b.items ≡ a.items + 1 → b.bad ≡ a.bad + one_if is_bad
     → b.alone ≡ a.alone + one_if (have == 1)
     → b.miscounted ≡ a.miscounted + miscounted_of next.1
-    → OneMore firsts nows b p next.0 old mid new
-one_more firsts olds nows a b p next have old mid new now other some is_bad s h many none puts is
-    stepped kind items more_bad alone miscounted =
+    → OneMore firsts nows b p next.0 old mid new log logged
+one_more firsts olds nows a b p next have old mid new log row logged now other some is_bad s h many
+    none puts is noted stepped kind items more_bad alone miscounted =
     let (x, best, put) =
     was_put now mid new (subst (λ (b : Bool). Puts now b mid new) is puts) in
     let moved = put_moves x mid new put in
     let one =
     one_counted a b p next have now x is_bad best stepped kind items more_bad alone miscounted in
     record {
-      so_far = goes_on firsts olds nows a b p next.0 have old mid new now other x s h
-          (is_none other none) many best put one;
+      so_far = goes_on firsts olds nows a b p next.0 have old mid new log row logged now other x s
+          h (is_none other none) many best put noted one;
       moves = moved.0;
       within = moved.1;
       stands = moved.2;
@@ -261,13 +285,13 @@ one_more firsts olds nows a b p next have old mid new now other some is_bad s h 
 
 -- the item was refused
 pub refused_at : {R : Type 0} (firsts olds nows : List (Reading R)) (a : Merged) (p : Phase)
-    (old mid new : Writer)
-    (now other : Option TapeItem) (fault : ImageWriteFault) → SoFar firsts olds a p old mid
+    (old mid new : Writer) (log row : Option (List ℕ))
+    (now other : Option TapeItem) (fault : ImageWriteFault) → SoFar firsts olds a p old mid log row
     → AskedAll olds nows None now None other → mid.standing ≡ writing
     → RefusesCandidate now fault mid new
     → FitsFault firsts nows old new (faults.Write fault)
-refused_at firsts olds nows a p old mid new None other fault s h on refused = absurd refused
-refused_at firsts olds nows a p old mid new (Some x) other fault s h on refused = (
+refused_at firsts olds nows a p old mid new log row None other fault s h on refused = absurd refused
+refused_at firsts olds nows a p old mid new log row (Some x) other fault s h on refused = (
   mid,
   record {
     mids = olds;
@@ -285,11 +309,41 @@ refused_at firsts olds nows a p old mid new (Some x) other fault s h on refused 
 
 pub refused_now : {T R : Type 0} (result : Result T MergeFault)
     (firsts olds nows : List (Reading R)) (a : Merged) (p : Phase) (old mid new : Writer)
-    (now other : Option TapeItem)
-    (fault : ImageWriteFault) → result ≡ Err (faults.Write fault) → SoFar firsts olds a p old mid
+    (log row : Option (List ℕ)) (now other : Option TapeItem) (fault : ImageWriteFault)
+    → result ≡ Err (faults.Write fault) → SoFar firsts olds a p old mid log row
     → AskedAll olds nows None now None other → mid.standing ≡ writing
     → RefusesCandidate now fault mid new
     → IfErr result (FitsFault firsts nows old new)
-refused_now {T} {R} result firsts olds nows a p old mid new now other fault is s h on refused =
+refused_now {T} {R} result firsts olds nows a p old mid new log row now other fault is s h on
+    refused =
     let P : Result T MergeFault → Type 0 = λ r. IfErr r (FitsFault firsts nows old new) in
-    subst P (sym is) (refused_at firsts olds nows a p old mid new now other fault s h on refused)
+    subst P (sym is)
+    (refused_at firsts olds nows a p old mid new log row now other fault s h on refused)
+
+-- the item was written, and its row was refused
+pub row_refused : {T R : Type 0} (result : Result T MergeFault)
+    (firsts olds nows : List (Reading R)) (a : Merged) (p : Phase) (old mid new : Writer) (log row : Option (List ℕ))
+    (now other : Option TapeItem) (some : Bool) → result ≡ Err faults.Log
+    → SoFar firsts olds a p old mid log row → AskedAll olds nows None now None other
+    → is_some other ≡ false → Puts now some mid new → some ≡ true
+    → IfErr result (FitsFault firsts nows old new)
+row_refused {T} {R} result firsts olds nows a p old mid new log row now other some is s asked none
+    puts put_it =
+    let (x, best, put) =
+    was_put now mid new (subst (λ (b : Bool). Puts now b mid new) put_it puts) in
+    let h = round firsts olds nows a p old mid log row now other s asked (is_none other none) in
+    let shown : s.merged ++ best_items now ≡ s.merged ++ x ∷ [] =
+    ap (λ (t : Option TapeItem). s.merged ++ best_items t) best in
+    let P : Result T MergeFault → Type 0 = λ r. IfErr r (FitsFault firsts nows old new) in
+    subst P (sym is) (record {
+      mids = nows;
+      fronts = h.readings;
+      had = h.have;
+      merged = s.merged ++ x ∷ [];
+      is = record {
+        all = subst (λ (l : List TapeItem). AreReadFrom h.readings l) shown h.all;
+        least = λ tape reads. subst (λ (l : List TapeItem). IsReadFrom l tape) shown
+            (h.least tape tt reads);
+      };
+      wrote = put_one_more s.merged old mid new x s.wrote put;
+    })

@@ -16,13 +16,13 @@ use Rattle.tape_run.specs.MergeNow.{SomeEnds, EndsAs}
 
 -- ---- lines
 
-drop_none : {A : Type 0} (xs : List A) (n : ℕ) → length xs ≤ n → drop n xs ≡ []
+pub drop_none : {A : Type 0} (xs : List A) (n : ℕ) → length xs ≤ n → drop n xs ≡ []
 drop_none [] zero le = refl
 drop_none [] (suc n) le = refl
 drop_none (x ∷ xs) zero le = absurd (omega arith)
 drop_none (x ∷ xs) (suc n) le = drop_none xs n (omega arith)
 
-drop_one : {A : Type 0} (xs : List A) (n : ℕ) (x : A) → n < length xs → x ≡ get_or xs n x
+pub drop_one : {A : Type 0} (xs : List A) (n : ℕ) (x : A) → n < length xs → x ≡ get_or xs n x
     → drop n xs ≡ x ∷ drop (n + 1) xs
 drop_one {A} [] n x lt is = absurd (omega arith)
 drop_one {A} (y ∷ xs) zero x lt is = ap (λ (z : A). z ∷ xs) (sym is)

@@ -4,7 +4,6 @@ use Rattle.std.proofs.Common.{length, take, Some, None, refl, sym, ap, subst, �
 use Rattle.std.proofs.Common.{zero, suc, length-append, append-nil}
 use Rattle.std.specs.Prelude.{slice_get}
 use Rattle.std.proofs.lemmas.List.{take_at}
-use Rattle.std.proofs.lemmas.Option.{slice_get_past}
 use Rattle.tape_image.specs.declared.item.ImageFault.{ImageFault}
 use Rattle.tape_image.specs.Tape.{TapeItem}
 use Rattle.tape_image.specs.Reader.{Reader, going}
@@ -12,7 +11,7 @@ use Rattle.tape_image.specs.Step.{GivesItem, MeetsEnd, MeetsFault}
 use Rattle.tape_image.specs.Calls.{Gave}
 use Rattle.tape_run.specs.declared.merge.reading.Reading.{Reading}
 use Rattle.tape_run.specs.MergeSteps.{Stopped, CountsItem, CountsNothing, HasRead, HasTaken}
-use Rattle.tape_run.specs.MergeSteps.{TookLast, nothing, last, RisesBy, is_bad_one, is_good_one}
+use Rattle.tape_run.specs.MergeSteps.{TookLast, nothing, last, RisesBy, is_bad_one}
 use Rattle.tape_run.specs.MergeSteps.{one_if, bads}
 
 -- ---- the reader
@@ -95,28 +94,18 @@ has_stopped f o n r h off counts = record {
 
 -- ---- the items at a place
 
-get_front : (r : List TapeItem) (x : TapeItem) (j : ℕ) → j < length r
+pub get_front : (r : List TapeItem) (x : TapeItem) (j : ℕ) → j < length r
     → slice_get (r ++ x ∷ []) j ≡ slice_get r j
 get_front [] x j lt = absurd (omega arith)
 get_front (y ∷ r) x zero lt = refl
 get_front (y ∷ r) x (suc j) lt = get_front r x j (omega arith)
 
-get_last : (r : List TapeItem) (x : TapeItem) → slice_get (r ++ x ∷ []) (length r) ≡ Some x
-get_last [] x = refl
-get_last (y ∷ r) x = get_last r x
-
-pub good_at : (r : List TapeItem) (x : TapeItem) (j : ℕ) → j < length r
-    → one_if (is_good_one (slice_get (r ++ x ∷ []) j)) ≡ one_if (is_good_one (slice_get r j))
-good_at r x j lt = ap (λ t. one_if (is_good_one t)) (get_front r x j lt)
-
-pub good_last : (r : List TapeItem) (x : TapeItem) (k : ℕ) → length r ≡ k
-    → one_if (is_good_one (slice_get (r ++ x ∷ []) k)) ≡ one_if (is_good_one (Some x))
-good_last r x k e = ap (λ t. one_if (is_good_one t))
-    (ap (slice_get (r ++ x ∷ [])) (sym e) ∙ get_last r x)
-
-pub good_past : (r : List TapeItem) (k : ℕ) → length r ≤ k
-    → one_if (is_good_one (slice_get r k)) ≡ 0
-good_past r k le = ap (λ t. one_if (is_good_one t)) (slice_get_past r k le)
+pub get_last : (r : List TapeItem) (x : TapeItem) (k : ℕ) → length r ≡ k
+    → slice_get (r ++ x ∷ []) k ≡ Some x
+get_last [] x zero e = refl
+get_last [] x (suc k) e = absurd (omega (arith, e))
+get_last (y ∷ r) x zero e = absurd (omega (arith, e))
+get_last (y ∷ r) x (suc k) e = get_last r x k (omega (arith, e))
 
 pub take_past : (r : List TapeItem) (k : ℕ) → length r ≤ k → take k r ≡ r
 take_past [] zero le = refl

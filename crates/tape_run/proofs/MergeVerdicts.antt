@@ -7,7 +7,9 @@ use Rattle.tape_run.specs.declared.merge.reading.Reading.{Reading}
 use Rattle.tape_run.specs.declared.merge.reading.Verdict.{Verdict}
 use Rattle.tape_run.specs.declared.merge.reading.Verdict.TheVariants as verdicts
 use Rattle.tape_run.specs.MergeSteps.{agrees, joined, is_less, Takes, Compares, Asked, gives}
-use Rattle.tape_run.specs.MergeSteps.{stops, AskedAll, StopsAs, Judges, is_good_one, one_if}
+use Rattle.tape_run.specs.MergeSteps.{stops, AskedAll, StopsAs, Judges, is_good_one, is_bad_one}
+use Rattle.tape_run.specs.MergeSteps.{one_if}
+use Rattle.tape_run.specs.MergeLog.{seen_cell, verdict_cell, is_bad_verdict}
 use Rattle.tape_run.specs.MergeCalls.{has_first}
 use Rattle.tape_run.proofs.MergeNext.{disagrees_good}
 
@@ -155,29 +157,36 @@ second_alone verdicts.Third x best now y h = h.0.0
 second_alone verdicts.Ended x best now y h = absurd h
 second_alone (verdicts.Failed fault) x best now y h = absurd h
 
-good_is_one : (x : TapeItem) → x ≢ bad → one_if (is_good_one (Some x)) ≡ 1
-good_is_one (block b) nb = refl
-good_is_one bad nb = absurd (nb refl)
-good_is_one mark nb = refl
+-- what a reading has at a place, by how that compares
+pub record SeenAs (v : Verdict) (x : Option TapeItem) : Type 0 where
+  pub good : one_if (is_good_one x) ≡ has_first v
+  pub is_bad : is_bad_one x ≡ is_bad_verdict v
+  pub cell : seen_cell x ≡ verdict_cell v
 
--- the readings that have the best item are those that could read it
-pub counts_first : (v : Verdict) (x : TapeItem) (best now : Option TapeItem)
-    → Compares v x best now None None → one_if (is_good_one (Some x)) ≡ has_first v
-counts_first verdicts.First x best now h = good_is_one x h.0
-counts_first verdicts.Bad x best now h =
-    ap (λ (y : TapeItem). one_if (is_good_one (Some y))) h.0
-counts_first verdicts.Second x best now h = absurd (cc h.1.1)
-counts_first verdicts.Third x best now h = absurd (h.1.0 tt)
-counts_first verdicts.Ended x best now h = absurd h
-counts_first (verdicts.Failed fault) x best now h = absurd h
+seen_good : (x : TapeItem) → x ≢ bad → SeenAs verdicts.First (Some x)
+seen_good (block content) good = record { good = refl; is_bad = refl; cell = refl }
+seen_good bad good = absurd (good refl)
+seen_good mark good = record { good = refl; is_bad = refl; cell = refl }
 
-pub stops_none : (v : Verdict) (s : Status) → StopsAs v s → has_first v ≡ 0
-stops_none verdicts.First s h = absurd h
-stops_none verdicts.Bad s h = refl
-stops_none verdicts.Second s h = refl
-stops_none verdicts.Third s h = refl
-stops_none verdicts.Ended s h = refl
-stops_none (verdicts.Failed fault) s h = refl
+-- all agree: an item that is not bad is the best one
+pub seen_item : (v : Verdict) (x : TapeItem) (best now : Option TapeItem)
+    → Compares v x best now None None → SeenAs v (Some x)
+seen_item verdicts.First x best now h = seen_good x h.0
+seen_item verdicts.Bad x best now h =
+    subst (λ (y : TapeItem). SeenAs verdicts.Bad (Some y)) (sym h.0)
+    (record { good = refl; is_bad = refl; cell = refl })
+seen_item verdicts.Second x best now h = absurd (cc h.1.1)
+seen_item verdicts.Third x best now h = absurd (h.1.0 tt)
+seen_item verdicts.Ended x best now h = absurd h
+seen_item (verdicts.Failed fault) x best now h = absurd h
+
+pub seen_none : (v : Verdict) (s : Status) → StopsAs v s → SeenAs v None
+seen_none verdicts.First s h = absurd h
+seen_none verdicts.Bad s h = absurd h
+seen_none verdicts.Second s h = absurd h
+seen_none verdicts.Third s h = absurd h
+seen_none verdicts.Ended s h = record { good = refl; is_bad = refl; cell = refl }
+seen_none (verdicts.Failed fault) s h = record { good = refl; is_bad = refl; cell = refl }
 
 -- ---- after all were asked
 

@@ -105,10 +105,10 @@ copies_read set k (xs ∷ images) [] m c h = absurd c
 copies_read set k (xs ∷ images) (r ∷ rs) m c h =
     (copy_reads set k xs m r c.0 c.1 h.0, copies_read set k images rs m c.2 h.1)
 
--- ---- which items were read well
+-- ---- the items that could be read
 
--- which items of a volume were read well among the merged ones, up to the shorter end, and the
--- merged items after the volume
+-- for each item of a volume, whether the merged item in its place could be read, up to the end of
+-- the shorter list; and the merged items after the volume
 abbrev Marks : List TapeItem → List TapeItem → List Bool → List TapeItem → Type 0
 Marks [] m good more = (good ≡ []) × (more ≡ m)
 Marks (x ∷ xs) [] good more = (good ≡ []) × (more ≡ [])

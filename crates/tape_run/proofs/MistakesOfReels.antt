@@ -63,7 +63,7 @@ cut_word = record {
   stops = in_word (omega arith) (omega arith) refl;
 }
 
--- for these only an answer with a fault is possible
+-- for these bytes, only an answer with a fault is possible
 cut_is_told : (core new : State) (items : List TapeItem) (left : List ℕ) (answer : ReelAnswer)
     → answer.fault ≡ None
     → EndedByItem core items three left answer new

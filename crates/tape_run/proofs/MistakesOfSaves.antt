@@ -266,8 +266,8 @@ idle_broken : (p : Position) → IsIdle p Broken
 idle_broken Finished = tt
 idle_broken (Awaits sect b part) = tt
 
--- broken_reader_mended: a trailer label had another count, but after one more reel the session
--- continues
+-- broken_reader_mended: a trailer label gave a wrong count, but the session continues after one
+-- more reel
 broken_reader_mended : (S : _) (R : _) (LS : _) (LR : _) (g : _) (d : _) (h : _) (e : _) (κs : _)
     (a : _) (answer : _) (s : _) (held : List Portion) (bytes : List ℕ) (end : ℕ) (stop : Stop)
     (items : List TapeItem)

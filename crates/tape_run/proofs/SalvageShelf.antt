@@ -21,7 +21,7 @@ kept (Some xs) None c t h k = absurd h
 kept (Some xs) (Some ys) None t h k = absurd k
 kept (Some xs) (Some ys) (Some zs) t h k = k ∙ h
 
--- what a report has after text that might have been written
+-- the contents of a report after text that might have been written
 abbrev with_line : Option (List ℕ) → List ℕ → Option (List ℕ)
 with_line w line = option_map (λ xs. xs ++ line) w
 
@@ -102,7 +102,7 @@ file_placed contents size gives remaining task out shelf middle left cs ds old n
       (rest, grows says rest),
     )
 
--- all of a text was written, and then it was flushed in vain
+-- all of a text was written, but the flush failed
 pub wrote_all : (w one says : Option (List ℕ)) (line : List ℕ) → Appends w one line → Keeps one says
     → AppendsFront w says line
 wrote_all w one says line wrote keeps =

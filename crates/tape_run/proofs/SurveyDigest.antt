@@ -160,7 +160,7 @@ one_word d [] back u v dn un vn other same =
 one_word d (w ∷ front) back u v dn un vn other same =
     one_word (digest_by d w) front back u v (digest_below d w) un vn other same
 
--- ---- digests side by side, one of which differs
+-- ---- chains of which one differs
 
 after_words : (d : ℕ) (front back ws last : List ℕ) (u v : ℕ) → d < 2 ^ 64 → u < 2 ^ 64 → v < 2 ^ 64
     → u ≢ v → digest_over d (side_over (front ++ u ∷ back) ws ++ last)
@@ -178,7 +178,7 @@ after_words d (x ∷ front) back (w ∷ ws) last u v dn un vn other same =
     (ap (λ q. digest_over d (side_over q ws ++ last)) (sym (append_assoc front (u ∷ back) more))
     ∙ same ∙ ap (λ q. digest_over d (side_over q ws ++ last)) (append_assoc front (v ∷ back) more))
 
--- one of the words that they take
+-- one of the words that the chains take
 taken_word : (d x : ℕ) (xs front back last : List ℕ) (u v : ℕ) → d < 2 ^ 64 → u < 2 ^ 64
     → v < 2 ^ 64 → u ≢ v → digest_over d (side_over (x ∷ xs) (front ++ u ∷ back) ++ last)
     ≢ digest_over d (side_over (x ∷ xs) (front ++ v ∷ back) ++ last)

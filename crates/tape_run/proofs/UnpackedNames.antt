@@ -92,7 +92,7 @@ split_one : (a b : ℕ) (xs ys : List ℕ) → a < 256 → b < 256
 split_one a b xs ys la lb e =
     split_by a b xs ys la lb (is_plain a) (is_plain b) (a == 32) (b == 32) refl refl refl refl e
 
--- identifiers of equal length whose texts begin the same text are equal
+-- two identifiers of equal length are equal if a text begins with both of their texts
 record SplitAll (s t xs ys : List ℕ) : Type 0 where
   same : s ≡ t
   rest : xs ≡ ys

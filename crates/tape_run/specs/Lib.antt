@@ -94,6 +94,7 @@ pub mod MergeSteps
 pub mod MergeCalls
 pub mod MergedImages
 pub mod MergeLines
+pub mod MergeLog
 pub mod MergeNow
 -- Laws of those.
 pub mod MergeLaws

@@ -1,6 +1,7 @@
 -- What the calls of merging do.
 use Rattle.std.specs.Prelude.{[], ◌∷◌, ◌≡◌, ◌≢◌, ℕ, zero, suc, ◌+◌, ◌==◌, Bool, true, false, List}
-use Rattle.std.specs.Prelude.{length, map, take, slice_get, Option, Some, None, Err, ⊤}
+use Rattle.std.specs.Prelude.{length, map, take, Option, Some, None, Err, ⊤}
+use Rattle.std.specs.Io.KnownBytes.{Appends}
 use Rattle.tape_image.specs.Tape.{TapeItem, block, bad, mark, IsTapeItem}
 use Rattle.tape_image.specs.Reader.{going}
 use Rattle.tape_image.specs.declared.item.ImageWriteFault.{ImageWriteFault}
@@ -19,8 +20,9 @@ use Rattle.tape_run.specs.declared.section.SectionState.{SectionState}
 use Rattle.tape_run.specs.declared.passing.Phase.TheVariants.{Volume}
 use Rattle.tape_run.specs.Passing.{Told, told_from}
 use Rattle.tape_run.specs.Merging.{IsMerged, Differ}
-use Rattle.tape_run.specs.MergeSteps.{bads, one_if, is_good_one, HaveTaken, AllStopped, AreUpTo}
-use Rattle.tape_run.specs.MergeSteps.{AreJudged}
+use Rattle.tape_run.specs.MergeSteps.{bads, one_if, column, goods_in, HaveTaken, AllStopped}
+use Rattle.tape_run.specs.MergeSteps.{AreUpTo, AreJudged}
+use Rattle.tape_run.specs.MergeLog.{log_rows}
 
 -- the item of this kind and content
 abbrev pub candidate_of : Kind → List ℕ → Option TapeItem
@@ -33,8 +35,7 @@ candidate_of Block content = Some (block content)
 
 -- how many readings have the item after so many others, readable
 abbrev pub witnesses_at : ℕ → List (List TapeItem) → ℕ
-witnesses_at j [] = 0
-witnesses_at j (r ∷ rs) = one_if (is_good_one (slice_get r j)) + witnesses_at j rs
+witnesses_at j rs = goods_in (column j rs)
 
 -- how many of the first items only one reading has, readable
 abbrev pub alone_in : ℕ → List (List TapeItem) → ℕ
@@ -98,9 +99,9 @@ Puts None some old new = (some ≡ false) × (new ≡ old)
 Puts (Some x) some old new = (some ≡ true) × PutItem x old new
 
 -- The readings were read to their ends, and the items of the least tape of which they are readings
--- were written and counted.
+-- were written and counted. The log has their rows.
 pub record Merges {R : Type 0} (firsts nows : List (Reading R)) (m : Merged) (old new : Writer)
-    : Type 0 where
+    (log logged : Option (List ℕ)) : Type 0 where
   pub readings : List (List TapeItem)
   pub have : HaveTaken firsts nows readings
   pub ended : AllStopped nows
@@ -108,6 +109,7 @@ pub record Merges {R : Type 0} (firsts nows : List (Reading R)) (m : Merged) (ol
   pub is : IsMerged readings merged
   pub count : Counts readings merged m
   pub wrote : PutItems merged old new
+  pub rows : Appends log logged (log_rows 0 merged readings)
 
 -- There is no tape of which the items that were read are readings. Each reading was read up to the
 -- n-th item; its verdict says how its item compares with the others. The items before that one make
@@ -140,6 +142,7 @@ abbrev pub FitsFault : {R : Type 0} → List (Reading R) → List (Reading R) �
     → MergeFault → Type 0
 FitsFault firsts nows old new (faults.Differ n) = DiffersAt firsts nows n old new
 FitsFault firsts nows old new faults.OutOfMemory = HasWritten firsts old new
+FitsFault firsts nows old new faults.Log = HasWritten firsts old new
 FitsFault firsts nows old new (faults.Write fault) =
     (mid : Writer) × HasWritten firsts old mid × (mid.standing ≡ writing)
     × (x : TapeItem) × IsTapeItem x × Refuses x fault mid new

@@ -22,6 +22,7 @@ use Rattle.tape_run.specs.Merging.{IsMerged}
 use Rattle.tape_run.specs.MergeSteps.{AllStopped}
 use Rattle.tape_run.specs.MergeCalls.{Counts, AreAtFront}
 use Rattle.tape_run.specs.MergeLines.{reading_line, has_line, lines_from, merged_line, differ_line}
+use Rattle.tape_run.specs.MergeLog.{log_text}
 use Rattle.tape_run.specs.MergedImages.{TakeImages, DifferImages}
 
 -- ---- the images of a source
@@ -77,9 +78,10 @@ FitsEnd bad miscounted end Differs = ⊥
 
 -- The images were read to their ends. After what the output had before are the items of the least
 -- tape of which they are readings, each in the encoding that is written, and perhaps an
--- end-of-medium marker. The report has a line for each image, and one for the merged image.
+-- end-of-medium marker. The log has the rows of its items. The report has a line for each image,
+-- and one for the merged image.
 pub record HoldsMerged (R : Type 0) (images names : List (List ℕ))
-    (out stands : Option (List ℕ)) (says : List ℕ → Type 0) (end : MergeEnd) : Type 0 where
+    (out stands : Option (List ℕ)) (logs says : List ℕ → Type 0) (end : MergeEnd) : Type 0 where
   pub nows : List (Reading R)
   pub readings : List (List TapeItem)
   pub have : TakeImages images nows readings
@@ -92,6 +94,7 @@ pub record HoldsMerged (R : Type 0) (images names : List (List ℕ))
   pub ends_as : EndsAs counts.items nows ends
   pub holds : Appends out stands (flat_map written merged ++ end_bytes ends)
   pub fits : FitsEnd counts.bad counts.miscounted ends end
+  pub logged : logs (log_text names readings merged)
   pub lines : says (lines_from (reading_line names) 0 nows ++ merged_line counts ends)
 
 -- The images differ. The report has a line for each image, the number of the first item at which
@@ -106,26 +109,27 @@ pub record ReportsDiffering (R : Type 0) (images names : List (List ℕ))
 
 -- what came of images with these bytes
 abbrev pub ComesTo : Type 0 → List (List ℕ) → List (List ℕ) → Option (List ℕ)
-    → Option (List ℕ) → (List ℕ → Type 0) → MergeEnd → Type 0
-ComesTo R images names out stands says Whole = HoldsMerged R images names out stands says Whole
-ComesTo R images names out stands says Partial =
-    HoldsMerged R images names out stands says Partial
-ComesTo R images names out stands says Differs = ReportsDiffering R images names says
+    → Option (List ℕ) → (List ℕ → Type 0) → (List ℕ → Type 0) → MergeEnd → Type 0
+ComesTo R images names out stands logs says Whole =
+    HoldsMerged R images names out stands logs says Whole
+ComesTo R images names out stands logs says Partial =
+    HoldsMerged R images names out stands logs says Partial
+ComesTo R images names out stands logs says Differs = ReportsDiffering R images names says
 
 -- what comes of readings, if they are at the beginning of images with known bytes
 abbrev pub ReadingsComeTo : {R : Type 0} → List (Reading R) → List (List ℕ) → Option (List ℕ)
-    → Option (List ℕ) → (List ℕ → Type 0) → MergeEnd → Type 0
-ReadingsComeTo {R} firsts names out stands says end = (images : List (List ℕ))
-    → AreAtFront (map Some images) firsts → ComesTo R images names out stands says end
+    → Option (List ℕ) → (List ℕ → Type 0) → (List ℕ → Type 0) → MergeEnd → Type 0
+ReadingsComeTo {R} firsts names out stands logs says end = (images : List (List ℕ))
+    → AreAtFront (map Some images) firsts → ComesTo R images names out stands logs says end
 
 -- All images of the shelf were mounted, and merged if their bytes are known.
 pub record MergesNow {L R : Type 0} (size : L → ℕ) (gives : Mounting L R)
     (remaining : R → Option (List ℕ)) (shelf left : L) (names : List (List ℕ))
-    (out stands : Option (List ℕ)) (says : List ℕ → Type 0) (end : MergeEnd) : Type 0 where
+    (out stands : Option (List ℕ)) (logs says : List ℕ → Type 0) (end : MergeEnd) : Type 0 where
   pub devices : List R
   pub mounts : MountsAll size gives shelf left devices
   pub comes : (images : List (List ℕ)) → map remaining devices ≡ map Some images
-      → ComesTo R images names out stands says end
+      → ComesTo R images names out stands logs says end
 
 -- an image that could not be opened is missing
 abbrev pub Misses : (ℕ → Type 0) → MergeStop → Type 0
@@ -133,6 +137,7 @@ Misses missing (stops.NotOpened number) = missing number
 Misses missing (stops.TooLong size) = ⊤
 Misses missing stops.OutOfMemory = ⊤
 Misses missing stops.WriteFailed = ⊤
+Misses missing stops.LogFailed = ⊤
 
 -- The output's place after a fault: it was not touched, or, if a write failed, what is there did
 -- not change, or the merged image is there. An image that could not be opened is missing.
@@ -141,4 +146,5 @@ abbrev pub LeavesPlace : {O : Type 0} → (O → Option (List ℕ)) → O → O 
 LeavesPlace stands old new missing made (stops.NotOpened number) = (new ≡ old) × missing number
 LeavesPlace stands old new missing made (stops.TooLong size) = new ≡ old
 LeavesPlace stands old new missing made stops.OutOfMemory = new ≡ old
+LeavesPlace stands old new missing made stops.LogFailed = new ≡ old
 LeavesPlace stands old new missing made stops.WriteFailed = (stands new ≡ stands old) ⊎ made

@@ -1,7 +1,7 @@
 -- One item of the merged tape, as readings are asked for it one after another, and what readings
 -- have taken.
 use Rattle.std.specs.Prelude.{◌≡◌, ◌≢◌, ◌⊎◌, ℕ, ◌+◌, ◌≤◌, Bool, true, false, List, [], ◌∷◌}
-use Rattle.std.specs.Prelude.{◌++◌, length, Option, Some, None, ⊤}
+use Rattle.std.specs.Prelude.{◌++◌, length, map, slice_get, Option, Some, None, ⊤}
 use Rattle.tape_image.specs.declared.item.Ending.{Ending}
 use Rattle.tape_image.specs.Tape.{TapeItem, block, bad, mark}
 use Rattle.tape_image.specs.declared.item.ImageFault.{ImageFault}
@@ -74,6 +74,15 @@ is_good_one (Some mark) = true
 abbrev pub one_if : Bool → ℕ
 one_if true = 1
 one_if false = 0
+
+-- what each reading has after so many items, if it has as many
+abbrev pub column : ℕ → List (List TapeItem) → List (Option TapeItem)
+column j rs = map (λ r. slice_get r j) rs
+
+-- how many of these could be read
+abbrev pub goods_in : List (Option TapeItem) → ℕ
+goods_in [] = 0
+goods_in (x ∷ xs) = one_if (is_good_one x) + goods_in xs
 
 -- how many items are bad
 abbrev pub bads : List TapeItem → ℕ

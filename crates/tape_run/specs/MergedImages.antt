@@ -1,6 +1,7 @@
 -- Merging, in terms of the bytes of images.
 use Rattle.std.specs.Prelude.{◌≡◌, ◌≢◌, ℕ, ◌+◌, List, [], ◌∷◌, ◌++◌, length, map, take, Option}
 use Rattle.std.specs.Prelude.{Some, ⊤}
+use Rattle.std.specs.Io.KnownBytes.{Appends}
 use Rattle.tape_image.specs.declared.item.ImageWriteFault.TheVariants.{BlockLength, Finished}
 use Rattle.tape_image.specs.Tape.{TapeItem}
 use Rattle.tape_image.specs.Begins.{Stop, Begins, Walks}
@@ -12,6 +13,7 @@ use Rattle.tape_run.specs.declared.merge.reading.Reading.{Reading}
 use Rattle.tape_run.specs.Merging.{IsMerged, Differ}
 use Rattle.tape_run.specs.MergeSteps.{bads, block_length, AllStopped, AreUpTo, AreJudged}
 use Rattle.tape_run.specs.MergeLaws.{TakesAs}
+use Rattle.tape_run.specs.MergeLog.{log_rows}
 use Rattle.tape_run.specs.MergeCalls.{Counts}
 
 -- The fields record where the last item of the image begins, and its length.
@@ -50,9 +52,9 @@ AllBegin (bytes ∷ images) (r ∷ readings) =
 AllBegin _ _ = ⊥
 
 -- The images were read to their ends, and merged: the items of the least tape of which they are
--- readings were written and counted.
+-- readings were written and counted. The log has their rows.
 pub record MergesImages {R : Type 0} (images : List (List ℕ)) (nows : List (Reading R))
-    (m : Merged) (old new : Writer) : Type 0 where
+    (m : Merged) (old new : Writer) (log logged : Option (List ℕ)) : Type 0 where
   pub readings : List (List TapeItem)
   pub have : TakeImages images nows readings
   pub ended : AllStopped nows
@@ -60,6 +62,7 @@ pub record MergesImages {R : Type 0} (images : List (List ℕ)) (nows : List (Re
   pub is : IsMerged readings merged
   pub count : Counts readings merged m
   pub wrote : PutItems merged old new
+  pub rows : Appends log logged (log_rows 0 merged readings)
 
 -- There is no tape of which the images are readings. They were read up to the n-th item, at which
 -- they differ; each reading says how its item compares with the others. The items before that one
@@ -82,4 +85,5 @@ pub record DifferImages {R : Type 0} (images : List (List ℕ)) (nows : List (Re
 abbrev pub FaultsImages : {R : Type 0} → List (List ℕ) → List (Reading R) → MergeFault → Type 0
 FaultsImages images nows (faults.Differ n) = DifferImages images nows n
 FaultsImages images nows faults.OutOfMemory = ⊤
+FaultsImages images nows faults.Log = ⊤
 FaultsImages images nows (faults.Write fault) = (fault ≢ BlockLength) × (fault ≢ Finished)

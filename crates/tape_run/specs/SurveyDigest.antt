@@ -16,7 +16,7 @@ abbrev pub digest_over : ℕ → List ℕ → ℕ
 digest_over d [] = d
 digest_over d (w ∷ ws) = digest_over (digest_by d w) ws
 
--- Digests side by side, after one more word: the first one takes it, and goes last.
+-- Chains after one more word: the first chain takes the word, and becomes the last.
 abbrev pub side_by : List ℕ → ℕ → List ℕ
 side_by [] word = []
 side_by (d ∷ ds) word = ds ++ digest_by d word ∷ []
@@ -35,8 +35,8 @@ unfoldable pub words_of : List ℕ → List ℕ
 words_of block = map (from_le_bytes w64) (first_chunks 8 (length block / 8) block)
     ++ drop (length block / 8 * 8) block
 
--- The digests of a block: its words go to four chains in turn, each of which begins with 0; after
--- them comes the length of the block.
+-- The digests of a block: its words go to four chains in turn, each of which begins with 0. The
+-- length of the block follows.
 abbrev pub block_digests : List ℕ → List ℕ
 block_digests block = side_over (0 ∷ 0 ∷ 0 ∷ 0 ∷ []) (words_of block) ++ length block ∷ []
 
@@ -53,9 +53,9 @@ digest_all d (b ∷ bs) = digest_all (digest_with d b) bs
 abbrev pub digest_of : List (List ℕ) → ℕ
 digest_of blocks = digest_all 0 blocks
 
--- Blocks that differ in one word have different digests: two blocks of one length, of which a word
--- is u in one and v in the other, with the same words before and after it, and the same blocks
--- before and after them.
+-- Blocks that differ in one word have different digests. One word is u in one block and v in
+-- another of the same length; the words before and after it, and the blocks before and after these
+-- two, are the same.
 abbrev pub TellsWordsApart : Type 0
 TellsWordsApart = (before after : List (List ℕ)) (b c front back : List ℕ) (u v : ℕ)
     → u < 2 ^ 64 → v < 2 ^ 64 → u ≢ v → length b ≡ length c

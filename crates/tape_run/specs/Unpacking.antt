@@ -17,8 +17,8 @@ use Rattle.tape_run.specs.SurveyFiles.{note_at, file_key}
 use Rattle.tape_run.specs.SurveyLine.{trimmed_len}
 use Rattle.tape_run.specs.SurveyRead.{Found, nothing_found, AreViewed}
 
--- what the header labels of a file and its good copies say, given what is known of the file: they are
--- those of different files if the labels differ, or good copies of a section do
+-- what the header labels of a file and its good copies say, given what is known of the file: they
+-- are those of different files if the labels differ, or good copies of a section do
 abbrev pub heading_of : FileNote → Bool → Heading
 heading_of note disputed =
     if note.differs || disputed then Differs else Named note.head.file_id

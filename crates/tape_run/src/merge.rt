@@ -8,14 +8,17 @@ ghost use Rattle.tape_run.specs.declared.merge.MergeFault.TheVariants as faults;
 
 pub(crate) mod candidate;
 mod line;
+mod log;
 pub(crate) mod now;
 pub(crate) mod open;
 pub(crate) mod reading;
 
+use crate::fault::WriteFailed;
 use crate::met::Told;
 use crate::passing::Phase;
 use crate::section::SectionState;
 use candidate::Candidate;
+use log::log_item;
 use reading::{Reading, ask};
 use std::alloc::AllocError;
 use std::io::{Read, Write};
@@ -73,6 +76,8 @@ pub enum MergeFault {
     OutOfMemory,
     /// The merged image could not be written.
     Write(ImageWriteFault),
+    /// The log could not be written.
+    Log,
 }
 
 impl From<AllocError> for MergeFault {
@@ -88,6 +93,14 @@ impl From<ImageWriteFault> for MergeFault {
 
     fn from(fault: ImageWriteFault) -> MergeFault {
         MergeFault::Write(fault)
+    }
+}
+
+impl From<WriteFailed> for MergeFault {
+    ghost from_gives = { λ _ e. e ≡ faults.Log };
+
+    fn from(_fault: WriteFailed) -> MergeFault {
+        MergeFault::Log
     }
 }
 
@@ -112,7 +125,8 @@ fn ask_all<R: Read>(
     Ok(witnesses)
 }
 
-/// Reads the readings side by side, item by item, and writes the tape that they make together.
+/// Reads the readings side by side, item by item, and writes the tape that they make together. The
+/// log gets a row for each item that fewer than two readings have, or one has as bad.
 ///
 /// `best` and `other` hold the item under way: the best one that was read, and one that differs
 /// from it. At a difference every reading was asked for its item, and its `verdict` says how the
@@ -122,16 +136,18 @@ fn ask_all<R: Read>(
 ///
 /// `Differ` at the first item at which two readings have different items, both readable.
 /// `OutOfMemory` if a block cannot be copied. `Write` with `Device`, or with `TooLong` if the
-/// merged image would be longer than an image may be. What was written before stays written.
-pub fn merge_items<R: Read, W: Write + Drop>(
+/// merged image would be longer than an image may be. `Log` if the log fails. What was written
+/// before stays written.
+pub fn merge_items<R: Read, W: Write + Drop, G: Write>(
     readings: &mut [Reading<'_, R>],
     best: &mut Candidate,
     other: &mut Candidate,
     out: &mut ImageWriter<W>,
+    log: &mut G,
 ) -> Result<Merged, MergeFault>
     requires writing { out.old.standing ≡ writing }
     ensures ok { IfOk result (λ merged. Merges readings.old readings.new merged
-        out.old out.new) }
+        out.old out.new (G.contents log.old) (G.contents log.new)) }
     ensures fault { IfErr result (FitsFault readings.old readings.new out.old out.new) }
 {
     let mut merged = Merged {
@@ -151,6 +167,7 @@ pub fn merge_items<R: Read, W: Write + Drop>(
         if !best.put(out)? {
             return Ok(merged);
         }
+        log_item(merged.items + 1, best, witnesses, readings, log)?;
         let (next, told) = best.step(phase);
         phase = next;
         merged.count(best.is_bad(), witnesses, told);

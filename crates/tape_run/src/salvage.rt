@@ -75,8 +75,8 @@ pub fn salvage_to<W: Write + Drop, R: Read + Drop, L: ImageSource<R>, O: Place<W
     ensures ok { IfOk result (λ complete. Salvages W.contents L.size L.gives R.remaining task.now
         out images.old images.new (O.stands place.new) (P.contents report.old)
         (P.contents report.new) complete) }
-    // An error leaves what has the name, or all is written and has it: only the rest of the report
-    // could not be written.
+    // After an error the file with the name is unchanged, or everything is written and has the
+    // name, and only the rest of the report could not be written.
     ensures err { OnErr result ((O.stands place.new ≡ O.stands place.old)
         ⊎ ((complete : Bool) × (says : Option (List ℕ)) × Salvages W.contents L.size L.gives
         R.remaining task.now out images.old images.new (O.stands place.new) (P.contents report.old)

@@ -20,7 +20,7 @@ use tape_set::{Position, Want};
 pub enum Reel<'a> {
     /// The worked volume.
     Worked,
-    /// This many of its first bytes.
+    /// The given number of its first bytes.
     Cut(usize),
     /// The worked file in five blocks, one of which is bad (5 means none), with a given trailer.
     Five(u8, &'a str),

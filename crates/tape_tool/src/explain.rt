@@ -6,7 +6,7 @@ use crate::fault::{ToolFault, number_of_file, number_of_write};
 use crate::shown::Shown;
 use files::{
     FILE_OF_FOLDER, FILE_OF_IMAGE, FILE_OF_IMAGES, FILE_OF_INPUT, FILE_OF_LINES, FILE_OF_LIST,
-    FILE_OF_NEW, FILE_OF_OUT, FILE_OF_STAGE, FILE_OF_VOLUME,
+    FILE_OF_LOG, FILE_OF_NEW, FILE_OF_OUT, FILE_OF_STAGE, FILE_OF_VOLUME,
 };
 pub use reason::reason_of;
 use std::{fmt, io};
@@ -39,6 +39,8 @@ pub enum FaultSite<'a> {
     Out(&'a str),
     /// Where the merged image goes.
     New(&'a str),
+    /// Where the log of a merge goes.
+    Log(&'a str),
     /// Where recovered data is saved.
     Stage(&'a str),
     /// The directory that files are unpacked into.
@@ -74,6 +76,7 @@ impl<'a> FaultSite<'a> {
             FaultSite::Input(word) => ("Input", word),
             FaultSite::List(path) => ("List", path.unwrap_or("standard input")),
             FaultSite::Out(path) | FaultSite::New(path) => ("OUT", path),
+            FaultSite::Log(path) => ("LOG", path),
             FaultSite::Stage(path) => ("Stage", path),
             FaultSite::Folder(path) | FaultSite::Images(path) => ("DIR", path),
         }
@@ -159,6 +162,7 @@ fn files_at(site: FaultSite<'_>) -> &'static [&'static str] {
         FaultSite::List(_) => FILE_OF_LIST,
         FaultSite::Out(_) => FILE_OF_OUT,
         FaultSite::New(_) => FILE_OF_NEW,
+        FaultSite::Log(_) => FILE_OF_LOG,
         FaultSite::Stage(_) => FILE_OF_STAGE,
         FaultSite::Folder(_) => FILE_OF_FOLDER,
         FaultSite::Lines => FILE_OF_LINES,
@@ -312,6 +316,7 @@ pub const TEXTS: &[&[&str]] = &[
     FILE_OF_LIST,
     FILE_OF_OUT,
     FILE_OF_NEW,
+    FILE_OF_LOG,
     FILE_OF_STAGE,
     FILE_OF_FOLDER,
     RUN,

@@ -6,7 +6,7 @@ mod out_file;
 mod run;
 pub mod words;
 
-pub use draft::{Draft, DraftFile};
+pub use draft::{Draft, DraftFile, OutName};
 pub use out::{Way, way_to_out};
 pub use out_file::OutFile;
 pub use run::{HELD, draft_of, extract, extract_file, extract_whole};

@@ -95,7 +95,7 @@ left_over_not_told : (κs : _) (z : _) (s : _) → left_over_line.Learnt κs (fa
 left_over_not_told κs z s h w =
     absurd (let e : 0 ≡ 18 = ap length (sym w ∙ h) in omega arith)
 
--- of no image nothing was found
+-- without images nothing was found
 none_found : {L R : Type 0} (gives : Mounting L R) (remaining : R → Option (List ℕ))
     (shelf left : L) (sights : List (Option ImageSurvey)) (d : Found) → length sights ≡ 0
     → AreViewed gives remaining shelf 0 sights nothing_found left d → d ≡ nothing_found

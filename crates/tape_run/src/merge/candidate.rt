@@ -5,9 +5,11 @@ ghost use Rattle.std.specs.Prelude.{IfSome};
 ghost use Rattle.tape_image.specs.Reader.{tape_item};
 ghost use Rattle.tape_run.specs.MergeSteps.{agrees, Takes, is_less, is_bad_one};
 ghost use Rattle.tape_run.specs.MergeCalls.{Puts, RefusesCandidate};
+ghost use Rattle.tape_run.specs.MergeLog.{kind_at};
 ghost use Rattle.tape_run.specs.Passing.{blocks_of, step};
 ghost use Rattle.tape_set.specs.Lawful.{most_blocks};
 
+use super::line::ItemKind;
 use crate::met::Told;
 use crate::passing;
 use crate::passing::Phase;
@@ -90,6 +92,19 @@ impl Candidate {
         ensures { result ≡ is_bad_one self.now }
     {
         matches!(self.kind, Kind::Bad)
+    }
+
+    /// What the item is, if there is one.
+    pub(crate) fn kind(&self) -> Option<ItemKind>
+        ensures none { self.now ≡ None → result ≡ None }
+        ensures some { IfSome self.now (λ x. result ≡ Some (kind_at x)) }
+    {
+        match self.kind {
+            Kind::Nothing => None,
+            Kind::Bad => Some(ItemKind::Bad),
+            Kind::Mark => Some(ItemKind::Mark),
+            Kind::Block => Some(ItemKind::Block(self.content.len() as u64)),
+        }
     }
 
     /// What is expected after the item on a labelled volume, and the section that it completes.

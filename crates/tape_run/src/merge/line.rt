@@ -169,7 +169,7 @@ pub(crate) fn has_text(number: usize, has: &HasLine) -> Text
 }
 
 /// An item, as `list` prints it without labels.
-fn put_kind(line: &mut Text, kind: ItemKind)
+pub(crate) fn put_kind(line: &mut Text, kind: ItemKind)
     requires room { array_vec_len line.old ≤ 100 }
     ensures items { line.new.items ≡ line.old.items ++ kind_text kind }
     ensures len { array_vec_len line.new ≤ 200 }

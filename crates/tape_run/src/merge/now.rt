@@ -2,7 +2,7 @@
 //! name.
 
 ghost use Rattle.std.specs.Prelude.{◌≡◌, map, IfOk, OnOk, IfErr};
-ghost use Rattle.std.specs.Io.KnownBytes.{Appends};
+ghost use Rattle.std.specs.Io.KnownBytes.{Appends, Keeps};
 ghost use Rattle.tape_image.specs.Written.{AppendsFront};
 ghost use Rattle.tape_run.specs.MergeLines.{lines_from, reading_line, has_line};
 ghost use Rattle.tape_run.specs.MergeNow.{MountsAll, IsMissing, Misses, MergesNow, LeavesPlace};
@@ -15,6 +15,7 @@ use super::line::{
     MergedEnd, differ_line, has_of, has_text, line_of, merged_line, name_at, reading_text,
     with_name,
 };
+use super::log::log_head;
 use super::open::{merge_to, open_all};
 use super::reading::Reading;
 use super::{MergeFault, Merged};
@@ -22,7 +23,7 @@ use crate::check::pass_on;
 use crate::extract::Place;
 use crate::extract::images::ImageSource;
 use crate::fault::WriteFailed;
-use crate::text::flush;
+use crate::text::{flush, write_text};
 use std::alloc::{AllocError, Global};
 use std::io::{Read, Write};
 use tape_image::{Ending, ImageWriteFault, ImageWriter};
@@ -48,6 +49,8 @@ pub enum MergeStop {
     OutOfMemory,
     /// The merged image or the report could not be written.
     WriteFailed,
+    /// The log could not be written.
+    LogFailed,
 }
 
 impl From<AllocError> for MergeStop {
@@ -77,38 +80,57 @@ fn write_stop(fault: ImageWriteFault, size: u64) -> MergeStop
 }
 
 /// Reads the images of a shelf side by side, all of them opened first, and writes to `out` the tape
-/// that they make together. Then `place` puts `out` in its place, and the report ends with its
-/// line. If the images differ, the place is not touched, and the report says what each image has
-/// at that item.
+/// that they make together, and to `log` a row for each item that fewer than two of them have, or
+/// one has as bad. Then the log is flushed, `place` puts `out` in its place, and the report ends
+/// with its line. If the images differ, the log is not flushed, the place is not touched, and the
+/// report says what each image has at that item.
 ///
 /// It allocates 100,000 bytes for each image, what mounting takes, and 200,000.
 ///
 /// # Errors
 ///
 /// `NotOpened` before anything is read; `OutOfMemory`; `WriteFailed` if `out`, its place or the
-/// report failed; `TooLong`. The place was not touched, unless placing `out` failed, which changes
-/// nothing there, or the last line could not be written.
-pub fn merge_now<R: Read + Drop, L: ImageSource<R>, W: Write + Drop, O: Place<W>, P: Write>(
+/// report failed; `LogFailed`; `TooLong`. The place was not touched, unless placing `out` failed,
+/// which changes nothing there, or the last line could not be written.
+pub fn merge_now<
+    R: Read + Drop,
+    L: ImageSource<R>,
+    W: Write + Drop,
+    O: Place<W>,
+    G: Write,
+    P: Write,
+>(
     alloc: Global,
     images: &mut L,
     names: &[&str],
     out: W,
     place: &mut O,
+    log: &mut G,
     report: &mut P,
 ) -> Result<MergeEnd, MergeStop>
     ensures ok { IfOk result (MergesNow L.size L.gives R.remaining images.old images.new
         (map (λ n. n.now) names.now) (W.contents out) (O.stands place.new)
+        (Appends (G.contents log.old) (G.contents log.new))
         (Appends (P.contents report.old) (P.contents report.new))) }
     ensures untouched { IfOk result (λ end. end ≡ Differs → place.new ≡ place.old) }
     ensures err { IfErr result (LeavesPlace O.stands place.old place.new
         (IsMissing L.gives images.old images.new) ((end : MergeEnd)
         × MergesNow L.size L.gives R.remaining images.old images.new
         (map (λ n. n.now) names.now) (W.contents out) (O.stands place.new)
+        (Appends (G.contents log.old) (G.contents log.new))
         (AppendsFront (P.contents report.old) (P.contents report.new)) end)) }
 {
     let mut devices = mount_all(alloc, images)?;
     let mut readings = open_all(alloc, devices.as_mut_slice())?;
-    merge_readings(alloc, readings.as_mut_slice(), names, out, place, report)
+    merge_readings(
+        alloc,
+        readings.as_mut_slice(),
+        names,
+        out,
+        place,
+        log,
+        report,
+    )
 }
 
 /// Mounts all images.
@@ -133,29 +155,33 @@ fn mount_all<R: Read + Drop, L: ImageSource<R>>(
 }
 
 /// Merges readings that were opened.
-fn merge_readings<R: Read, W: Write + Drop, O: Place<W>, P: Write>(
+fn merge_readings<R: Read, W: Write + Drop, O: Place<W>, G: Write, P: Write>(
     alloc: Global,
     readings: &mut [Reading<'_, R>],
     names: &[&str],
     out: W,
     place: &mut O,
+    log: &mut G,
     report: &mut P,
 ) -> Result<MergeEnd, MergeStop>
     ensures ok { IfOk result (ReadingsComeTo readings.old (map (λ n. n.now) names.now)
-        (W.contents out) (O.stands place.new)
+        (W.contents out) (O.stands place.new) (Appends (G.contents log.old) (G.contents log.new))
         (Appends (P.contents report.old) (P.contents report.new))) }
     ensures untouched { IfOk result (λ end. end ≡ Differs → place.new ≡ place.old) }
     ensures err { IfErr result (LeavesPlace O.stands place.old place.new (λ _. ⊥) ((end : MergeEnd)
         × ReadingsComeTo readings.old (map (λ n. n.now) names.now) (W.contents out)
-        (O.stands place.new) (AppendsFront (P.contents report.old) (P.contents report.new))
-        end)) }
+        (O.stands place.new) (Appends (G.contents log.old) (G.contents log.new))
+        (AppendsFront (P.contents report.old) (P.contents report.new)) end)) }
 {
     let mut image = ImageWriter::new(out);
-    match merge_to(alloc, readings, &mut image) {
+    let head = log_head(alloc, names)?;
+    write_log(log, head.as_slice())?;
+    match merge_to(alloc, readings, &mut image, log) {
         Ok(merged) => {
             let end = end_of(readings, merged.items);
             report_readings(alloc, readings, names, report)?;
             let written = end_image(image, end)?;
+            flush_log(log)?;
             place.place(written)?;
             pass_on(report, &merged_line(&merged, end))?;
             Ok(whole_or_partial(&merged, end))
@@ -168,6 +194,29 @@ fn merge_readings<R: Read, W: Write + Drop, O: Place<W>, P: Write>(
         }
         Err(MergeFault::OutOfMemory) => Err(MergeStop::OutOfMemory),
         Err(MergeFault::Write(fault)) => Err(write_stop(fault, image.size())),
+        Err(MergeFault::Log) => Err(MergeStop::LogFailed),
+    }
+}
+
+/// Writes a text to the log.
+fn write_log<G: Write>(log: &mut G, text: &[u8]) -> Result<(), MergeStop>
+    ensures ok { OnOk result (Appends (G.contents log.old) (G.contents log.new) text.now) }
+    ensures err { IfErr result (Misses (λ _. ⊥)) }
+{
+    match write_text(log, text) {
+        Ok(()) => Ok(()),
+        Err(WriteFailed) => Err(MergeStop::LogFailed),
+    }
+}
+
+/// Flushes the log.
+fn flush_log<G: Write>(log: &mut G) -> Result<(), MergeStop>
+    ensures kept { Keeps (G.contents log.old) (G.contents log.new) }
+    ensures err { IfErr result (Misses (λ _. ⊥)) }
+{
+    match flush(log) {
+        Ok(()) => Ok(()),
+        Err(WriteFailed) => Err(MergeStop::LogFailed),
     }
 }
 

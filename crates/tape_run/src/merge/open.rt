@@ -34,7 +34,8 @@ pub fn open_all<'r, R: Read>(
 }
 
 /// Merges readings of images, which are read side by side, and writes the tape that they make
-/// together. Afterwards the fields of each reading say what was taken of it, and how it stopped.
+/// together, and the rows of the log. Afterwards the fields of each reading say what was taken of
+/// it, and how it stopped.
 ///
 /// It allocates 200,000 bytes.
 ///
@@ -42,20 +43,22 @@ pub fn open_all<'r, R: Read>(
 ///
 /// Those of `merge_items`; `OutOfMemory` also if memory for a block is refused, before anything is
 /// read.
-pub fn merge_to<R: Read, W: Write + Drop>(
+pub fn merge_to<R: Read, W: Write + Drop, G: Write>(
     alloc: Global,
     readings: &mut [Reading<'_, R>],
     out: &mut ImageWriter<W>,
+    log: &mut G,
 ) -> Result<Merged, MergeFault>
     requires { out.old.standing ≡ writing }
     ensures ok { IfOk result (λ merged. (images : List (List ℕ))
         → AreAtFront (map Some images) readings.old
-        → MergesImages images readings.new merged out.old out.new) }
+        → MergesImages images readings.new merged out.old out.new
+        (G.contents log.old) (G.contents log.new)) }
     ensures fault { IfErr result (λ fault. (images : List (List ℕ))
         → AreAtFront (map Some images) readings.old
         → FaultsImages images readings.new fault) }
 {
     let mut best = Candidate::new(alloc)?;
     let mut other = Candidate::new(alloc)?;
-    merge_items(readings, &mut best, &mut other, out)
+    merge_items(readings, &mut best, &mut other, out, log)
 }

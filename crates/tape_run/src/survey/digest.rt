@@ -21,8 +21,8 @@ fn digest_by(digest: u64, word: u64) -> u64
     sum.wrapping_mul(MULTIPLIER)
 }
 
-/// Four digests side by side: the words of a block go to them in turn, so that the next word need
-/// not wait for the product of the last one.
+/// Four chains of digests: the words of a block go to them in turn, so that a word need not wait
+/// for the product of the word before it.
 #[derive(Clone, Copy)]
 struct Chains {
     a: u64,
@@ -31,7 +31,7 @@ struct Chains {
     d: u64,
 }
 
-/// The chains after one more word: the first one takes it, and goes last.
+/// Returns the chains after one more word: the first chain takes the word, and becomes the last.
 fn next_chains(chains: Chains, word: u64) -> Chains
     ensures { in_turn result ≡ side_by (in_turn chains) word }
 {
@@ -43,7 +43,7 @@ fn next_chains(chains: Chains, word: u64) -> Chains
     }
 }
 
-/// The chains after words of eight bytes.
+/// Returns the chains after words of eight bytes.
 fn chains_of_words(chains: Chains, words: &[[u8; 8]]) -> Chains
     ensures { in_turn result ≡ side_over (in_turn chains) (map (from_le_bytes w64) words.now) }
 {
@@ -54,7 +54,7 @@ fn chains_of_words(chains: Chains, words: &[[u8; 8]]) -> Chains
     all
 }
 
-/// The chains after single bytes.
+/// Returns the chains after single bytes.
 fn chains_of_bytes(chains: Chains, bytes: &[u8]) -> Chains
     ensures { in_turn result ≡ side_over (in_turn chains) bytes.now }
 {
@@ -65,7 +65,7 @@ fn chains_of_bytes(chains: Chains, bytes: &[u8]) -> Chains
     all
 }
 
-/// The chains of a block: of its words of eight bytes, and of the bytes that are left.
+/// Returns the chains of a block: of its words of eight bytes, and of the bytes after them.
 fn chains_of(block: &[u8]) -> Chains
     ensures { in_turn result ≡ side_over (0 ∷ 0 ∷ 0 ∷ 0 ∷ []) (words_of block.now) }
 {

@@ -104,6 +104,19 @@ pub const FILE_OF_NEW: &[&str] = &[
 ",
 ];
 
+pub const FILE_OF_LOG: &[&str] = &[
+    "  The log already exists. It was not changed, and no image was created.
+  Choose a new name.
+",
+    "  The log could not be created. Nothing was read.
+  Does its directory exist, and may you write there?
+",
+    NEVER,
+    "  The log could not be written: the disk is full or failing. Neither it nor the
+  merged image was created. Free some space, or choose another disk for it.
+",
+];
+
 pub const FILE_OF_STAGE: &[&str] = &[
     NEVER,
     "  The stage could not be opened or created. No image was read. Check its name,

@@ -22,7 +22,10 @@ pub fn reason_of<R: Runtime>(rt: &R, fault: ToolFault, site: FaultSite<'_>) -> O
             rt, path,
         ),
         FaultSite::Input(word) => unread(rt, split(word).1),
-        FaultSite::Out(path) | FaultSite::New(path) => not_there(rt, folder_of(path)),
+        FaultSite::Out(path) | FaultSite::New(path) | FaultSite::Log(path) => not_there(
+            rt,
+            folder_of(path),
+        ),
         FaultSite::Folder(path) | FaultSite::Images(path) | FaultSite::Volume(path, _, _) =>
             not_there(rt, path),
         FaultSite::Unknown

@@ -53,7 +53,7 @@ pub struct OutName<'a, R: Host> {
     name: &'a str,
     /// The draft, which is locked as long as this is open: until it gets the output's name or is
     /// removed.
-    _lock: File,
+    lock: File,
     /// The file found under the output's name, before anything was read.
     before: Option<FileId>,
     /// Whether the draft has a name of its own.
@@ -74,7 +74,7 @@ impl<'a, R: Host> OutName<'a, R> {
             rt,
             draft,
             name,
-            _lock: lock,
+            lock,
             before,
             is_draft: true,
             is_taken: false,
@@ -147,6 +147,18 @@ impl<'a, R: Host> OutName<'a, R> {
         if self.is_draft {
             remove(self.rt, self.draft.as_str());
             self.is_draft = false;
+        }
+    }
+
+    /// Whether the draft took the output's name.
+    pub fn has_taken(&self) -> bool {
+        !self.is_draft
+    }
+
+    /// Removes the output, if the draft took its name and no other file has it now.
+    pub fn give_back(&mut self) {
+        if self.has_taken() && has_name(self.rt, &self.lock, self.name) {
+            remove(self.rt, self.name);
         }
     }
 

@@ -9,6 +9,10 @@ pub const ABOUT_COMPARE: &str = "Report whether images can be readings of the sa
 /// What OUT is.
 pub const MERGED_OUT: &str = "Image to create; it must not exist";
 
+/// What `--log` does.
+pub const LOG: &str = "Also create LOG, with a row for each item that fewer than two
+images have, or that is bad in one; LOG must not exist";
+
 /// What the IMAGEs are.
 pub const READINGS: &str = "Two or more readings of the same tape: SIMH .tap images";
 
@@ -28,6 +32,10 @@ pub const ONE_READING: &str = "at least two readings of the tape are needed";
 /// OUT is standard output.
 pub const MERGED_OUT_IS_DASH: &str =
     "OUT must be a file, because the report goes to standard output: \
+write './-' for a file of that name";
+
+/// LOG is standard output.
+pub const LOG_IS_DASH: &str = "LOG must be a file, because the report goes to standard output: \
 write './-' for a file of that name";
 
 /// Help after the arguments of `merge`.
@@ -65,8 +73,13 @@ wrong, and nothing says which. OUT is not created:
 If most images agree, leave out the one that does not. If it differs in all
 later items too, it has lost an item, or has one twice.
 
-An existing OUT is never overwritten ('tape: file fault 1'), and OUT appears
-only when it is complete. It contains no erase gaps, nothing after an
+With --log a table of the items that are not confirmed, separated by tabs:
+those that only one image has, or that are bad in one. A row has the number of
+the item in OUT; BLOCK and its length, MARK or BAD; and for each image GOOD,
+BAD, or nothing if it ended before. LOG appears only with OUT.
+
+An existing OUT or LOG is never overwritten ('tape: file fault 1'), and
+OUT appears only when it is complete. It contains no erase gaps, nothing after an
 end-of-medium marker, and no data of bad blocks, so keep the images.
 
 Exit status: 0 OUT is complete, 1 error, 2 usage error, 3 OUT has a bad item or

@@ -34,7 +34,12 @@ Example:
 pub const ABOUT_WRITE: &str = "Write files to labelled volumes";
 
 /// What CAPACITY is.
-pub const CAPACITY: &str = "Maximum size of an image in bytes, at least --block plus 1024";
+pub const CAPACITY: &str = "Maximum size of an image in bytes, at least --block plus 1024;
+40K, 40M, 1G: K is 1024, M is 1024K, G is 1024M";
+
+/// CAPACITY is not a size.
+pub const WRONG_CAPACITY: &str = "CAPACITY must be a number of bytes up to 4294967295, or a number
+and K, M or G: K is 1024 bytes, M is 1024K, G is 1024M; for example '40M'";
 
 /// What ID=PATH is.
 pub const FILES: &str = "File identifier (for the label) and the file with its records";

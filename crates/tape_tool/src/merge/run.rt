@@ -2,21 +2,21 @@
 
 use super::words::{COMPARE, MERGE, Merge};
 use crate::explain::FaultSite;
-use crate::extract::{Draft, HELD, Way, draft_of};
+use crate::extract::{Draft, DraftFile, HELD, OutName, Way, draft_of};
 use crate::fault::{FileFault, OUT_OF_MEMORY, ToolFault};
 use crate::help;
 use crate::host::Host;
 use crate::images::{Images, Named, names_of};
 use crate::program::{End, end_refused};
-use crate::refusal::{Refusal, refused};
+use crate::refusal::Refusal;
 use std::io::{BufWriter, Sink, Write};
 use std::{fs, io};
 use tape_image::{ImageCause, ImageFault};
 use tape_run::{MergeEnd, MergeStop, Place, WriteFailed, merge_now};
 use tape_writer::system::found;
 
-/// Merges the readings named in the arguments into a new image. On error, the site says where it
-/// occurred.
+/// Merges the readings named in the arguments into a new image, and creates its log if one was
+/// asked for. On error, the site says where it occurred.
 pub fn merge<'a, R: Host>(rt: &R, order: &Merge<'a>, site: &mut FaultSite<'a>) -> End {
     let mut text = String::new(rt.alloc());
     let names = match readings_of(rt, &order.images, &mut text, site) {
@@ -24,23 +24,80 @@ pub fn merge<'a, R: Host>(rt: &R, order: &Merge<'a>, site: &mut FaultSite<'a>) -
         Err(refusal) => return end_refused(rt, &MERGE, refusal),
     };
     *site = FaultSite::New(order.out);
-    match found(fs::symlink_metadata(rt, order.out)) {
-        Ok(None) => {}
-        Ok(Some(_)) => return end_refused(rt, &MERGE, refused(FileFault::Exists)),
-        Err(fault) => return end_refused(rt, &MERGE, refused(fault)),
+    let draft = match new_draft(rt, order.out) {
+        Ok(draft) => draft,
+        Err(end) => return end,
+    };
+    let Draft { mut name, file } = draft;
+    let end = match BufWriter::with_capacity(rt.alloc(), HELD, file) {
+        Ok(out) => match order.log {
+            None => {
+                let images = &order.images;
+                merge_files(
+                    rt,
+                    images,
+                    names.as_slice(),
+                    out,
+                    &mut name,
+                    &mut io::sink(),
+                    None,
+                    site,
+                )
+            }
+            Some(log) => merge_logged(rt, order, log, names.as_slice(), out, &mut name, site),
+        },
+        Err(_) => End::Faulted(OUT_OF_MEMORY),
+    };
+    name.ended(end)
+}
+
+/// Merges the images with these names, and creates the log. It gets its name before the merged
+/// image does, and loses it again if that cannot be placed.
+fn merge_logged<'a, R: Host>(
+    rt: &R,
+    order: &Merge<'a>,
+    log: &'a str,
+    names: &[&str],
+    out: BufWriter<DraftFile>,
+    name: &mut OutName<'_, R>,
+    site: &mut FaultSite<'a>,
+) -> End {
+    *site = FaultSite::Log(log);
+    let mut draft = match new_draft(rt, log) {
+        Ok(draft) => draft,
+        Err(end) => return end,
+    };
+    *site = FaultSite::New(order.out);
+    let end = match BufWriter::with_capacity(rt.alloc(), HELD, &mut draft) {
+        Ok(mut rows) => merge_files(
+            rt,
+            &order.images,
+            names,
+            out,
+            name,
+            &mut rows,
+            Some(log),
+            site,
+        ),
+        Err(_) => End::Faulted(OUT_OF_MEMORY),
+    };
+    if !name.has_taken() {
+        draft.name.give_back();
     }
-    match draft_of(rt, order.out, Way::New) {
-        Ok(Some(draft)) => {
-            let Draft { mut name, file } = draft;
-            let end = match BufWriter::with_capacity(rt.alloc(), HELD, file) {
-                Ok(out) => merge_files(rt, &order.images, names.as_slice(), out, &mut name, site),
-                Err(_) => End::Faulted(OUT_OF_MEMORY),
-            };
-            name.ended(end)
-        }
+    draft.name.ended(end)
+}
+
+/// Creates a draft of a file that does not exist.
+fn new_draft<'a, R: Host>(rt: &'a R, path: &'a str) -> Result<Draft<'a, R>, End> {
+    match found(fs::symlink_metadata(rt, path)) {
+        Ok(None) => {}
+        Ok(Some(_)) => return Err(End::Faulted(ToolFault::File(FileFault::Exists))),
+        Err(fault) => return Err(End::Faulted(ToolFault::File(fault))),
+    }
+    match draft_of(rt, path, Way::New)? {
+        Some(draft) => Ok(draft),
         // A new file is never written in place.
-        Ok(None) => End::Faulted(ToolFault::File(FileFault::NotOpened)),
-        Err(end) => end,
+        None => Err(End::Faulted(ToolFault::File(FileFault::NotOpened))),
     }
 }
 
@@ -50,7 +107,17 @@ pub fn compare<'a, R: Host>(rt: &R, named: &Named<'a>, site: &mut FaultSite<'a>)
     match readings_of(rt, named, &mut text, site) {
         Ok(names) => {
             *site = FaultSite::Lines;
-            merge_files(rt, named, names.as_slice(), io::sink(), &mut Nowhere, site)
+            let names = names.as_slice();
+            merge_files(
+                rt,
+                named,
+                names,
+                io::sink(),
+                &mut Nowhere,
+                &mut io::sink(),
+                None,
+                site,
+            )
         }
         Err(refusal) => end_refused(rt, &COMPARE, refusal),
     }
@@ -83,17 +150,28 @@ fn readings_of<'t, 'a: 't, R: Host>(
     }
 }
 
-/// Merges the images with these names. If the error is in one of them, the site is that image.
-fn merge_files<'a, R: Host, W: Write + Drop, O: Place<W>>(
+/// Merges the images with these names, and writes the rows of the log. If the error is in an image
+/// or the log, that is the site.
+fn merge_files<'a, R: Host, W: Write + Drop, O: Place<W>, G: Write>(
     rt: &R,
     named: &Named<'a>,
     names: &[&str],
     out: W,
     place: &mut O,
+    rows: &mut G,
+    log: Option<&'a str>,
     site: &mut FaultSite<'a>,
 ) -> End {
     let images = &mut Images::new(rt, names);
-    match merge_now(rt.alloc(), images, names, out, place, &mut io::writer(rt)) {
+    match merge_now(
+        rt.alloc(),
+        images,
+        names,
+        out,
+        place,
+        rows,
+        &mut io::writer(rt),
+    ) {
         Ok(MergeEnd::Whole) => End::Done,
         Ok(MergeEnd::Partial | MergeEnd::Differs) => End::Incomplete,
         Err(MergeStop::NotOpened(number)) => {
@@ -111,5 +189,11 @@ fn merge_files<'a, R: Host, W: Write + Drop, O: Place<W>>(
         })),
         Err(MergeStop::OutOfMemory) => End::Faulted(OUT_OF_MEMORY),
         Err(MergeStop::WriteFailed) => End::Faulted(ToolFault::File(FileFault::WriteFailed)),
+        Err(MergeStop::LogFailed) => {
+            if let Some(path) = log {
+                *site = FaultSite::Log(path);
+            }
+            End::Faulted(ToolFault::File(FileFault::WriteFailed))
+        }
     }
 }

@@ -8,7 +8,7 @@ ghost use Rattle.tape_tool.specs.Words.{RefusedFor};
 use crate::command_spec::{CommandSpec, Kind, Word, mistake};
 use crate::help;
 use crate::images::Named;
-use crate::words::{is_dash, named, text_of};
+use crate::words::{is_dash, named, option_of, text_of};
 use clap::{ArgMatches, Error};
 use std::alloc::Global;
 
@@ -17,6 +17,8 @@ use std::alloc::Global;
 pub struct Merge<'a> {
     /// The image that is created.
     pub out: &'a str,
+    /// The log that is created.
+    pub log: Option<&'a str>,
     pub images: Named<'a>,
 }
 
@@ -29,6 +31,7 @@ pub const MERGE: CommandSpec = CommandSpec {
     usage: None,
     words: &[
         Word("OUT", Kind::Text, help::MERGED_OUT),
+        Word("log", Kind::TextOption("LOG"), help::LOG),
         Word("IMAGE", Kind::TextsOr("files-from"), help::READINGS),
         Word("files-from", Kind::TextOption("LIST"), help::FROM),
         Word("null", Kind::FlagOf("files-from"), help::NULL),
@@ -58,8 +61,13 @@ pub fn merge_order<'a>(alloc: Global, matches: &ArgMatches<'a>) -> Result<Merge<
     if is_dash(out) {
         return Err(mistake(alloc, &MERGE, help::MERGED_OUT_IS_DASH));
     }
+    let log = option_of(matches, "log");
+    if log == Some("-") {
+        return Err(mistake(alloc, &MERGE, help::LOG_IS_DASH));
+    }
     Ok(Merge {
         out,
+        log,
         images: named(alloc, matches, &MERGE, help::TOO_MANY_TO_MERGE)?,
     })
 }

@@ -81,6 +81,42 @@ const CUT: &[Step<'_>] = &[
     Step::IsWorked("merge_whole.tap"),
 ];
 
+/// The log of two readings with different unreadable blocks.
+const LOG: &[u8] = b"ITEM\tKIND\tlog1.tap\tlog2.tap
+6\tBLOCK 400\tBAD\tGOOD
+7\tBLOCK 400\tGOOD\tBAD
+";
+
+/// The log is a new file too, which exists exactly with OUT.
+const LOGGED: &[Step<'_>] = &[
+    Step::PutDamaged("log1.tap", 1),
+    Step::PutDamaged("log2.tap", 2),
+    Step::PutWorked("log3.tap", 2484),
+    Step::Ends(
+        "merge --log log.tsv logged.tap log1.tap log2.tap",
+        End::Done,
+    ),
+    Step::Holds("log.tsv", LOG),
+    Step::HasText("logged.tap", 676, b"\x90\x01\x00\x00"),
+    Step::Fails("merge --log log.tsv log4.tap log1.tap log2.tap", EXISTS),
+    Step::Fails("merge --log log1.tap log4.tap log1.tap log2.tap", EXISTS),
+    Step::Fails("merge --log log4.tap log4.tap log1.tap log2.tap", EXISTS),
+    Step::Fails(
+        "merge --log missing/log.tsv log4.tap log1.tap log2.tap",
+        ToolFault::File(FileFault::NotOpened),
+    ),
+    Step::Ends(
+        "merge --log log4.tsv log4.tap log1.tap log3.tap",
+        End::Incomplete,
+    ),
+    Step::Ends("merge --log - log4.tap log1.tap log2.tap", End::WrongWords),
+    Step::Holds("log.tsv", LOG),
+    Step::IsMissing("log4.tap"),
+    Step::IsMissing("log4.tsv"),
+    Step::IsMissing(".tape-1.part"),
+    Step::IsMissing(".tape-2.part"),
+];
+
 const WORDS: &[Step<'_>] = &[
     Step::PutWorked("word1.tap", 2484),
     Step::Put("merge.names", b"word1.tap\nword1.tap\n"),
@@ -120,6 +156,7 @@ fn readings_are_merged(rt: HostRuntime) -> Result<(), Fail> {
             ("new name", NEW_NAME),
             ("different", DIFFERENT),
             ("cut", CUT),
+            ("logged", LOGGED),
             ("words", WORDS),
         ],
     )

@@ -2,6 +2,7 @@
 use crate::command_line::call_of;
 use crate::list::words::Listing;
 use crate::words::Order;
+use crate::write::words::WriteOrder;
 use std::alloc::{AllocError, Global};
 use std::process::Abort;
 use std::test::Fail;
@@ -93,6 +94,16 @@ const SAID: &[(&str, i32, &str)] = &[
         "error: invalid value \"ab\": PRE must be three characters",
     ),
     (
+        "write . ABC 40X A=B",
+        2,
+        "error: invalid value \"40X\": CAPACITY must be a number of bytes",
+    ),
+    (
+        "write . ABC 4G A=B",
+        2,
+        "error: invalid value \"4G\": CAPACITY must be a number of bytes",
+    ),
+    (
         "write . ABCD 100000 A=B",
         2,
         "error: invalid value \"ABCD\": PRE must be three characters",
@@ -123,6 +134,46 @@ fn is_answered<H: Abort + AllocGlobal>(
 fn help_and_mistakes(rt: HostRuntime) -> Result<(), Fail> {
     for (line, status, text) in SAID {
         is_answered(&rt, line, *status, text)?;
+    }
+    Ok(())
+}
+
+/// Capacities, in bytes.
+const CAPACITIES: &[(&str, Option<u32>)] = &[
+    ("100000", Some(100_000)),
+    ("+100000", Some(100_000)),
+    ("0", Some(0)),
+    ("9K", Some(9_216)),
+    ("40M", Some(41_943_040)),
+    ("1G", Some(1_073_741_824)),
+    ("3G", Some(3_221_225_472)),
+    ("4294967295", Some(4_294_967_295)),
+    ("4294967296", None),
+    ("4194303K", Some(4_294_966_272)),
+    ("4194304K", None),
+    ("4G", None),
+    ("K", None),
+    ("1k", None),
+    ("1KB", None),
+    ("1KK", None),
+    ("1.5M", None),
+    ("-1K", None),
+    ("''", None),
+];
+
+#[test]
+fn capacities(rt: HostRuntime) -> Result<(), Fail> {
+    for (text, bytes) in CAPACITIES {
+        let line = format!(in rt.alloc(); "write . ABC {text} A=B")?;
+        let words = words_of(rt.alloc(), line.as_str())?;
+        let found = match call_of(rt.alloc(), words.as_slice()) {
+            Ok(call) => match call.order {
+                Order::Write(WriteOrder { capacity, .. }) => Some(capacity),
+                _ => None,
+            },
+            Err(_) => None,
+        };
+        assert!(rt; found == *bytes, "{text}");
     }
     Ok(())
 }

@@ -18,7 +18,6 @@ use std::alloc::{AllocError, Global};
 use std::fs::File;
 use std::io::{BufWriter, Read, Write};
 use std::{fs, io};
-use tape_image::fill;
 use tape_run::{Place, SalvageTask, WriteFailed, flush, name_text, salvage_to, write_text};
 use tape_writer::system::found;
 
@@ -182,7 +181,7 @@ impl Salvaged {
         let mut file = opened(rt, self.report.as_str())?;
         let of_lines = sum_of(&mut file, lines)?;
         let mut last = [0; SUMS];
-        filled(&mut file, &mut last)?;
+        read_all(&mut file, &mut last)?;
         let of_records = sum_of(&mut opened(rt, self.records.as_str())?, records)?;
         match sums_line(rt.alloc(), &of_records, &of_lines) {
             Ok(line) => Ok(last.as_slice() == line.as_bytes()),
@@ -280,24 +279,24 @@ fn opened<R: Host>(rt: &R, path: &str) -> Result<File, ToolFault> {
     }
 }
 
-/// Fills the buffer, as far as the file has bytes, and returns their number.
-fn filled(file: &mut File, buffer: &mut [u8]) -> Result<usize, ToolFault> {
-    match fill(file, buffer) {
-        Ok(count) => Ok(count),
+/// Fills the buffer with the next bytes of a file.
+fn read_all(file: &mut File, buffer: &mut [u8]) -> Result<(), ToolFault> {
+    match file.read_exact(buffer) {
+        Ok(()) => Ok(()),
         Err(_) => Err(ToolFault::File(FileFault::ReadFailed)),
     }
 }
 
-/// Returns the SHA-256 of the next `length` bytes of a file, or of all the rest if there are fewer.
+/// Returns the SHA-256 of the next `length` bytes of a file.
 fn sum_of(file: &mut File, length: u64) -> Result<[u8; 32], ToolFault> {
     let mut sum = Sha256::new();
     let mut buffer = [0; PIECE];
     let mut left = length;
     for _ in 0..length.div_ceil(PIECE as u64) {
         let room = left.min(PIECE as u64) as usize;
-        let count = filled(file, &mut buffer[..room])?;
-        sum.update(&buffer[..count]);
-        left -= room as u64;
+        read_all(file, &mut buffer[..room])?;
+        sum.update(&buffer[..room]);
+        left = left.saturating_sub(PIECE as u64);
     }
     Ok(sum.finalize())
 }

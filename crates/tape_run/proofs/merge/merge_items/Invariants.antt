@@ -7,7 +7,8 @@ use Rattle.tape_run.proofs.merge.merge_items.Given as goal
 
 abbrev pub invariant-items : goal.invariant-items
 invariant-items g l = record {
-  so_far : SoFar l.fn.readings l.readings l.merged l.phase l.fn.out l.out;
+  so_far : SoFar l.fn.readings l.readings l.merged l.phase l.fn.out l.out
+      (g.G.Write.contents l.fn.log) (g.G.Write.contents l.log);
   stands : l.out.standing ≡ writing;
   few : l.merged.items * 4 ≤ l.out.size;
   limit : l.merged.items * 4 ≤ image_limit;

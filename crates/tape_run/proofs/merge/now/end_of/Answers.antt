@@ -1,6 +1,5 @@
-use Rattle.std.proofs.Common.{arith, Some, None, sym, ap, subst, ◌∙◌, rules, ◌+◌}
+use Rattle.std.proofs.Common.{sym, subst, rules, ◌+◌}
 use Rattle.tape_image.specs.declared.item.Ending.TheVariants as endings
-use Rattle.tape_run.specs.declared.merge.line.MergedEnd.TheVariants.{Physical}
 use Rattle.tape_run.proofs.MergeReports.{EndsSoFar, ends_here, ending_is, ending_none}
 use Rattle.tape_run.proofs.MergeReports.{ends_physical, ends_kept}
 use Rattle.tape_run.proofs.merge.now.end_of.Goals.{then-reading-items+in-Some-Physical}

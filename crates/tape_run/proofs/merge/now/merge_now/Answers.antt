@@ -8,6 +8,7 @@ use Rattle.tape_run.proofs.merge.now.merge_now.Goals as goal
 pub returns-clause-ok : goal.returns-clause-ok
 returns-clause-ok g c = ok_now c.merge_readings.result g.L.ImageSource.size g.L.ImageSource.gives
     g.R.Read.remaining _ _ c.in_ok-devices.devices.items _ (map (λ n. n.now) c.args.names.now) _ _
+    (Appends (g.G.Write.contents c.args.log.now) (g.G.Write.contents c.merge_readings.new.log))
     (Appends (g.P.Write.contents c.args.report.now)
     (g.P.Write.contents c.merge_readings.new.report)) c.in_ok-devices.ensures.ok
     (at_front g.R.Read.remaining c.in_ok-devices.devices.items _ _ _
@@ -18,6 +19,7 @@ pub returns-clause-err : goal.returns-clause-err
 returns-clause-err g c = err_now c.merge_readings.result g.O.Place.stands _ _ g.L.ImageSource.size
     g.L.ImageSource.gives g.R.Read.remaining _ _ c.in_ok-devices.devices.items _
     (map (λ n. n.now) c.args.names.now) _ _
+    (Appends (g.G.Write.contents c.args.log.now) (g.G.Write.contents c.merge_readings.new.log))
     (AppendsFront (g.P.Write.contents c.args.report.now)
     (g.P.Write.contents c.merge_readings.new.report)) c.in_ok-devices.ensures.ok
     (at_front g.R.Read.remaining c.in_ok-devices.devices.items _ _ _

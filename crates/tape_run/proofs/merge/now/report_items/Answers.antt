@@ -1,4 +1,4 @@
-use Rattle.std.proofs.Common.{◌≡◌, ◌+◌, arith, map, Some, None, [], sym, ap, subst, ◌∙◌, rules}
+use Rattle.std.proofs.Common.{◌≡◌, ◌+◌, arith, map, [], sym, ap, subst, ◌∙◌}
 use Rattle.std.proofs.KnownBytes.{Appends-nil}
 use Rattle.tape_run.specs.MergeLines.{has_of, has_text, with_name, name_at, has_line}
 use Rattle.tape_run.proofs.MergeReports.{ReportsFirst, reports_more, item_some, item_none}

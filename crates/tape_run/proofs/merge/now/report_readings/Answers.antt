@@ -1,4 +1,4 @@
-use Rattle.std.proofs.Common.{◌≡◌, ◌+◌, arith, map, sym, ap, ◌∙◌, rules}
+use Rattle.std.proofs.Common.{◌≡◌, ◌+◌, arith, map, ap, ◌∙◌}
 use Rattle.tape_run.specs.MergeLines.{reading_text, line_of, with_name, name_at, reading_line}
 use Rattle.tape_run.proofs.MergeReports.{reports_more}
 use Rattle.tape_run.proofs.merge.now.report_readings.Goals as goal

@@ -1,0 +1,97 @@
+//! The log of a merge: a row for each item that fewer than two readings have, or one has as bad.
+
+ghost use Rattle.std.specs.Prelude.{◌≡◌, ◌++◌, codes, decimal, map, IfOk, OnOk};
+ghost use Rattle.std.specs.Io.KnownBytes.{Appends};
+ghost use Rattle.tape_run.specs.MergeLines.{kind_text};
+ghost use Rattle.tape_run.specs.MergeLog.{log_head, verdict_cell, verdict_cells, is_bad_verdict};
+ghost use Rattle.tape_run.specs.MergeLog.{has_bad_verdict, row_now};
+
+use super::candidate::Candidate;
+use super::line::{ItemKind, put_kind};
+use super::reading::{Reading, Verdict};
+use crate::fault::WriteFailed;
+use crate::quoting::name_text;
+use crate::text::{Text, put, put_decimal, write_text};
+use std::alloc::{AllocError, Global};
+use std::io::{Read, Write};
+
+/// The names of the columns: those of the images are last.
+pub(crate) fn log_head(alloc: Global, names: &[&str]) -> Result<Vec<u8>, AllocError>
+    ensures { IfOk result (λ head. head.items ≡ log_head (map (λ n. n.now) names.now)) }
+{
+    let mut head = Vec::from_slice(alloc, b"ITEM\tKIND")?;
+    for name in names {
+        head.push(b'\t')?;
+        let name = name_text(alloc, *name)?;
+        head.extend_from_slice(name.as_slice())?;
+    }
+    head.push(b'\n')?;
+    Ok(head)
+}
+
+/// Writes the row of the candidate, unless two readings have it and none has a bad item there.
+pub(crate) fn log_item<R: Read, G: Write>(
+    number: u64,
+    best: &Candidate,
+    witnesses: u64,
+    readings: &[Reading<'_, R>],
+    log: &mut G,
+) -> Result<(), WriteFailed>
+    ensures { OnOk result (Appends (G.contents log.old) (G.contents log.new)
+        (row_now number best.now witnesses readings.now)) }
+{
+    let Some(kind) = best.kind() else {
+        return Ok(());
+    };
+    if witnesses > 1 && !has_bad(readings) {
+        return Ok(());
+    }
+    write_text(log, &row_head(number, kind))?;
+    log_cells(readings, log)?;
+    write_text(log, b"\n")
+}
+
+/// Writes a cell for each reading.
+fn log_cells<R: Read, G: Write>(readings: &[Reading<'_, R>], log: &mut G) -> Result<(), WriteFailed>
+    ensures { OnOk result (Appends (G.contents log.old) (G.contents log.new)
+        (verdict_cells readings.now)) }
+{
+    for reading in readings {
+        write_text(log, cell(reading.verdict))?;
+    }
+    Ok(())
+}
+
+/// Whether one of the readings has a bad item.
+fn has_bad<R: Read>(readings: &[Reading<'_, R>]) -> bool
+    ensures { result ≡ has_bad_verdict readings.now }
+{
+    for reading in readings {
+        if matches!(reading.verdict, Verdict::Bad) {
+            return true;
+        }
+    }
+    false
+}
+
+/// The number and the kind of an item.
+fn row_head(number: u64, kind: ItemKind) -> Text
+    ensures { result.items ≡ decimal number ++ codes "\t" ++ kind_text kind }
+{
+    let mut row = Text::new();
+    put_decimal(&mut row, number);
+    put(&mut row, b"\t");
+    put_kind(&mut row, kind);
+    row
+}
+
+/// What a reading has of it.
+fn cell(verdict: Verdict) -> &'static [u8]
+    ensures { result.now ≡ verdict_cell verdict }
+{
+    match verdict {
+        Verdict::First | Verdict::Second | Verdict::Third => b"\tGOOD",
+        Verdict::Bad => b"\tBAD",
+        Verdict::Ended | Verdict::Failed(_) => b"\t",
+    }
+}
