@@ -38,7 +38,7 @@ pub struct WriteOrder<'a> {
     pub form: Form,
 }
 
-/// `write`.
+/// The `write` command and its arguments.
 pub const WRITE: CommandSpec = CommandSpec {
     name: "write",
     called: "tape write",
@@ -67,8 +67,8 @@ pub const WRITE: CommandSpec = CommandSpec {
     ],
 };
 
-/// Returns what the arguments of `write` ask for. The parser has checked that all required ones are
-/// present.
+/// Returns the request in `matches`, the arguments of `write`. The parser has checked that all
+/// required ones are present.
 pub fn write_order<'a>(alloc: Global, matches: &ArgMatches<'a>) -> Result<WriteOrder<'a>, Error>
     ensures ok { IfOk result (AsksToWrite (rows_of (found_of matches.now))) }
     ensures err { IfErr result (RefusedFor (IsNoWrite (rows_of (found_of matches.now)))) }
@@ -84,7 +84,7 @@ pub fn write_order<'a>(alloc: Global, matches: &ArgMatches<'a>) -> Result<WriteO
     }
 }
 
-/// Returns the request in the arguments, with the given prefix and files.
+/// Returns the request in `matches`, with `prefix` and `files`.
 fn asked<'a>(matches: &ArgMatches<'a>, prefix: Prefix, files: Vec<&'a str>) -> WriteOrder<'a>
     ensures asks { prefix.characters ≡ text_in (rows_of (found_of matches.now)) (codes "PRE")
         → map (λ w. w.now) files.entry.items
@@ -108,7 +108,7 @@ fn asked<'a>(matches: &ArgMatches<'a>, prefix: Prefix, files: Vec<&'a str>) -> W
     }
 }
 
-/// Returns the arguments that name files, each of which must have a path.
+/// Returns the arguments that name files. Each must have a path.
 fn files_of<'a>(alloc: Global, matches: &ArgMatches<'a>) -> Result<Vec<&'a str>, Error>
     ensures ok { IfOk result (λ files. map (λ w. w.now) files.items
         ≡ texts_in (rows_of (found_of matches.now)) (codes "ID=PATH")) }
@@ -143,7 +143,7 @@ fn has_path(word: &str) -> bool
     word.contains('=')
 }
 
-/// Returns the error for options that exclude each other.
+/// Returns the error if the directory is empty or options exclude each other.
 fn wrong(order: &WriteOrder<'_>) -> Option<&'static str>
     ensures some { IfSome result (λ _. (order.now.folder.now ≡ []) ⊎ IsAtOdds order.now) }
     ensures folder { IfNone result (order.now.folder.now ≡ [] → ⊥) }
