@@ -1,16 +1,16 @@
-//! The texts of help for `survey`.
+//! The help texts of `survey`.
 
-/// What `survey` does.
+/// The description of `survey`.
 pub const ABOUT_SURVEY: &str =
     "Describe each image, and report what is complete and what is missing";
 
-/// What the IMAGEs of `unpack` and `salvage` are.
+/// The description of the IMAGEs of `unpack` and `salvage`.
 pub const SHELF: &str = "SIMH .tap images, in any order (at most 256; see --files-from)";
 
-/// What `--tsv` says.
+/// The description of `--tsv`.
 pub const ROWS: &str = "Print tab-separated values, for scripts";
 
-/// Help after the arguments of `survey`.
+/// The help text after the arguments of `survey`.
 pub const AFTER_SURVEY: &str =
     "Each image as soon as it is read: its name, its state in a word, and what was
 found on it.

@@ -1,12 +1,12 @@
-//! The texts of help for `unpack`.
+//! The help texts of `unpack`.
 
-/// What `unpack` does.
+/// The description of `unpack`.
 pub const ABOUT_UNPACK: &str = "Recover every file on the images into a directory";
 
-/// What DIR is.
+/// The description of DIR.
 pub const FOLDER_OF_FILES: &str = "Existing directory for the files and their stages";
 
-/// What the form is.
+/// The description of `--form`.
 pub const FORM_OF_FILES: &str = "lines: end each record with a line feed;
 raw: do not";
 
@@ -20,20 +20,20 @@ represents any characters. May be repeated";
 /// Nothing is recovered.
 pub const LIST_ONLY: &str = "Print what would be done, and create nothing";
 
-/// What salvaging files is.
+/// The description of `--salvage`.
 pub const SALVAGE_FILES: &str = "Write what is readable of each incomplete file as NAME.salvaged,
 and where it has gaps as NAME.gaps";
 
-/// Too many images.
+/// The error if `unpack` gets too many images.
 pub const TOO_MANY_TO_UNPACK: &str =
     "unpack takes up to 256 IMAGEs, and any number of names from a list:
   find . -name '*.tap' -print0 | tape unpack DIR --files-from - --null";
 
-/// DIR is not a directory.
+/// The error if DIR is not a directory.
 pub const DIR_IS_NO_FOLDER: &str = "DIR is not a directory. It comes before the images:
   mkdir ../out; tape unpack ../out *.tap";
 
-/// Help after the arguments of `unpack`.
+/// The help text after the arguments of `unpack`.
 pub const AFTER_UNPACK: &str =
     "tape first reads all images to find out which sets and files they contain, as
 'tape survey' reports them. Then it recovers each file as 'tape extract --again'

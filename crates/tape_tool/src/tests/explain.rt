@@ -1,4 +1,4 @@
-//! What `--explain` prints after the line of a fault.
+//! Tests of the explanations that `--explain` prints after the line of a fault.
 
 use super::calls::{Step, put, take_all};
 use super::fake_system::called;
@@ -48,7 +48,7 @@ const TLD: Prefix = Prefix {
     characters: *b"TLD",
 };
 
-/// Lines that end with a fault, and its site.
+/// Command lines that end with a fault, and the site of the fault.
 const SITES: &[(&str, Option<FaultSite<'_>>)] = &[
     ("list told_cut.tap", None),
     (
@@ -97,7 +97,7 @@ const SITES: &[(&str, Option<FaultSite<'_>>)] = &[
     ),
 ];
 
-/// Fails unless the call with this line ends with a fault that has the given site.
+/// Fails unless the run with the arguments in `line` ends with a fault at `site`.
 fn is_at<H: Host + Abort>(rt: &H, line: &str, site: Option<FaultSite<'_>>) -> Result<(), Fail> {
     let words = words_of(rt.alloc(), line)?;
     let outcome = perform(rt, words.as_slice());
@@ -123,7 +123,7 @@ const CUT_OFF: ToolFault = ToolFault::Image(ImageFault {
     cause: ImageCause::Truncated,
 });
 
-/// The line that `list` prints for a gzip file.
+/// The fault of `list` for a gzip file.
 const NO_IMAGE: ToolFault = ToolFault::Image(ImageFault {
     place: 0,
     cause: ImageCause::Reserved(529_205_248),
@@ -134,7 +134,7 @@ const NO_MEMORY: ToolFault = ToolFault::Image(ImageFault {
     cause: ImageCause::OutOfMemory,
 });
 
-/// Faults, their sites, and the first line that is printed for them, or the second.
+/// Faults, their sites, and the first or second line of their explanation.
 const TOLD: &[(ToolFault, FaultSite<'_>, &str)] = &[
     (
         CUT_OFF,

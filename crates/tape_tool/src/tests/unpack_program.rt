@@ -1,4 +1,4 @@
-//! `unpack` as it is called.
+//! Tests of `unpack`.
 use super::calls::{Step, follow_all, put, take_all};
 use super::fake_system::called;
 use super::image::{END, Image, MARK};
@@ -11,7 +11,7 @@ use std::io::Write;
 use std::test::Fail;
 use tape_stage::StageFault;
 
-/// All files, twice: existing files are unchanged.
+/// All files are unpacked in one run; a second run leaves them unchanged.
 const AT_ONCE: &[Step<'_>] = &[
     Step::Folder("unpacked"),
     Step::PutWorked("unpack1.tap", 2484),
@@ -26,7 +26,8 @@ const AT_ONCE: &[Step<'_>] = &[
     Step::Holds("unpacked/ABC001.1.PAYROLL", b"kept"),
 ];
 
-/// Damaged copies, one a day: the last one alone does not have all that the others contributed.
+/// Damaged copies are read, one each day: the last one alone does not have all that the others
+/// contributed.
 const DAY_BY_DAY: &[Step<'_>] = &[
     Step::Folder("days"),
     Step::PutDamaged("day1.tap", 1),
@@ -37,7 +38,7 @@ const DAY_BY_DAY: &[Step<'_>] = &[
     Step::Ends("unpack days day1.tap --form raw", End::Done),
     Step::HasLength("days/ABC001.1.PAYROLL", 2000),
     Step::IsMissing("days/ABC001.1.PAYROLL.stage"),
-    // On one day two copies complete each other, in either order.
+    // On one day, two copies complete each other, in either order.
     Step::Remove("days/ABC001.1.PAYROLL"),
     Step::Ends("unpack days day1.tap day2.tap", End::Done),
     Step::HasText("days/ABC001.1.PAYROLL", 1944, b"0025  "),
@@ -96,7 +97,7 @@ const SALVAGED: &[Step<'_>] = &[
     Step::IsMissing("gaps/ABC001.1.PAYROLL.salvaged"),
     Step::IsMissing("gaps/ABC001.1.PAYROLL.gaps"),
     Step::HasLength("gaps/ABC001.1.PAYROLL", 2025),
-    // Files that were changed are kept, and so is one of the two files alone.
+    // Files that were changed are not removed, nor is one of the two files alone.
     Step::Remove("gaps/ABC001.1.PAYROLL"),
     Step::Ends("unpack gaps gaps1.tap --salvage", End::Incomplete),
     Step::Put("gaps/ABC001.1.PAYROLL.salvaged", b"changed"),
@@ -107,7 +108,7 @@ const SALVAGED: &[Step<'_>] = &[
     Step::Put("gaps/ABC001.1.PAYROLL.gaps", b"mine"),
     Step::Ends("unpack gaps gaps2.tap gaps1.tap --salvage", End::Done),
     Step::Holds("gaps/ABC001.1.PAYROLL.gaps", b"mine"),
-    // A complete copy leaves no salvaged files.
+    // No salvaged files remain after a complete copy was read.
     Step::Folder("gaps3"),
     Step::PutWorked("gaps3.tap", 2484),
     Step::Ends("unpack gaps3 gaps3.tap --salvage", End::Done),
@@ -191,7 +192,7 @@ fn a_file_that_was_not_met(rt: HostRuntime) -> Result<(), Fail> {
     take_all(&rt, SECOND)
 }
 
-/// The remembered line is not truncated.
+/// The line that is remembered is not truncated.
 #[test]
 fn the_last_line_is_whole(rt: HostRuntime) -> Result<(), Fail> {
     let mut last = LastLine::new();

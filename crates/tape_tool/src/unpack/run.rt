@@ -38,7 +38,7 @@ struct Source<'n, D> {
     mounted: Option<Mounted<D>>,
 }
 
-/// Recovers every file on the images that the arguments name. On error, the site says where it
+/// Recovers every file on the images that the arguments name. On error, `site` says where it
 /// occurred.
 pub fn unpack<'a, R: Host>(rt: &R, order: &Unpack<'a>, site: &mut FaultSite<'a>) -> End {
     let mut text = String::new(rt.alloc());
@@ -74,7 +74,7 @@ fn unpack_images<R: Host>(rt: &R, order: &Unpack<'_>, names: &[&str]) -> End {
     }
 }
 
-/// Refuses anything that is not a directory: if it is an image, DIR was forgotten.
+/// Refuses `path` if it is not a directory. If it is an image, DIR was forgotten.
 fn is_folder<R: Host>(rt: &R, path: &str) -> Result<(), Refusal> {
     match fs::metadata(rt, path) {
         Ok(found) if found.is_dir() => Ok(()),
@@ -142,7 +142,7 @@ fn number_after(before: Option<(Field<6>, u16)>, set_id: &Field<6>) -> u16 {
     }
 }
 
-/// Unpacks a file, or finds out what would become of it, and prints the outcome.
+/// Unpacks `file`, and prints the outcome.
 fn unpack_file<R: Host, P: Write>(
     rt: &R,
     order: &Unpack<'_>,
@@ -168,7 +168,7 @@ fn unpack_file<R: Host, P: Write>(
     }
 }
 
-/// Unpacks a file to the given paths, unless a file with its name exists.
+/// Unpacks a file to `paths`, unless a file with its name exists.
 fn unpack_to<R: Host, P: Write>(
     rt: &R,
     order: &Unpack<'_>,
@@ -215,7 +215,7 @@ fn unpacked<R: Host>(
     if found(fs::symlink_metadata(rt, paths.out.as_str()))?.is_some() {
         return Err(ToolFault::File(FileFault::Exists));
     }
-    // A stage is never looked for through a link.
+    // A link is not followed to a stage.
     let is_staged = match found(fs::symlink_metadata(rt, stage))? {
         Some(there) if !there.is_file() => return Err(ToolFault::File(FileFault::NotOpened)),
         there => there.is_some(),
@@ -234,8 +234,8 @@ fn unpacked<R: Host>(
     }
 }
 
-/// Writes the readable records of an incomplete file, with a report of its gaps, and prints a line
-/// about them. The images are those that may have blocks of its set.
+/// Writes the readable records of an incomplete file and a report of its gaps, and prints a line
+/// about them. Reads the images that may have blocks of its set.
 fn salvage_file<R: Host, P: Write>(
     rt: &R,
     order: &Unpack<'_>,
@@ -288,14 +288,14 @@ fn salvage_file<R: Host, P: Write>(
     }
 }
 
-/// Returns the paths of the salvaged records of the file with this path, and of their report.
+/// Returns the paths of the salvaged records of the file at `out`, and of their report.
 fn salvaged_at<R: Host>(rt: &R, out: &str) -> Result<Salvaged, ToolFault> {
     Salvaged::of(rt.alloc(), out).map_err(|_| OUT_OF_MEMORY)
 }
 
 /// Recovers a file. If all its sections are intact, reads the images that have them once. Any other
-/// file, or one that is still incomplete then, is recovered on its stage, in passes. The last line
-/// of both is remembered.
+/// file, or one that is still incomplete then, is recovered on its stage, in passes. `last`
+/// remembers the last line of either.
 fn gather<R: Host>(
     rt: &R,
     order: &Unpack<'_>,
@@ -321,7 +321,7 @@ fn gather<R: Host>(
         let end = extract_whole(rt, &at_once, images, &mut shelf.mounted, locations, last);
         if end != End::Incomplete {
             if end != End::Done {
-                // Nothing is proved about an image that a fault left open.
+                // Nothing is proved about an image at which a fault occurred.
                 shelf.mounted = None;
             }
             return end;

@@ -12,7 +12,7 @@ use clap::{ArgMatches, Error};
 use std::alloc::Global;
 use tape_blocks::Form;
 
-/// What `unpack` recovers, and from what: every file, into a directory.
+/// The request to `unpack`: the images, and the directory for their files.
 #[derive(Drop)]
 pub struct Unpack<'a> {
     pub folder: &'a str,
@@ -27,7 +27,7 @@ pub struct Unpack<'a> {
     pub salvage: bool,
 }
 
-/// `unpack`.
+/// The `unpack` command and its arguments.
 pub const UNPACK: CommandSpec = CommandSpec {
     name: "unpack",
     called: "tape unpack",
@@ -51,8 +51,8 @@ pub const UNPACK: CommandSpec = CommandSpec {
     ],
 };
 
-/// Returns what the arguments of `unpack` ask for. The parser has checked that all required ones
-/// are present.
+/// Returns the request in `matches`, the arguments of `unpack`. The parser has checked that all
+/// required ones are present.
 pub fn unpack_order<'a>(alloc: Global, matches: &ArgMatches<'a>) -> Result<Unpack<'a>, Error>
     ensures ok { IfOk result (AsksToUnpack (rows_of (found_of matches.now))) }
     ensures err { IfErr result (RefusedFor (IsNoUnpack (rows_of (found_of matches.now)))) }
