@@ -69,7 +69,7 @@ impl Piece {
     }
 }
 
-/// Returns the bytes up to the line feed, or all bytes if there is none.
+/// Returns the bytes up to the line feed, or all bytes if none is a line feed.
 fn line_piece(bytes: &[u8]) -> Piece
     ensures within { (result.content ≤ result.taken) × (result.taken ≤ count bytes.now) }
     ensures some { 0 < count bytes.now → 0 < result.taken }
