@@ -358,7 +358,7 @@ def statuses_of_unpack(t):
         ("two sets of one identifier", {"one.tap": ONE, "other.tap": other, "two.tap": TWO}, 3, "CONFLICT"),
         ("a file not found", {"two.tap": second}, 3, "NOT FOUND"),
         ("blank volumes", {"blank.tap": BLANK}, 3, ""),
-        ("an image that does not exist", REELS | {"lost.tap": None}, 3, "INCOMPLETE IMAGES"),
+        ("an image that does not exist", REELS | {"lost.tap": None}, 3, "INCOMPLETE IMAGE lost.tap"),
     ):
         run = t(["unpack", "d", *files], {name: content for name, content in files.items() if content})
         yield run.status == status and line in run.out, f"unpack, {name}: {run.status} {run.out!r}"
