@@ -166,8 +166,8 @@ image_left_out R L LR LL g d h i j κs a met s l one none =
 unmarked : (sight : ImageSurvey) (c d : Found) (bytes : List ℕ) (items : List TapeItem) (end : ℕ)
     → IsViewed (Some (Some bytes)) (Some sight) c d → Begins 0 bytes items end (ends endings.Physical)
     → sight.stop ≡ Marked → ⊥
-unmarked sight c d bytes items end (None, v, whole, count) begins marked = v.stop
-unmarked sight c d bytes items end (Some left, v, whole, count) begins marked =
+unmarked sight c d bytes items end (None, v, whole, count, tally) begins marked = v.stop
+unmarked sight c d bytes items end (Some left, v, whole, count, tally) begins marked =
     let t : StopsBehind v.items Marked bytes left =
     subst (λ stop. StopsBehind v.items stop bytes left) marked v.stop in
     let e : ends endings.Physical ≡ ends endings.Marked
