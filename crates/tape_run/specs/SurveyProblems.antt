@@ -20,7 +20,7 @@ damage_line sect entry =
 abbrev pub found_line : ℕ → Entry → List ℕ
 found_line sect entry = if is_good entry.state then [] else damage_line sect entry
 
--- the text that says where to look for missing sections, if the section before them is known
+-- where to look for missing sections, if the section before them is known
 abbrev pub where_text : Option Entry → List ℕ
 where_text (Some before) = codes " missing, after volume " ++ trimmed_text before.volume
 where_text None = codes " not found"
@@ -76,7 +76,6 @@ sections_from c set_id file first sect (suc n) =
     known_text c set_id file first sect entry
     ++ sections_from c set_id file (first_after first sect entry) (sect + 1) n
 
--- a line for each damaged section of a file, and for the sections that are missing before or after
--- the sections found
+-- a line for each damaged section of a file, and for those that are missing before or after it
 unfoldable pub problem_lines : List Told → List ℕ → ℕ → List ℕ
 problem_lines c set_id file = sections_from c set_id file 1 1 9999

@@ -18,8 +18,8 @@ use Rattle.tape_run.specs.SurveyFiles.{Filed, filed_in}
 use Rattle.tape_run.specs.SurveyGlance.{glance_of}
 use Rattle.tape_run.specs.SurveyLocations.{Located, located_in, next_image}
 
--- the results of reading images: the sections and files found, whether every image was read
--- completely, the image of each section, its good copies, and the number of images
+-- what is known of sections and of files, whether every image was read completely, on which image
+-- each section is, its good copies, and how many images there were
 pub record Found : Type 0 where
   pub sections : List Told
   pub files : List Filed
@@ -63,8 +63,8 @@ is_whole_sight s = is_ended s.glance.course && (is_none s.glance.unread && is_en
 abbrev pub is_sound : ImageSurvey → Bool
 is_sound s = is_whole_sight s && not (is_some s.glance.damage)
 
--- All items that a reader of the image with this number returned were surveyed: the sections and
--- header labels in them were added, the places of the sections, and the good copies. Before the
+-- All items that a reader of the image with this number returned were looked at, and the sections
+-- and header labels in them were added, where the sections are, and the good copies. Before the
 -- call the reader had the bytes `before`, and then the bytes `after`.
 pub record ViewsItems (before after : Option (List ℕ)) (image : ℕ) (sections : List Told)
     (files : List Filed) (located : List Located) (known : Copied) (sight : ImageSurvey)
