@@ -25,6 +25,7 @@ use Rattle.tape_tool.specs.declared.words.Order.TheVariants as orders
 use Rattle.tape_tool.specs.CasesOfWords.{CasesOfWords, CasesOfOrders, shelf}
 use Rattle.tape_tool.specs.Words.{AsksToExtract, AsksToInit, AsksToSalvage, AsksToUnpack}
 use Rattle.tape_tool.specs.Words.{IsDashOrMore, IsFlag}
+use Rattle.tape_tool.proofs.Sizing.{letter_found, size_is}
 use Rattle.tape_tool.specs.Words.{IsNoExtract, IsNoInit, IsNoSet, IsNoUnpack, IsOrderIn}
 use Rattle.tape_tool.specs.Words.{NamesImages, NamesInput}
 use Rattle.tape_tool.specs.Words.{RefusedFor, is_in_rows, texts_of_one}
@@ -272,7 +273,8 @@ cases_of_orders = record {
   write = λ order a. (
     a.folder,
     a.prefix,
-    a.capacity 9000 (codes "9000", refl, four, refl, lit< tt),
+    (size_is (codes "9K") (codes "9") 1024 order.capacity
+        (letter_found (codes "9K") (codes "9") 75 1024 refl (inl (refl, refl))) a.capacity).1,
     a.files,
     a.counted refl,
     a.block 2048 (codes "2048", refl, other_four, refl, lit< tt),

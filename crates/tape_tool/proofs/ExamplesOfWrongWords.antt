@@ -12,7 +12,7 @@ use Rattle.tape_tool.specs.declared.words.Verb.TheVariants as verbs
 use Rattle.tape_tool.specs.CasesOfWords.{AreRefused, CasesOfWrongWords, to_write, with_format, word}
 use Rattle.tape_tool.specs.Words.{AreAtOdds, AreTooMany, IsSomeNumber, HavePaths, IsDashOrMore}
 use Rattle.tape_tool.specs.Words.{IsNoExtract, IsNoInit, IsNoInput, IsNoUnpack, NamesInput}
-use Rattle.tape_tool.specs.Words.{name_of}
+use Rattle.tape_tool.specs.Words.{name_of, IsSize}
 use Rattle.tape_tool.specs.declared.images.Named.{Named}
 use Rattle.tape_tool.specs.declared.words.Order.{Order}
 use Rattle.tape_tool.specs.declared.merge.words.Merge.{Merge}
@@ -54,13 +54,26 @@ lacks : Contains {X = ℕ} (97 ∷ []) 61 → ⊥
 lacks (zero, _, e) = absurd (let n : 97 ≡ 61 = e in omega (arith, n))
 lacks (suc k, within, _) = absurd (let n : suc k < 1 = within in omega (arith, n))
 
+nine_k : IsSize (codes "9K") 9216
+nine_k = record {
+  digits = codes "9";
+  unit = codes "K";
+  factor = 1024;
+  text_is = refl;
+  of_unit = inr (inl (refl, refl));
+  numeral = (lit< tt, (lit< tt, tt));
+  value = refl;
+  few = lit< tt;
+}
+
 lawful : (options : List Row)
     → (AreAtOdds (to_write (codes "ABC") (codes "out") (codes "A=a") options) → ⊥)
     → AreRefused options → ⊥
 lawful options fit (inl none) = none is_prefix
 lawful options fit (inr (inl none)) = none has_path
 lawful options fit (inr (inr (inl e))) = absurd (let n : 3 ≡ 0 = ap length e in omega (arith, n))
-lawful options fit (inr (inr (inr odd))) = fit odd
+lawful options fit (inr (inr (inr (inl odd)))) = fit odd
+lawful options fit (inr (inr (inr (inr none)))) = none 9216 nine_k
 
 abbrev options_of : List ℕ → List ℕ → List ℕ → List Row
 options_of format option text = to_write (codes "ABC") (codes "out") (codes "A=a")
@@ -182,13 +195,13 @@ cases_of_wrong_words = record {
   spanned = lawful (with_format (codes "S") (codes "form") (codes "raw")) spanned;
   counted = lawful (with_format (codes "D") (codes "record") (codes "80")) counted;
   counted_lines = lawful (with_format (codes "D") (codes "form") (codes "lines")) counted_lines;
-  no_length = inr (inr (inr (inl (refl, λ number. missing number.1.1))));
-  a_length = inr (inr (inr (inr (inl (refl, has_80 (codes "S"))))));
-  raw = inr (inr (inr (inr (inr (
+  no_length = inr (inr (inr (inl (inl (refl, λ number. missing number.1.1)))));
+  a_length = inr (inr (inr (inl (inr (inl (refl, has_80 (codes "S")))))));
+  raw = inr (inr (inr (inl (inr (inr (
     other _ _ 68 70 (omega arith) refl refl,
     other _ _ 68 83 (omega arith) refl refl,
     refl,
-  )))));
+  ))))));
   prefix = inl (λ p. prefix_byte p.1.0);
   path = inr (inl (λ all. lacks (all 0 [] (lit< tt))));
   folder = inr (inr (inl refl));

@@ -5,6 +5,7 @@ mod LinesOfVolumes
 mod ListedNames
 mod FoundWords
 mod WordsOfWriting
+pub mod Sizing
 mod Mistakes
 mod MistakesOfNames
 mod MistakesOfWords

@@ -14,8 +14,9 @@ use Rattle.tape_label.specs.declared.values.Format.{Format}
 use Rattle.tape_label.specs.declared.values.Format.TheVariants.{Fixed, Counted, Spanned}
 use Rattle.tape_blocks.specs.declared.parts.Form.{Form}
 use Rattle.tape_blocks.specs.declared.parts.Form.TheVariants.{Raw}
-use Rattle.tape_tool.specs.Words.{AreAtOdds, IsSomeNumber, HavePaths, IsForm, IsNoWrite}
-use Rattle.tape_tool.specs.Words.{text_in, texts_in}
+use Rattle.tape_tool.specs.Words.{AreAtOdds, IsSomeNumber, HavePaths, IsForm, IsNoWrite, IsSize}
+use Rattle.tape_tool.specs.Words.{IsAtOdds, text_in, texts_in}
+use Rattle.tape_tool.specs.declared.write.words.WriteOrder.{WriteOrder}
 use Rattle.tape_writer.specs.Blank.{IsPrefix}
 
 -- a number that is read is in the text, and one that is in the text is read
@@ -124,11 +125,20 @@ pub all_paths : {X : Type 0} (view : X → List ℕ) (words : List X) (i : ℕ) 
 all_paths view words i end all =
     subst (λ ws. HavePaths (map view ws)) (take_all i words end) all
 
+-- options that exclude each other, or no directory
+pub wrong_options : (rows : List Row) (order : WriteOrder)
+    → order.folder.now ≡ text_in rows (codes "DIR") → (IsAtOdds order → AreAtOdds rows)
+    → (order.folder.now ≡ []) ⊎ IsAtOdds order → IsNoWrite rows
+wrong_options rows order folder odds (inl none) = inr (inr (inl (sym folder ∙ none)))
+wrong_options rows order folder odds (inr odd) = inr (inr (inr (inl (odds odd))))
+
 -- arguments without an error
 pub lawful : (rows : List Row) → IsPrefix (text_in rows (codes "PRE"))
     → HavePaths (texts_in rows (codes "ID=PATH")) → (text_in rows (codes "DIR") ≡ [] → ⊥)
-    → (AreAtOdds rows → ⊥) → IsNoWrite rows → ⊥
-lawful rows prefix paths folder fit (inl none) = none prefix
-lawful rows prefix paths folder fit (inr (inl none)) = none paths
-lawful rows prefix paths folder fit (inr (inr (inl none))) = folder none
-lawful rows prefix paths folder fit (inr (inr (inr odd))) = fit odd
+    → (AreAtOdds rows → ⊥) → (n : ℕ) → IsSize (text_in rows (codes "CAPACITY")) n
+    → IsNoWrite rows → ⊥
+lawful rows prefix paths folder fit n size (inl none) = none prefix
+lawful rows prefix paths folder fit n size (inr (inl none)) = none paths
+lawful rows prefix paths folder fit n size (inr (inr (inl none))) = folder none
+lawful rows prefix paths folder fit n size (inr (inr (inr (inl odd)))) = fit odd
+lawful rows prefix paths folder fit n size (inr (inr (inr (inr none)))) = none n size

@@ -169,14 +169,14 @@ pub record CasesOfOrders : Type 0 where
   pub no_init : (order : Init) (rows : List Row) → AsksToInit rows order → IsNoInit rows → ⊥
   -- `write` writes the files of its arguments to its directory
   pub write : (order : WriteOrder) → AsksToWrite (word (codes "DIR") (codes "out" ∷ [])
-      ∷ word (codes "PRE") (codes "ABC" ∷ []) ∷ word (codes "CAPACITY") (codes "9000" ∷ [])
+      ∷ word (codes "PRE") (codes "ABC" ∷ []) ∷ word (codes "CAPACITY") (codes "9K" ∷ [])
       ∷ word (codes "ID=PATH") (codes "A=a" ∷ codes "B=b" ∷ [])
       ∷ word (codes "format") (codes "D" ∷ []) ∷ word (codes "block") (codes "2048" ∷ [])
       ∷ word (codes "record") (codes "80" ∷ []) ∷ word (codes "offset") (codes "4" ∷ [])
       ∷ word (codes "pad-full") (codes "true" ∷ []) ∷ word (codes "form") (codes "lines" ∷ [])
       ∷ []) order
       → (order.folder.now ≡ codes "out") × (order.prefix.characters ≡ codes "ABC")
-      × (order.capacity ≡ 9000)
+      × (order.capacity ≡ 9216)
       × (map (λ w. w.now) order.files.items ≡ codes "A=a" ∷ codes "B=b" ∷ [])
       × (order.format ≡ Counted) × (order.block ≡ 2048) × (order.«record» ≡ Some 80)
       × (order.offset ≡ 4) × (order.pad_full ≡ true) × (order.form ≡ Lines)
@@ -196,7 +196,8 @@ pub record CasesOfOrders : Type 0 where
 -- arguments of `write`: its prefix, its directory, an argument for a file, and its options
 abbrev pub to_write : List ℕ → List ℕ → List ℕ → List Row → List Row
 to_write prefix folder file options = word (codes "PRE") (prefix ∷ [])
-    ∷ word (codes "DIR") (folder ∷ []) ∷ word (codes "ID=PATH") (file ∷ []) ∷ options
+    ∷ word (codes "DIR") (folder ∷ []) ∷ word (codes "ID=PATH") (file ∷ [])
+    ∷ word (codes "CAPACITY") (codes "9K" ∷ []) ∷ options
 
 -- a format, and one other option
 abbrev pub with_format : List ℕ → List ℕ → List ℕ → List Row

@@ -1,6 +1,6 @@
 -- The requests in the arguments of a command line, according to what the parser found: a row for
 -- each argument and each option of a command, with its texts.
-use Rattle.std.specs.Prelude.{◌≡◌, ◌≢◌, ◌⊎◌, ◌↔◌, ◌<◌, ◌≤◌, ◌^◌, ℕ, Bool, true, false, codes}
+use Rattle.std.specs.Prelude.{◌≡◌, ◌≢◌, ◌⊎◌, ◌↔◌, ◌<◌, ◌≤◌, ◌^◌, ◌*◌, ℕ, Bool, true, false, codes}
 use Rattle.std.specs.Prelude.{List, [], ◌∷◌, ◌++◌, map, length, replicate, if◌then◌else◌}
 use Rattle.std.specs.Prelude.{◌-◌, ⊤, Option, Some, None, IfSome, option_map, unwrap_or}
 use Rattle.std.specs.Borrow.{Bor}
@@ -176,17 +176,29 @@ pub record AsksToExtract (rows : List Row) (order : Extract) : Type 0 where
 abbrev pub IsNoExtract : List Row → Type 0
 IsNoExtract rows = IsNoTask rows ⊎ AreTooMany rows
 
+-- the set that is named, if one is
+pub record IsSetNamed (rows : List Row) (set : Option (Bor (List ℕ))) : Type 0 where
+  pub named : option_map (λ s. s.now) set ≡ first_of (codes "set") rows
+  pub is_set : IfSome set (λ s. IsNoSet s.now → ⊥)
+
+-- there is no set of the identifier that is named
+abbrev pub NamesNoSet : List Row → Type 0
+NamesNoSet rows = (set : List ℕ) × (first_of (codes "set") rows ≡ Some set) × IsNoSet set
+
 -- what `unpack` is asked for
 pub record AsksToUnpack (rows : List Row) (order : Unpack) : Type 0 where
   pub folder : order.folder.now ≡ text_in rows (codes "DIR")
   pub named : text_in rows (codes "DIR") ≢ []
   pub images : NamesImages rows order.images
   pub form : IsForm rows order.form
+  pub set : IsSetNamed rows order.set
+  pub files : map (λ w. w.now) order.files.items ≡ texts_in rows (codes "file")
+  pub list : IsFlag rows (codes "list") order.list
   pub salvage : IsFlag rows (codes "salvage") order.salvage
 
 -- why `unpack` is refused
 abbrev pub IsNoUnpack : List Row → Type 0
-IsNoUnpack rows = (text_in rows (codes "DIR") ≡ []) ⊎ AreTooMany rows
+IsNoUnpack rows = (text_in rows (codes "DIR") ≡ []) ⊎ AreTooMany rows ⊎ NamesNoSet rows
 
 -- what `salvage` is asked for
 pub record AsksToSalvage (rows : List Row) (order : SalvageOrder) : Type 0 where
@@ -241,18 +253,44 @@ IsAtOdds order = ((order.format ≡ Fixed) × (order.«record» ≡ None))
     ⊎ ((order.format ≡ Spanned) × (order.«record» ≢ None))
     ⊎ ((order.format ≡ Counted) × (order.form ≡ Raw))
 
+-- what a letter at the end of a size represents: K, M and G are 1,024, its square and its cube
+abbrev pub IsUnit : List ℕ → ℕ → Type 0
+IsUnit unit factor = ((unit ≡ []) × (factor ≡ 1)) ⊎ ((unit ≡ codes "K") × (factor ≡ 1024))
+    ⊎ ((unit ≡ codes "M") × (factor ≡ 1048576)) ⊎ ((unit ≡ codes "G") × (factor ≡ 1073741824))
+
+-- The text is a size of so many bytes: decimal digits, with or without a plus sign before them, and
+-- at most one such letter after them.
+pub record IsSize (text : List ℕ) (n : ℕ) : Type 0 where
+  pub digits : List ℕ
+  pub unit : List ℕ
+  pub factor : ℕ
+  pub text_is : text ≡ digits ++ unit
+  pub of_unit : IsUnit unit factor
+  pub numeral : IsNumeral 10 (without_leading_plus digits)
+  pub value : n ≡ digits_value 10 (without_leading_plus digits) * factor
+  pub few : n < 2 ^ 32
+
+-- the text ends with one of the letters
+abbrev pub EndsInLetter : List ℕ → Type 0
+EndsInLetter text = (front : List ℕ) × (c : ℕ) × (text ≡ front ++ c ∷ [])
+    × ((c ≡ 75) ⊎ (c ≡ 77) ⊎ (c ≡ 71))
+
+-- the capacity is not a size
+abbrev pub HasNoSize : List Row → Type 0
+HasNoSize rows = (n : ℕ) → IsSize (text_in rows (codes "CAPACITY")) n → ⊥
+
 -- why `write` is refused
 abbrev pub IsNoWrite : List Row → Type 0
 IsNoWrite rows = (IsPrefix (text_in rows (codes "PRE")) → ⊥)
     ⊎ (HavePaths (texts_in rows (codes "ID=PATH")) → ⊥)
-    ⊎ (text_in rows (codes "DIR") ≡ []) ⊎ AreAtOdds rows
+    ⊎ (text_in rows (codes "DIR") ≡ []) ⊎ AreAtOdds rows ⊎ HasNoSize rows
 
 -- What `write` is asked for: each part by its own argument.
 pub record AsksToWrite (rows : List Row) (order : WriteOrder) : Type 0 where
   pub folder : order.folder.now ≡ text_in rows (codes "DIR")
   pub prefix : order.prefix.characters ≡ text_in rows (codes "PRE")
   pub files : map (λ w. w.now) order.files.items ≡ texts_in rows (codes "ID=PATH")
-  pub capacity : (n : ℕ) → IsNumber 32 rows (codes "CAPACITY") n → order.capacity ≡ n
+  pub capacity : IsSize (text_in rows (codes "CAPACITY")) order.capacity
   pub fixed : first_of (codes "format") rows ≡ Some (codes "F") → order.format ≡ Fixed
   pub counted : first_of (codes "format") rows ≡ Some (codes "D") → order.format ≡ Counted
   pub spanned : first_of (codes "format") rows ≡ Some (codes "S") → order.format ≡ Spanned

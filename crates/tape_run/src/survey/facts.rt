@@ -2,9 +2,10 @@
 ghost use Rattle.std.specs.Prelude.{◌≡◌, Some};
 ghost use Rattle.tape_run.specs.SurveyLine.{first_text, written_text, system_text, files_text};
 ghost use Rattle.tape_run.specs.SurveyLine.{bad_text, late_text, unread_text, wanted_text, is_told};
-ghost use Rattle.tape_run.specs.SurveyLine.{left_text, early_text, course_text, is_no_image};
+ghost use Rattle.tape_run.specs.SurveyLine.{left_text, early_text, course_text};
+ghost use Rattle.tape_run.specs.SurveyTally.{is_no_image};
 ghost use Rattle.tape_run.specs.SurveyLine.{guess_text, fault_at, fault_text, stop_text};
-ghost use Rattle.tape_run.specs.SurveyLine.{glance_text, seen_text};
+ghost use Rattle.tape_run.specs.SurveyLine.{course_shown, glance_text, seen_text};
 
 use super::course::{ExpectedItem, LabelOrder};
 use super::damages::DamagesText;
@@ -165,6 +166,16 @@ impl fmt::Display for CourseText {
     }
 }
 
+/// Returns the course that is described: an image without items has none.
+fn course_shown(glance: &ImageSummary) -> LabelOrder
+    ensures { result ≡ course_shown glance.now.first glance.now.course }
+{
+    match glance.first {
+        First::Nothing => LabelOrder::Ended,
+        _ => glance.course,
+    }
+}
+
 /// That the items end before the volume does; a fault says so itself.
 #[derive(Clone, Copy)]
 struct EarlyText(&'static str, ImageStop);
@@ -320,7 +331,7 @@ impl fmt::Display for SeenText<'_> {
     fn fmt<W: fmt::Write>(&self, f: &mut fmt::Formatter<W>) -> fmt::Result {
         let (between, sight) = (self.0, self.1);
         let glance = GlanceText(between, &sight.glance);
-        let course = CourseText(between, sight.glance.course, sight.stop);
+        let course = CourseText(between, course_shown(&sight.glance), sight.stop);
         let stop = StopText(between, sight.stop);
         let damages = DamagesText(between, &sight.glance);
         write!(f, "{glance}{course}{stop}{damages}")

@@ -9,9 +9,10 @@ ghost use Rattle.tape_run.specs.SurveyRows.{section_row};
 
 use super::Wording;
 use super::gaps::{gap_first, gap_text, is_found};
-use super::rows::{file_row, section_row};
-use super::sets::{add_lines, add_set_line};
+use super::rows::section_row;
+use super::sets::{add_file_row, add_lines, add_set_line};
 use super::view::Findings;
+use super::volumes::add_volumes;
 use crate::report::{Sets, sets_of};
 use crate::section::{Entry, SectionKey};
 use crate::sections::Sections;
@@ -31,10 +32,7 @@ fn add_known(
 {
     match wording {
         Wording::Words => add_lines(texts, findings, set_id, file),
-        Wording::Rows => {
-            let row = file_row(findings, set_id, file);
-            texts.extend_from_slice(&row)
-        }
+        Wording::Rows => add_file_row(texts, findings, set_id, file),
     }
 }
 
@@ -50,7 +48,10 @@ fn add_front(
         ≡ texts.old.items ++ set_front wording findings.now (set_id, greatest)) }
 {
     match wording {
-        Wording::Words => add_set_line(texts, findings, set_id, greatest),
+        Wording::Words => {
+            add_set_line(texts, findings, set_id, greatest)?;
+            add_volumes(texts, findings, set_id, greatest)
+        }
         Wording::Rows => Ok(()),
     }
 }

@@ -9,7 +9,8 @@ use Rattle.std.specs.Io.KnownBytes.{Appends}
 use Rattle.clap.specs.Words.{Row, found_of, kind_of, one_of, rows_of}
 use Rattle.clap.specs.declared.error.kind.ErrorKind.TheVariants.{ValueValidation}
 use Rattle.tape_writer.specs.Blank.{IsPrefix}
-use Rattle.tape_tool.specs.Words.{AreAtOdds, HavePaths, text_in, texts_in}
+use Rattle.tape_tool.specs.Words.{AreAtOdds, HavePaths, IsSize, text_in, texts_in}
+use Rattle.tape_tool.proofs.Sizing.{letter_found, size_is}
 use Rattle.tape_tool.proofs.ExamplesOfWrongWords.{has_path, is_prefix, missing, other}
 use Rattle.tape_tool.proofs.FoundWords.{reason_of}
 use Rattle.tape_tool.proofs.WordsOfWriting.{lawful}
@@ -68,12 +69,24 @@ lawful_write_refused : (κs : _) (a : _) (e : _) (s : _) → write_order.Learnt-
     → text_in (rows_of (found_of a.1.0.now)) (codes "DIR") ≡ codes "out"
     → texts_in (rows_of (found_of a.1.0.now)) (codes "ID=PATH") ≡ codes "A=a" ∷ []
     → text_in (rows_of (found_of a.1.0.now)) (codes "format") ≡ codes "S"
-    → one_of (codes "record") (rows_of (found_of a.1.0.now)) ≡ None → ⊥
-lawful_write_refused κs a e s l wrong prefix folder files format none =
+    → one_of (codes "record") (rows_of (found_of a.1.0.now)) ≡ None
+    → (n : ℕ) → IsSize (text_in (rows_of (found_of a.1.0.now)) (codes "CAPACITY")) n → ⊥
+lawful_write_refused κs a e s l wrong prefix folder files format none n size =
     let rows = rows_of (found_of a.1.0.now) in
     lawful rows (subst IsPrefix (sym prefix) is_prefix) (subst HavePaths (sym files) has_path)
     (λ h. absurd (let n : 3 ≡ 0 = ap length (sym folder ∙ h) in omega arith))
-    (fits rows format none) (reason_of e wrong l.err)
+    (fits rows format none) n size (reason_of e wrong l.err)
+
+-- letter_of_capacity_forgotten: a capacity of 9K is asked for, and the images have 9 bytes
+letter_of_capacity_forgotten : (κs : _) (a : _) (o : _) (s : _)
+    → write_order.Learnt-named κs a (Ok o) s
+    → text_in (rows_of (found_of a.1.0.now)) (codes "CAPACITY") ≡ codes "9K"
+    → o.capacity ≡ 9 → ⊥
+letter_of_capacity_forgotten κs a o s l asked got =
+    let size : IsSize (codes "9K") o.capacity = subst (λ t. IsSize t o.capacity) asked l.ok.capacity in
+    let is : o.capacity ≡ 9216 = (size_is (codes "9K") (codes "9") 1024 o.capacity
+    (letter_found (codes "9K") (codes "9") 75 1024 refl (inl (refl, refl))) size).1 in
+    absurd (omega (arith, is, got))
 
 abbrev bit : Bool → ℕ
 bit true = 1

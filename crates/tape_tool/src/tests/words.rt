@@ -1,12 +1,14 @@
-//! Command lines.
+//! Tests of command lines.
 use crate::command_line::call_of;
 use crate::list::words::Listing;
 use crate::words::Order;
+use crate::write::words::WriteOrder;
 use std::alloc::{AllocError, Global};
 use std::process::Abort;
 use std::test::Fail;
 
-/// Returns the arguments in a line, after the program's name; two quotes are an empty argument.
+/// Returns the arguments in `line`, after the program's name. Two quotes represent an empty
+/// argument.
 pub fn words_of(alloc: Global, line: &str) -> Result<Vec<String>, AllocError> {
     let mut words = Vec::new(alloc);
     push_word(alloc, &mut words, "out/tape_tool")?;
@@ -42,7 +44,7 @@ fn orders(rt: HostRuntime) -> Result<(), Fail> {
     Ok(())
 }
 
-/// Lines that request nothing, with their exit status and part of the message.
+/// Command lines that run no command, with their exit status and part of the message.
 const SAID: &[(&str, i32, &str)] = &[
     ("", 2, "requires a subcommand"),
     ("lost", 2, "unrecognized subcommand 'lost'"),
@@ -76,7 +78,7 @@ const SAID: &[(&str, i32, &str)] = &[
     ),
     ("check - a.tap -", 2, "standard input can be read only once"),
     ("survey --files-from - -", 2, "A file of this name is './-'"),
-    // The value that is not accepted.
+    // The message contains the value that is not accepted.
     (
         "extract TOOLONG 1 a.txt a.tap",
         2,
@@ -93,16 +95,27 @@ const SAID: &[(&str, i32, &str)] = &[
         "error: invalid value \"ab\": PRE must be three characters",
     ),
     (
+        "write . ABC 40X A=B",
+        2,
+        "error: invalid value \"40X\": CAPACITY must be a number of bytes",
+    ),
+    (
+        "write . ABC 4G A=B",
+        2,
+        "error: invalid value \"4G\": CAPACITY must be a number of bytes",
+    ),
+    (
         "write . ABCD 100000 A=B",
         2,
         "error: invalid value \"ABCD\": PRE must be three characters",
     ),
-    // No printed argument controls the terminal.
+    // No argument can control the terminal when it is printed.
     ("a\u{1b}b\\", 2, "unrecognized subcommand 'a\\u001Bb\\\\'"),
     ("init . a\u{202e} 2", 2, "invalid value \"a\\u202E\": PRE"),
 ];
 
-/// Fails unless the call with this line ends with this status and message.
+/// Fails unless the run with the arguments in `line` ends with `status` and a message that contains
+/// `text`.
 fn is_answered<H: Abort + AllocGlobal>(
     rt: &H,
     line: &str,
@@ -123,6 +136,46 @@ fn is_answered<H: Abort + AllocGlobal>(
 fn help_and_mistakes(rt: HostRuntime) -> Result<(), Fail> {
     for (line, status, text) in SAID {
         is_answered(&rt, line, *status, text)?;
+    }
+    Ok(())
+}
+
+/// Capacities, in bytes.
+const CAPACITIES: &[(&str, Option<u32>)] = &[
+    ("100000", Some(100_000)),
+    ("+100000", Some(100_000)),
+    ("0", Some(0)),
+    ("9K", Some(9_216)),
+    ("40M", Some(41_943_040)),
+    ("1G", Some(1_073_741_824)),
+    ("3G", Some(3_221_225_472)),
+    ("4294967295", Some(4_294_967_295)),
+    ("4294967296", None),
+    ("4194303K", Some(4_294_966_272)),
+    ("4194304K", None),
+    ("4G", None),
+    ("K", None),
+    ("1k", None),
+    ("1KB", None),
+    ("1KK", None),
+    ("1.5M", None),
+    ("-1K", None),
+    ("''", None),
+];
+
+#[test]
+fn capacities(rt: HostRuntime) -> Result<(), Fail> {
+    for (text, bytes) in CAPACITIES {
+        let line = format!(in rt.alloc(); "write . ABC {text} A=B")?;
+        let words = words_of(rt.alloc(), line.as_str())?;
+        let found = match call_of(rt.alloc(), words.as_slice()) {
+            Ok(call) => match call.order {
+                Order::Write(WriteOrder { capacity, .. }) => Some(capacity),
+                _ => None,
+            },
+            Err(_) => None,
+        };
+        assert!(rt; found == *bytes, "{text}");
     }
     Ok(())
 }

@@ -1,11 +1,12 @@
 //! The arguments of `write`.
 
-ghost use Rattle.std.specs.Prelude.{◌≡◌, ◌↔◌, ◌⊎◌, [], codes, map, IfOk, IfErr, IfSome, IfNone};
-ghost use Rattle.std.specs.Prelude.{IsTrue};
+ghost use Rattle.std.specs.Prelude.{◌≡◌, ◌↔◌, ◌⊎◌, ◌++◌, ℕ, List, [], codes, map, IfOk, IfErr};
+ghost use Rattle.std.specs.Prelude.{IfSome, IfNone, IsTrue};
 ghost use Rattle.std.specs.List.{Contains};
 ghost use Rattle.clap.specs.Words.{found_of, rows_of};
 ghost use Rattle.tape_tool.specs.Words.{AreAtOdds, AsksToWrite, HavePaths, IsAtOdds, IsNoWrite};
-ghost use Rattle.tape_tool.specs.Words.{RefusedFor, text_in, texts_in};
+ghost use Rattle.tape_tool.specs.Words.{RefusedFor, text_in, texts_in, IsSize, IsUnit};
+ghost use Rattle.tape_tool.specs.Words.{EndsInLetter};
 
 use crate::command_spec::{CommandSpec, Kind, Word, mistake, wrong_value};
 use crate::help;
@@ -19,7 +20,7 @@ use tape_writer::Prefix;
 /// The names of record formats.
 const FORMATS: &[&str] = &["F", "D", "S"];
 
-/// The maximum of a block length, a record length and a capacity.
+/// The maximum of a block length and a record length.
 const MOST: u64 = 4_294_967_295;
 
 /// The request to `write`: files, each from an argument `ID=PATH`, and the directory of the
@@ -38,7 +39,7 @@ pub struct WriteOrder<'a> {
     pub form: Form,
 }
 
-/// `write`.
+/// The `write` command and its arguments.
 pub const WRITE: CommandSpec = CommandSpec {
     name: "write",
     called: "tape write",
@@ -48,7 +49,7 @@ pub const WRITE: CommandSpec = CommandSpec {
     words: &[
         Word("DIR", Kind::Text, help::FOLDER),
         Word("PRE", Kind::Text, help::PREFIX),
-        Word("CAPACITY", Kind::Number(0, MOST), help::CAPACITY),
+        Word("CAPACITY", Kind::Text, help::CAPACITY),
         Word("ID=PATH", Kind::Texts, help::FILES),
         Word(
             "format",
@@ -67,8 +68,8 @@ pub const WRITE: CommandSpec = CommandSpec {
     ],
 };
 
-/// Returns what the arguments of `write` ask for. The parser has checked that all required ones are
-/// present.
+/// Returns the request in `matches`, the arguments of `write`. The parser has checked that all
+/// required ones are present.
 pub fn write_order<'a>(alloc: Global, matches: &ArgMatches<'a>) -> Result<WriteOrder<'a>, Error>
     ensures ok { IfOk result (AsksToWrite (rows_of (found_of matches.now))) }
     ensures err { IfErr result (RefusedFor (IsNoWrite (rows_of (found_of matches.now)))) }
@@ -77,18 +78,61 @@ pub fn write_order<'a>(alloc: Global, matches: &ArgMatches<'a>) -> Result<WriteO
     let Some(prefix) = Prefix::new(name) else {
         return Err(wrong_value(alloc, &WRITE, name, help::WRONG_PREFIX));
     };
-    let order = asked(matches, prefix, files_of(alloc, matches)?);
+    let size = text_of(matches, "CAPACITY");
+    let Some(capacity) = size_of(size) else {
+        return Err(wrong_value(alloc, &WRITE, size, help::WRONG_CAPACITY));
+    };
+    let order = asked(matches, prefix, capacity, files_of(alloc, matches)?);
     match wrong(&order) {
         Some(text) => Err(mistake(alloc, &WRITE, text)),
         None => Ok(order),
     }
 }
 
-/// Returns the request in the arguments, with the given prefix and files.
-fn asked<'a>(matches: &ArgMatches<'a>, prefix: Prefix, files: Vec<&'a str>) -> WriteOrder<'a>
+/// Returns the number of bytes that a size means: a number, or one with `K`, `M` or `G` at its end
+/// for 1,024 bytes, its square and its cube.
+fn size_of(text: &str) -> Option<u32>
+    ensures some { IfSome result (IsSize text.now) }
+    ensures none { IfNone result ((n : ℕ) → IsSize text.now n → ⊥) }
+{
+    let (digits, factor) = unit_of(text);
+    match digits.parse::<u32>() {
+        Ok(number) => number.checked_mul(factor),
+        Err(_) => None,
+    }
+}
+
+/// Returns a size without the letter at its end, if there is one, and the number of bytes that the
+/// letter represents.
+fn unit_of(text: &str) -> (&str, u32)
+    ensures is { (unit : List ℕ) × (text.now ≡ result.0.now ++ unit) × IsUnit unit result.1 }
+    ensures only { (digits unit : List ℕ) (factor : ℕ) → text.now ≡ digits ++ unit
+        → IsUnit unit factor
+        → ((digits ≡ result.0.now) × (factor ≡ result.1)) ⊎ EndsInLetter digits }
+{
+    if let Some(digits) = text.strip_suffix('K') {
+        return (digits, 1_024);
+    }
+    if let Some(digits) = text.strip_suffix('M') {
+        return (digits, 1_048_576);
+    }
+    if let Some(digits) = text.strip_suffix('G') {
+        return (digits, 1_073_741_824);
+    }
+    (text, 1)
+}
+
+/// Returns the request in the arguments, with the given prefix, capacity and files.
+fn asked<'a>(
+    matches: &ArgMatches<'a>,
+    prefix: Prefix,
+    capacity: u32,
+    files: Vec<&'a str>,
+) -> WriteOrder<'a>
     ensures asks { prefix.characters ≡ text_in (rows_of (found_of matches.now)) (codes "PRE")
         → map (λ w. w.now) files.entry.items
         ≡ texts_in (rows_of (found_of matches.now)) (codes "ID=PATH")
+        → IsSize (text_in (rows_of (found_of matches.now)) (codes "CAPACITY")) capacity
         → (IsNoWrite (rows_of (found_of matches.now)) → ⊥)
         → AsksToWrite (rows_of (found_of matches.now)) result }
     ensures folder { result.folder.now ≡ text_in (rows_of (found_of matches.now)) (codes "DIR") }
@@ -97,7 +141,7 @@ fn asked<'a>(matches: &ArgMatches<'a>, prefix: Prefix, files: Vec<&'a str>) -> W
     WriteOrder {
         folder: text_of(matches, "DIR"),
         prefix,
-        capacity: matches.get_one::<u32>("CAPACITY").unwrap_or(0),
+        capacity,
         files,
         format: format_of(text_of(matches, "format")),
         block: matches.get_one::<u32>("block").unwrap_or(0),
@@ -108,7 +152,7 @@ fn asked<'a>(matches: &ArgMatches<'a>, prefix: Prefix, files: Vec<&'a str>) -> W
     }
 }
 
-/// Returns the arguments that name files, each of which must have a path.
+/// Returns the arguments that name files. Each must have a path.
 fn files_of<'a>(alloc: Global, matches: &ArgMatches<'a>) -> Result<Vec<&'a str>, Error>
     ensures ok { IfOk result (λ files. map (λ w. w.now) files.items
         ≡ texts_in (rows_of (found_of matches.now)) (codes "ID=PATH")) }
@@ -143,7 +187,7 @@ fn has_path(word: &str) -> bool
     word.contains('=')
 }
 
-/// Returns the error for options that exclude each other.
+/// Returns the error if the directory is empty or options exclude each other.
 fn wrong(order: &WriteOrder<'_>) -> Option<&'static str>
     ensures some { IfSome result (λ _. (order.now.folder.now ≡ []) ⊎ IsAtOdds order.now) }
     ensures folder { IfNone result (order.now.folder.now ≡ [] → ⊥) }
