@@ -92,7 +92,7 @@ pub mod ExtractingAgain
 pub mod ExtractingLocated
 pub mod ExtractingNow
 pub mod ExtractExamples
--- Readings of one tape, merged: definitions to believe, in this order.
+-- Readings of one tape, merged: the definitions that have to be trusted, in reading order.
 pub mod Merging
 pub mod MergeSteps
 pub mod MergeCalls
