@@ -88,7 +88,7 @@ no_images = record {
   not_opened = 0;
 }
 
--- the numbers after one more image
+-- the count after one more image; it stops at its greatest value
 abbrev pub one_more : ℕ → ℕ
 one_more n = min (n + 1) 4294967295
 
