@@ -277,6 +277,25 @@ def salvaged_files(t):
 
 
 @check
+def log_of_a_merge(t):
+    """OUT and LOG of `merge --log` are there together, or neither is; files that exist stay as they are."""
+    words = ["merge", "--log", "LOG", "OUT", "one.tap", "one.tap"]
+    run = t(words, REELS)
+    due = {path: run.files.get(path) for path in ("OUT", "LOG")}
+    yield run.status == 0 and None not in due.values() and run.drafts() == [], f"{run.status} {run.err!r} {list(run.files)}"
+    for path in due:
+        run = t(words, REELS | {path: b"mine\n"})
+        yield run.status == 1 and run.files[path] == b"mine\n" and not set(due) - {path} & set(run.files), f"{path} exists: {run.status} {list(run.files)}"
+        run = t(words, REELS, before=lambda root: (root / path).symlink_to("lost"))
+        yield run.status == 1 and run.links == [path] and "lost" not in run.files, f"{path} is a link: {run.status}"
+    for kind, error in (("fsync", "EIO"), ("write", "ENOSPC"), ("link,linkat,rename", "EIO")):
+        for number in range(1, sum(call in kind.split(",") for call, _, _ in t(words, REELS).events) + 1):
+            run = t(words, REELS, inject=[f"{kind}:error={error}:when={number}"])
+            there = {path: run.files[path] for path in due if path in run.files}
+            yield run.drafts() == [] and (there == due or run.status == 1 and not there), f"{kind} {number}: {run.status} {list(there)}"
+
+
+@check
 def a_stage_by_another_path(t):
     for stage, out in (("d/../x", "x"), ("x", "d/../x"), ("./x", "x")):
         run = t(["extract", "ABC001", "1", out, "one.tap", "--stage", stage], REELS)

@@ -235,7 +235,7 @@ fn open_or_make<D: Disk + Drop>(
 /// Returns whether the disk has at most 256 bytes, each of them zero or equal to the byte at the
 /// same offset of a new stage of the file whose first gate is not yet open. A file contains zeros
 /// where its system lost written bytes. The disk is only read.
-fn is_unmade<D: Disk>(disk: &mut D, set_id: Field<6>, file: u16) -> bool
+pub fn is_unmade<D: Disk>(disk: &mut D, set_id: Field<6>, file: u16) -> bool
     ensures unmade { D.is_honest disk.old
         → OnTrue result (IsUnmade set_id file (D.seen disk.old)) }
     ensures reads { OnlyReads D.Disk disk.old disk.new }
