@@ -54,7 +54,7 @@ calm_then g old mid new a b = record {
       let (now, has, still) = a.kept held was kept in b.kept now has still;
 }
 
--- the sink was only read after that
+-- afterwards the sink was only read
 pub calm_ended : {S V : Type 0} (g : Ghosts S) (old mid new : SessionState S)
     (result : Result V EngineFault) → IsCalm g old mid → IsWalked g mid new
     → OnOk result (g.refusals new.sink ≡ g.refusals mid.sink) → OnOk result (IsCalm g old new)

@@ -23,7 +23,7 @@ kept (Some xs) None new bytes a b = absurd a
 kept (Some xs) (Some ys) None bytes a b = absurd b
 kept (Some xs) (Some ys) (Some zs) bytes a b = b ∙ a
 
--- the whole text was written, and nothing else
+-- exactly the text was written
 pub whole_front : (old mid new : Option (List ℕ)) (text : List ℕ) → Appends old mid text
     → Keeps mid new → AppendsFront old new text
 whole_front old mid new text wrote keeps =

@@ -142,7 +142,7 @@ ends_kept items number all end r lt is never h = record {
       (h.cut e);
 }
 
--- none is left
+-- nothing is left
 pub ends_none : {R : Type 0} (items number : ℕ) (all : List (Reading R)) (ending : Ending)
     → length all ≤ number → (SomeEnds items ending all → SomeEnds items ending (drop number all))
     → SomeEnds items ending all → ⊥

@@ -1,5 +1,5 @@
--- A better reading of a volume moves a position at least as far: like `Reaching` of tape_set, with
--- any better reading instead of a longer one.
+-- A better reading of a volume moves a position at least as far: as in `Reaching` of tape_set, but
+-- for any better reading, not only for a longer one.
 use Rattle.std.proofs.Common.{◌≡◌, ◌<◌, ◌≤◌, ℕ, zero, suc, ◌+◌, ◌-◌, List, [], ◌∷◌}
 use Rattle.std.proofs.Common.{length, take, drop, Bool, true, false, cond, ltb, Option, Some, None}
 use Rattle.std.proofs.Common.{refl, sym, ap, subst, ◌∙◌, arith}

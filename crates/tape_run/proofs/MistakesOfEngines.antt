@@ -52,7 +52,7 @@ output_flushed_while_something_is_wanted : (S : _) (R : _) (L : _) (W : _) (P : 
     → (s.1.1.1.0.now ≡ a.1.1.1.0.now → ⊥) → ⊥
 output_flushed_while_something_is_wanted = partial_output_written
 
--- one image, of which something was read unless nothing is missing
+-- one image; something of it was read, unless nothing is missing
 one_turn : {L R : Type 0} (gives : Mounting L R) (remaining : R → Option (List ℕ)) (shelf left : L)
     (turns : List Turn) (want : Want) → AreTurns gives remaining shelf 0 turns left
     → ((image : Option R) (next : L) → gives shelf 0 image next → image ≡ None)

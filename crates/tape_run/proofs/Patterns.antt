@@ -1,4 +1,4 @@
--- Words that fit patterns, step by step of the search.
+-- The search that decides whether a word fits a pattern, step by step.
 use Rattle.std.proofs.Common.{◌≡◌, ◌≢◌, ◌⊎◌, inl, inr, ℕ, ◌+◌, ◌*◌, ◌-◌, ◌<◌, ◌≤◌, List, [], ◌∷◌, ◌++◌}
 use Rattle.std.proofs.Common.{length, drop, refl, sym, ap, subst, ◌∙◌, arith, append_assoc, length-append}
 use Rattle.std.proofs.lemmas.List.{drop-append-le, length-drop}
@@ -12,18 +12,18 @@ abbrev pub NoStar : List ℕ → Type 0
 NoStar [] = Unit {0}
 NoStar (c ∷ cs) = (c ≢ 42) × NoStar cs
 
--- a rest that some characters precede fits the pattern
+-- a word fits the pattern if a later part of it does, after the star
 abbrev pub Later : List ℕ → List ℕ → Type 0
 Later pattern word = (piece rest : List ℕ) × (word ≡ piece ++ rest) × (1 ≤ length piece)
     × Fits pattern rest
 
--- the same characters, none of them a star, come before both rests
+-- the pattern and the word had the same characters before their rests, and no star
 abbrev pub Passed : List ℕ → List ℕ → List ℕ → List ℕ → Type 0
 Passed after from left rest = (same : List ℕ) × (after ≡ same ++ left) × (from ≡ same ++ rest)
     × NoStar same
 
--- The word fits the pattern if what is left of it fits what is left of the pattern, or if what
--- follows the last star fits a later rest than that on which it is being tried.
+-- The word fits the pattern if the rest of the word fits the rest of the pattern, or if the pattern
+-- after the last star fits the word from a later character on.
 pub record Tried (pattern word after from left rest : List ℕ) : Type 0 where
   pub onward : Fits pattern word → Fits left rest ⊎ Later after from
   pub here : Fits left rest → Fits pattern word
@@ -34,7 +34,7 @@ pub record Tried (pattern word after from left rest : List ℕ) : Type 0 where
   pub from_len : length from ≤ length word
   pub rest_len : length rest ≤ length word
 
--- nothing fits later on an empty rest
+-- an empty rest has no later part
 pub never_later : (after from : List ℕ) → from ≡ [] → Later after from → ⊥
 never_later after from none (piece, rest, e, some, f) =
     let l = ap length (sym none ∙ e) ∙ length-append piece rest in
@@ -68,7 +68,8 @@ first_or_later others rest ([], more, e, r, f) = inl (subst (Fits others) (sym e
 first_or_later others rest (c ∷ cs, more, e, r, f) =
     inr (c ∷ cs, more, e, omega arith, f)
 
--- A later rest fits what follows an earlier star: then a later rest fits what follows this one.
+-- If a later part of the word fits the pattern after an earlier star, a later part fits the pattern
+-- after this star.
 still_later : (after from others rest : List ℕ) → Passed after from (42 ∷ others) rest
     → Later after from → Later others rest
 still_later after from others rest (same, a, b, plain) (piece, more, e, some, f) =
@@ -164,9 +165,9 @@ tried_plain pattern word after from left rest others bytes c is at star t =
       rest_len = omega (arith, u.rest_len);
     }
 
--- ---- none of these
+-- ---- no star, and different characters
 
--- what is left of the word does not fit
+-- the rest of the word does not fit
 pub fits_not : (left rest : List ℕ) → ((others : List ℕ) → left ≢ 42 ∷ others)
     → ((c : ℕ) (others bytes : List ℕ) → left ≡ c ∷ others → rest ≢ c ∷ bytes)
     → (left ≡ [] → rest ≢ []) → Fits left rest → ⊥
@@ -221,9 +222,10 @@ fits_no_more pattern word after from left rest none not t f = elim (t.onward f) 
   | inr l ↦ never_later after from (none_of from none) l
 ]
 
--- ---- what is left decreases
+-- ---- the rest becomes shorter
 
--- a number of two digits is less if its first digit is, or if the second alone is
+-- a number of two digits is less than another if its first digit is less, or if the first digits
+-- are equal and its second digit is less
 pub lower : (a b n x y : ℕ) → a < b → x < n → a * n + x < b * n + y
 lower a b n x y less within =
     let m : (a + 1) * n ≤ b * n = mul-le-mul_right {m = a + 1} {n = b} n (omega (arith, less)) in

@@ -2,7 +2,7 @@
 use Rattle.std.proofs.Common.{◌≡◌, ℕ, List, Option, Some, None, subst}
 use Rattle.std.specs.Prelude.{Result, Ok, Err, OnOk, OnErr, IfSome}
 
--- a property of the text that was built is one of the text that is shown
+-- a property of the text that was built is also a property of the text that is shown
 pub on_ok_shown : {A E : Type 0} (r : Result A E) (shown : Option (List ℕ)) (P : List ℕ → Type 0)
     (made : List ℕ) → IfSome shown (λ bs. made ≡ bs) → OnOk r (P made)
     → OnOk r (IfSome shown P)

@@ -61,7 +61,7 @@ section_linked c set_id file old new goal first next before most within is put w
     ∙ ap (λ ls. old ++ ls) (sym (chain_behind c set_id file first (before + 1) (most - before) some))
     ∙ was
 
--- a section was added, and it does
+-- a section was added, and it ends the file
 pub section_last : (c : List Told) (set_id : List ℕ) (file : ℕ) (old new goal : List (Option (List ℕ)))
     (first before most : ℕ) → before < most
     → None ≡ next_first first (before + 1) (entry_at c (key_at set_id file (before + 1)))
@@ -79,7 +79,7 @@ section_last c set_id file old new goal first before most within is put was =
     ∙ ap (λ ls. old ++ ls) (sym (chain_behind c set_id file first (before + 1) (most - before) some))
     ∙ was
 
--- none is left
+-- nothing is left
 pub sections_over : (c : List Told) (set_id : List ℕ) (file : ℕ) (old new goal : List (Option (List ℕ)))
     (first sect left : ℕ) → left ≡ 0
     → new ≡ old ++ gap_if (not (ends (entry_at c (key_at set_id file (first - 1)))))
@@ -113,7 +113,7 @@ file_linked d set_id old new goal before greatest within put was =
     ∙ ap (λ ls. old ++ ls) (sym (files_behind d set_id (before + 1) (greatest - before) some))
     ∙ was
 
--- none is left
+-- nothing is left
 pub files_over : (d : Found) (set_id : List ℕ) (all goal : List (Option (List ℕ))) (file left : ℕ)
     → left ≡ 0 → all ++ files_chain d set_id file left ≡ goal → all ≡ goal
 files_over d set_id all goal file left none was =
@@ -121,7 +121,7 @@ files_over d set_id all goal file left none was =
 
 -- ---- volumes
 
--- at one of the links
+-- at one of the links of the chain
 pub at_link : (last : Option (List ℕ)) (missing : Bool) (xs : List (Option (List ℕ))) (i : ℕ)
     (x : Option (List ℕ)) → i < length xs
     → volumes_from last missing (drop i xs)
@@ -149,9 +149,9 @@ item_added last missing xs i v old new goal x within is put was =
     ∙ ap (λ (l : Option (List ℕ)). old ++ volumes_from last missing (l ∷ drop (i + 1) xs)) (sym is)
     ∙ ap (λ vs. old ++ vs) (sym (at_link last missing xs i x within)) ∙ was
 
--- ---- their line
+-- ---- the line of the volumes
 
--- one more
+-- one more entry
 pub text_put : (column next : ℕ) (xs : List VolumeItem) (i : ℕ) (old new goal : List ℕ)
     (x : VolumeItem) → i < length xs
     → next ≡ column_after column (item_text (get_or xs i x))

@@ -141,7 +141,7 @@ in_volumes last missing (Some w ∷ front) rest v = later (in_volumes (Some w) f
         (last_or last missing w (is_same last w) refl)
     later (inr h) = inr (after (items_to last missing w) onward (Named v) h)
 
--- a volume that is not the one before the first
+-- a volume that differs from the volume before the first link
 first_in : (ys : List VolumeItem) (v : List ℕ) → (None ≡ Some v) ⊎ IsIn ys (Named v) → IsIn ys (Named v)
 first_in ys v (inl same) = absurd (cc same)
 first_in ys v (inr h) = h

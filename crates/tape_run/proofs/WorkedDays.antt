@@ -51,7 +51,7 @@ abbrev AllBelow : ℕ → (ℕ → Type 0) → Type 0
 AllBelow zero P = ⊤
 AllBelow (suc k) P = P 0 × AllBelow k (λ n. P (suc n))
 
--- a property of the numbers below k, and of the others, is one of every number
+-- a property that all numbers below k and all others have is a property of every number
 each : (k : ℕ) (P : ℕ → Type 0) → AllBelow k P → ((n : ℕ) → k ≤ n → P n) → (n : ℕ) → P n
 each zero P all more n = more n (omega arith)
 each (suc k) P (now, later) more zero = now

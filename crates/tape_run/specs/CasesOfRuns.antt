@@ -61,7 +61,7 @@ pub record CasesOfStops : Type 0 where
       (fault : RunFault) (s : HasStopped old (Reel ∷ Save ∷ Restart 0 ∷ []) bytes left 1 fault new)
       → (s.step ≡ Save) × AreGivenBy s.which bytes left s.given
       × (new.failures ≡ counted_up (failed_of s.which) old.failures)
-  -- two reels were read before it, and the third reader is left
+  -- two reels were read before the step that failed, and the third reader is left
   pub stopped_so : (old new : Seen) (a b c : List ℕ) (left : List (Option (List ℕ)))
       (fault : RunFault) (set : FileSet) (hs : List MountEvent)
       (s : HasStopped old (Reel ∷ Reel ∷ Save ∷ Reel ∷ []) (a ∷ b ∷ c ∷ []) left 2 fault new)

@@ -286,7 +286,8 @@ pub record CasesOfSurveys : Type 0 where
   -- rows have each section, and no last line; a tab separates their columns
   pub sections_in_rows : (t : Told) → sections_text Rows (t ∷ []) ≡ section_row t ++ []
   pub no_end_in_rows : (d : Found) → end_text Rows d ≡ []
-  -- the line of five volumes without damage and one noise, and that of one blank volume
+  -- the lines for five volumes without damage and one image that is no tape, and for one blank
+  -- volume
   pub six_images : tally_line (record no_images { images = 6; ok = 5; not_tapes = 1 })
       ≡ codes "6 images: 5 ok, 1 not a tape\n"
   pub one_image : tally_line (record no_images { images = 1; blank = 1 })

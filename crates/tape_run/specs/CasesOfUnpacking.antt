@@ -110,7 +110,7 @@ pub record CasesOfUnpacking : Type 0 where
       ≡ codes "NO SET " ∷ codes "NO FILE " ∷ codes "INCOMPLETE IMAGE " ∷ []
   pub unread : notice_line notices.Unread (codes "a.tap")
       ≡ codes "INCOMPLETE IMAGE " ++ name_text (codes "a.tap") ++ codes "\n"
-  -- counts: each outcome has its own, but those of files that are listed
+  -- counts: each outcome has its own, except those of files that are only listed
   pub counts : total_line (counted (counted (counted (counted (counted (counted nothing_counted
       outcomes.Complete 1) outcomes.Exists 2) outcomes.Awaits 3) outcomes.Conflict 4)
       outcomes.NotFound 5) outcomes.Failed 6)
@@ -135,7 +135,7 @@ pub record CasesOfUnpacking : Type 0 where
   pub no_volume : volume_of None ≡ None
   pub on_a_volume : (s : ImageSurvey) (label : Vol1) → s.glance.first ≡ Volume label
       → volume_of (Some s) ≡ Some label.volume
-  -- which files are chosen
+  -- the files that are chosen
   pub star : Fits (codes "A*C") (codes "ABBC")
   pub no_more : Fits (codes "A") (codes "AB") → ⊥
   pub by_number : (f : SetFile) → f.file ≡ 12 → Means (codes "12") f

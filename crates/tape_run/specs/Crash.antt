@@ -15,7 +15,7 @@ use Rattle.tape_run.specs.Seen.{Seen, seen}
 use Rattle.tape_run.specs.Steps.{Reeled, Saved, WentBack}
 use Rattle.tape_run.specs.SessionState.{SessionState}
 
--- the session's position, with the parts before it
+-- the session's position and the parts before it
 abbrev pub IsHere : Seen → Point → List Portion → Type 0
 IsHere s back there = (back ≡ saved s.place (weight_of s.parts)) × (there ≡ s.parts)
 

@@ -88,7 +88,8 @@ pub record CutBehind (bytes : List ℕ) (old new : Seen) : Type 0 where
   pub table : (xs : List TapeItem) (end : ℕ) (stop : Stop) → Begins 0 bytes xs end stop
       → IsCutAt xs (behind_of old.place) new.place old.parts new.parts
 
--- why a reel was not continued to its end: memory was refused before, or the sink refused a part
+-- the reason why a reel was not continued to its end: memory was refused before, or the sink
+-- refused a part
 abbrev pub ReelFailsBehind : List ℕ → RunFault → Seen → Seen → Type 0
 ReelFailsBehind bytes (Sink cause) old new = CutBehind bytes old new
 ReelFailsBehind bytes NoSuchPoint old new = ⊥

@@ -22,7 +22,7 @@ pub mod Under
 pub mod Made
 pub mod Puts
 pub mod Taking
--- The catalogue: definitions to believe, in this order.
+-- The catalogue: definitions to trust, in reading order.
 pub mod Shown
 pub mod Noted
 pub mod Added
@@ -38,20 +38,20 @@ pub mod WorkedDays
 pub mod Identifier
 pub mod Quoting
 pub mod QuotingLaws
--- Listings of images: definitions to believe, in this order.
+-- Listings of images: definitions to trust, in reading order.
 pub mod ListLine
 pub mod Listing
 pub mod Listed
 pub mod ListExamples
 pub mod Placed
 pub mod PlacedExamples
--- Reports on reels: definitions to believe, in this order.
+-- Reports on reels: definitions to trust, in reading order.
 pub mod CheckLine
 pub mod Checked
 pub mod WholeReels
 pub mod OneEntry
 pub mod CheckExamples
--- Surveys of images: definitions to believe, in this order.
+-- Surveys of images: definitions to trust, in reading order.
 pub mod SurveyGaps
 pub mod SurveyGlance
 pub mod SurveyFiles
@@ -72,14 +72,14 @@ pub mod SurveyConflicts
 pub mod SurveySound
 pub mod Survey
 pub mod SurveyLaws
--- Files unpacked: definitions to believe, in this order.
+-- Files unpacked: definitions to trust, in reading order.
 pub mod Unpacking
 pub mod ReadingOrder
 pub mod UnpackLine
 pub mod UnpackChoice
 pub mod UnpackTally
 pub mod UnpackLaws
--- Recovered files, and reports of that: definitions to believe, in this order.
+-- Recovered files, and reports of that: definitions to trust, in reading order.
 pub mod ReelLine
 pub mod RecordText
 pub mod RecordFront
@@ -92,7 +92,7 @@ pub mod ExtractingAgain
 pub mod ExtractingLocated
 pub mod ExtractingNow
 pub mod ExtractExamples
--- Readings of one tape, merged: definitions to believe, in this order.
+-- Readings of one tape, merged: the definitions to trust, in reading order.
 pub mod Merging
 pub mod MergeSteps
 pub mod MergeCalls
@@ -103,7 +103,7 @@ pub mod MergeNow
 -- Laws of those.
 pub mod MergeLaws
 pub mod MergedCopies
--- Recovering a file that no image has completely: definitions to believe, in this order.
+-- Recovering a file that no image has completely: definitions to trust, in reading order.
 pub mod SalvageWalk
 pub mod SalvageCopies
 pub mod SalvageRecords

@@ -42,7 +42,7 @@ abbrev pub alone_in : ℕ → List (List TapeItem) → ℕ
 alone_in zero rs = 0
 alone_in (suc n) rs = alone_in n rs + one_if (witnesses_at n rs == 1)
 
--- the section's trailer label counts another number of blocks
+-- the section's trailer label gives a different number of blocks
 abbrev pub has_wrong_count : SectionState → ℕ
 has_wrong_count states.Good = 0
 has_wrong_count states.Bad = 0
@@ -68,7 +68,7 @@ pub record Counts (readings : List (List TapeItem)) (merged : List TapeItem) (m 
 
 -- ---- calls
 
--- 1 if the reading has the best item in readable form
+-- 1 if the reading could read the best item
 abbrev pub has_first : Verdict → ℕ
 has_first verdicts.First = 1
 has_first verdicts.Bad = 0

@@ -8,7 +8,8 @@ use Rattle.tape_image.specs.Step.{TakesEnd, TakesFault}
 use Rattle.tape_run.specs.MergeSteps.{HasRead}
 use Rattle.tape_run.specs.Merging.{IsReadFrom, IsMerged, Differ}
 
--- To be a reading is an order of tapes: longer tapes, and tapes with fewer bad items, are greater.
+-- "Is a reading of" is an order of tapes: longer tapes, and tapes with fewer bad items, are
+-- greater.
 pub record ReadingsAreOrdered : Type 0 where
   pub itself : (t : List TapeItem) → IsReadFrom t t
   pub through : (r s t : List TapeItem) → IsReadFrom r s → IsReadFrom s t → IsReadFrom r t
@@ -31,7 +32,7 @@ abbrev pub AsLongAsLongest : Type 0
 AsLongAsLongest = (rs : List (List TapeItem)) (m : List TapeItem) → IsMerged rs m
     → length m ≡ longest rs
 
--- every reading that reaches this item has it as a bad one
+-- in every reading that reaches the item, the item is bad
 abbrev pub AllBadAt : ℕ → List (List TapeItem) → Type 0
 AllBadAt j [] = ⊤
 AllBadAt j (r ∷ rs) = ((slice_get r j ≡ None) ⊎ (slice_get r j ≡ Some bad)) × AllBadAt j rs

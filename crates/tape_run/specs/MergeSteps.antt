@@ -196,7 +196,7 @@ pub record HasRead (first now : Reader) (items : List TapeItem) : Type 0 where
   pub stands : (now ≡ behind)
       ⊎ (MeetsEnd behind now ⊎ ((fault : ImageFault) × MeetsFault behind fault now))
 
--- the items end with this one
+-- the last of the items is this one
 abbrev pub EndWith : List TapeItem → TapeItem → Type 0
 EndWith items x = (before : List TapeItem) × (items ≡ before ++ x ∷ [])
 

@@ -1,4 +1,5 @@
--- What a reel answers: the core's answers to the items that the reader returned, one after another.
+-- The answer of a reel: the core's answers to the items that the reader returned, one after
+-- another.
 use Rattle.std.specs.Prelude.{◌≡◌, ◌⊎◌, ℕ, ◌+◌, ◌≤◌, Bool, List, [], ◌∷◌, ◌++◌, Option, Some, None}
 use Rattle.std.specs.Prelude.{⊤}
 use Rattle.std.specs.List.{AllByRecursion}

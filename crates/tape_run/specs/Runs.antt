@@ -51,7 +51,7 @@ pub record RunsUpTo (which : List Bool) (old : Seen) (steps : List Step)
   pub runs : Runs which old (take n steps) reels left mid
   pub fails : Fails step (drop (reels_in (take n steps)) reels) fault mid new
 
--- Why the step failed, for any sink, whether or not readers know their bytes.
+-- The reason why the step failed, for any sink, whether or not the readers' bytes are known.
 abbrev pub RefusesStep : {S : Type 0} → Ghosts S → Step → RunFault → SessionState S → SessionState S → Type 0
 RefusesStep g Reel fault old new = Refuses g fault old new ⊎ ((fault ≡ TooFewReels) × (new ≡ old))
 RefusesStep g Save fault old new = Refuses g fault old new

@@ -174,7 +174,7 @@ abbrev pub outside_bad : ℕ → Expected
 outside_bad marks =
     if nat_lt marks 2 then unnamed_after marks one_unreadable else Outside marks
 
--- after one item less, the data of a section
+-- the data of a section, after one item less
 abbrev pub skipping : ℕ → OpenSection → Expected
 skipping n u = if n == 0 then Data u else Skipping n u
 

@@ -1,4 +1,4 @@
--- What a survey says of the items of an image, and of the volumes of a set.
+-- What a survey says about the items of an image, and about the volumes of a set.
 use Rattle.std.specs.Prelude.{◌≡◌, ◌≢◌, ℕ, ◌+◌, Bool, true, false, List, [], ◌∷◌, ◌++◌, length, map}
 use Rattle.std.specs.Prelude.{◌≤◌, ◌<◌, Option, Some, None, replicate}
 use Rattle.std.specs.Str.{bytes_eq}
@@ -102,9 +102,10 @@ EndedIsVolume = (items : List TapeItem) → course_of items ≡ Ended → IsVolu
 
 -- ---- volumes
 
--- What the volumes of a set are said to be.
+-- The volumes of a set, as a survey names them.
 pub record VolumesAreListed : Type 0 where
-  -- the volume of a section that was found is one of them, if no section before it ends its file
+  -- the volume of a section that was found is among the volumes of the set, if no section before it
+  -- ends its file
   pub named : (d : Found) (x : SetFiles) (file sect : ℕ) (e : Entry) → 1 ≤ file → file ≤ x.1
       → is_found d x.0 file ≡ true → 1 ≤ sect → sect ≤ 9999
       → ((i : ℕ) → 1 ≤ i → i < sect → is_last (entry_at d.sections (key_at x.0 file i)) ≡ false)

@@ -148,7 +148,7 @@ course_text between (Leaves n w) stop = left_text between n w
 course_text between Follows stop = early_text between stop
 course_text between Blank stop = early_text between stop
 
--- the course that is described: an image without items has none
+-- the label order that is described: an image without items has none
 abbrev pub course_shown : First → LabelOrder → LabelOrder
 course_shown firsts.Nothing course = Ended
 course_shown (firsts.Volume label) course = course

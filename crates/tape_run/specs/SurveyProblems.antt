@@ -38,14 +38,15 @@ missing_line Words first next before =
     codes "        section" ++ ((if nat_lt first (next - 1) then codes "s" else [])
     ++ (codes " " ++ (numbers_text first next ++ (where_text before ++ codes "\n"))))
 
--- of a file, from the first number after the last section that was found before the next one
+-- the missing sections of a file before section `next`: those after the last section that was found
+-- before it
 abbrev pub missing_text : Wording → List Told → List ℕ → ℕ → ℕ → ℕ → List ℕ
 missing_text y c set_id file first next =
     if nat_lt first next
     then missing_line y first next (entry_at c (key_at set_id file (first - 1)))
     else []
 
--- a section of which this is known, after the missing ones before it
+-- a section with this entry, after the missing sections before it
 abbrev pub known_text : Wording → List Told → List ℕ → ℕ → ℕ → ℕ → Option Entry → List ℕ
 known_text y c set_id file first sect (Some entry) =
     missing_text y c set_id file first sect ++ found_line y sect entry
@@ -72,8 +73,8 @@ ends None = false
 abbrev pub next_text : Wording → ℕ → Option Entry → List ℕ
 next_text y first last = if ends last then [] else missing_line y first (first + 1) last
 
--- n sections of a file, beginning with this one, if those from the first number up to it were
--- not found, and the section after the last
+-- n sections of a file, beginning with section `sect`, and the section after the last; sections
+-- from number `first` up to `sect` were not found
 abbrev pub sections_from : Wording → List Told → List ℕ → ℕ → ℕ → ℕ → ℕ → List ℕ
 sections_from y c set_id file first sect zero =
     next_text y first (entry_at c (key_at set_id file (first - 1)))

@@ -115,7 +115,7 @@ file_cells d set_id file =
     ++ known_cells note ++ codes "\t" ++ standing_cells (standing_of d.sections set_id file)
     ++ conflict_cell (is_mixed note || is_some (dispute_at d.copies key))
 
--- its row: the last column has each of its sections that is damaged or missing
+-- the row of a file: the last column has each section that is damaged or missing
 abbrev pub file_row : Found → List ℕ → ℕ → List ℕ
 file_row d set_id file = (file_cells d set_id file
     ++ rest_lines Rows (is_whole_file d.sections set_id file) d.sections set_id file) ++ codes "\n"

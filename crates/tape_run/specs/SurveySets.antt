@@ -118,12 +118,12 @@ stray_line t = trimmed_text t.0.set_id ++ (codes " file " ++ (decimal t.0.file +
     ++ (decimal t.0.sect ++ (codes " " ++ (damage_text t.1.state ++ (codes " on "
     ++ (trimmed_text t.1.volume ++ codes ": the file ends before it\n"))))))))
 
--- of a section, if it is one of them
+-- the line of a section, if the section is damaged and its file is complete without it
 abbrev pub stray_text : List Told → Told → List ℕ
 stray_text c t =
     if is_good t.1.state || not (is_whole_file c t.0.set_id t.0.file) then [] else stray_line t
 
--- of all of them, in words; rows have the state of each section
+-- the lines of all such sections, in words; rows have the state of each section
 abbrev pub strays_text : Wording → List Told → List ℕ
 strays_text Words c = flat_map (stray_text c) c
 strays_text Rows c = []

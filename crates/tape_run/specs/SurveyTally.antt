@@ -1,5 +1,5 @@
--- The state of an image, and how many images of a survey are in each. The line is for people, and
--- may change.
+-- The state of an image, and the number of images in each state. The line is for people, and may
+-- change.
 use Rattle.std.specs.Prelude.{ℕ, ◌+◌, ◌==◌, ◌&&◌, nat_le, min, not, is_some, Bool, true, false}
 use Rattle.std.specs.Prelude.{if◌then◌else◌, List, [], ◌++◌, codes, decimal, Option, Some, None}
 use Rattle.tape_image.specs.declared.item.ImageFault.{ImageFault}
@@ -35,17 +35,17 @@ is_none (Some n) = false
 abbrev pub is_whole_sight : ImageSurvey → Bool
 is_whole_sight s = is_ended s.glance.course && (is_none s.glance.unread && is_end s.stop)
 
--- They are such a volume, and none of its sections is damaged.
+-- The items are such a volume, and none of its sections is damaged.
 abbrev pub is_sound : ImageSurvey → Bool
 is_sound s = is_whole_sight s && not (is_some s.glance.damage)
 
--- nothing of it reads as an image
+-- the bytes cannot be read as an image
 abbrev pub is_no_image : ImageFault → Bool
 is_no_image fault = (fault.place == 0) && nat_le (number_of fault.cause) 3
 
 -- ---- the state of an image
 
--- of one that begins with a volume label
+-- the state of an image that begins with a volume label
 abbrev pub volume_state : ImageSurvey → ImageState
 volume_state s =
     if is_sound s
@@ -54,13 +54,13 @@ volume_state s =
     then states.Unsupported
     else states.Damaged
 
--- of one without items
+-- the state of an image without items
 abbrev pub empty_state : ImageStop → ImageState
 empty_state (Fault fault) = if is_no_image fault then states.NotTape else states.Damaged
 empty_state Marked = states.Empty
 empty_state Physical = states.Empty
 
--- of one that begins with this
+-- the state of an image that begins with this item
 abbrev pub state_by : First → ImageSurvey → ImageState
 state_by firsts.Nothing s = empty_state s.stop
 state_by (firsts.Volume label) s = volume_state s
@@ -69,7 +69,7 @@ state_by firsts.Ebcdic s = states.Unsupported
 state_by (firsts.Block n) s = states.Unsupported
 state_by firsts.Mark s = states.Unsupported
 
--- of any
+-- the state of any image
 abbrev pub state_of : ImageSurvey → ImageState
 state_of s = state_by s.glance.first s
 
@@ -88,7 +88,7 @@ no_images = record {
   not_opened = 0;
 }
 
--- one more
+-- the count after one more image; it stops at its greatest value
 abbrev pub one_more : ℕ → ℕ
 one_more n = min (n + 1) 4294967295
 
@@ -120,7 +120,7 @@ not_tapes_text n =
 abbrev pub images_text : ℕ → List ℕ
 images_text n = if n == 1 then codes "1 image" else decimal n ++ codes " images"
 
--- the numbers of those that are not volumes without damage
+-- the numbers of images that are not volumes without damage
 abbrev pub counts_text : Tally → List ℕ
 counts_text t = count_text t.blank (codes "blank") ++ (count_text t.damaged (codes "damaged")
     ++ (count_text t.unsupported (codes "unsupported") ++ (count_text t.empty (codes "empty")

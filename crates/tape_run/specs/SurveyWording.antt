@@ -39,7 +39,7 @@ file_texts y d set_id file zero = []
 file_texts y d set_id file (suc n) =
     file_text y d set_id file ++ file_texts y d set_id (file + 1) n
 
--- the heading of a set: how many of its files are complete, and its volumes
+-- the heading of a set: the number of its complete files, and its volumes
 abbrev pub set_front : Wording → Found → SetFiles → List ℕ
 set_front Words d x =
     set_line x.0 (sure_files d x.0 1 x.1) x.1 ++ volumes_line (volumes_of d x)
@@ -62,7 +62,7 @@ abbrev pub sections_text : Wording → List Told → List ℕ
 sections_text Words c = []
 sections_text Rows c = flat_map section_row c
 
--- the last lines, which rows do not have: how many images there are, and whether all is well
+-- the last lines, which rows do not have: the number of images, and whether all is well
 abbrev pub end_text : Wording → Found → List ℕ
 end_text Words d = tally_line d.tally ++ last_text (is_all d)
 end_text Rows d = []

@@ -1,4 +1,4 @@
--- Which of the files that were found `unpack` is to recover.
+-- The found files that `unpack` is to recover.
 use Rattle.std.specs.Prelude.{◌≡◌, ◌≢◌, ◌⊎◌, ℕ, List, [], ◌∷◌, ◌++◌, length, decimal, Option, IfSome}
 use Rattle.std.specs.Borrow.{Bor}
 use Rattle.std.specs.List.{Any}
@@ -6,7 +6,7 @@ use Rattle.tape_run.specs.declared.unpack.SetFile.{SetFile}
 use Rattle.tape_run.specs.declared.unpack.choice.FileChoice.{FileChoice}
 use Rattle.tape_run.specs.SurveyLine.{trimmed_text}
 
--- a piece of a word that a character of a pattern represents: any piece for `*` (42), and otherwise
+-- the piece of a word that a character of a pattern represents: any piece for `*` (42), otherwise
 -- the character itself
 abbrev pub Represents : ℕ → List ℕ → Type 0
 Represents p piece = p ≢ 42 → piece ≡ p ∷ []
@@ -22,16 +22,16 @@ Fits (p ∷ ps) word = (piece rest : List ℕ) × (word ≡ piece ++ rest) × Re
 abbrev pub Means : List ℕ → SetFile → Type 0
 Means word file = (word ≡ decimal file.file) ⊎ Fits word (trimmed_text file.file_id)
 
--- The file is of this set, if one is named.
+-- The file belongs to this set, if a set is named.
 abbrev pub IsOfSet : Option (List ℕ) → SetFile → Type 0
 IsOfSet set_id file = IfSome set_id (λ s. file.set_id ≡ s)
 
--- One of the words means the file, or there are none.
+-- One of the words means the file, or there are no words.
 abbrev pub IsMeant : List (Bor (List ℕ)) → SetFile → Type 0
 IsMeant words file = (length words ≡ 0) ⊎ Any (λ w. Means w.now file) words
 
--- The file is of the set that was named, if one was, and one of the words means it, if there are
--- any.
+-- The file belongs to the set that was named, if one was, and one of the words means the file, if
+-- there are any words.
 pub record Chosen (choice : FileChoice) (file : SetFile) : Type 0 where
   pub set : IsOfSet choice.set_id file
   pub meant : IsMeant choice.words.now file

@@ -9,7 +9,7 @@ use Rattle.tape_run.specs.declared.unpack.line.Notice.TheVariants.{NoSet, NoFile
 use Rattle.tape_run.specs.Identifier.{identifier_text}
 use Rattle.tape_run.specs.Quoting.{name_text}
 
--- what became of a file, as `unpack` prints it
+-- the outcome of a file, as `unpack` prints it
 abbrev pub unpack_outcome_text : UnpackOutcome → List ℕ
 unpack_outcome_text Complete = codes "COMPLETE"
 unpack_outcome_text Awaits = codes "AWAITS"
@@ -37,12 +37,12 @@ file_line set_id file outcome details path =
     file_front set_id file ++ unpack_outcome_text outcome ++ details ++ path_text path
     ++ codes "\n"
 
--- what a line reports about a name
+-- the word that a line reports about a name
 abbrev pub notice_text : Notice → List ℕ
 notice_text NoSet = codes "NO SET "
 notice_text NoFile = codes "NO FILE "
 notice_text Unread = codes "INCOMPLETE IMAGE "
 
--- such a line
+-- the line that reports a word about a name
 abbrev pub notice_line : Notice → List ℕ → List ℕ
 notice_line notice name = notice_text notice ++ name_text name ++ codes "\n"

@@ -1,4 +1,4 @@
--- How many files `unpack` has reported, by what became of them.
+-- How many files `unpack` has reported, by their outcomes.
 use Rattle.std.specs.Prelude.{◌≡◌, ℕ, ◌+◌, min, List, [], ◌∷◌, ◌++◌, codes, decimal, Option}
 use Rattle.tape_run.specs.declared.unpack.line.UnpackOutcome.{UnpackOutcome}
 use Rattle.tape_run.specs.declared.unpack.line.UnpackOutcome.TheVariants.{Complete, Awaits, Ready}
@@ -17,11 +17,11 @@ nothing_counted = record {
   failed = 0;
 }
 
--- so many more; a count stops at its greatest value
+-- a count after more files; it stops at its greatest value
 abbrev pub more : ℕ → ℕ → ℕ
 more count files = min (count + files) 18446744073709551615
 
--- the counts after so many more files with this outcome
+-- the counts after a number of further files with this outcome
 abbrev pub counted : Tally → UnpackOutcome → ℕ → Tally
 counted t Complete files = record t { complete = more t.complete files }
 counted t Ready files = record t { complete = more t.complete files }

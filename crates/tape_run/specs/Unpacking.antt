@@ -18,8 +18,8 @@ use Rattle.tape_run.specs.SurveyLine.{trimmed_len}
 use Rattle.tape_run.specs.SurveyRead.{Found, nothing_found, AreViewed}
 use Rattle.tape_run.specs.SurveyTally.{is_whole_sight}
 
--- a file, if this is known of its labels; without a label there is no file. It differs if its
--- labels do, or good copies of a section do.
+-- the file that is described by these facts about its labels; without a label there is none. It is
+-- in conflict if its labels differ, or good copies of a section.
 abbrev pub file_by : Found → List ℕ → ℕ → Option FileNote → List SetFile
 file_by d set_id file None = []
 file_by d set_id file (Some note) = record {
@@ -57,7 +57,7 @@ abbrev pub set_of : Option ImageSurvey → Option (List ℕ)
 set_of None = None
 set_of (Some sight) = option_map (λ head. head.set_id) sight.glance.head
 
--- the volume identifier of an image that begins with this
+-- the volume identifier of an image that begins with this item
 abbrev pub volume_in : First → Option (List ℕ)
 volume_in (Volume label) = Some label.volume
 volume_in _ = None

@@ -1,4 +1,4 @@
-//! Laws of what `list` prints, as contracts of calls that do nothing.
+//! Laws about the output of `list`, as contracts of calls that do nothing.
 
 ghost use Rattle.tape_run.specs.ListExamples.{ListingIsWorked, OutcomesSay};
 ghost use Rattle.tape_run.specs.Listing.{OneListing};

@@ -1,4 +1,4 @@
-//! A reel read into a sink, and the outcome of that.
+//! Reads a reel into a sink, and returns the outcome.
 
 ghost use Rattle.std.specs.Prelude.{◌≡◌, is_some, true, false, ◌+◌, ◌++◌, ◌<◌, ◌≤◌, List, Some};
 ghost use Rattle.std.specs.Prelude.{None, OnOk, OnErr, IfOk, IfSome, IfNone, length, ◌∷◌, [], Bool};

@@ -38,7 +38,7 @@ pub enum Content {
     Blocks,
 }
 
-/// Which file is recovered, and how it is written.
+/// The file to be recovered, and the form in which it is written.
 #[derive(Clone, Copy)]
 pub struct SalvageTask {
     /// Whether records or blocks are recovered.

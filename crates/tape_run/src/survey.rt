@@ -228,7 +228,7 @@ fn summary(
     Ok(text)
 }
 
-/// Appends what follows the sets.
+/// Appends the text after the sets.
 fn add_end(
     alloc: Global,
     text: &mut Vec<u8>,

@@ -30,7 +30,7 @@ pub fn copies_are_shown()
 
 /// The volume of each section that was found is among the volumes of its set, unless a section
 /// before it ends its file; and where sections are missing between two volumes, one volume is
-/// missing.
+/// reported as missing.
 pub fn volumes_are_listed()
     ensures { VolumesAreListed }
 {}

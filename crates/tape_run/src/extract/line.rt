@@ -148,7 +148,7 @@ fn awaits_line(want: &Want) -> ReportLine
     line
 }
 
-/// Appends how many parts of a block were delivered, if any.
+/// Appends the number of delivered parts of a block, if any.
 fn put_part(line: &mut ReportLine, part: u32)
     requires room { array_string_len line.old ≤ 129 }
     ensures text { line.new.bytes ≡ line.old.bytes ++ part_text part }

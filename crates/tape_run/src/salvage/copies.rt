@@ -28,7 +28,7 @@ pub struct SectionCopy {
     /// The end of the section. If it is `None`, the section did not close, and may have other data
     /// than were found.
     pub closed: Option<Closing>,
-    /// If its HDR1 was not read: how many items of the image precede its data.
+    /// The number of items of the image before its data, if its HDR1 was not read.
     pub skip: Option<u64>,
 }
 

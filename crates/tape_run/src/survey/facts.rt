@@ -166,7 +166,7 @@ impl fmt::Display for CourseText {
     }
 }
 
-/// Returns the course that is described: an image without items has none.
+/// Returns the label order that is described: an image without items has none.
 fn course_shown(glance: &ImageSummary) -> LabelOrder
     ensures { result ≡ course_shown glance.now.first glance.now.course }
 {

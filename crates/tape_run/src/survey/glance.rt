@@ -22,7 +22,7 @@ use tape_label::{Head1, Kind, Vol1, kind, read_head1, read_head2, read_vol1};
 /// The kind of item that an image begins with.
 #[derive(Clone, Copy)]
 pub enum First {
-    /// It has no items.
+    /// The image has no items.
     Nothing,
     /// A volume label.
     Volume(Vol1),

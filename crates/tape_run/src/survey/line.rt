@@ -23,9 +23,9 @@ pub(crate) enum ImageState {
     Blank,
     Damaged,
     Unsupported,
-    /// It has no items.
+    /// The image has no items.
     Empty,
-    /// Nothing of it reads as an image.
+    /// No part of it can be read as an image.
     NotTape,
 }
 

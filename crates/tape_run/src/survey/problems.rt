@@ -127,7 +127,7 @@ fn damage_cell(sect: u16, entry: Entry) -> Text
     text
 }
 
-/// Appends the missing sections from this one up to the one before the next.
+/// Appends the missing sections from `first` up to the one before `next`.
 fn add_numbers(
     alloc: Global,
     texts: &mut Vec<u8>,
@@ -153,7 +153,7 @@ fn add_numbers(
     }
 }
 
-/// Appends the missing sections from this one up to the one before the next, if any.
+/// Appends the missing sections from `first` up to the one before `next`, if any.
 fn add_missing(
     alloc: Global,
     texts: &mut Vec<u8>,
@@ -203,8 +203,8 @@ fn add_found(
     }
 }
 
-/// Appends a section, if it was found, after the missing ones before it, of which this one is the
-/// first. Returns the first one that may be missing after it.
+/// Appends a section, if it was found, after the missing sections before it, which begin with
+/// `first`. Returns the number of the first section that may be missing after it.
 fn add_section(
     alloc: Global,
     texts: &mut Vec<u8>,
@@ -248,7 +248,7 @@ fn is_cut(state: SectionState) -> bool
     }
 }
 
-/// Returns whether no section is known to follow the one before this one.
+/// Returns whether no section is known to follow the section before this one.
 pub(crate) fn ends(sections: &Sections, first: &SectionKey) -> bool
     ensures { result ≡ ends (entry_at sections.now.entries
         (key_at first.now.set_id first.now.file (first.now.sect - 1))) }
@@ -309,7 +309,8 @@ fn add_sections(
     add_next(alloc, texts, wording, sections, &missing)
 }
 
-/// Appends each damaged section of a file, and those that are missing before or after it.
+/// Appends each damaged section of a file, and the sections that are missing before or after the
+/// sections found.
 #[tactic(auto, unfolding(crate::specs::SurveyProblems::problem_lines))]
 pub(crate) fn add_problems(
     alloc: Global,

@@ -44,7 +44,7 @@ pub(crate) fn middle_cells(sight: &Option<ImageSurvey>) -> Text
     text
 }
 
-/// Appends what an image is, or that it was not opened.
+/// Appends the description of an image, or the text that it was not opened.
 fn put_sight(text: &mut Text, sight: &Option<ImageSurvey>)
     requires room { array_vec_len text.old ≤ 1 }
     ensures items { text.new.items ≡ text.old.items ++ sight_cells sight.now }

@@ -158,7 +158,7 @@ pub(crate) fn is_mixed(note: Option<&FileNote>) -> bool
     }
 }
 
-/// Appends the lines of a file: what it is, and then what is damaged or missing of it.
+/// Appends the lines of a file: its state, and then its damaged and missing sections.
 pub(crate) fn add_lines(
     texts: &mut Vec<u8>,
     findings: &Findings,
@@ -220,7 +220,7 @@ fn add_rest(
     )
 }
 
-/// Appends the row of a file, with what is damaged or missing of it.
+/// Appends the row of a file, with its damaged and missing sections.
 pub(crate) fn add_file_row(
     texts: &mut Vec<u8>,
     findings: &Findings,
@@ -247,7 +247,7 @@ pub(crate) fn is_whole_file(sections: &Sections, set_id: Field<6>, file: u16) ->
     }
 }
 
-/// Whether a file is complete and not in conflict.
+/// Returns whether a file is complete and not in conflict.
 fn is_sure(findings: &Findings, set_id: Field<6>, file: u16) -> bool
     ensures { result ≡ is_sure findings.now set_id file }
 {
@@ -339,7 +339,7 @@ fn all_good(sections: &Sections) -> bool
     all
 }
 
-/// Returns whether all is well, as the status of a survey says it.
+/// Returns whether all is well; the exit status of a survey says the same.
 pub(crate) fn is_all(alloc: Global, findings: &Findings) -> Result<bool, AllocError>
     ensures { IfOk result (λ all. all ≡ is_all findings.now) }
 {

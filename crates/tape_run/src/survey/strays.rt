@@ -12,7 +12,7 @@ use crate::text::{Trimmed, append};
 use std::alloc::{AllocError, Global};
 use std::fmt;
 
-/// The line of such a section.
+/// The line of a damaged section after the end of a complete file.
 #[derive(Clone, Copy)]
 struct StrayLine {
     key: SectionKey,
@@ -55,7 +55,8 @@ fn add_stray(
     append(alloc, texts, line)
 }
 
-/// Appends the line of the section at an index, if it is one of them.
+/// Appends the line of the section at index `place`, if the section is damaged and its file is
+/// complete without it.
 fn add_place(
     alloc: Global,
     texts: &mut Vec<u8>,
@@ -75,7 +76,7 @@ fn add_place(
     Ok(())
 }
 
-/// The lines of all such sections.
+/// Returns the lines of all such sections.
 fn lines_of(alloc: Global, sections: &Sections) -> Result<Vec<u8>, AllocError>
     ensures { IfOk result (λ texts. texts.items
         ≡ flat_map (stray_text sections.now.entries) sections.now.entries) }
@@ -87,7 +88,8 @@ fn lines_of(alloc: Global, sections: &Sections) -> Result<Vec<u8>, AllocError>
     Ok(texts)
 }
 
-/// Returns the lines of damaged sections whose files are complete; rows have the states of all.
+/// Returns the lines of damaged sections whose files are complete. Rows have the states of all
+/// sections.
 pub(crate) fn strays_text(
     alloc: Global,
     wording: Wording,

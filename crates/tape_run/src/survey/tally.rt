@@ -1,4 +1,4 @@
-//! How many images of a survey are in each state.
+//! The number of images of a survey in each state.
 ghost use Rattle.std.specs.Prelude.{◌≡◌, Some};
 ghost use Rattle.tape_run.specs.SurveyTally.{with_state, count_text, not_tapes_text};
 ghost use Rattle.tape_run.specs.SurveyTally.{images_text, counts_text, tally_line};
@@ -6,7 +6,7 @@ ghost use Rattle.tape_run.specs.SurveyTally.{images_text, counts_text, tally_lin
 use super::line::ImageState;
 use std::fmt;
 
-/// How many images are in each state.
+/// The number of images in each state.
 #[derive(Clone, Copy)]
 pub(crate) struct Tally {
     pub(crate) images: u32,
@@ -19,7 +19,7 @@ pub(crate) struct Tally {
     pub(crate) not_opened: u32,
 }
 
-/// No images.
+/// The numbers before any image was read.
 pub(crate) const NO_IMAGES: Tally = Tally {
     images: 0,
     ok: 0,
@@ -31,7 +31,7 @@ pub(crate) const NO_IMAGES: Tally = Tally {
     not_opened: 0,
 };
 
-/// Returns the numbers after one more image, in this state if it was opened.
+/// Returns the numbers after one more image, which is in state `state` if it was opened.
 pub(crate) fn with_state(tally: Tally, state: Option<ImageState>) -> Tally
     ensures { result ≡ with_state tally state }
 {
@@ -49,7 +49,7 @@ pub(crate) fn with_state(tally: Tally, state: Option<ImageState>) -> Tally
     next
 }
 
-/// A number of images in a state, if there are any.
+/// The text for the images in a state, if there are any.
 #[derive(Clone, Copy)]
 struct CountText(u32, &'static str);
 
@@ -65,7 +65,7 @@ impl fmt::Display for CountText {
     }
 }
 
-/// The number of images that are no tapes, if there are any.
+/// The text for the images that are no tapes, if there are any.
 #[derive(Clone, Copy)]
 struct NotTapesText(u32);
 
@@ -98,7 +98,7 @@ impl fmt::Display for ImagesText {
     }
 }
 
-/// The numbers of images that are not volumes without damage.
+/// The text for the images that are not volumes without damage.
 #[derive(Clone, Copy)]
 struct CountsText(Tally);
 
@@ -119,7 +119,7 @@ impl fmt::Display for CountsText {
     }
 }
 
-/// The line of all images.
+/// The line about all images.
 #[derive(Clone, Copy)]
 pub(crate) struct TallyLine(pub(crate) Tally);
 

@@ -48,13 +48,13 @@ pub(crate) struct Findings {
     pub(crate) copies: Copies,
     /// The number of images.
     images: usize,
-    /// How many there were in each state.
+    /// The number of images in each state.
     pub(crate) tally: Tally,
 }
 
-// Contracts see findings as what is known of sections and files, whether all images were read
-// completely, where the sections are, their complete copies, and how many images there were, in all
-// and in each state.
+// Contracts see findings as the sections and files found, whether all images were read completely,
+// the image of each section, its complete copies, and the number of images, in all and in each
+// state.
 impl Model for Findings {
     ghost use Rattle.tape_run.specs.SurveyRead.{Found};
 

@@ -19,27 +19,27 @@ use tape_label::Field;
 /// The greatest number of a section.
 const MOST: u16 = 9_999;
 
-/// In how many columns a line begins.
+/// The column at which a line begins.
 const INDENT: usize = 11;
 
-/// How long a line is at most, without a comma and the space after it.
+/// The maximum length of a line, without a comma and the space after it.
 const WIDTH: usize = 96;
 
-/// A volume of a set.
+/// An entry in the line of a set's volumes.
 #[derive(Clone, Copy)]
 pub(crate) enum VolumeItem {
-    /// A section was found on this one.
+    /// A volume on which a section was found.
     Named(Field<6>),
-    /// The first one is missing.
+    /// The first volume is missing.
     MissingFirst,
-    /// One is missing after this volume.
+    /// A volume is missing after this one.
     MissingAfter(Field<6>),
 }
 
-/// The volumes of the sections of a set, in their order, and none where sections are missing.
+/// The volume of each section of a set, in order; `None` where sections are missing.
 type Chain = Vec<Option<Field<6>>>;
 
-/// Appends a volume, or that sections are missing.
+/// Appends `link`: a volume, or `None` where sections are missing.
 fn add_one(chain: &mut Chain, link: Option<Field<6>>) -> Result<(), AllocError>
     ensures { OnOk result (chain.new.items ≡ chain.old.items ++ link ∷ []) }
 {
@@ -49,7 +49,7 @@ fn add_one(chain: &mut Chain, link: Option<Field<6>>) -> Result<(), AllocError>
     }
 }
 
-/// Appends that sections are missing, if they are.
+/// Appends `None` if sections are missing.
 fn add_gap(chain: &mut Chain, missing: bool) -> Result<(), AllocError>
     ensures { OnOk result (chain.new.items ≡ chain.old.items ++ gap_if missing) }
 {
@@ -59,8 +59,8 @@ fn add_gap(chain: &mut Chain, missing: bool) -> Result<(), AllocError>
     Ok(())
 }
 
-/// Appends the volume of a section, after the missing ones before it. Returns the first one that
-/// may be missing after it, unless it ends the file.
+/// Appends the volume of section `sect`, preceded by `None` if sections from `first` on are missing
+/// before it. Returns the number of the next section, unless this one ends the file.
 fn add_link(
     chain: &mut Chain,
     first: u16,
@@ -80,7 +80,7 @@ fn add_link(
     Ok(Some(sect + 1))
 }
 
-/// The same for a section with this number, if it was found.
+/// Does the same for section `key`, if it was found.
 fn add_section(
     chain: &mut Chain,
     sections: &Sections,
@@ -99,7 +99,7 @@ fn add_section(
     }
 }
 
-/// Appends the sections of a file, of which there are this many at most.
+/// Appends the volumes of a file's sections, up to section `most`.
 fn add_sections(
     chain: &mut Chain,
     sections: &Sections,
@@ -129,7 +129,7 @@ fn add_sections(
     add_gap(chain, missing)
 }
 
-/// Appends all sections of a file.
+/// Appends the volumes of all sections of a file.
 #[tactic(auto, unfolding(crate::specs::SurveyChain::found_chain))]
 fn add_found(
     chain: &mut Chain,
@@ -143,7 +143,7 @@ fn add_found(
     add_sections(chain, sections, set_id, file, MOST)
 }
 
-/// Appends a file.
+/// Appends the volumes of file `file`, or `None` if no label of it was found.
 fn add_file(
     chain: &mut Chain,
     findings: &Findings,
@@ -159,7 +159,7 @@ fn add_file(
     add_one(chain, None)
 }
 
-/// The chain of a set with this greatest number of a file.
+/// Returns the chain of a set whose greatest file number is `greatest`.
 fn chain_of(findings: &Findings, set_id: Field<6>, greatest: u16) -> Result<Chain, AllocError>
     ensures { IfOk result (λ chain. chain.items ≡ files_chain findings.now set_id 1 greatest) }
 {
@@ -170,7 +170,7 @@ fn chain_of(findings: &Findings, set_id: Field<6>, greatest: u16) -> Result<Chai
     Ok(chain)
 }
 
-/// Whether a volume is the last one.
+/// Returns whether `volume` is the volume `last`.
 fn is_same(last: &Option<Field<6>>, volume: &Field<6>) -> bool
     ensures { result ≡ is_same last.now volume.now }
 {
@@ -180,7 +180,7 @@ fn is_same(last: &Option<Field<6>>, volume: &Field<6>) -> bool
     }
 }
 
-/// Appends a volume.
+/// Appends `item`.
 fn add_item(items: &mut Vec<VolumeItem>, item: VolumeItem) -> Result<(), AllocError>
     ensures { OnOk result (items.new.items ≡ items.old.items ++ item ∷ []) }
 {
@@ -190,7 +190,7 @@ fn add_item(items: &mut Vec<VolumeItem>, item: VolumeItem) -> Result<(), AllocEr
     }
 }
 
-/// A missing volume, after the last one.
+/// Returns the entry for a missing volume after the volume `last`.
 fn missing_after(last: &Option<Field<6>>) -> VolumeItem
     ensures { result ≡ missing_after last.now }
 {
@@ -200,7 +200,7 @@ fn missing_after(last: &Option<Field<6>>) -> VolumeItem
     }
 }
 
-/// Appends that one is missing after the last volume, if it is.
+/// Appends the entry for a missing volume after the volume `last`, if one is missing.
 fn add_missing(
     items: &mut Vec<VolumeItem>,
     missing: bool,
@@ -214,7 +214,8 @@ fn add_missing(
     Ok(())
 }
 
-/// Appends a volume, unless it is the last one, after one that is missing between them or not.
+/// Appends `volume`, unless it is the volume `last`, preceded by a missing volume if sections are
+/// missing between the two.
 fn add_volume(
     items: &mut Vec<VolumeItem>,
     last: &Option<Field<6>>,
@@ -231,7 +232,7 @@ fn add_volume(
     add_item(items, VolumeItem::Named(*volume))
 }
 
-/// The volumes of a chain.
+/// Returns the volumes of a chain.
 fn items_of(alloc: Global, chain: &[Option<Field<6>>]) -> Result<Vec<VolumeItem>, AllocError>
     ensures { IfOk result (λ items. items.items ≡ volumes_from None false chain.now) }
 {
@@ -252,7 +253,7 @@ fn items_of(alloc: Global, chain: &[Option<Field<6>>]) -> Result<Vec<VolumeItem>
     Ok(items)
 }
 
-/// A volume.
+/// Returns the text of an entry.
 fn item_text(item: &VolumeItem) -> Text
     ensures items { result.items ≡ item_text item.now }
     ensures short { length result.items ≤ 40 }
@@ -270,7 +271,8 @@ fn item_text(item: &VolumeItem) -> Text
     text
 }
 
-/// Appends a volume to a line of this length, or to the next one. Returns the length of that line.
+/// Appends the text of `item` to a line of length `column`, or begins another line with it. Returns
+/// the length of the line that it is on.
 fn add_text(line: &mut Vec<u8>, column: usize, item: &VolumeItem) -> Result<usize, AllocError>
     requires { column ≤ 200 }
     ensures few { IfOk result (λ next. next ≤ 200) }
@@ -289,7 +291,7 @@ fn add_text(line: &mut Vec<u8>, column: usize, item: &VolumeItem) -> Result<usiz
     Ok(INDENT + text.len())
 }
 
-/// The line of volumes, if there are any.
+/// Returns the line of the volumes, if there are any.
 fn line_of(alloc: Global, items: &[VolumeItem]) -> Result<Vec<u8>, AllocError>
     ensures { IfOk result (λ line. line.items ≡ volumes_line items.now) }
 {
@@ -307,7 +309,7 @@ fn line_of(alloc: Global, items: &[VolumeItem]) -> Result<Vec<u8>, AllocError>
     Ok(line)
 }
 
-/// Appends the line of the volumes of a set with this greatest number of a file.
+/// Appends the line of the volumes of a set whose greatest file number is `greatest`.
 pub(crate) fn add_volumes(
     texts: &mut Vec<u8>,
     findings: &Findings,

@@ -1,4 +1,4 @@
-//! Which of the files that were found are to be unpacked.
+//! The found files that are to be unpacked.
 ghost use Rattle.std.specs.Prelude.{◌≡◌, ◌≢◌, ◌↔◌, ◌∷◌, ℕ, List, IsTrue, IfSome, IfNone};
 ghost use Rattle.tape_run.specs.UnpackChoice.{Fits, Means, IsOfSet, IsMeant, Chosen};
 
@@ -7,8 +7,8 @@ use crate::text::{put_decimal, put_trimmed};
 use arrayvec::ArrayVec;
 use tape_label::Field;
 
-/// Which files are chosen: those of one set or of all, and of these all or those that some words
-/// mean.
+/// The files that are chosen: of one set or of all sets, and of these sets all files, or those that
+/// some words mean.
 #[derive(Clone, Copy)]
 pub struct FileChoice<'a> {
     /// The set, or `None` for all sets.
@@ -37,7 +37,7 @@ fn is_meant(words: &[&str], file: &SetFile) -> bool
     words.iter().any(|word| means(word, file))
 }
 
-/// Returns whether a file is of this set, if one is named.
+/// Returns whether a file belongs to this set, if a set is named.
 pub fn is_of_set(set_id: Option<Field<6>>, file: &SetFile) -> bool
     ensures { IsTrue result ↔ IsOfSet set_id file.now }
 {
@@ -47,8 +47,8 @@ pub fn is_of_set(set_id: Option<Field<6>>, file: &SetFile) -> bool
     }
 }
 
-/// Returns whether a word means this file: it is its number, or a pattern that its name fits, where
-/// `*` represents any characters.
+/// Returns whether a word means this file: the word is the file's number, or a pattern that the
+/// file's name fits; `*` represents any characters.
 pub fn means(word: &str, file: &SetFile) -> bool
     ensures { IsTrue result ↔ Means word.now file.now }
 {
@@ -59,7 +59,7 @@ pub fn means(word: &str, file: &SetFile) -> bool
     word.as_bytes() == number.as_slice() || fits(word.as_bytes(), &name)
 }
 
-/// Returns what follows the first character of a pattern, if that is a `*`.
+/// Returns the rest of a pattern after its first character, if that is a `*`.
 fn after_star(pattern: &[u8]) -> Option<&[u8]>
     ensures some { IfSome result (λ others. pattern.now ≡ 42 ∷ others.now) }
     ensures none { IfNone result ((others : List ℕ) → pattern.now ≢ 42 ∷ others) }
@@ -70,7 +70,7 @@ fn after_star(pattern: &[u8]) -> Option<&[u8]>
     }
 }
 
-/// Returns what follows the first characters of a pattern and a word, if these are equal.
+/// Returns the rests of a pattern and of a word after their first characters, if these are equal.
 fn after_same<'a>(pattern: &'a [u8], word: &'a [u8]) -> Option<(&'a [u8], &'a [u8])>
     ensures some { IfSome result (λ rests. (c : ℕ) × (pattern.now ≡ c ∷ rests.0.now)
         × (word.now ≡ c ∷ rests.1.now)) }
@@ -91,7 +91,7 @@ fn fits(pattern: &[u8], word: &[u8]) -> bool
     ensures { IsTrue result ↔ Fits pattern.now word.now }
 {
     let (mut left, mut rest) = (pattern, word);
-    // What follows the last `*`, and the rest of the word on which that is being tried.
+    // The pattern after the last `*`, and the rest of the word that it is compared with.
     let mut after = pattern;
     let mut from: &[u8] = &[];
     'characters: loop {

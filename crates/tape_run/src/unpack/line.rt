@@ -10,16 +10,16 @@ use crate::text::{Text, put, put_decimal, put_identifier};
 use std::alloc::{AllocError, Global};
 use tape_label::Field;
 
-/// What became of a file, or what would.
+/// The outcome of a file, or the outcome that it would have.
 #[derive(Clone, Copy, PartialEq, Eq)]
 pub enum UnpackOutcome {
     /// It was recovered completely.
     Complete,
-    /// Something of it is missing.
+    /// A part of it is missing.
     Awaits,
-    /// Not recovered yet: each of its sections is complete on some image.
+    /// It is only listed: each of its sections is complete on some image.
     Ready,
-    /// Not recovered yet: a section of it is complete on no image.
+    /// It is only listed: a section of it is complete on no image.
     Lacks,
     /// A file of its name exists; it was not changed.
     Exists,
@@ -29,7 +29,7 @@ pub enum UnpackOutcome {
     NotFound,
     /// An error ended the recovery of the file.
     Failed,
-    /// A further line of an incomplete file: what is readable of it was written.
+    /// A further line about an incomplete file: its readable records were written.
     Salvaged,
 }
 
@@ -101,18 +101,18 @@ fn put_path(alloc: Global, line: &mut Vec<u8>, path: &str) -> Result<(), AllocEr
     line.extend_from_slice(name.as_slice())
 }
 
-/// What a line reports about a name.
+/// The word that a line reports about a name.
 #[derive(Clone, Copy)]
 pub enum Notice {
     /// No file of this set was found.
     NoSet,
-    /// No file was found that this word means.
+    /// This word means no file that was found.
     NoFile,
     /// The image with this name was not read completely.
     Unread,
 }
 
-/// The words before the name.
+/// The text before the name.
 fn notice_text(notice: Notice) -> &'static [u8]
     ensures { result.now ≡ notice_text notice }
 {

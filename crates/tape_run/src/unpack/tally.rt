@@ -1,4 +1,4 @@
-//! How many files `unpack` has reported, by what became of them.
+//! How many files `unpack` has reported, by their outcomes.
 ghost use Rattle.std.specs.Prelude.{◌≡◌, OnOk, OnErr, IfErr, ◌<◌, ◌-◌};
 ghost use Rattle.std.specs.Io.KnownBytes.{Appends};
 ghost use Rattle.tape_image.specs.Written.{AppendsFront};
@@ -16,14 +16,14 @@ use std::alloc::Global;
 use std::io::Write;
 use tape_label::Field;
 
-/// How many files were reported, by their outcomes. A count stops at its greatest value.
+/// The number of files reported, by outcome. A count stops at its greatest value.
 #[derive(Clone, Copy)]
 pub struct Tally {
-    /// They are complete, or would be.
+    /// Files that are complete, or would be.
     pub complete: u64,
-    /// Files of their names existed.
+    /// Files whose names existed.
     pub existing: u64,
-    /// Something of them is missing.
+    /// Files of which a part is missing.
     pub incomplete: u64,
     pub in_conflict: u64,
     pub not_found: u64,
@@ -93,8 +93,8 @@ pub fn report_file<P: Write>(
     Ok(())
 }
 
-/// Writes the line of numbers of which no label was found, from the first one up to the one before
-/// a file, and counts each.
+/// Writes the line about the numbers from the first one to the one before a file, for which no
+/// label was found, and counts each.
 ///
 /// # Errors
 ///
