@@ -15,7 +15,8 @@ use Rattle.tape_run.specs.Reeling.{Mounting}
 use Rattle.tape_run.specs.SurveyCopies.{dispute_at}
 use Rattle.tape_run.specs.SurveyFiles.{note_at, file_key}
 use Rattle.tape_run.specs.SurveyLine.{trimmed_len}
-use Rattle.tape_run.specs.SurveyRead.{Found, nothing_found, is_whole_sight, AreViewed}
+use Rattle.tape_run.specs.SurveyRead.{Found, nothing_found, AreViewed}
+use Rattle.tape_run.specs.SurveyTally.{is_whole_sight}
 
 -- a file, if this is known of its labels; without a label there is no file. It differs if its
 -- labels do, or good copies of a section do.
