@@ -36,9 +36,10 @@ COMMANDS = {
         ("--files-from LIST", "FROM"), ("--null", "NULL"),
         ("--form lines|raw", "FORM_OF_OUT"), ("--stage PATH", "STAGE"),
         ("--again", "AGAIN")]),
-    "unpack": ("[--form FORM] [--salvage] [--files-from LIST [--null]] DIR [IMAGE]...", [
+    "unpack": ("[OPTIONS] [--files-from LIST [--null]] DIR [IMAGE]...", [
         ("DIR", "FOLDER_OF_FILES"), ("IMAGE", "SHELF"), ("--files-from LIST", "FROM"),
-        ("--null", "NULL"), ("--form lines|raw", "FORM_OF_FILES"), ("--salvage", "SALVAGE_FILES")]),
+        ("--null", "NULL"), ("--form lines|raw", "FORM_OF_FILES"), ("--set SET", "SET_TO_UNPACK"),
+        ("--file N|NAME", "FILES_TO_UNPACK"), ("--list", "LIST_ONLY"), ("--salvage", "SALVAGE_FILES")]),
     "salvage": ("[--form FORM] [--files-from LIST [--null]] SET FILE OUT [IMAGE]...", [
         ("SET", "SET"), ("FILE", "FILE"), ("OUT", "OUT_OF_SALVAGE"), ("IMAGE", "SHELF"),
         ("--files-from LIST", "FROM"), ("--null", "NULL"),
@@ -289,7 +290,7 @@ def words_of_source():
     parts = [("command_line.rt",), *((words_of(name),) for name in COMMANDS if name != "compare")]
     source = "".join(read(SOURCE, *part) for part in parts)
     rows = re.findall(r'Word\(\s*"([^"]+)",\s*Kind::(\w+).*?help::(\w+)', source, re.S)
-    options = ("Flag", "FlagOf", "TextOption", "NumberOption", "NameOption")
+    options = ("Flag", "FlagOf", "TextOption", "TextOptions", "NumberOption", "NameOption")
     pairs = {("--" + name if kind in options else name, text) for name, kind, text in rows}
     for one in re.findall(r"Arg::new\(alloc, \"[^;{}]*", source):
         name = re.search(r'\.long\("([\w-]+)"\)', one)

@@ -19,7 +19,7 @@ _tape() {
     case $prev in
     --form) COMPREPLY=($(compgen -W 'lines raw' -- "$cur")); return ;;
     --format) COMPREPLY=($(compgen -W 'F D S' -- "$cur")); return ;;
-    --block | --record | --offset) return ;;
+    --block | --record | --offset | --set | --file) return ;;
     esac
     case $command:$cur in
     help:*)
@@ -30,7 +30,9 @@ _tape() {
     merge:-*) COMPREPLY=($(compgen -W '--log --files-from --null --explain --help' -- "$cur")); return ;;
     check:-* | compare:-*) COMPREPLY=($(compgen -W '--files-from --null --explain --help' -- "$cur")); return ;;
     survey:-*) COMPREPLY=($(compgen -W '--files-from --null --tsv --explain --help' -- "$cur")); return ;;
-    unpack:-*) COMPREPLY=($(compgen -W '--files-from --null --form --salvage --explain --help' -- "$cur")); return ;;
+    unpack:-*)
+        COMPREPLY=($(compgen -W '--files-from --null --form --set --file --list --salvage --explain --help' -- "$cur"))
+        return ;;
     salvage:-*)
         COMPREPLY=($(compgen -W '--files-from --null --form --explain --help' -- "$cur"))
         return ;;
@@ -48,7 +50,8 @@ _tape() {
     for ((at = start + 1; at < COMP_CWORD; at++)); do
         word=${COMP_WORDS[at]}
         case $word in
-        --files-from | --form | --stage | --log | --format | --block | --record | --offset) at=$((at + 1)) ;;
+        --files-from | --form | --stage | --log | --format | --block | --record | --offset | --set | --file)
+            at=$((at + 1)) ;;
         -*) ;;
         *) place=$((place + 1)) ;;
         esac

@@ -189,6 +189,48 @@ class Case:
                     else f"good, {row[4]} copies agree")
             yield f"{row[1]} file {row[2]} section {row[3]}: {said}"
 
+    def problems(self, file):
+        """The damaged and missing sections of a file, unless it is complete, as the last column of its row has them."""
+        if self.text(file) is not None:
+            return ""
+        first, states = {}, {}
+        for _, sections in self.images:
+            for section in sections:
+                if section.file == file:
+                    state = "GOOD" if section.is_good() else "BAD" if section.damage is not None else "COUNT"
+                    first.setdefault(section.sect, section)
+                    if section.sect not in states or state == "GOOD":
+                        states[section.sect] = state
+        cells, before = [], 0
+        for sect in sorted(states):
+            if sect > before + 1:
+                cells.append((before + 1, sect - 1, "MISSING"))
+            if states[sect] != "GOOD":
+                cells.append((sect, sect, states[sect]))
+            before = sect
+        if not states or not first[before].ends:
+            cells.append((before + 1, before + 1, "MISSING"))
+        return "".join(f"{low}:{state};" if low == high else f"{low}-{high}:{state};" for low, high, state in cells)
+
+    def listed(self):
+        """The volumes of the set, with one missing volume for each gap between the sections that were found."""
+        there = {number for number, sections in self.images if sections}
+        words, last, missing = [], None, False
+        for number, sections in enumerate(self.volumes):
+            if number in there:
+                name = f"VOL{number + 1:03}"
+                words += [f"missing (follows {last})" if last else "missing"] * missing + [name]
+                last, missing = name, False
+            elif sections:
+                missing = True
+        return words
+
+    def tally(self):
+        """How many images there are, and how many of them are damaged."""
+        ok = sum(all(section.is_good() for section in sections) for _, sections in self.images)
+        count, damaged = len(self.images), len(self.images) - ok
+        return f"{count} image{'s' * (count != 1)}: {ok} ok" + f", {damaged} damaged" * (damaged > 0)
+
     def text(self, file):
         """The records of a file, or None if a section has no good copy."""
         copies, text, sect = self.copies(), b"", 1
@@ -241,6 +283,9 @@ def try_case(trial, case, folder, number):
     trial.is_so([row for row in told if row[0] == "COPIES"] == rows, f"{number}: rows {done.stdout}\nwanted {rows}")
     marked = {int(row[2]) for row in told if row[0] == "FILE" and row[8] == "CONFLICT"}
     trial.is_so(marked == {f for f in conflicts}, f"{number}: files in conflict {marked}, expected {conflicts}")
+    told = {int(row[2]): row[9] for row in told if row[0] == "FILE" and "-" not in row[2]}
+    for file in told:
+        trial.is_so(told[file] == case.problems(file), f"{number}: file {file}: {told[file]!r}, not {case.problems(file)!r}")
     trial.is_so(done.returncode == (0 if sound else 3), f"{number}: survey --tsv, status {done.returncode}")
 
     done = trial.run(folder, "survey", *names)
@@ -248,6 +293,9 @@ def try_case(trial, case, folder, number):
     copies = [line for line in lines if " section " in line and (": good, " in line or ": CONFLICT, " in line)]
     trial.is_so(copies == list(case.lines(rows)), f"{number}: lines {done.stdout}")
     trial.is_so(done.returncode == (0 if sound else 3), f"{number}: survey, status {done.returncode}")
+    volumes = [line[11:] for line in lines if line.startswith("  Volumes: ")]
+    trial.is_so(volumes == [", ".join(case.listed())], f"{number}: volumes {volumes}, wanted {case.listed()}")
+    trial.is_so(case.tally() in lines[-2:], f"{number}: no line {case.tally()!r} in {lines[-2:]}")
     trial.is_so(lines[-1].startswith("All files are complete") == sound, f"{number}: the last line {lines[-1]!r}")
 
     out = folder / "out"
@@ -265,7 +313,7 @@ def try_case(trial, case, folder, number):
         elif text is not None:
             trial.is_so([made[n] for n in name] == [text], f"{number}: file {file} is not as it was, {done.stdout}")
     trial.is_so((done.returncode == 0) == (not conflicts and done.stdout.count("\n")
-                == done.stdout.count(" COMPLETE ")), f"{number}: unpack, status {done.returncode}, {done.stdout}")
+                == done.stdout.count(" COMPLETE ") + 1), f"{number}: unpack, status {done.returncode}, {done.stdout}")
     return len(rows), len(conflicts)
 
 

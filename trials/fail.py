@@ -198,8 +198,9 @@ PARTS = r"(IMAGE \d+ NOT OPENED\n)*(SECTION .*\n|GAP .*\n|NO FORM .*\n|TORN .*\n
 SALVAGE_REPORTS = {kind: {0: PARTS + r"COMPLETE \d+\n", 3: PARTS + r"SALVAGED \d+\n"} for kind in "or"}
 UNPACKED = "ABC001.1.PAYROLL"
 WANTED = r"FILE ABC001 1 (COMPLETE|AWAITS) .*\n"
-UNPACK_REPORTS = {kind: {0: WANTED, 3: f"({WANTED})?(INCOMPLETE IMAGES\n)?"} for kind in "orwyl"}
-FAILED = re.compile(r"FILE ABC001 1 FAILED .*\n(INCOMPLETE IMAGES\n)?\Z")
+TOTAL = r"(INCOMPLETE IMAGE .*\n)*TOTAL .*\n"
+UNPACK_REPORTS = {kind: {0: WANTED + TOTAL, 3: f"({WANTED})?{TOTAL}"} for kind in "orwyl"}
+FAILED = re.compile(rf"FILE ABC001 1 FAILED .*\n{TOTAL}\Z")
 LEFT = r"(tape: .* could not be removed\n)+"
 # a draft that a refusal left: the next run removes it
 DRAFT = re.compile(r"\.tape-\d+\.part")

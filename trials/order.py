@@ -190,7 +190,7 @@ def input_is_closed(t):
 def drafts_are_removed(t):
     full = lambda root: (root / "OUT").symlink_to("/dev/full")
     for words, files in (([*EXTRACT, "one.tap"], REELS), ([*EXTRACT, "one.tap", "--again"], REELS), ([*EXTRACT, "one.tap", "--stage", "s"], REELS),
-            (["unpack", "d", "one.tap"], REELS), (["merge", "OUT", "one.tap", "two.tap"], REELS), (["salvage", "ABC001", "1", "OUT", "one.tap"], REELS),
+            (["unpack", "d", "one.tap"], REELS), (["unpack", "--salvage", "d", "one.tap"], REELS), (["merge", "OUT", "one.tap", "two.tap"], REELS), (["salvage", "ABC001", "1", "OUT", "one.tap"], REELS),
             (["stage", "s", "OUT"], {"s": t.stage})):
         run = t(words, files)
         yield run.status == 3 and run.drafts() == [], f"{words}: {run.status} {run.drafts()}"
@@ -246,6 +246,34 @@ def links_are_left_alone(t):
     yield run.links == ["d/ABC001.1.PAYROLL.stage"] and "victim" not in run.files, f"a stage that is a link: {run.out!r}"
     run = t([*EXTRACT, "one.tap", "two.tap"], REELS | {"real": b"old\n"}, before=lambda root: (root / "OUT").symlink_to("real"))
     yield run.links == ["OUT"] and run.files["real"] == t.records, "OUT that is a link is written through"
+
+
+@check
+def salvaged_files(t):
+    """What `unpack --salvage` does to its two files: those of anybody else stay as they are."""
+    words, name = ["unpack", "--salvage", "d", "one.tap"], "d/ABC001.1.PAYROLL"
+    run = t(words, REELS)
+    own = {path: run.files.get(path) for path in (f"{name}.salvaged", f"{name}.gaps")}
+    yield run.status == 3 and None not in own.values() and run.drafts() == [], f"{run.status} {run.out!r}"
+    for number, path in ((2, f"{name}.gaps"), (1, f"{name}.salvaged")):
+        draft = f"d/.tape-{number}.part"
+        taken = run.first(lambda call, at, rest: call == "linkat" and rest == path or call == "link" and path in rest)
+        yield in_order(run.last(is_write(draft)), run.first(is_sync(draft)), taken, run.first(is_sync("d"), taken or 0), run.printed("AWAITS")), f"{path} is synced, then named"
+    for path in own:
+        run = t(words, REELS | {path: b"mine\n"})
+        yield run.status == 3 and "EXISTS" in run.out and run.files[path] == b"mine\n", f"{path} of another: {run.status} {run.out!r}"
+        run = t(words, REELS | own | {path: own[path] + b"more\n"})
+        yield run.status == 3 and "EXISTS" in run.out and run.files[path] == own[path] + b"more\n", f"{path} that was changed: {run.status} {run.out!r}"
+        run = t(words, REELS, before=lambda root: (root / path).symlink_to("lost"))
+        yield run.links == [path] and "EXISTS" in run.out and "d/lost" not in run.files, f"{path} is a link: {run.out!r}"
+        run = t([*words, "two.tap"], REELS | own | {path: own[path] + b"more\n"})
+        yield run.status == 0 and run.files.get(path) == own[path] + b"more\n", f"{path} that was changed, a complete file: {run.status}"
+    run = t([*words, "two.tap"], REELS | own)
+    yield run.status == 0 and not set(own) & set(run.files), f"a complete file: {run.status} {list(run.files)}"
+    for kind, error in (("fsync", "EIO"), ("write", "ENOSPC")):
+        for number in range(1, sum(call == kind for call, _, _ in t(words, REELS).events) + 1):
+            run = t(words, REELS, inject=[f"{kind}:error={error}:when={number}"])
+            yield run.status == 1 and all(run.files.get(path, due) == due for path, due in own.items()) and run.drafts() == [], f"{kind} {number}: {run.status} {list(run.files)}"
 
 
 @check
@@ -311,7 +339,7 @@ def statuses_of_unpack(t):
         ("two sets of one identifier", {"one.tap": ONE, "other.tap": other, "two.tap": TWO}, 3, "CONFLICT"),
         ("a file not found", {"two.tap": second}, 3, "NOT FOUND"),
         ("blank volumes", {"blank.tap": BLANK}, 3, ""),
-        ("an image that does not exist", REELS | {"lost.tap": None}, 3, "INCOMPLETE IMAGES"),
+        ("an image that does not exist", REELS | {"lost.tap": None}, 3, "INCOMPLETE IMAGE lost.tap"),
     ):
         run = t(["unpack", "d", *files], {name: content for name, content in files.items() if content})
         yield run.status == status and line in run.out, f"unpack, {name}: {run.status} {run.out!r}"

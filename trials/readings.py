@@ -72,7 +72,7 @@ def printed(name):
 
 def judge(what, program, folder, readings, names, words=None):
     """`merge` and `compare` print the model's lines, and OUT has its bytes."""
-    lines, status, data = model(readings, [printed(name) for name in names])
+    lines, status, data, _ = model(readings, [printed(name) for name in names])
     out = os.path.join(folder, 'out')
     expect(f'{what}: merge', run(program, 'merge', out, *(words or names)), (lines, status, ''))
     expect(f'{what}: OUT', text_of(out), data)
@@ -126,7 +126,7 @@ def pipes(program, folder):
         names = [os.path.join(folder, f'p{case}.{n}') for n in range(3)]
         for name in names:
             os.mkfifo(name)
-        lines, status, data = model(readings, names)
+        lines, status, data, _ = model(readings, names)
         out = os.path.join(folder, 'out')
         feeds = [threading.Thread(target=feed, args=(name, reading.data, rnd.choice([1, 3, 100])))
                  for name, reading in zip(names, readings)]
@@ -281,7 +281,7 @@ def devices(program, folder):
         if len(lines) < len(readings):
             continue
         read = [cut(reading, text) for reading, text in zip(readings, lines)]
-        right, ends, data = model(read, paths)
+        right, ends, data, _ = model(read, paths)
         expect(fail, (lines, status, line), (right, ends, ''))
         expect(f'{fail}: OUT', text_of(out), data)
         if os.path.exists(out):
@@ -291,7 +291,7 @@ def devices(program, folder):
 
 def refused(program, folder):
     library, readings, paths, out = prepared(folder, [1, 800, 20_000], 40)
-    lines, status, data = model(readings, paths)
+    lines, status, data, _ = model(readings, paths)
     tried = 0
     for fail, said, got, line in each_call(program, folder, library, 'aowynlthdc',
                                            ['merge', out, *paths], out):

@@ -223,6 +223,58 @@ def lacking(file, reels):
         section += 1
 
 
+def volume_of(reel):
+    """The identifier in the volume label."""
+    return reel.items[0].spelling[8:14].decode()
+
+
+def listed_volumes(reels):
+    """What a survey of these reels of a set, in this order, lists as its volumes: by the description in REFERENCE.md."""
+    kept = {}
+    for reel in reels:
+        for key, it in sections_of(reel).items():
+            is_good = all(it["blocks"]) and it["trailer"] is not None
+            if key not in kept or is_good and not kept[key][2]:
+                kept[key] = volume_of(reel), it["trailer"], is_good
+    words, last, missing = [], None, False
+    for file in range(1, max((key[0] for key in kept), default=0) + 1):
+        before, trailer = 0, "EOV"
+        for section in sorted(key[1] for key in kept if key[0] == file):
+            missing |= section > before + 1
+            volume, trailer, _ = kept[file, section]
+            if volume != last:
+                words += [after(last)] * missing + [volume]
+            before, last, missing = section, volume, False
+            if trailer == "EOF":
+                break
+        missing |= trailer == "EOV"
+    return words + [after(last)] * missing
+
+
+def after(volume):
+    """A missing volume."""
+    return "missing" if volume is None else f"missing (follows {volume})"
+
+
+def truly_there(reels, is_there):
+    """The volumes of a set of which each is whole or lost: runs of lost ones are one each. None if one is damaged."""
+    volumes = {}
+    for reel in reels:
+        copies = volumes.setdefault(volume_of(reel), [])
+        if is_there(reel):
+            copies.append(reel)
+    if any(reel.cut >= 0 or reel.bad for copies in volumes.values() for reel in copies):
+        return None
+    words, last, missing = [], None, False
+    for volume in sorted(volumes):
+        if volumes[volume]:
+            words += [after(last)] * missing + [volume]
+            last, missing = volume, False
+        else:
+            missing = True
+    return words + [after(last)] * missing
+
+
 def damaged(rng, reel, twin):
     """One or two images of a volume, each complete or damaged as reels are."""
     data = [at for at, item in enumerate(reel.items) if item.kind == "data"]

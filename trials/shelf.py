@@ -10,7 +10,8 @@ Their order is random. What can be recovered from them is calculated here too, b
 
 Three commands follow: `survey`, `unpack`, and `unpack` again with the missing reels found. Each file that can be
 recovered must exist, byte for byte, and no other; for each other one the missing block must be reported. The files that
-`survey --tsv` lists must be those of the catalogue's description. Prints each wrong result, and counts; exit status 1
+`survey --tsv` lists must be those of the catalogue's description, and the volumes that `survey` lists those of the
+set, with one missing volume for each run of lost reels. Prints each wrong result, and counts; exit status 1
 if there is one.
 
 --times: `survey` against `list` of each image, `unpack` against `extract` of each file, and 10,000 names from a list.
@@ -25,7 +26,7 @@ import time
 from pathlib import Path
 
 sys.dont_write_bytecode = True
-from reels import headers_of, lacking, make_shelf, sections_of, wanted
+from reels import headers_of, lacking, listed_volumes, make_shelf, sections_of, truly_there, wanted
 
 HERE = Path(__file__).resolve().parent
 
@@ -72,6 +73,38 @@ def check_survey(trial, shelf, there, names):
     return len(rows)
 
 
+def lines_of_volumes(text):
+    """The volumes of each set in a survey in words."""
+    found, set_id = {}, None
+    for line in text.splitlines():
+        if line.startswith("Set "):
+            set_id = line[4:].split(":")[0]
+        elif line.startswith("  Volumes: "):
+            found[set_id] = line[11:]
+        elif line.startswith(" " * 11) and set_id in found and found[set_id].endswith(","):
+            found[set_id] += " " + line[11:]
+    return {set_id: line.split(", ") for set_id, line in found.items()}
+
+
+def check_volumes(trial, shelf, there, names):
+    """The volumes of each set, with those that are missing; and the lines are at most 100 columns long."""
+    done = trial.run("survey", names=names)
+    trial.is_so((done.returncode, done.stderr) == (3, ""), f"survey: status {done.returncode}, {done.stderr!r}")
+    trial.is_so(all(len(line) <= 100 for line in done.stdout.splitlines() if line.startswith("  ")), "survey: a long line")
+    told, missing, by_hand = lines_of_volumes(done.stdout), 0, 0
+    for set_id in shelf.files:
+        reels = [reel for reel in there if reel.set_id == set_id]
+        want = listed_volumes(reels)
+        trial.is_so(told.pop(set_id, []) == want, f"survey: volumes of {set_id}, wanted {want}")
+        missing += sum(volume.startswith("missing") for volume in want)
+        if want and set_id != shelf.mixed:
+            true = truly_there([reel for reel in shelf.reels if reel.set_id == set_id], lambda reel: reel in there)
+            by_hand += true is not None
+            trial.is_so(true in (None, want), f"survey: volumes of {set_id}, wanted {want}, truly {true}")
+    trial.is_so(not told, f"survey: volumes of no set: {told}")
+    return f"{missing} volumes missing, {by_hand} sets of which each volume is whole or lost"
+
+
 def check_unpack(trial, shelf, there, names, day):
     """The files that exist, byte for byte, and the report of each other file."""
     out = trial.folder / "out"
@@ -79,8 +112,10 @@ def check_unpack(trial, shelf, there, names, day):
     done = trial.run("unpack", "out", names=names)
     trial.is_so(done.stderr == "" and done.returncode in (0, 3), f"unpack: status {done.returncode}, {done.stderr!r}")
     lines = done.stdout.splitlines()
-    trial.is_so(lines[-1] == "INCOMPLETE IMAGES", f"unpack: the last line {lines[-1]!r}")
-    lines = [line.split(" ", 3) for line in lines[:-1]]
+    total = lines.pop()
+    unread = [line for line in lines if line.startswith("INCOMPLETE IMAGE ")]
+    trial.is_so(unread and unread == lines[-len(unread):], f"unpack: the images that were not read: {unread}")
+    lines = [line.split(" ", 3) for line in lines[:-len(unread)]]
     trial.is_so(all(line[0] == "FILE" for line in lines), f"unpack: {done.stdout[:200]!r}")
     told = {(line[1], int(line[2])): line[3] for line in lines}
     trial.is_so(len(told) == len(lines), "unpack: a file is reported twice")
@@ -108,6 +143,9 @@ def check_unpack(trial, shelf, there, names, day):
             counts[fate] += 1
             trial.is_so(right, f"unpack, day {day}: {set_id} {file.number}: {line!r}, {fate}, expected {want}")
     trial.is_so(not told, f"unpack: lines for no file: {told}")
+    kinds = [len([line for line in lines if line[3].startswith(word)]) for word in ("COMPLETE ", "EXISTS ", "AWAITS ", "CONFLICT", "NOT FOUND")]
+    want = "TOTAL {} complete {} existing {} incomplete {} in conflict {} not found 0 failed".format(*kinds)
+    trial.is_so(total == want, f"unpack, day {day}: {total!r}, wanted {want!r}")
     trial.is_so(done.returncode == 3, f"unpack: status {done.returncode}")
     for name, content in before.items():
         if not name.endswith(".stage"):
@@ -173,10 +211,12 @@ def main():
         count = sum(map(len, shelf.files.values()))
         print(f"{len(names)} images, {len(shelf.reels) - len(there)} lost, {count} files of {len(shelf.files)} sets")
         print(f"survey: {check_survey(trial, shelf, there, names)} rows")
+        print(f"survey: {check_volumes(trial, shelf, there, names)}")
         print(f"unpack: {check_unpack(trial, shelf, there, names, 1)}")
         for reel in shelf.reels:
             (folder / reel.name).write_bytes(reel.image())
         names = [*(reel.name for reel in shelf.reels), *shelf.others]
+        print(f"survey with the lost reels: {check_volumes(trial, shelf, shelf.reels, names)}")
         print(f"unpack with the lost reels: {check_unpack(trial, shelf, shelf.reels, names, 2)}")
         if options.times:
             take_times(trial, shelf, names)

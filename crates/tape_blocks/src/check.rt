@@ -61,13 +61,13 @@ impl BlockCause {
     }
 }
 
-/// Why a block is refused, and where.
+/// The reason why a block is refused, and the offset of the fault.
 #[derive(Clone, Copy, Debug, PartialEq, Eq, Error)]
 #[error("{cause}, at {place}")]
 pub struct BlockFault {
     /// The index of the faulty byte in the block, counted from 0.
     pub place: usize,
-    /// The kind of fault there.
+    /// The kind of fault at that byte.
     pub cause: BlockCause,
 }
 
@@ -88,7 +88,7 @@ pub(crate) struct Found {
     pub len: usize,
 }
 
-/// Returns a fault with `cause` at the start of the bytes.
+/// Returns a fault with `cause` at offset 0.
 fn fault(cause: BlockCause) -> Result<Option<Found>, BlockFault>
     ensures { result ≡ Err (record { place = 0; cause = cause }) }
 {
@@ -104,7 +104,7 @@ fn first_other(bytes: &[u8]) -> Option<usize>
     bytes.iter().position(|c| *c != b'^')
 }
 
-/// Accepts padding up to the end of the bytes, or returns the first other byte as a fault.
+/// Accepts `bytes` as padding, or returns a fault at the first byte that is not a circumflex.
 fn padding(bytes: &[u8]) -> Result<Option<Found>, BlockFault>
     ensures exact { result ≡ padding_by (first_other bytes.now) }
     ensures none { IfOk result (λ unit. unit ≡ None) }
@@ -132,7 +132,8 @@ fn span_by(indicator: u8) -> Option<Span>
     }
 }
 
-/// Reads a unit with a count in the last four characters of its head. The count includes the head.
+/// Reads the unit at the start of `bytes`, whose head has `head` characters, the last four of which
+/// are a count. The count includes the head.
 #[inline(always)]
 fn counted(span: Span, head: usize, bytes: &[u8]) -> Result<Option<Found>, BlockFault>
     requires { 4 ≤ head }
@@ -156,7 +157,7 @@ fn counted(span: Span, head: usize, bytes: &[u8]) -> Result<Option<Found>, Block
     }
 }
 
-/// Reads a record of the fixed length. Fewer bytes than that must be padding.
+/// Reads a record of `rec_len` bytes. Fewer bytes than that must be padding.
 #[tactic(auto, unfolding(crate::specs::Units::unit_at))]
 #[inline(always)]
 fn fixed(rec_len: usize, bytes: &[u8]) -> Result<Option<Found>, BlockFault>
@@ -179,8 +180,8 @@ fn fixed(rec_len: usize, bytes: &[u8]) -> Result<Option<Found>, BlockFault>
     }
 }
 
-/// Reads the unit at the start of the bytes, or returns `None` for padding. The place of a fault
-/// counts from the start of the bytes.
+/// Reads the unit at the start of `bytes`, or returns `None` for padding. The offset of a fault is
+/// counted from the start of `bytes`.
 #[tactic(auto, unfolding(crate::specs::Units::unit_at))]
 #[inline(always)]
 pub(crate) fn unit_at(
@@ -213,8 +214,8 @@ pub(crate) fn unit_at(
     }
 }
 
-/// Returns true if a part with this span is in order; `begun` says whether a record is unfinished
-/// before it.
+/// Returns true if a part with span `span` may come next; `begun` says whether a record is
+/// unfinished before it.
 fn may_follow(span: Span, begun: bool) -> bool
     ensures { result ≡ bool_eq (continues span) begun }
 {
@@ -260,20 +261,20 @@ fn judge(shape: &Shape, begun: bool, block: &[u8]) -> Result<bool, BlockFault>
     }
 }
 
-/// Checks that a block contains records of the given shape, and returns whether the last record is
+/// Checks that `block` contains records of shape `shape`, and returns whether the last record is
 /// unfinished at the end of the block (ECMA-13, 4th edition: fixed-length, variable-length and
 /// spanned records).
 ///
 /// `begun` says whether a record is unfinished at the start of the block. The block may be longer
 /// than the shape says. The buffer offset is followed by the records (in format S, segments), and
-/// then by padding: circumflexes, in format F fewer than the length of a record. A block without
-/// records is accepted.
+/// then by padding: circumflexes, in format F fewer of them than a record has characters. A block
+/// without records is accepted.
 ///
 /// # Errors
 ///
-/// The place of the fault is the end of the longest sequence of records in order, or 0 if the block
-/// is shorter than its buffer offset. The cause is the first that applies there: in format F
-/// `NotMultiple`, `SpanBroken`; in D and S, at a circumflex, `BadPadding`, with the place of the
+/// The offset of the fault is the end of the longest sequence of records in order, or 0 if the
+/// block is shorter than its buffer offset. The cause is the first that applies there: in format F
+/// `NotMultiple`, `SpanBroken`; in D and S, at a circumflex, `BadPadding`, with the offset of the
 /// first other byte after it; otherwise in S `BadIndicator`, and then `BadCount`, `PastEnd`,
 /// `SpanBroken`.
 pub fn check_block(shape: &Shape, begun: bool, block: &[u8]) -> Result<bool, BlockFault>
@@ -285,14 +286,14 @@ pub fn check_block(shape: &Shape, begun: bool, block: &[u8]) -> Result<bool, Blo
     ensures only { (parts : List Portion) (end : Bool)
         → Holds shape.now.format shape.now.rec_len shape.now.offset block.now parts
         → InOrder begun parts end → result ≡ Ok end }
-    // The fault returned, and its place, are those of the block.
+    // The fault returned, and its offset, are those of the block.
     ensures fault { IfErr result
         (HasFault shape.now.format shape.now.rec_len shape.now.offset begun block.now) }
     // The block has no other fault.
     ensures refuses { (fault : BlockFault)
         → HasFault shape.now.format shape.now.rec_len shape.now.offset begun block.now fault
         → result ≡ Err fault }
-    // The result as a function of lists.
+    // The result is this function of lists.
     ensures exact { result
         ≡ judged shape.now.format shape.now.rec_len shape.now.offset begun block.now }
 {

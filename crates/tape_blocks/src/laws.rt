@@ -42,7 +42,8 @@ pub fn packed_blocks_hold()
     ensures { PackedBlocksHold }
 {}
 
-/// After parts in span order, a record is unfinished exactly if joining the parts leaves a rest.
+/// After parts in span order, a record is unfinished if and only if joining the parts leaves an
+/// incomplete record.
 pub fn begun_is_rest()
     ensures { BegunIsRest }
 {}

@@ -15,7 +15,7 @@ pub enum Offer {
     BlockReady(usize),
 }
 
-/// Why a packer refuses a shape or a record.
+/// The reason why a packer refuses a shape or a record.
 #[derive(Clone, Copy, Debug, PartialEq, Eq, Error)]
 pub enum PackFault {
     /// The record has a length that its shape does not allow.

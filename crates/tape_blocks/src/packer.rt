@@ -68,12 +68,12 @@ impl Packer {
     ///
     /// # Errors
     ///
-    /// `ShapeRange` if blocks of this shape cannot be written: the block length must be 18 to
-    /// 99,999 and the offset at most 99. In format F a record has at least 18 bytes and fits in a
-    /// block after the offset; in format D the record length, which includes the four digits, is 4
-    /// to 9,999 and fits likewise; in format S the record length is 0, a block has at most 9,999
-    /// bytes, and at least 6 of them follow the offset. Only blocks of format D can be padded in
-    /// full. Then `OutOfMemory`.
+    /// Returns `ShapeRange` if blocks of this shape cannot be written: the block length must be 18
+    /// to 99,999 and the offset at most 99. In format F a record has at least 18 bytes and fits in
+    /// a block after the offset; in format D the record length, which includes the four digits, is
+    /// 4 to 9,999 and fits likewise; in format S the record length is 0, a block has at most 9,999
+    /// bytes, and at least 6 of them follow the offset. Only in format D can blocks be padded to
+    /// the full block length. Then returns `OutOfMemory` if an allocation fails.
     pub fn new(alloc: Global, shape: Shape) -> Result<Packer, PackFault>
         ensures ok { IfOk result (λ p. IsWritable shape
             × (p ≡ record { shape = shape; parts = []; begun = false; closed = false })) }
@@ -96,7 +96,8 @@ impl Packer {
         })
     }
 
-    /// Appends a part.
+    /// Appends a part with the content `bytes`; `goes_on` says whether the record continues after
+    /// it.
     fn put_part(&mut self, goes_on: bool, bytes: &[u8])
         requires room { size_of self.old.shape self.old.parts
             + (head_len self.old.shape.format + length bytes.now) ≤ self.old.shape.block_len }
@@ -115,15 +116,15 @@ impl Packer {
 
     /// Offers a record, or the rest of a record of which a part was accepted.
     ///
-    /// `Taken` ends the record. `BlockReady(n)` says that its first n bytes were accepted and the
-    /// block is closed. If a closed block was not taken yet, `BlockReady(0)` is returned before
-    /// anything else is checked.
+    /// `Taken` means that the record has ended. `BlockReady(n)` means that the first n bytes of
+    /// `rest` were accepted and the block is closed. If a closed block was not taken yet,
+    /// `BlockReady(0)` is returned before anything else is checked.
     ///
     /// # Errors
     ///
-    /// `RecordLength`, checked at the start of a record: in format F its length differs from the
-    /// record length, in format D it exceeds the record length less 4, in format S it exceeds
-    /// 4,294,967,295. The packer is unchanged.
+    /// Returns `RecordLength`, which is checked at the start of a record: in format F its length
+    /// differs from the record length, in format D it exceeds the record length less 4, in format S
+    /// it exceeds 4,294,967,295. The packer is unchanged.
     pub fn offer(&mut self, rest: &[u8]) -> Result<Offer, PackFault>
         ensures ok { IfOk result (λ o. Offers self.old rest.now o self.new) }
         // A record that begins here has one of the lengths of the shape.

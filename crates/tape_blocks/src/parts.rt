@@ -7,19 +7,20 @@ ghost use Rattle.tape_blocks.specs.Spans.{continues, leaves};
 use crate::check::unit_at;
 use tape_label::{Format, Head2};
 
-/// How the records of a file appear in the input, when they are written, and in the output, when
-/// they are read back.
+/// The form of a file's records in the input, when they are written, and in the output, when they
+/// are read back.
 #[derive(Clone, Copy, Debug, PartialEq, Eq)]
 pub enum Form {
     /// Each line is a record, without its line feed. In the output each record is followed by a
     /// line feed.
     Lines,
-    /// Contents only. On input, format F divides the bytes into records of the record length, and
-    /// format S makes them a single record; in the output the records are joined.
+    /// Only the contents of the records. On input, format F divides the bytes into records of the
+    /// record length, and format S makes them a single record; in the output the records are
+    /// joined.
     Raw,
 }
 
-/// How a file's blocks contain its records (ECMA-13, 4th edition: the label HDR2).
+/// The shape of a file's blocks and records (ECMA-13, 4th edition: the label HDR2).
 ///
 /// In format F the record length is at least 1: an invariant of the type, proved wherever a shape
 /// is created.

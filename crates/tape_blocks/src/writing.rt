@@ -30,7 +30,7 @@ pub(crate) fn head_len(format: Format) -> usize
     }
 }
 
-/// Returns true if `free` bytes are enough for the next part, if `len` bytes of its record are
+/// Returns true if `free` bytes are enough for the next part of a record of which `len` bytes are
 /// left.
 pub(crate) fn has_room(format: Format, free: usize, len: usize) -> bool
     ensures { IsTrue result ↔ (least_room format len ≤ free) }

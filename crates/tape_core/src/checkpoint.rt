@@ -81,7 +81,7 @@ impl Checkpoint {
         ensures value { IfSome result (λ point. point
             ≡ point_of set_id file position begun known staged) }
         ensures rules { IsSome result ↔ IsPoint (point_of set_id file position begun known staged) }
-        // The result as a function of the arguments.
+        // The result is this function of the arguments.
         ensures range { is_some result
             ≡ in_range (point_of set_id file position begun known staged) }
     {
@@ -134,8 +134,8 @@ impl Checkpoint {
         requires known { is_some self.now.known ≡ true }
         requires light { staged ≤ most_staged }
         ensures value { result ≡ inside_block self.now p part begun staged }
-        // If the block was delivered, and exactly `part` of its parts are kept, the checkpoint is
-        // valid.
+        // If the block was delivered, and exactly its first `part` parts are kept, the checkpoint
+        // is valid.
         ensures stands { (set : FileSet) (old new : State) (item : TapeItem) (n : ℕ)
             → self.now ≡ saved new n → p ≡ old.position → IsAt set old
             → new.set_id ≡ set.set_id → new.file ≡ old.file
@@ -149,7 +149,7 @@ impl Checkpoint {
         self.in_block(p, part, begun, staged)
     }
 
-    /// Returns the checkpoint inside a block, as a value.
+    /// Returns the checkpoint that `inside_block` returns.
     fn in_block(&self, p: Position, part: u32, begun: bool, staged: u64) -> Checkpoint
         requires numbers { PositionFits p }
         requires waits { is_finished p ≡ false }
@@ -210,7 +210,7 @@ impl Known {
     pub fn from_parts(format: Format, rec_len: u32, offset: u8, file_id: Field<17>) -> Option<Known>
         ensures value { IfSome result (λ known. known ≡ known_of format rec_len offset file_id) }
         ensures rules { IsSome result ↔ IsForm format rec_len offset }
-        // The result as a function of the arguments.
+        // The result is this function of the arguments.
         ensures range { is_some result ≡ form_in_range (known_of format rec_len offset file_id) }
     {
         if !(length_in_range(format, rec_len) && offset <= 99) {
@@ -235,7 +235,7 @@ fn length_in_range(format: Format, rec_len: u32) -> bool
     }
 }
 
-/// The greatest weight of staged parts.
+/// The maximum weight of staged parts.
 pub(crate) const MOST_STAGED: u64 = 999_999_999_999_999;
 
 /// Returns whether the numbers and flags can be those of a checkpoint.

@@ -39,7 +39,7 @@ pub enum Answer {
     Useless(Reason),
 }
 
-/// Why a reading yields nothing more.
+/// The reason why a reading yields nothing more.
 #[derive(Clone, Copy, Debug, PartialEq, Eq)]
 pub enum Reason {
     /// The reel does not begin with VOL1, further volume labels and HDR1 (ECMA-13, 4th edition,
@@ -78,14 +78,14 @@ pub enum Reason {
     /// A block that should be a label cannot be read as a label. For a tape mark instead of a label
     /// the cause is `Identifier`.
     BadLabel(LabelFault),
-    /// After `BlockCount` nothing is read before a restart.
+    /// The reader is broken: after `BlockCount` nothing is read before a restart.
     Broken,
 }
 
-/// Why a reader is not created, or does not roll back to a checkpoint.
+/// The reason why a reader cannot be created, or cannot roll back to a checkpoint.
 #[derive(Clone, Copy, Debug, PartialEq, Eq, Error)]
 pub enum CoreFault {
-    /// Files are numbered from 1 to 9,999.
+    /// The file number is not 1 to 9,999.
     #[error("the file number is not 1 to 9,999")]
     FileNumber,
     /// The checkpoint belongs to another file or file set.

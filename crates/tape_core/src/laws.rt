@@ -1,4 +1,4 @@
-//! Examples for the definitions, proved as contracts of calls that do nothing.
+//! Examples for the definitions, each proved as the contract of a function that does nothing.
 
 ghost use Rattle.std.specs.Prelude.{◌≡◌, Some};
 ghost use Rattle.tape_image.specs.Tape.{TapeItem};

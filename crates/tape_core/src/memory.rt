@@ -1,4 +1,4 @@
-//! A sink in memory.
+//! An in-memory sink.
 
 ghost use Rattle.std.specs.Prelude.{◌≡◌, ◌≤◌, ◌<◌, ◌-◌, ◌+◌, ◌*◌, ◌++◌, ◌∷◌, [], List, Some, drop};
 ghost use Rattle.std.specs.Prelude.{take, length, slice_get, OnOk, OnErr};
@@ -16,7 +16,7 @@ use crate::sink::{PartSink, PartWalk, SinkFault};
 use std::alloc::{AllocError, Global};
 use tape_blocks::Part;
 
-/// A sink in memory, which does not survive a crash.
+/// An in-memory sink, which does not survive a crash.
 ///
 /// All bytes are in one allocation, and the entries of the parts, 16 bytes each, in another. Each
 /// allocation grows by doubling.

@@ -107,7 +107,7 @@ impl ReaderCore {
         // the volume.
         ensures begins { (set : FileSet) (k : ℕ) → IsAt set self.old
             → IsReading set self.old.position k [] self.new }
-        // The same for a reel that does not belong to the set.
+        // This also holds for a reel that does not belong to the set.
         ensures foreign { (set : FileSet) (reel : List TapeItem) → IsAt set self.old
             → starts_set set.set_id reel ≡ Bool.false
             → IsForeignAt set.set_id reel self.new.position self.new.phase }

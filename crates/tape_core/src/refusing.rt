@@ -16,7 +16,7 @@ pub struct Refusing<S> {
     inner: S,
     /// The number of calls before the refused call.
     left: usize,
-    /// How many calls this sink refused itself.
+    /// The number of calls that this sink refused itself.
     refused: u64,
 }
 

@@ -20,7 +20,7 @@ use crate::checkpoint::Checkpoint;
 use tape_blocks::Part;
 use thiserror::Error;
 
-/// Why a sink refused a call.
+/// The reason why a sink refused a call.
 #[derive(Clone, Copy, Debug, PartialEq, Eq, Error)]
 pub enum SinkFault {
     /// There was no memory for the part.
@@ -56,7 +56,7 @@ impl SinkFault {
 /// `holds` relates a sink to its contents. It relates an untrusted sink to no contents; then only
 /// the sink's weight and its count of refused calls are specified.
 pub trait PartSink {
-    /// The sink contains these parts.
+    /// Relates a sink to the parts that it contains.
     ghost holds: { Self → List Portion → Type 0 };
 
     /// The weight that any sink reports.
@@ -144,10 +144,10 @@ pub trait PartSink {
 
 /// A sink whose parts can be read back, in a walk that begins at the first part.
 ///
-/// In the sinks in memory and on disk, each `put` and `cut_to` restarts the walk. For other sinks
-/// the state of the walk is unspecified after these calls, until `rewind` restarts it.
+/// In an in-memory sink and in a sink on a disk, each `put` and `cut_to` restarts the walk. For
+/// other sinks the state of the walk is unspecified after these calls, until `rewind` restarts it.
 pub trait PartWalk: PartSink {
-    /// The given parts are still to come.
+    /// Relates a sink to the parts that the walk has yet to return.
     ghost ahead: { Self → List Portion → Type 0 };
 
     /// An upper bound of the number of parts to come, for any sink.

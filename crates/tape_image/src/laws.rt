@@ -41,14 +41,14 @@ pub fn spelled_bytes_begin_with_their_items()
 {}
 
 /// However a device splits its bytes, the calls of `ImageReader::next` up to the end or a fault
-/// return exactly the items that the bytes begin with.
+/// return exactly the items with which the bytes begin.
 pub fn calls_give_the_items_that_bytes_begin_with()
     ensures end { GiveUpToEnd }
     ensures fault { GiveUpToFault }
 {}
 
-/// The items read so far are the first of those that the bytes begin with, and the remaining bytes
-/// begin with the other items.
+/// The items read so far are a prefix of the items with which the bytes begin, and the remaining
+/// bytes begin with the rest of these items.
 pub fn walked_items_come_first()
     ensures { WalkedIsFront }
 {}

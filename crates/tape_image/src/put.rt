@@ -17,7 +17,7 @@ use std::io::Write;
 /// writer then receives the block in one call instead of three.
 const SHORT: usize = 119;
 
-/// The size of the encoding of the longest such block, with its two words and its pad byte.
+/// The size of the encoding of a block of `SHORT` bytes, with its two words and its pad byte.
 const SPELLED: usize = SHORT + 9;
 
 /// Writes all of `bytes`, or a prefix of them if the writer fails.

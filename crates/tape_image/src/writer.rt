@@ -26,7 +26,7 @@ enum Phase {
 /// Writes an image to a device, one item after another, in the format of "SIMH Magtape
 /// Representation and Handling".
 ///
-/// Does not allocate. Writing a block takes up to four calls of the device: wrap the device in a
+/// Does not allocate. Writing a block calls the device up to four times: wrap the device in a
 /// `BufWriter` if its calls are slow. The device is flushed once, after the end-of-medium marker.
 /// Existing contents of the device are kept, and are not counted.
 #[derive(Drop)]
@@ -83,9 +83,9 @@ impl<W: Write + Drop> ImageWriter<W> {
     ///
     /// # Errors
     ///
-    /// In this order: `Device` if the device failed before, `Finished`, `BlockLength`, `TooLong` if
-    /// this block would make the image longer than 4,294,967,295 bytes, and `Device` if the device
-    /// fails now.
+    /// Returns, in this order: `Device` if the device failed before, `Finished`, `BlockLength`,
+    /// `TooLong` if this block would make the image longer than 4,294,967,295 bytes, and `Device`
+    /// if the device fails now.
     pub fn block(&mut self, content: &[u8]) -> Result<(), ImageWriteFault>
         ensures { BlockFrom self.old.standing content.now self.old result self.new }
     {
@@ -103,8 +103,9 @@ impl<W: Write + Drop> ImageWriter<W> {
     ///
     /// # Errors
     ///
-    /// In this order: `Device` if the device failed before, `Finished`, `TooLong` if this mark
-    /// would make the image longer than 4,294,967,295 bytes, and `Device` if the device fails now.
+    /// Returns, in this order: `Device` if the device failed before, `Finished`, `TooLong` if this
+    /// mark would make the image longer than 4,294,967,295 bytes, and `Device` if the device fails
+    /// now.
     pub fn mark(&mut self) -> Result<(), ImageWriteFault>
         ensures { PutsFrom self.old.standing (written mark) writing self.old result self.new }
     {
@@ -119,7 +120,7 @@ impl<W: Write + Drop> ImageWriter<W> {
     ///
     /// # Errors
     ///
-    /// As for `mark`, for this block.
+    /// The errors are those of `mark`, for this block.
     pub fn bad(&mut self) -> Result<(), ImageWriteFault>
         ensures { PutsFrom self.old.standing (written bad) writing self.old result self.new }
     {
@@ -133,7 +134,7 @@ impl<W: Write + Drop> ImageWriter<W> {
     ///
     /// # Errors
     ///
-    /// As for `mark`, for the marker; also `Device` if the flush fails.
+    /// The errors are those of `mark`, for the marker; also `Device` if the flush fails.
     pub fn finish(&mut self) -> Result<(), ImageWriteFault>
         ensures { PutsFrom self.old.standing (little_bytes 4 end_word) finished
             self.old result self.new }

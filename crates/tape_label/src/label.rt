@@ -11,8 +11,8 @@ use crate::reading::{read_head1, read_head2, read_trail1, read_vol1};
 use crate::values::{Head1, Head2, Kind, Trail1, Vol1};
 use thiserror::Error;
 
-/// Why a block is not a valid label, or a text is not a valid field. Positions in a label are
-/// counted from 1.
+/// The reason why a block is not a valid label, or a text is not a valid field. Positions in a
+/// label are counted from 1.
 #[derive(Clone, Copy, Debug, PartialEq, Eq, Hash, Error)]
 pub enum LabelFault {
     /// The block does not have 80 characters.
@@ -55,14 +55,14 @@ impl LabelFault {
     }
 }
 
-/// Returns the kind of label that the block is, judged only by its length of 80 characters and its
-/// first four characters, or `None` if it is no such label (ECMA-13, 4th edition, label identifier
-/// and label number).
+/// Returns the kind of the label `block`, judged only by its length of 80 characters and its first
+/// four characters, or `None` if it is not a label of one of these kinds (ECMA-13, 4th edition,
+/// label identifier and label number).
 #[tactic(auto, unfolding(crate::specs::Kinds::kind_at))]
 pub fn kind(block: &[u8]) -> Option<Kind>
     ensures found { IfSome result (HasKind block.now) }
     ensures only { (kind : Kind) → HasKind block.now kind → result ≡ Some kind }
-    // The same as a function of the block.
+    // The result is this function of the block.
     ensures exact { result ≡ kind_at block.now }
 {
     if block.len() != 80 {
@@ -85,9 +85,9 @@ pub fn kind(block: &[u8]) -> Option<Kind>
 #[tactic(auto, unfolding(crate::specs::VolumeLabels::is_volume_label))]
 pub fn is_volume_label(block: &[u8]) -> bool
     ensures found { IsTrue result ↔ IsOfVolume block.now }
-    // The only such kind that can be read is VOL1.
+    // The only label of a volume that can be read is VOL1.
     ensures other { (kind : Kind) → HasKind block.now kind → kind ≢ Kind.Vol1 → result ≡ false }
-    // The same as a function of the block.
+    // The result is this function of the block.
     ensures exact { result ≡ is_volume_label block.now }
 {
     block.len() == 80 && (&block[..3] == b"VOL".as_slice() || &block[..3] == b"UVL".as_slice())
@@ -111,8 +111,8 @@ pub enum Label {
 ///
 /// # Errors
 ///
-/// `NotEighty` if the block does not have 80 characters; `Identifier` if it does not begin with the
-/// identifier of one of the seven kinds; otherwise the fault of the function for its kind.
+/// Returns `NotEighty` if the block does not have 80 characters; `Identifier` if it does not begin
+/// with the identifier of one of the seven kinds; otherwise the fault of the function for its kind.
 pub fn read_label(block: &[u8]) -> Result<Label, LabelFault>
     // A label that is read has these fields,
     ensures found { IfOk result (IsLabel block.now) }
@@ -123,7 +123,7 @@ pub fn read_label(block: &[u8]) -> Result<Label, LabelFault>
     // and so is one that begins with none of the seven identifiers.
     ensures no_kind { length block.now ≡ 80 → ((kind : Kind) → HasKind block.now kind → ⊥)
         → result ≡ Err LabelFault.Identifier }
-    // The result as a function of the block.
+    // The result is this function of the block.
     ensures exact { result ≡ label_at block.now }
 {
     label_at(block)
@@ -145,7 +145,7 @@ fn label_at(block: &[u8]) -> Result<Label, LabelFault>
     })
 }
 
-/// Returns why a block that is not of any of the seven kinds is not a label.
+/// Returns the reason why a block that is of none of the seven kinds is not a label.
 fn no_kind(block: &[u8]) -> LabelFault
     ensures { result ≡ no_kind block.now }
 {

@@ -15,7 +15,7 @@ use crate::reading::{digits_of, digits_value, read_head1, read_head2, read_trail
 use crate::values::{Field, Head1, Head2, Kind, Trail1, Vol1};
 use crate::writing::{write_head1, write_head2, write_trail1, write_vol1};
 
-/// A number that fits its digits is read back from them.
+/// A number that fits in `W` digits is read back from them.
 pub fn digits_again<const W: usize>(number: u64) -> Option<u64>
     requires width { W ≤ 19 }
     requires fits { number < 10 ^ W }
@@ -79,7 +79,7 @@ pub fn readings(block: &[u8]) -> usize
 /// Compares two fields: they are equal if and only if their bytes are.
 pub fn same_field<const N: usize>(a: &Field<N>, b: &Field<N>) -> bool
     ensures equal { IsTrue result ↔ (a.now ≡ b.now) }
-    // The same as a function of the fields.
+    // The result is this function of the fields.
     ensures exact { result ≡ bytes_eq a.now b.now }
 {
     a.bytes() == b.bytes()

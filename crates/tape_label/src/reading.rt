@@ -25,7 +25,7 @@ pub fn digits_value(text: &[u8]) -> Option<u64>
     ensures only { (n : ℕ) → n < 10 ^ length text.now → text.now ≡ digits (length text.now) n
         → result ≡ Some n }
     ensures small { IfSome result (λ n. n < 10 ^ length text.now) }
-    // The same as a function of the text.
+    // The result is this function of the text.
     ensures exact { result
         ≡ (if all_ascii_digits text.now then Some (number_of text.now) else None) }
 {
@@ -127,7 +127,7 @@ pub(crate) fn offset_at(label: &[u8]) -> Result<u8, LabelFault>
 ///
 /// # Errors
 ///
-/// `NotEighty`, then `Identifier` if the label does not begin with `VOL1`.
+/// Returns `NotEighty`; then `Identifier` if the label does not begin with `VOL1`.
 pub fn read_vol1(label: &[u8]) -> Result<Vol1, LabelFault>
     // A label that is read has these fields,
     ensures found { IfOk result (IsVol1 label.now) }
@@ -149,7 +149,7 @@ pub fn read_vol1(label: &[u8]) -> Result<Vol1, LabelFault>
 ///
 /// # Errors
 ///
-/// In this order: `NotEighty`; `Identifier` if the label does not begin with `HDR1`;
+/// Returns, in this order: `NotEighty`; `Identifier` if the label does not begin with `HDR1`;
 /// `NotDigits(28)` and `FieldRange(28)` for the section number; `NotDigits(32)` and
 /// `FieldRange(32)` for the sequence number.
 pub fn read_head1(label: &[u8]) -> Result<Head1, LabelFault>
@@ -168,9 +168,9 @@ pub fn read_head1(label: &[u8]) -> Result<Head1, LabelFault>
 ///
 /// # Errors
 ///
-/// In this order: `NotEighty`; `Identifier` if the label begins otherwise; `Format`; `NotDigits(6)`
-/// for the block length; `NotDigits(11)` for the record length, and `FieldRange(11)` if it is 0 and
-/// the format is `Fixed`; `NotDigits(51)` for the buffer offset.
+/// Returns, in this order: `NotEighty`; `Identifier` if the label begins otherwise; `Format`;
+/// `NotDigits(6)` for the block length; `NotDigits(11)` for the record length, and `FieldRange(11)`
+/// if it is 0 and the format is `Fixed`; `NotDigits(51)` for the buffer offset.
 pub fn read_head2(label: &[u8]) -> Result<Head2, LabelFault>
     ensures found { IfOk result (λ fields. (which : Kind) × IsHead2 label.now which fields) }
     ensures only { (which : Kind) (fields : Head2) → IsHead2 label.now which fields
@@ -187,8 +187,8 @@ pub fn read_head2(label: &[u8]) -> Result<Head2, LabelFault>
 ///
 /// # Errors
 ///
-/// As for `read_head1`, with the identifiers `EOF1` and `EOV1`, and then `NotDigits(55)` for the
-/// block count.
+/// The errors are those of `read_head1`, with the identifiers `EOF1` and `EOV1`, and then
+/// `NotDigits(55)` for the block count.
 pub fn read_trail1(label: &[u8]) -> Result<Trail1, LabelFault>
     ensures found { IfOk result (IsTrail1 label.now) }
     ensures only { (fields : Trail1) → IsTrail1 label.now fields → result ≡ Ok fields }

@@ -40,13 +40,13 @@ impl<const N: usize> Model for Field<N> {
 }
 
 impl<const N: usize> Field<N> {
-    /// Creates a field from the text, filled with spaces on the right (ECMA-13, 4th edition,
+    /// Creates a field from `text`, filled with spaces on the right (ECMA-13, 4th edition,
     /// "a-characters").
     ///
     /// # Errors
     ///
-    /// `FieldLength` if the text has more than `N` bytes; then `NotACharacter` with the index of
-    /// the first byte that is not an a-character.
+    /// Returns `FieldLength` if the text has more than `N` bytes; then `NotACharacter` with the
+    /// index of the first byte that is not an a-character.
     pub fn new(text: &str) -> Result<Field<N>, LabelFault>
         ensures long { N < length text.now → result ≡ Err LabelFault.FieldLength }
         ensures other { length text.now ≤ N

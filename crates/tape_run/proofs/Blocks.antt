@@ -94,7 +94,7 @@ module _ {S : Type 0} (g : Ghosts S) (old : S) (first : ℕ) (begun : Bool) wher
 
 -- ---- the index of a part
 
--- this many parts precede the part at this index
+-- the number of parts before the part at this index
 pub number_of : (ps ys rest : List Portion) (p : Portion) → ps ≡ ys ++ p ∷ rest
     → length ys < length ps
 number_of ps ys rest p e = omega (arith, ap length e, length-append ys (p ∷ rest))

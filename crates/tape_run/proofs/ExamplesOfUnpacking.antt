@@ -1,22 +1,26 @@
 -- The cases of unpacking.
-use Rattle.std.proofs.Common.{[], ◌∷◌, refl, ap, map, true, false}
-use Rattle.std.specs.Prelude.{if◌then◌else◌, option_map, ◌||◌}
+use Rattle.std.proofs.Common.{refl, ap, sym, ◌∙◌, ◌≡◌, map, [], ◌∷◌, inl, arith, length, codes}
+use Rattle.std.proofs.Common.{decimal, length-append}
+use Rattle.std.specs.Prelude.{if◌then◌else◌, option_map, ◌||◌, is_some}
 use Rattle.std.specs.Fmt.{digits}
-use Rattle.tape_run.specs.declared.unpack.Heading.TheVariants.{Differs, Named}
 use Rattle.tape_run.specs.declared.unpack.SetFile.{SetFile}
 use Rattle.tape_run.specs.CasesOfUnpacking.{CasesOfUnpacking}
-use Rattle.tape_run.specs.Unpacking.{file_by}
+use Rattle.tape_run.specs.SurveyCopies.{dispute_at}
+use Rattle.tape_run.specs.SurveyFiles.{file_key}
+use Rattle.tape_run.specs.Unpacking.{file_by, volume_in}
 
 pub cases_of_unpacking : CasesOfUnpacking
 unfolding digits
 cases_of_unpacking = record {
-  one_file = λ n e. ap (λ b. if b || false then Differs else Named n.head.file_id) e;
-  two_files = λ n d e. ap (λ b. if b || d then Differs else Named n.head.file_id) e;
-  disputed = λ n e. ap (λ b. if b || true then Differs else Named n.head.file_id) e;
   files = λ d. refl;
   no_label = λ d set_id file e. ap (file_by d set_id file) e;
   own_labels = λ d set_id file n e.
-      ap (λ o. map (λ (f : SetFile). f.heading) (file_by d set_id file o)) e;
+      ap (λ o. map (λ (f : SetFile). f.file_id) (file_by d set_id file o)) e;
+  own_copies = λ d set_id file n e.
+      ap (λ o. map (λ (f : SetFile). f.differs) (file_by d set_id file o)) e;
+  two_files = λ d set_id file n e t.
+      ap (λ o. map (λ (f : SetFile). f.differs) (file_by d set_id file o)) e
+      ∙ ap (λ b. (b || is_some (dispute_at d.copies (file_key set_id file))) ∷ []) t;
   no_files = refl;
   each_once = refl;
   up_to_a_gap = refl;
@@ -42,12 +46,32 @@ cases_of_unpacking = record {
   no_path = refl;
   kept = refl;
   failed = refl;
-  left_over = refl;
-  nothing_left = refl;
+  listed = refl;
+  notice_words = refl;
+  unread = refl;
+  counts = refl;
+  listed_counts = refl;
+  not_again = refl;
+  count_stops = refl;
   on_images = λ shelf left met f. (f.viewed.all, f.viewed.viewed, f.files, f.whole);
   of_no_set = λ s none. ap (λ h. option_map (λ x. x.set_id) h) none;
   of_a_set = λ s h is. ap (λ o. option_map (λ x. x.set_id) o) is;
   not_opened = refl;
+  not_read = refl;
+  no_volume = refl;
+  on_a_volume = λ s label is. ap volume_in is;
+  star = (
+    codes "A",
+    codes "BBC",
+    refl,
+    λ n. refl,
+    (codes "BB", codes "C", refl, λ n. absurd (n refl), (codes "C", [], refl, λ n. refl, refl)),
+  );
+  no_more = λ (piece, rest, e, r, f). let p : piece ≡ 65 ∷ [] = r (λ is. omega (arith, is)) in
+      omega (arith, ap length e, length-append piece rest, ap length p, ap length f);
+  by_number = λ f is. inl (ap decimal (sym is));
+  other_set = λ f s other is. other is;
+  any_set = λ f. tt;
   own_name = λ law s t m n a b x y ss ts long lm ln other e.
       other (law s t m n a b x y ss ts long lm ln e).0;
   case_folded = refl;

@@ -58,11 +58,13 @@ mod PlacedSoFar
 mod PlacedExamples
 mod Reporting
 pub mod SurveyGaps
+pub mod SurveyChain
 pub mod SurveyDigest
 pub mod SurveyCompared
 pub mod SurveyCopies
 pub mod SurveyShown
 pub mod SurveyConflicts
+mod SurveyListed
 pub mod SurveySound
 mod SurveyJoins
 mod SurveyProblems
@@ -79,6 +81,7 @@ mod UnpackedFiles
 mod ReadingOrder
 mod UnpackedFits
 mod UnpackedNames
+pub mod Patterns
 mod WholeReports
 mod Streams
 mod QuotedNames

@@ -228,7 +228,7 @@ comes_to_end firsts olds nows a p old mid new log row now other some s h none pu
     was_none now mid new (subst (λ (b : Bool). Puts now b mid new) is puts) in
     ends firsts olds nows a p old mid new log row now other s h (is_none other none) no_item same
 
--- one item more was written, counted and logged
+-- one more item was written, counted and logged
 pub record OneMore {R : Type 0} (firsts nows : List (Reading R)) (b : Merged) (p q : Phase)
     (old mid new : Writer) (log logged : Option (List ℕ)) : Type 0 where
   pub so_far : SoFar firsts nows b q old new log logged
@@ -320,7 +320,7 @@ refused_now {T} {R} result firsts olds nows a p old mid new log row now other fa
     subst P (sym is)
     (refused_at firsts olds nows a p old mid new log row now other fault s h on refused)
 
--- the item was written, and its row was refused
+-- the item was written, but its row was refused
 pub row_refused : {T R : Type 0} (result : Result T MergeFault)
     (firsts olds nows : List (Reading R)) (a : Merged) (p : Phase) (old mid new : Writer) (log row : Option (List ℕ))
     (now other : Option TapeItem) (some : Bool) → result ≡ Err faults.Log

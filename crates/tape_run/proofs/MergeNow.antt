@@ -233,7 +233,7 @@ made_some firsts nows counts first mid log logged out put stands ends names logs
           merges wrote there fits how noted lines,
     )
 
--- the names of the columns were written, followed by rows, and all was flushed
+-- the names of the columns were written, followed by the rows, and the log was flushed
 pub all_logged : (a b c d : Option (List ℕ)) (names : List (List ℕ)) (text head : List ℕ)
     → text ≡ head → head ≡ log_head names → Appends a b text → Keeps c d
     → (rows : List ℕ) → Appends b c rows → Appends a d (log_head names ++ rows)

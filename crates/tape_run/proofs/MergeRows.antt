@@ -17,7 +17,7 @@ use Rattle.tape_run.proofs.MergeReports.{drop_none, drop_one}
 
 -- ---- one item
 
--- what readings have at a place, by how that compares
+-- the item of each reading at a place, by its verdict
 abbrev pub AreSeenAs : {R : Type 0} → List (Reading R) → List (Option TapeItem) → Type 0
 AreSeenAs [] [] = ⊤
 AreSeenAs (r ∷ rs) (x ∷ xs) = SeenAs r.verdict x × AreSeenAs rs xs
@@ -57,9 +57,9 @@ row_seen n have x rs xs h many =
     ∙ ap (λ cells. if nat_lt have 2 || has_bad_verdict rs then row_text n (kind_at x) cells else [])
     (cells_seen rs xs h)
 
--- ---- one after another
+-- ---- several items
 
--- the readings went on after these items
+-- the readings continued after these items
 pub rows_kept : (j : ℕ) (items : List TapeItem) (rs ss : List (List TapeItem))
     → ((i : ℕ) → i < j + length items → column i ss ≡ column i rs)
     → log_rows j items ss ≡ log_rows j items rs
@@ -105,7 +105,7 @@ rows_more merged x rs ss nows n have same here many is =
 
 -- ---- as the loops write
 
--- the text of these elements, as lines
+-- the text of these elements, each on a line
 pub lines_flat : {A : Type 0} (f : A → List ℕ) (n : ℕ) (xs : List A)
     → lines_from (λ _ x. f x) n xs ≡ flat_map f xs
 lines_flat f n [] = refl
@@ -129,7 +129,7 @@ pub flat_values : {A B : Type 0} (f : B → List ℕ) (value : A → B) (xs : Li
 flat_values f value [] = refl
 flat_values f value (x ∷ xs) = ap (λ t. f (value x) ++ t) (flat_values f value xs)
 
--- a reading has a bad item, or one of those after it
+-- the first reading, or one of those after it, has a bad item
 pub bad_one : {R : Type 0} (n : ℕ) (rs : List (Reading R)) (r : Reading R) → n < length rs
     → r ≡ get_or rs n r
     → has_bad_verdict (drop n rs) ≡ (is_bad_verdict r.verdict || has_bad_verdict (drop (n + 1) rs))

@@ -157,7 +157,7 @@ second_alone verdicts.Third x best now y h = h.0.0
 second_alone verdicts.Ended x best now y h = absurd h
 second_alone (verdicts.Failed fault) x best now y h = absurd h
 
--- what a reading has at a place, by how that compares
+-- the item of a reading at a place, by its verdict
 pub record SeenAs (v : Verdict) (x : Option TapeItem) : Type 0 where
   pub good : one_if (is_good_one x) ≡ has_first v
   pub is_bad : is_bad_one x ≡ is_bad_verdict v

@@ -124,7 +124,7 @@ goes t b j w good = one (ltb (length w.blocks) b) refl
 
 -- ---- from a position on the way the same reading goes no further
 
--- where a reading moves any position
+-- the position to which a reading moves any position
 abbrev moves : Section → List Bool → Position → Position
 moves w good (Awaits t b j) = moved (Awaits t b j) t b w good
 moves w good Finished = Finished

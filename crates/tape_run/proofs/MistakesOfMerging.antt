@@ -1,4 +1,4 @@
--- What the contracts of merging exclude: each is what a wrong body gives.
+-- Wrong answers that the contracts of merging exclude.
 use Rattle.std.proofs.Common.{◌≡◌, ◌≢◌, ◌⊎◌, inl, inr, ℕ, suc, List, [], ◌∷◌, Option, Some, None}
 use Rattle.std.proofs.Common.{refl, sym, ap, ◌∙◌, get_or, arith, false}
 use Rattle.tape_image.specs.Tape.{TapeItem, block, bad, mark}
@@ -9,25 +9,25 @@ use Rattle.tape_run.specs.MergeCalls.{alone_in}
 use Rattle.tape_run.specs.MergeNow.{FitsEnd}
 use Rattle.tape_run.specs.MergeLog.{is_logged, log_row, seen_cell}
 
--- two different items of one place, both readable
+-- two different readable items at the same place
 two_items : (x y t : TapeItem) → x ≢ bad → y ≢ bad → x ≢ y → IsReadAs x t → IsReadAs y t → ⊥
 two_items x y t good other apart (inl e) q = good e
 two_items x y t good other apart (inr e) (inl f) = other f
 two_items x y t good other apart (inr e) (inr f) = apart (e ∙ sym f)
 
--- merge_first_reading_wins: an image where one reading has a block, and another one a mark
+-- merge_first_reading_wins: one reading has a block and another a mark, but an image is written
 merge_first_reading_wins : (content : List ℕ) (merged : List TapeItem)
     → IsMerged ((block content ∷ []) ∷ (mark ∷ []) ∷ []) merged → ⊥
 merge_first_reading_wins content [] is = is.all.0
 merge_first_reading_wins content (t ∷ ts) is =
     two_items (block content) mark t (λ e. cc e) (λ e. cc e) (λ e. cc e) is.all.0.0 is.all.1.0.0
 
--- merge_difference_is_an_end: the image ends before the difference
+-- merge_difference_is_an_end: two readings differ, but an image is written up to the difference
 merge_difference_is_an_end : (content : List ℕ)
     → IsMerged ((mark ∷ block content ∷ []) ∷ (mark ∷ mark ∷ []) ∷ []) (mark ∷ []) → ⊥
 merge_difference_is_an_end content is = is.all.0.1
 
--- merge_bad_item_kept: a bad item that another reading has
+-- merge_bad_item_kept: an item is bad although another reading could read it
 merge_bad_item_kept : (x : TapeItem) → x ≢ bad
     → IsMerged ((bad ∷ []) ∷ (x ∷ []) ∷ []) (bad ∷ []) → ⊥
 merge_bad_item_kept x good is = two_bad is.all.1.0.0
@@ -36,15 +36,15 @@ merge_bad_item_kept x good is = two_bad is.all.1.0.0
     two_bad (inl e) = good e
     two_bad (inr e) = good e
 
--- merge_ends_at_a_bad_item: the item that all readings have as a bad one is missing
+-- merge_ends_at_a_bad_item: an item that is bad in all readings is left out
 merge_ends_at_a_bad_item : IsMerged ((bad ∷ mark ∷ []) ∷ []) [] → ⊥
 merge_ends_at_a_bad_item is = is.all.0
 
--- merge_fault_is_an_end: the image ends with the shortest reading
+-- merge_fault_is_an_end: the image ends where the shortest reading does
 merge_fault_is_an_end : (x : TapeItem) → IsMerged ([] ∷ (x ∷ []) ∷ []) [] → ⊥
 merge_fault_is_an_end x is = is.all.1.0
 
--- merge_bad_differs_from_a_mark: a bad item and a mark reported as a difference
+-- merge_bad_differs_from_a_mark: a bad item and a mark are reported as a difference
 merge_bad_differs_from_a_mark : Differ ((bad ∷ []) ∷ (mark ∷ []) ∷ []) → ⊥
 merge_bad_differs_from_a_mark differ = differ (mark ∷ []) ((inl refl, tt), ((inr refl, tt), tt))
 
@@ -53,15 +53,15 @@ merge_whole_with_a_bad_item : (n miscounted : ℕ) (end : MergedEnd)
     → FitsEnd (suc n) miscounted end Whole → ⊥
 merge_whole_with_a_bad_item n miscounted end fits = absurd (omega (arith, fits.0))
 
--- merge_two_witnesses_counted_as_one: a mark that both readings have
+-- merge_two_witnesses_counted_as_one: both readings have a mark, but it is counted as that of one
 merge_two_witnesses_counted_as_one : alone_in 1 ((mark ∷ []) ∷ (mark ∷ []) ∷ []) ≡ 1 → ⊥
 merge_two_witnesses_counted_as_one is = absurd (omega (arith, is))
 
--- merge_row_left_out: a mark that one reading of two has
+-- merge_row_left_out: only one of two readings has a mark, but the log has no row for it
 merge_row_left_out : is_logged (Some mark ∷ None ∷ []) ≡ false → ⊥
 merge_row_left_out is = absurd (cc is)
 
--- merge_confirmed_item_logged: the row of a mark that both readings have
+-- merge_confirmed_item_logged: both readings have a mark, but the log has a row for it
 merge_confirmed_item_logged : (n x : ℕ) (row : List ℕ)
     → log_row n mark (Some mark ∷ Some mark ∷ []) ≡ x ∷ row → ⊥
 merge_confirmed_item_logged n x row is = absurd (cc is)

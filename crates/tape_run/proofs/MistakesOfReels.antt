@@ -26,7 +26,7 @@ use Rattle.tape_run.specs.Reels.{Reads, ReadsReel, EndedByItem, EndedByMedium, E
 use Rattle.tape_run.specs.Reels.{answers_to, delivered_by}
 use Rattle.tape_run.proofs.session.Session.reel.Reads as reel
 
--- the answer of a reel that is read from this position on, if the reader tells its bytes
+-- the answer of a reel that is read from this position on, if the reader's bytes are known
 read_from : (old : State) (p : Position) (before after : Option (List ℕ)) (bytes left : List ℕ)
     (answer : ReelAnswer) (new : State)
     → IfKnown before after (λ xs ys. Reads old.position old xs ys answer new)

@@ -21,7 +21,7 @@ use Rattle.tape_run.proofs.MistakesOfStops.{kept_without}
 use Rattle.tape_run.proofs.WorkedHistory.{is_worked}
 use Rattle.tape_run.proofs.script.run.Reads as run
 
--- a sink that satisfies this contains only one list of parts, as a sink in memory does
+-- a sink that satisfies this contains only one list of parts, as an in-memory sink does
 abbrev pub HoldsOne : (List Portion → Type 0) → Type 0
 HoldsOne holds = (xs ys : List Portion) → holds xs → holds ys → xs ≡ ys
 

@@ -1,5 +1,5 @@
 -- Answers that the contracts of a session exclude when it saves, when it is complete and when a
--- trailer label has another count: each would be returned by a wrong body.
+-- trailer label has another count: each would be returned by a wrong function body.
 use Rattle.std.proofs.Common.{Bool, ◌≡◌, ℕ, List, [], ◌∷◌, ◌++◌, length, false, refl}
 use Rattle.std.proofs.Common.{sym, ap, ◌∙◌, ◌+◌, subst, arith, length-append}
 use Rattle.std.specs.Prelude.{Option, Some, None, Ok, Err, IfSome, map, slice_get}
@@ -110,7 +110,7 @@ last_note_not_counted : (S : _) (LS : _) (g : _) (d : _) (κs : _) (a : _) (s : 
     → notes.Learnt S LS g d κs a 0 s → a.0.now.notes ≡ told ∷ [] → ⊥
 last_note_not_counted S LS g d κs a s told l one = absurd (omega (arith, l, ap length one))
 
--- a sink of this kind contains only one list of parts, as a sink in memory does
+-- a sink of this kind contains only one list of parts, as an in-memory sink does
 abbrev HoldsOne : (List Portion → Type 0) → Type 0
 HoldsOne holds = (xs ys : List Portion) → holds xs → holds ys → xs ≡ ys
 

@@ -1,5 +1,5 @@
 -- Answers that the contract of a run excludes if a step failed: each would be returned by a wrong
--- body.
+-- function body.
 use Rattle.std.proofs.Common.{◌≡◌, ℕ, zero, suc, List, [], ◌∷◌, map}
 use Rattle.std.proofs.Common.{take, drop, Bool, refl}
 use Rattle.std.proofs.Common.{sym, subst, arith}
@@ -25,7 +25,7 @@ pub kept_without : (place : State) (held : List Portion) (notes : List Point) �
 kept_without place held notes none =
     subst (λ v. KeepsNotes place [] v held) (sym none) (held, refl)
 
--- where a run stopped
+-- the place where a run stopped
 abbrev stopped : ℕ → RunFault → Stopped
 stopped n fault = record { step = n; fault = fault }
 

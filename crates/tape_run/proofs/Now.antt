@@ -1,4 +1,4 @@
--- The result if the records were written while the images were read.
+-- The result of a run that writes the records while it reads the images.
 use Rattle.std.proofs.Common.{◌≡◌, ℕ, ◌⊎◌, List, [], map, Option, Some}
 use Rattle.std.proofs.Common.{None, refl, sym, ap, subst, ◌∙◌, inl, arith, append-nil, false}
 use Rattle.std.specs.Io.KnownBytes.{Appends}

@@ -145,7 +145,7 @@ reels_then (Reel ∷ steps) more = omega (arith, reels_then steps more)
 reels_then (Save ∷ steps) more = reels_then steps more
 reels_then (Restart n ∷ steps) more = reels_then steps more
 
--- how many readers are used after one more step
+-- the number of readers used after one more step
 pub taken_then : (steps : List Step) (n : ℕ) (step : Step)
     → drop n steps ≡ step ∷ drop (n + 1) steps → (used : ℕ) → used ≡ reels_in (take n steps)
     → used + reels_in (step ∷ []) ≡ reels_in (take (n + 1) steps)

@@ -128,7 +128,7 @@ module _ (key : SectionKey) where
 
   -- ---- how many data items there are
 
-  -- how many data items were read when the data of the section end, if they end
+  -- the number of data items read when the data of the section end, if they end
   abbrev length_at : Expected → ℕ → TapeItem → ℕ
   length_at s n x = if is_in key s && is_mark x then read_in key s else n
 

@@ -65,7 +65,7 @@ end_missing eof g = chosen (eof && g.piece.begun)
 
 -- ---- a section
 
--- what a section adds
+-- the records that a section adds
 record Adds (form : FileForm) (eof : Bool) (g h : Salvaged) (bs : Blocks) : Type 0 where
   done : h.piece.done ≡ (piece_after form g.piece bs).done
   same : eof ≡ false → h.piece ≡ piece_after form g.piece bs

@@ -94,7 +94,8 @@ may_after ((false, b) ∷ ls) = refl
 
 -- ---- the section during the walk
 
--- after labels before the data, the first of which is the second label or follows it
+-- a section after the labels that precede its data; the first of these labels is the second label
+-- or follows it
 unfoldable pub headed : OpenSection → Labels → OpenSection
 headed u [] = u
 headed u ((true, b) ∷ ls) = headed u ls

@@ -1,4 +1,4 @@
--- The text of parts in order is that of the records that they join to.
+-- The text of parts in order is that of the records into which they join.
 use Rattle.std.proofs.Common.{◌≡◌, ℕ, Bool, true, false, List, [], ◌∷◌, ◌++◌, Option, Some, None}
 use Rattle.std.proofs.Common.{refl, sym, ap, ◌∙◌, append-nil, append_assoc}
 use Rattle.std.specs.Prelude.{if◌then◌else◌, is_some}

@@ -21,7 +21,7 @@ abbrev pub with_end : Bool → ℕ → ℕ
 with_end true n = n
 with_end false n = n + 1
 
--- how many parts end a record
+-- the number of parts that end a record
 abbrev pub ends : List Portion → ℕ
 ends [] = 0
 ends (p ∷ ps) = with_end (leaves p.span) (ends ps)

@@ -1,4 +1,4 @@
--- The item at which an image leaves the order of a volume.
+-- The item that breaks the order of a volume on an image.
 use Rattle.std.proofs.Common.{◌≡◌, ℕ, ◌+◌, Bool, true, false, List, [], ◌∷◌, ◌++◌, length}
 use Rattle.std.proofs.Common.{refl, sym, ap, subst, ◌∙◌, arith, append_assoc}
 use Rattle.tape_image.specs.Tape.{TapeItem, block, bad, mark}
@@ -34,7 +34,7 @@ stays g p (x ∷ xs) n w e =
     stays (look_to g p x next) next xs n w
     (ap (λ (c : LabelOrder). course_with c (g.items + 1) p x next) e)
 
--- the number reported for an item that leaves the order is its own
+-- the number reported for an item that breaks the order is its own
 number_left : (number : ℕ) (p next : Phase) (n : ℕ) (w : ExpectedItem)
     → left_by number p next ≡ Leaves n w → n ≡ number
 number_left number p Over n w e = cc e
@@ -95,7 +95,7 @@ from_there before xs x =
     ∙ ap (λ (p : Phase). look_all (glance_of (before ++ x ∷ [])) p xs)
     (sym (phase_after-append Volume before (x ∷ [])))
 
--- the item x leaves the order, or does not
+-- the item x breaks the order, or does not
 leaves_at : (before xs : List TapeItem) (x : TapeItem) (n : ℕ) (w : ExpectedItem) (b : Bool)
     → has_left (course_of (before ++ x ∷ [])) ≡ b → has_left (course_of before) ≡ false
     → (look_all (glance_of before) (phase_after Volume before) (x ∷ xs)).course ≡ Leaves n w

@@ -1,50 +1,51 @@
 -- The lines of damaged and missing sections, one section after another.
 use Rattle.std.proofs.Common.{◌≡◌, ℕ, zero, suc, ◌+◌, ◌-◌, ◌<◌, List, ◌++◌, ap, sym, ◌∙◌, arith}
 use Rattle.std.proofs.Common.{append_assoc}
+use Rattle.tape_run.specs.declared.survey.Wording.{Wording}
 use Rattle.tape_run.specs.Lacks.{entry_at, key_at}
 use Rattle.tape_run.specs.Passing.{Told}
 use Rattle.tape_run.specs.SurveyProblems.{known_text, first_after, next_text, sections_from}
 
 -- the lines from one section on
-sections_behind : (c : List Told) (set_id : List ℕ) (file first sect left : ℕ) → 0 < left
-    → sections_from c set_id file first sect left
-    ≡ known_text c set_id file first sect (entry_at c (key_at set_id file sect))
-    ++ sections_from c set_id file
+sections_behind : (y : Wording) (c : List Told) (set_id : List ℕ) (file first sect left : ℕ) → 0 < left
+    → sections_from y c set_id file first sect left
+    ≡ known_text y c set_id file first sect (entry_at c (key_at set_id file sect))
+    ++ sections_from y c set_id file
     (first_after first sect (entry_at c (key_at set_id file sect))) (sect + 1) (left - 1)
-sections_behind c set_id file first sect zero some = absurd (omega arith)
-sections_behind c set_id file first sect (suc n) some =
+sections_behind y c set_id file first sect zero some = absurd (omega arith)
+sections_behind y c set_id file first sect (suc n) some =
     let one : n ≡ suc n - 1 = omega arith in
     let entry = entry_at c (key_at set_id file sect) in
-    ap (λ m. known_text c set_id file first sect entry
-    ++ sections_from c set_id file (first_after first sect entry) (sect + 1) m) one
+    ap (λ m. known_text y c set_id file first sect entry
+    ++ sections_from y c set_id file (first_after first sect entry) (sect + 1) m) one
 
 -- the lines of one more section were added
-pub section_added : (c : List Told) (set_id : List ℕ) (file : ℕ) (old new goal : List ℕ)
+pub section_added : (y : Wording) (c : List Told) (set_id : List ℕ) (file : ℕ) (old new goal : List ℕ)
     (first next before most : ℕ) → before < most
     → next ≡ first_after first (before + 1) (entry_at c (key_at set_id file (before + 1)))
-    → new ≡ old ++ known_text c set_id file first (before + 1)
+    → new ≡ old ++ known_text y c set_id file first (before + 1)
     (entry_at c (key_at set_id file (before + 1)))
-    → old ++ sections_from c set_id file first (before + 1) (most - before) ≡ goal
-    → new ++ sections_from c set_id file next (before + 1 + 1) (most - (before + 1)) ≡ goal
-section_added c set_id file old new goal first next before most within is put was =
+    → old ++ sections_from y c set_id file first (before + 1) (most - before) ≡ goal
+    → new ++ sections_from y c set_id file next (before + 1 + 1) (most - (before + 1)) ≡ goal
+section_added y c set_id file old new goal first next before most within is put was =
     let entry = entry_at c (key_at set_id file (before + 1)) in
-    let here = known_text c set_id file first (before + 1) entry in
+    let here = known_text y c set_id file first (before + 1) entry in
     let then = first_after first (before + 1) entry in
     let fewer : most - (before + 1) ≡ most - before - 1 = omega (arith, within) in
     let some : 0 < most - before = omega (arith, within) in
-    ap (λ n. new ++ sections_from c set_id file n (before + 1 + 1) (most - (before + 1))) is
-    ∙ ap (λ ls. ls ++ sections_from c set_id file then (before + 1 + 1) (most - (before + 1))) put
+    ap (λ n. new ++ sections_from y c set_id file n (before + 1 + 1) (most - (before + 1))) is
+    ∙ ap (λ ls. ls ++ sections_from y c set_id file then (before + 1 + 1) (most - (before + 1))) put
     ∙ append_assoc old here
-    (sections_from c set_id file then (before + 1 + 1) (most - (before + 1)))
-    ∙ ap (λ n. old ++ (here ++ sections_from c set_id file then (before + 1 + 1) n)) fewer
+    (sections_from y c set_id file then (before + 1 + 1) (most - (before + 1)))
+    ∙ ap (λ n. old ++ (here ++ sections_from y c set_id file then (before + 1 + 1) n)) fewer
     ∙ ap (λ ls. old ++ ls)
-    (sym (sections_behind c set_id file first (before + 1) (most - before) some))
+    (sym (sections_behind y c set_id file first (before + 1) (most - before) some))
     ∙ was
 
 -- and those of the section after the last
-pub sections_ended : (c : List Told) (set_id : List ℕ) (file : ℕ) (old new goal : List ℕ)
+pub sections_ended : (y : Wording) (c : List Told) (set_id : List ℕ) (file : ℕ) (old new goal : List ℕ)
     (first sect left : ℕ) → left ≡ 0
-    → new ≡ old ++ next_text first (entry_at c (key_at set_id file (first - 1)))
-    → old ++ sections_from c set_id file first sect left ≡ goal → new ≡ goal
-sections_ended c set_id file old new goal first sect left none put was =
-    put ∙ ap (λ n. old ++ sections_from c set_id file first sect n) (sym none) ∙ was
+    → new ≡ old ++ next_text y first (entry_at c (key_at set_id file (first - 1)))
+    → old ++ sections_from y c set_id file first sect left ≡ goal → new ≡ goal
+sections_ended y c set_id file old new goal first sect left none put was =
+    put ∙ ap (λ n. old ++ sections_from y c set_id file first sect n) (sym none) ∙ was

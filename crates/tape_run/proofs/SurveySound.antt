@@ -25,7 +25,8 @@ use Rattle.tape_run.specs.SurveyCopies.{is_agreed}
 use Rattle.tape_run.specs.SurveyDigest.{digest_of}
 use Rattle.tape_run.specs.SurveyFiles.{Filed, any_differs, same_file, file_key}
 use Rattle.tape_run.specs.SurveyGlance.{or_else}
-use Rattle.tape_run.specs.SurveyRead.{Found, nothing_found, IsViewed, AreViewed, is_whole_sight}
+use Rattle.tape_run.specs.SurveyRead.{Found, nothing_found, IsViewed, AreViewed}
+use Rattle.tape_run.specs.SurveyTally.{is_whole_sight}
 use Rattle.tape_run.specs.SurveySets.{all_good, is_all}
 use Rattle.tape_run.specs.SurveySound.{IsWhole, Agree, IsSound}
 use Rattle.tape_run.proofs.KeepingPlaces.{one_key}

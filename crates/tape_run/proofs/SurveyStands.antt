@@ -1,4 +1,4 @@
--- The structure of the items of an image, by how far they follow the order of a volume.
+-- The structure of the items of an image, by the extent to which they are in the order of a volume.
 use Rattle.std.proofs.Common.{◌≡◌, ℕ, Bool, true, false, List, [], ◌∷◌, ◌++◌, Option, Some}
 use Rattle.std.proofs.Common.{None, Result, Ok, Err, refl, sym, ap, ◌∙◌, append_assoc, append-nil}
 use Rattle.std.specs.Prelude.{⊤, ◌≢◌, map, if◌then◌else◌}

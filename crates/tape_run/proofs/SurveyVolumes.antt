@@ -231,7 +231,7 @@ no_mark_block b e = absurd (cc e)
 no_mark_bad : bad ≢ mark
 no_mark_bad e = absurd (cc e)
 
--- one more item, while the items follow the order
+-- one more item, while the items are in order
 follows_on : (p : Phase) (items : List TapeItem) (x : TapeItem) (number : ℕ) → At p Follows items
     → At (step p x).0 (course_with Follows number p x (step p x).0) (items ++ x ∷ [])
 follows_on Volume items (block b) number e =
@@ -259,7 +259,7 @@ follows_on (Next v) items mark number h = volume_ends items h
 follows_on Over items x number h = absurd h
 follows_on _ items x number h = tt
 
--- whatever the course is
+-- for any label order
 goes_on : (p : Phase) (c : LabelOrder) (items : List TapeItem) (x : TapeItem) (number : ℕ)
     → At p c items → At (step p x).0 (course_with c number p x (step p x).0) (items ++ x ∷ [])
 goes_on p Follows items x number h = follows_on p items x number h

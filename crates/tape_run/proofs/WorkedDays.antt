@@ -1,4 +1,5 @@
--- The worked set if a reader fails, if a part is refused, and on another day.
+-- The example set if a reader fails, if a part is refused, and if the session is resumed on another
+-- day.
 use Rattle.std.proofs.Common.{◌≡◌, ◌≤◌, ℕ, zero, suc, ◌+◌, List, [], ◌∷◌, true, false}
 use Rattle.std.proofs.Common.{refl, sym, ap, ◌∙◌, subst, inl, lit≤, codes, arith, take}
 use Rattle.std.proofs.Common.{Option, Some, length, Bool}

@@ -125,7 +125,8 @@ pub record CasesOfTable : Type 0 where
       × (now ≡ held ++ take s.more (parts_at core item))
       × (new.position ≡ at_part (part_of core.position + s.more) core.position)
       × (s.more < length (parts_at core item))
-  -- at the expected part the core is unchanged, and after it the block determines its state
+  -- a core that stopped at the expected part is unchanged; the state of one that stopped after it
+  -- is determined by the block
   pub stops_at_first : (core new : State) (item : TapeItem) (held now : List Portion)
       (s : StopsInside core new item held now) → s.more ≡ 0 → new ≡ record core { phase = Over }
   pub stops_behind : (core new : State) (item : TapeItem) (held now : List Portion)

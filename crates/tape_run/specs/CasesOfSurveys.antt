@@ -55,7 +55,8 @@ use Rattle.tape_run.specs.Lacks.{good_end, entry_at, key_at}
 use Rattle.tape_run.specs.SurveyLocations.{Located, with_location, located_in, next_image}
 use Rattle.tape_image.specs.Reader.{IfKnown}
 use Rattle.tape_run.specs.Added.{StopsBehind}
-use Rattle.tape_run.specs.SurveyRead.{Found, nothing_found, is_whole_sight, IsViewed, AreViewed}
+use Rattle.tape_run.specs.SurveyRead.{Found, nothing_found, IsViewed, AreViewed}
+use Rattle.tape_run.specs.SurveyTally.{is_whole_sight, no_images, with_state, state_of, tally_line}
 use Rattle.tape_run.specs.SurveySets.{standing_of, is_all}
 use Rattle.tape_run.specs.Survey.{image_texts, TellsSight, Surveys, SurveysInPart, summary_at}
 
@@ -93,6 +94,7 @@ found_with whole sections files copies = record {
   locations = [];
   copies = copies;
   images = 1;
+  tally = no_images;
 }
 
 -- one good section, and these files
@@ -109,7 +111,7 @@ date year month day = record { year = year; month = month; day = day }
 
 -- single images
 pub record CasesOfGlances : Type 0 where
-  -- what images begin with
+  -- the classes of images by their first items
   pub nothing : glance_of [] ≡ blank_glance
   pub noise : first_of (block (7 ∷ 8 ∷ [])) ≡ firsts.Block 2
   pub begins_bad : first_of bad ≡ firsts.Bad
@@ -124,7 +126,7 @@ pub record CasesOfGlances : Type 0 where
   pub unread : (f : LabelFault) → unread_with 2 (Err f) ≡ Some 2
   pub read : (h : Head2) → unread_with 2 (Ok h) ≡ None
   pub no_second_label : (b : List ℕ) → unread_by 2 None b ≡ None
-  -- a mark as the first item leaves the order at once
+  -- a mark as the first item breaks the order at once
   pub mark_first : course_of (mark ∷ []) ≡ Leaves 1 wanted.Volume
   pub bad_first : course_of (bad ∷ mark ∷ []) ≡ Leaves 1 wanted.Volume
   -- a volume with its label and two marks is blank; with one mark it has not ended
@@ -203,7 +205,7 @@ pub record CasesOfWholes : Type 0 where
   pub no_date : date_text (date_of (codes " 00000")) ≡ codes "          "
   pub past_the_year : date_of (codes " 85366") ≡ None
   pub other_century : date_of (codes "185113") ≡ None
-  -- spaces at the end are left out
+  -- trailing spaces are left out
   pub trimmed : trimmed_text (codes "A B   ") ≡ codes "A B"
   pub all_spaces : trimmed_text (codes "      ") ≡ []
 
@@ -228,7 +230,11 @@ pub record CasesOfSurveys : Type 0 where
   pub line : (y : Wording) (name : List ℕ) (s : Option ImageSurvey)
       → image_texts y (name ∷ name ∷ []) (s ∷ []) ≡ image_text y name s ++ []
   pub left_unopened : (c d : Found) → IsViewed None None c d
-      → d ≡ record c { whole = false; images = next_image c.images }
+      → d ≡ record c {
+        whole = false;
+        images = next_image c.images;
+        tally = with_state c.tally None;
+      }
   pub unopened : (s : ImageSurvey) (c d : Found) → IsViewed None (Some s) c d → ⊥
   pub opened : (before : Option (List ℕ)) (c d : Found) → IsViewed (Some before) None c d → ⊥
   pub viewed : (before : Option (List ℕ)) (s : ImageSurvey) (c d : Found)
@@ -239,11 +245,12 @@ pub record CasesOfSurveys : Type 0 where
       × (d.locations ≡ located_in c.images c.sections c.locations v.1.items)
       × (d.copies ≡ copied_in c.images c.copies v.1.items)
       × (d.whole ≡ (c.whole && is_whole_sight s)) × (d.images ≡ next_image c.images)
+      × (d.tally ≡ with_state c.tally (Some (state_of s)))
   -- numbers that were not found are reported before the next file that was
   pub gap_of_one : gap_text Words (codes "ABC001") 1 2 ≡ codes "  file 1: not found\n"
   pub gap_of_many : gap_text Words (codes "ABC001") 1 9999 ≡ codes "  files 1-9998: not found\n"
   pub row_of_many : gap_text Rows (codes "ABC001") 2 5
-      ≡ codes "FILE\tABC001\t2-4\t\t\tMISSING\t1\t\t\n"
+      ≡ codes "FILE\tABC001\t2-4\t\t\tMISSING\t1\t\t\t1:MISSING;\n"
   pub no_gap : (y : Wording) → gap_text y (codes "ABC001") 3 3 ≡ []
   pub unpacked_gap : numbers_line (codes "ABC001") 1 9999
       ≡ codes "FILE ABC001 1-9998 NOT FOUND\n"
@@ -278,14 +285,19 @@ pub record CasesOfSurveys : Type 0 where
       → summary_at y names false d ≡ []
   -- rows have each section, and no last line; a tab separates their columns
   pub sections_in_rows : (t : Told) → sections_text Rows (t ∷ []) ≡ section_row t ++ []
-  pub no_end_in_rows : end_text Rows true ≡ []
+  pub no_end_in_rows : (d : Found) → end_text Rows d ≡ []
+  -- the line of five volumes without damage and one noise, and that of one blank volume
+  pub six_images : tally_line (record no_images { images = 6; ok = 5; not_tapes = 1 })
+      ≡ codes "6 images: 5 ok, 1 not a tape\n"
+  pub one_image : tally_line (record no_images { images = 1; blank = 1 })
+      ≡ codes "1 image: 0 ok, 1 blank\n"
   pub last_section : eof_cell true ≡ codes "EOF"
   pub other_section : eof_cell false ≡ []
   pub no_columns : sight_cells None ≡ codes "NOT OPENED\t\t\t\t\t\t\t"
   pub wanted : (n : ℕ) → standing_cells (Behind n (codes "ABC001"))
       ≡ codes "MISSING\t" ++ decimal n ++ codes "\t" ++ codes "ABC001"
   pub nothing_wanted : standing_cells Complete ≡ codes "COMPLETE\t\t"
-  pub no_conflict : conflict_cell false ≡ codes "\t\n"
+  pub no_conflict : conflict_cell false ≡ codes "\t\t"
   -- the survey that is written describes the images that were read, in their order
   pub surveyed : (y : Wording) (names : List (List ℕ)) (shelf left : Readers) (old new : Known)
       (all : Bool) (s : Surveys y Took (λ r. r) names shelf left old new all)

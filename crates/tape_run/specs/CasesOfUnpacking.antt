@@ -1,15 +1,17 @@
 -- Examples for the definitions of unpacking. They are the contract of the call `laws::cases`.
 use Rattle.std.specs.Prelude.{◌≡◌, ◌≢◌, ℕ, ◌<◌, ◌^◌, List, [], ◌∷◌, ◌++◌, length, Bool}
-use Rattle.std.specs.Prelude.{true, false, is_some}
+use Rattle.std.specs.Prelude.{true, false, is_some, ◌||◌}
 use Rattle.std.specs.Prelude.{Option, Some, None}
 use Rattle.std.specs.Prelude.{codes, map, replicate, chars, IsUtf8}
 use Rattle.std.specs.List.{AllByRecursion, flat_map}
 use Rattle.tape_label.specs.declared.values.Head1.{Head1}
+use Rattle.tape_label.specs.declared.values.Vol1.{Vol1}
+use Rattle.tape_run.specs.declared.survey.glance.First.TheVariants.{Volume}
 use Rattle.tape_run.specs.declared.survey.view.ImageSurvey.{ImageSurvey}
 use Rattle.tape_run.specs.declared.survey.files.FileNote.{FileNote}
-use Rattle.tape_run.specs.declared.unpack.Heading.TheVariants.{Differs, Named}
 use Rattle.tape_run.specs.declared.unpack.SetFile.{SetFile}
 use Rattle.tape_run.specs.declared.unpack.FoundFiles.{FoundFiles}
+use Rattle.tape_run.specs.declared.unpack.line.Notice.TheVariants as notices
 use Rattle.tape_run.specs.declared.unpack.line.UnpackOutcome.TheVariants as outcomes
 use Rattle.tape_run.specs.CasesOfExtracts.{Readers}
 use Rattle.tape_run.specs.Quoting.{is_hidden, name_text, quoted}
@@ -21,10 +23,13 @@ use Rattle.tape_run.specs.SurveyCopies.{dispute_at}
 use Rattle.tape_run.specs.SurveyFiles.{note_at, file_key}
 use Rattle.tape_run.specs.SurveyLocations.{Located}
 use Rattle.tape_run.specs.SurveyRead.{Found, nothing_found, AreViewed}
-use Rattle.tape_run.specs.Unpacking.{heading_of, file_at, set_files, files_of, file_name, FilesOn}
-use Rattle.tape_run.specs.Unpacking.{set_of}
-use Rattle.tape_run.specs.UnpackLine.{file_line, unpack_outcome_text, left_over_line}
+use Rattle.tape_run.specs.Unpacking.{file_at, set_files, files_of, file_name, FilesOn}
+use Rattle.tape_run.specs.Unpacking.{set_of, is_read, volume_of}
+use Rattle.tape_run.specs.UnpackChoice.{Fits, Means, IsOfSet}
+use Rattle.tape_run.specs.UnpackLine.{file_line, unpack_outcome_text, notice_line}
+use Rattle.tape_run.specs.UnpackLine.{notice_text}
 use Rattle.tape_run.specs.UnpackLaws.{NamesDiffer, NamesStay, NamesFit, AreBytes, IsNameOfOne}
+use Rattle.tape_run.specs.UnpackTally.{nothing_counted, counted, more, total_line}
 use Rattle.tape_run.specs.UnpackLaws.{IsNoDevice, folded}
 
 -- sections 1, 2 and 4 of a file, and the first of another, on these images
@@ -34,10 +39,6 @@ on_shelf = (key_at (codes "ABC001") 1 1, 4) ∷ (key_at (codes "ABC001") 1 2, 2)
 
 -- what unpacking says of files, names and lines
 pub record CasesOfUnpacking : Type 0 where
-  -- what header labels say
-  pub one_file : (n : FileNote) → n.differs ≡ false → heading_of n false ≡ Named n.head.file_id
-  pub two_files : (n : FileNote) (b : Bool) → n.differs ≡ true → heading_of n b ≡ Differs
-  pub disputed : (n : FileNote) → n.differs ≡ false → heading_of n true ≡ Differs
   -- each set has its files from 1 on, up to the greatest, and a file is described by its own
   -- labels; a number without a label is not a file
   pub files : (d : Found) → set_files d ((codes "ABC001", 2) ∷ (codes "DEF001", 1) ∷ [])
@@ -47,8 +48,14 @@ pub record CasesOfUnpacking : Type 0 where
       → note_at d.files (file_key set_id file) ≡ None → file_at d set_id file ≡ []
   pub own_labels : (d : Found) (set_id : List ℕ) (file : ℕ) (n : FileNote)
       → note_at d.files (file_key set_id file) ≡ Some n
-      → map (λ (f : SetFile). f.heading) (file_at d set_id file)
-      ≡ heading_of n (is_some (dispute_at d.copies (file_key set_id file))) ∷ []
+      → map (λ (f : SetFile). f.file_id) (file_at d set_id file) ≡ n.head.file_id ∷ []
+  pub own_copies : (d : Found) (set_id : List ℕ) (file : ℕ) (n : FileNote)
+      → note_at d.files (file_key set_id file) ≡ Some n
+      → map (λ (f : SetFile). f.differs) (file_at d set_id file)
+      ≡ (n.differs || is_some (dispute_at d.copies (file_key set_id file))) ∷ []
+  pub two_files : (d : Found) (set_id : List ℕ) (file : ℕ) (n : FileNote)
+      → note_at d.files (file_key set_id file) ≡ Some n → n.differs ≡ true
+      → map (λ (f : SetFile). f.differs) (file_at d set_id file) ≡ true ∷ []
   pub no_files : files_of nothing_found ≡ []
   -- no image of a file comes twice, and an image that does not exist is left out
   pub each_once : followed_by 3 [] (2 ∷ 0 ∷ 2 ∷ 3 ∷ 0 ∷ 1 ∷ 2 ∷ []) ≡ 2 ∷ 0 ∷ 1 ∷ []
@@ -89,15 +96,29 @@ pub record CasesOfUnpacking : Type 0 where
       → AllByRecursion (λ c. (is_hidden c ≡ false) × (c ≢ 92)) (chars name)
       → name_text name ≡ name
   -- lines
-  pub line : file_line (codes "ABC001") 1 (codes "COMPLETE 25") (codes "out/ABC001.1.PAYROLL")
+  pub line : file_line (codes "ABC001") 1 outcomes.Complete (codes " 25")
+      (codes "out/ABC001.1.PAYROLL")
       ≡ codes "FILE ABC001 1 COMPLETE 25 " ++ name_text (codes "out/ABC001.1.PAYROLL")
       ++ codes "\n"
-  pub no_path : file_line (codes "AB 001") 2 (unpack_outcome_text outcomes.Conflict) []
+  pub no_path : file_line (codes "AB 001") 2 outcomes.Conflict [] []
       ≡ codes "FILE AB 001 2 CONFLICT\n"
   pub kept : unpack_outcome_text outcomes.Exists ≡ codes "EXISTS"
   pub failed : unpack_outcome_text outcomes.Failed ≡ codes "FAILED"
-  pub left_over : left_over_line false ≡ codes "INCOMPLETE IMAGES\n"
-  pub nothing_left : left_over_line true ≡ []
+  pub listed : map unpack_outcome_text (outcomes.Ready ∷ outcomes.Lacks ∷ outcomes.Salvaged ∷ [])
+      ≡ codes "READY" ∷ codes "LACKS" ∷ codes "SALVAGED" ∷ []
+  pub notice_words : map notice_text (notices.NoSet ∷ notices.NoFile ∷ notices.Unread ∷ [])
+      ≡ codes "NO SET " ∷ codes "NO FILE " ∷ codes "INCOMPLETE IMAGE " ∷ []
+  pub unread : notice_line notices.Unread (codes "a.tap")
+      ≡ codes "INCOMPLETE IMAGE " ++ name_text (codes "a.tap") ++ codes "\n"
+  -- counts: each outcome has its own, but those of files that are listed
+  pub counts : total_line (counted (counted (counted (counted (counted (counted nothing_counted
+      outcomes.Complete 1) outcomes.Exists 2) outcomes.Awaits 3) outcomes.Conflict 4)
+      outcomes.NotFound 5) outcomes.Failed 6)
+      ≡ codes "TOTAL 1 complete 2 existing 3 incomplete 4 in conflict 5 not found 6 failed\n"
+  pub listed_counts : counted (counted nothing_counted outcomes.Ready 1) outcomes.Lacks 2
+      ≡ counted (counted nothing_counted outcomes.Complete 1) outcomes.Awaits 2
+  pub not_again : counted nothing_counted outcomes.Salvaged 1 ≡ nothing_counted
+  pub count_stops : more 18446744073709551615 1 ≡ 18446744073709551615
   -- the files are those of the images, all of which were read, each in its place
   pub on_images : (shelf left : Readers) (met : FoundFiles)
       (f : FilesOn length Took (λ r. r) shelf left met)
@@ -110,6 +131,16 @@ pub record CasesOfUnpacking : Type 0 where
   pub of_a_set : (s : ImageSurvey) (h : Head1) → s.glance.head ≡ Some h
       → set_of (Some s) ≡ Some h.set_id
   pub not_opened : set_of None ≡ None
+  pub not_read : is_read None ≡ false
+  pub no_volume : volume_of None ≡ None
+  pub on_a_volume : (s : ImageSurvey) (label : Vol1) → s.glance.first ≡ Volume label
+      → volume_of (Some s) ≡ Some label.volume
+  -- which files are chosen
+  pub star : Fits (codes "A*C") (codes "ABBC")
+  pub no_more : Fits (codes "A") (codes "AB") → ⊥
+  pub by_number : (f : SetFile) → f.file ≡ 12 → Means (codes "12") f
+  pub other_set : (f : SetFile) (s : List ℕ) → f.set_id ≢ s → IsOfSet (Some s) f → ⊥
+  pub any_set : (f : SetFile) → IsOfSet None f
   -- what a caller can conclude from the laws of names
   pub own_name : NamesDiffer → (s t : List ℕ) (m n : ℕ) (a b x y : List ℕ) → AreBytes s
       → AreBytes t → length s ≡ length t → m < 2 ^ 16 → n < 2 ^ 16 → s ≢ t

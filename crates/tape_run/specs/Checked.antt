@@ -31,7 +31,8 @@ AddsImage None None c d = d ≡ c
 AddsImage (Some before) (Some line) c d = (after : Option (List ℕ)) × Adds before after c line d
 AddsImage _ _ c d = ⊥
 
--- the same for images one after another
+-- A number of images were read to their ends, or to a fault, one after another, and their sections
+-- were added to a catalogue.
 abbrev pub AddsImages : List Reel → List (Option ImageLine) → List Told → List Told → Type 0
 AddsImages [] [] c d = d ≡ c
 AddsImages (reel ∷ reels) (line ∷ lines) c d =

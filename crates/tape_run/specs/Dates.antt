@@ -15,11 +15,11 @@ century byte = if byte == 32 then Some 1900 else if byte == 48 then Some 2000 el
 abbrev pub is_leap : ℕ → Bool
 is_leap year = (year % 4 == 0) && (not (year % 100 == 0) || (year % 400 == 0))
 
--- how many days February has
+-- the number of days of February
 abbrev pub february : ℕ → ℕ
 february year = if is_leap year then 29 else 28
 
--- how many days each month has
+-- the number of days of each month
 abbrev pub months : ℕ → List ℕ
 months year =
     31 ∷ february year ∷ 31 ∷ 30 ∷ 31 ∷ 30 ∷ 31 ∷ 31 ∷ 30 ∷ 31 ∷ 30 ∷ 31 ∷ []

@@ -118,7 +118,7 @@ abbrev pub over_tapes : Lead → List (List TapeItem) → Lead
 over_tapes t [] = t
 over_tapes t (xs ∷ tapes) = over_tapes (over_reel t xs) tapes
 
--- The session is there, and its sink contains the parts that were delivered until then.
+-- The session is at that place, and its sink contains the parts that were delivered until then.
 pub record IsThere (t : Lead) (s : Seen) : Type 0 where
   pub place : s.place ≡ t.place
   pub parts : s.parts ≡ t.parts

@@ -49,7 +49,7 @@ AreGivenBy (f ∷ which) (bytes ∷ all) (l ∷ left) [] = ⊥
 AreGivenBy (f ∷ which) (bytes ∷ all) (l ∷ left) (g ∷ given) =
     IsGiven f bytes l g × AreGivenBy which all left given
 
--- how many failed
+-- the number of readers that failed
 abbrev pub failed_of : List Bool → ℕ
 failed_of [] = 0
 failed_of (true ∷ which) = suc (failed_of which)

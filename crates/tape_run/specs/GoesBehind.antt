@@ -123,7 +123,8 @@ LeavesBehind = (core new : State) (bytes left : List ℕ) (answer : ReelAnswer)
     → (items : List TapeItem) × (item : TapeItem) × (at : ℕ) × ReadsSection core items item
     × Walks 0 bytes (items ++ item ∷ []) at left
 
--- The same if the reading continued after items that were skipped.
+-- After a reel that was continued after skipped items and completed a section, the items that
+-- follow that section are left.
 abbrev pub LeavesBehindAgain : Type 0
 LeavesBehindAgain = (core new : State) (front : List TapeItem) (bytes left : List ℕ)
     (answer : ReelAnswer) → is_finished core.position ≡ false → core.phase ≢ Broken

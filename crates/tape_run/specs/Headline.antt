@@ -91,7 +91,7 @@ pub record IsRead (set_id : List ℕ) (file : ℕ) (steps : List Step) (bytes : 
 
 -- ---- a fault ended the run
 
--- how many readers the steps take
+-- the number of readers that the steps take
 abbrev pub reels_in : List Step → ℕ
 reels_in [] = 0
 reels_in (Reel ∷ steps) = suc (reels_in steps)

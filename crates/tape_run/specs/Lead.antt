@@ -85,7 +85,7 @@ AreNoted front (n ∷ ns) [] parts = ⊥
 AreNoted front (n ∷ ns) (c ∷ cs) parts = IsFront front n.parts
     × (c ≡ saved n.place (weight_of n.parts)) × AreNoted n.parts ns cs parts
 
--- The session is there: its core, the parts that its sink contains, and its checkpoints.
+-- The session is at that place: its core, the parts that its sink contains, and its checkpoints.
 pub record StandsThere (t : Lead) (s : Seen) : Type 0 where
   pub place : s.place ≡ t.place
   pub parts : s.parts ≡ t.parts

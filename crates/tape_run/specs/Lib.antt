@@ -57,11 +57,13 @@ pub mod SurveyGlance
 pub mod SurveyFiles
 pub mod SurveyDigest
 pub mod SurveyCopies
+pub mod SurveyTally
 pub mod SurveyRead
 pub mod SurveyLine
 pub mod SurveyLocations
 pub mod Dates
 pub mod SurveyProblems
+pub mod SurveyChain
 pub mod SurveySets
 pub mod SurveyRows
 pub mod SurveyCompared
@@ -74,6 +76,8 @@ pub mod SurveyLaws
 pub mod Unpacking
 pub mod ReadingOrder
 pub mod UnpackLine
+pub mod UnpackChoice
+pub mod UnpackTally
 pub mod UnpackLaws
 -- Recovered files, and reports of that: definitions to believe, in this order.
 pub mod ReelLine

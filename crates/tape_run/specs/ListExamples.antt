@@ -40,7 +40,7 @@ abbrev pub StopSays : Option (List ℕ) → Option (List ℕ) → List ℕ → L
 StopSays old new bytes left = StopsWriting old new bytes left
     → ((taken : List ℕ) × (bytes ≡ taken ++ left)) × ((text : List ℕ) × AppendsFront old new text)
 
--- what any fault says
+-- the meaning of any fault
 pub record FaultFits (before after old new : Option (List ℕ)) : Type 0 where
   pub of_writer : FitsFault before after old new WriteFailed
       → IfKnown before after (StopsWriting old new)

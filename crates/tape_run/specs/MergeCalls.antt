@@ -33,11 +33,11 @@ candidate_of Block content = Some (block content)
 
 -- ---- the counts of the merged items
 
--- how many readings have the item after so many others, readable
+-- the number of readings that could read the item at an index
 abbrev pub witnesses_at : ℕ → List (List TapeItem) → ℕ
 witnesses_at j rs = goods_in (column j rs)
 
--- how many of the first items only one reading has, readable
+-- the number of items, among the first, that only one reading could read
 abbrev pub alone_in : ℕ → List (List TapeItem) → ℕ
 alone_in zero rs = 0
 alone_in (suc n) rs = alone_in n rs + one_if (witnesses_at n rs == 1)
@@ -53,7 +53,7 @@ abbrev pub miscounted_of : Option Told → ℕ
 miscounted_of None = 0
 miscounted_of (Some t) = has_wrong_count t.1.state
 
--- how many of the sections have a wrong count
+-- the number of sections with a wrong count
 abbrev pub miscounted_in : List Told → ℕ
 miscounted_in [] = 0
 miscounted_in (t ∷ ts) = has_wrong_count t.1.state + miscounted_in ts
@@ -77,7 +77,7 @@ has_first verdicts.Third = 0
 has_first verdicts.Ended = 0
 has_first (verdicts.Failed fault) = 0
 
--- how many readings have it
+-- the number of readings that have the item
 abbrev pub firsts_in : {R : Type 0} → List (Reading R) → ℕ
 firsts_in [] = 0
 firsts_in (r ∷ rs) = has_first r.verdict + firsts_in rs
@@ -99,7 +99,7 @@ Puts None some old new = (some ≡ false) × (new ≡ old)
 Puts (Some x) some old new = (some ≡ true) × PutItem x old new
 
 -- The readings were read to their ends, and the items of the least tape of which they are readings
--- were written and counted. The log has their rows.
+-- were written and counted. The log has the rows of these items.
 pub record Merges {R : Type 0} (firsts nows : List (Reading R)) (m : Merged) (old new : Writer)
     (log logged : Option (List ℕ)) : Type 0 where
   pub readings : List (List TapeItem)

@@ -24,7 +24,7 @@ use Rattle.tape_run.specs.Quoting.{name_text}
 abbrev pub with_name : List ℕ → List ℕ → List ℕ
 with_name text name = text ++ codes " " ++ name_text name ++ codes "\n"
 
--- how a reading stopped, or that it did not
+-- the text of the end of a reading, or the text that it did not stop
 abbrev pub end_text : Option ImageStop → List ℕ
 end_text (Some stop) = stop_text stop
 end_text None = codes "-"
@@ -35,7 +35,7 @@ reading_text n r =
     codes "IMAGE " ++ decimal n ++ codes " " ++ decimal r.items ++ codes " " ++ decimal r.bad
     ++ codes " " ++ end_text r.stop
 
--- how the merged image ends
+-- the text of the end of the merged image
 abbrev pub merged_end : MergedEnd → List ℕ
 merged_end Marked = codes "MARKED"
 merged_end Physical = codes "PHYSICAL"
@@ -70,7 +70,7 @@ has_text n has =
 
 -- ---- the lines of readings
 
--- how a reading stopped, if it stopped
+-- the end of a reading, if it has stopped
 abbrev pub stop_of : Option Ending → Verdict → Option ImageStop
 stop_of (Some ending) verdict = Some (stop_at ending)
 stop_of None verdicts.First = None

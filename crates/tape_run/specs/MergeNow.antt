@@ -54,9 +54,9 @@ SomeEnds items ending [] = ⊥
 SomeEnds items ending (r ∷ rs) =
     ((r.items ≡ items) × (r.image.status ≡ ended ending)) ⊎ SomeEnds items ending rs
 
--- The merged image, which has this many items, ends like one of the readings of that length: with
--- an end-of-medium marker if one of them does, otherwise with the end of its bytes. It is truncated
--- if each of them stopped at a fault.
+-- The merged image has `items` items, and ends like a reading of that length: with an end-of-medium
+-- marker if such a reading has one, otherwise at the end of its bytes if such a reading reached
+-- that end. It is truncated if each of these readings stopped at a fault.
 abbrev pub EndsAs : {R : Type 0} → ℕ → List (Reading R) → MergedEnd → Type 0
 EndsAs items nows Marked = SomeEnds items endings.Marked nows
 EndsAs items nows Physical =
@@ -64,7 +64,7 @@ EndsAs items nows Physical =
 EndsAs items nows Cut =
     (SomeEnds items endings.Physical nows → ⊥) × (SomeEnds items endings.Marked nows → ⊥)
 
--- the bytes after its items: an end-of-medium marker, or none
+-- the bytes after its items: an end-of-medium marker, or no bytes
 abbrev pub end_bytes : MergedEnd → List ℕ
 end_bytes Marked = 255 ∷ 255 ∷ 255 ∷ 255 ∷ []
 end_bytes Physical = []
@@ -107,7 +107,7 @@ pub record ReportsDiffering (R : Type 0) (images names : List (List ℕ))
   pub lines : says (lines_from (reading_line names) 0 nows ++ differ_line number
       ++ lines_from (has_line names) 0 nows)
 
--- what came of images with these bytes
+-- the result of merging images with these bytes
 abbrev pub ComesTo : Type 0 → List (List ℕ) → List (List ℕ) → Option (List ℕ)
     → Option (List ℕ) → (List ℕ → Type 0) → (List ℕ → Type 0) → MergeEnd → Type 0
 ComesTo R images names out stands logs says Whole =
@@ -116,7 +116,7 @@ ComesTo R images names out stands logs says Partial =
     HoldsMerged R images names out stands logs says Partial
 ComesTo R images names out stands logs says Differs = ReportsDiffering R images names says
 
--- what comes of readings, if they are at the beginning of images with known bytes
+-- the result of merging readings that are at the beginning of images with known bytes
 abbrev pub ReadingsComeTo : {R : Type 0} → List (Reading R) → List (List ℕ) → Option (List ℕ)
     → Option (List ℕ) → (List ℕ → Type 0) → (List ℕ → Type 0) → MergeEnd → Type 0
 ReadingsComeTo {R} firsts names out stands logs says end = (images : List (List ℕ))

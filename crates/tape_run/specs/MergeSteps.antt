@@ -51,7 +51,7 @@ abbrev pub Takes : Option TapeItem → TapeItem → Bool → Option TapeItem →
 Takes best x true now = agrees best x × (now ≡ Some (joined best x))
 Takes best x false now = (agrees best x → ⊥) × (now ≡ best)
 
--- how many bytes a block has; 0 for any other item
+-- the number of bytes of a block; 0 for any other item
 abbrev pub block_length : TapeItem → ℕ
 block_length (block bytes) = length bytes
 block_length bad = 0
@@ -75,16 +75,16 @@ abbrev pub one_if : Bool → ℕ
 one_if true = 1
 one_if false = 0
 
--- what each reading has after so many items, if it has as many
+-- the item of each reading after a number of items, if it has as many
 abbrev pub column : ℕ → List (List TapeItem) → List (Option TapeItem)
 column j rs = map (λ r. slice_get r j) rs
 
--- how many of these could be read
+-- how many of these items could be read
 abbrev pub goods_in : List (Option TapeItem) → ℕ
 goods_in [] = 0
 goods_in (x ∷ xs) = one_if (is_good_one x) + goods_in xs
 
--- how many items are bad
+-- the number of bad items
 abbrev pub bads : List TapeItem → ℕ
 bads [] = 0
 bads (x ∷ xs) = one_if (is_bad_one (Some x)) + bads xs
@@ -112,7 +112,7 @@ Stopped old new =
     ((old.status ≡ going) × (MeetsEnd old new ⊎ ((fault : ImageFault) × MeetsFault old fault new)))
     ⊎ ((old.status ≢ going) × (new ≡ old))
 
--- how a reading stopped
+-- the end of a reading
 abbrev pub StopsAs : Verdict → Status → Type 0
 StopsAs verdicts.Ended status = (ending : Ending) × (status ≡ ended ending)
 StopsAs (verdicts.Failed fault) status = status ≡ failed fault
@@ -130,7 +130,7 @@ is_stop verdicts.Third = false
 is_stop verdicts.Ended = true
 is_stop (verdicts.Failed fault) = true
 
--- how many bad items it counts
+-- the number of bad items that this verdict adds
 abbrev pub bad_count : Verdict → ℕ
 bad_count verdicts.First = 0
 bad_count verdicts.Bad = 1
@@ -228,8 +228,7 @@ abbrev pub AllStopped : {R : Type 0} → List (Reading R) → Type 0
 AllStopped [] = ⊤
 AllStopped (r ∷ rs) = StopsAs r.verdict r.image.status × AllStopped rs
 
--- Each of the readings was read up to the item with this number, counted from 1, or stopped at it
--- or before.
+-- Each reading was read up to item n, counted from 1, or stopped at that item or before it.
 abbrev pub AreUpTo : {R : Type 0} → ℕ → List (Reading R) → List (List TapeItem) → Type 0
 AreUpTo number [] [] = ⊤
 AreUpTo number (n ∷ nows) (r ∷ readings) =

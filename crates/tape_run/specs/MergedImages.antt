@@ -52,7 +52,7 @@ AllBegin (bytes ∷ images) (r ∷ readings) =
 AllBegin _ _ = ⊥
 
 -- The images were read to their ends, and merged: the items of the least tape of which they are
--- readings were written and counted. The log has their rows.
+-- readings were written and counted. The log has the rows of these items.
 pub record MergesImages {R : Type 0} (images : List (List ℕ)) (nows : List (Reading R))
     (m : Merged) (old new : Writer) (log logged : Option (List ℕ)) : Type 0 where
   pub readings : List (List TapeItem)

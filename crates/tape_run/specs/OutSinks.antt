@@ -12,7 +12,7 @@ abbrev pub begun_text : Option (List ℕ) → List ℕ
 begun_text None = []
 begun_text (Some front) = front
 
--- the records that the parts join to, and the bytes of an unfinished one
+-- the records into which the parts join, and the bytes of an unfinished one
 abbrev pub text_so_far : Form → List Portion → List ℕ
 text_so_far form parts = output_of form parts ++ begun_text (join parts).rest
 

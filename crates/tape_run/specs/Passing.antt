@@ -136,7 +136,7 @@ under_way (Data met) = Some (cut met)
 under_way (Trailer met) = Some (cut met)
 under_way _ = None
 
--- how many data blocks were found of a section that is not complete yet
+-- the number of data blocks found so far of a section that is not complete yet
 abbrev pub blocks_of : Phase → ℕ
 blocks_of (Second met) = met.blocks
 blocks_of (Headers met) = met.blocks

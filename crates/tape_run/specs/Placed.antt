@@ -32,13 +32,14 @@ Places p (x ∷ more) q xs ys =
     (x.from ≡ p) × (mid : List ℕ) × TakesItem p x.item x.behind xs mid
     × Places x.behind more q mid ys
 
--- how many bytes of an image an item takes; not known for a bad block
+-- the number of bytes that an item takes in an image; unknown for a bad block
 abbrev pub item_extent : TapeItem → Option ℕ
 item_extent (block bytes) = Some (block_extent (length bytes))
 item_extent bad = None
 item_extent mark = Some 4
 
--- how many bytes an item takes; for a bad block, all bytes after the item before it, including gaps
+-- the number of bytes that an item takes; for a bad block, all bytes after the item before it,
+-- including gaps
 abbrev pub item_size : PlacedItem → ℕ
 item_size x = unwrap_or (item_extent x.item) (x.behind - x.from)
 

@@ -64,7 +64,7 @@ abbrev pub PlacesStopSays : Option (List ℕ) → Option (List ℕ) → List ℕ
 PlacesStopSays old new bytes left = StopsPlacing old new bytes left
     → ((taken : List ℕ) × (bytes ≡ taken ++ left)) × ((text : List ℕ) × AppendsFront old new text)
 
--- what any fault says
+-- the meaning of any fault
 pub record PlacesFaultFits (before after old new : Option (List ℕ)) : Type 0 where
   pub of_writer : FitsPlaces before after old new WriteFailed
       → IfKnown before after (StopsPlacing old new)

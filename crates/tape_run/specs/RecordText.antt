@@ -16,10 +16,10 @@ records_text form [] = []
 records_text form (record_bytes ∷ others) =
     (record_bytes ++ record_end form) ++ records_text form others
 
--- the records that the parts join to, without an unfinished one
+-- the records into which the parts join, without an unfinished one
 abbrev pub output_of : Form → List Portion → List ℕ
 output_of form parts = records_text form (join parts).records
 
--- what one part adds to the text: its bytes, and the terminator if it ends a record
+-- the text that one part adds: its bytes, and the terminator if it ends a record
 abbrev pub part_text : Form → Portion → List ℕ
 part_text form p = p.bytes ++ (if leaves p.span then [] else record_end form)

@@ -21,7 +21,7 @@ use Rattle.tape_run.specs.declared.reel_reader.ReelAnswer.{ReelAnswer}
 abbrev pub two_numbers : List ℕ → ℕ → ℕ → List ℕ
 two_numbers word a b = word ++ decimal a ++ codes " " ++ decimal b
 
--- why a reading yielded nothing more
+-- the text of the reason why a reading yielded nothing more
 abbrev pub reason_text : Reason → List ℕ
 reason_text NotLabelled = codes "NOT LABELLED"
 reason_text OtherSet = codes "OTHER SET"
@@ -38,7 +38,7 @@ reason_text SectionDiffers = codes "SECTION DIFFERS"
 reason_text (BadLabel fault) = codes "BAD LABEL " ++ decimal (label_faults.number fault)
 reason_text Broken = codes "BROKEN"
 
--- what ended a reading; the first two answers never end one
+-- the text of the answer that ended a reading; the first two answers never end one
 abbrev pub answer_text : Answer → List ℕ
 answer_text Passed = codes "PASSED"
 answer_text Deliver = codes "DELIVER"
@@ -65,7 +65,7 @@ reel_line n outcome = codes "REEL " ++ decimal n ++ codes " " ++ outcome_text ou
 abbrev pub complete_line : ℕ → List ℕ
 complete_line records = codes "COMPLETE " ++ decimal records ++ codes "\n"
 
--- how many parts of the missing block were delivered, if any
+-- the number of delivered parts of the missing block, if any
 abbrev pub part_text : ℕ → List ℕ
 part_text part = if part == 0 then [] else codes " " ++ decimal part
 

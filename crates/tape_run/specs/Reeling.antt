@@ -64,7 +64,7 @@ IsTurn remaining image turn = ⊥
 abbrev pub Mounting : Type 0 → Type 0 → Type 1
 Mounting L R = L → ℕ → Option R → L → Type 0
 
--- The reader with a given number is removed from a list, if it is there.
+-- The reader with a given number is removed from a list, if the list still has it.
 abbrev pub Took : {R : Type 0} → Mounting (List (Option R)) R
 Took readers number image left =
     (image ≡ get_or readers number None) × (left ≡ set readers number None)
@@ -99,7 +99,7 @@ counts_differ answer = false
 abbrev pub WentToLast : Seen → Seen → Type 0
 WentToLast old new = (n : ℕ) × (length old.notes ≡ n + 1) × WentBack n old new
 
--- The last checkpoint has the session's position, with its parts.
+-- The last checkpoint has the session's position and parts.
 abbrev pub HasNotedHere : Seen → Type 0
 HasNotedHere s = IsLast s (saved s.place (weight_of s.parts)) s.parts
 
@@ -156,7 +156,7 @@ step_behind false true noted notes = []
 step_behind true true noted zero = []
 step_behind true true noted (suc n) = Restart n ∷ []
 
--- how many checkpoints there are afterwards
+-- the number of checkpoints afterwards
 abbrev pub notes_behind : Bool → Bool → ℕ → ℕ
 notes_behind false true notes = notes + 1
 notes_behind false false notes = notes

@@ -37,7 +37,7 @@ answers_to core (x ∷ xs) = (step_of core (Some x)).0 ∷ answers_to (step_of c
 abbrev pub GoesOn : Answer → Type 0
 GoesOn answer = (answer ≡ Passed) ⊎ (answer ≡ Deliver)
 
--- how many blocks were delivered
+-- the number of delivered blocks
 abbrev pub delivered_by : List Answer → ℕ
 delivered_by [] = 0
 delivered_by (Deliver ∷ answers) = 1 + delivered_by answers
@@ -54,7 +54,8 @@ pub record EndedByItem (core : State) (items : List TapeItem) (bytes left : List
   pub at : ℕ
   pub taken : Walks 0 bytes (items ++ item ∷ []) at left
 
--- The same up to the end of the medium.
+-- The bytes begin with these items, after each of which the reading continued; then the medium
+-- ended.
 pub record EndedByMedium (core : State) (items : List TapeItem) (bytes left : List ℕ)
     (answer : ReelAnswer) (new : State) : Type 0 where
   pub last : (answer.answer, new) ≡ step_of (behind_items core items) None
@@ -63,7 +64,8 @@ pub record EndedByMedium (core : State) (items : List TapeItem) (bytes left : Li
   pub at : ℕ
   pub taken : TakesEnd 0 items ending at bytes left
 
--- The same up to a fault of the image, which is reported.
+-- The bytes begin with these items, after each of which the reading continued; then the image had a
+-- fault, which is reported.
 pub record EndedByFault (core : State) (items : List TapeItem) (bytes left : List ℕ)
     (answer : ReelAnswer) (new : State) : Type 0 where
   pub last : (answer.answer, new) ≡ step_of (behind_items core items) None

@@ -26,7 +26,7 @@ abbrev pub gap_text : ℕ → Option ℕ → ℕ → ℕ → List ℕ
 gap_text sect None next records = []
 gap_text sect (Some first) next records = gap_line sect first (next - 1) records
 
--- the line of a record that is left out because of a cut at the start of this block
+-- the line about a record that is left out because the data are interrupted before this block
 abbrev pub torn_text : Bool → ℕ → ℕ → ℕ → List ℕ
 torn_text is sect n records = if is then torn_line sect n records else []
 

@@ -48,8 +48,8 @@ start_of c = start_by c.skip c.section
     start_by None u = Outside 0
     start_by (Some n) u = skipping n (record u { blocks = 0 })
 
--- how many of the data items are certainly blocks of the section: all if it closes, otherwise those
--- before the first unreadable item after its HDR1
+-- the number of data items that are certainly blocks of the section: all if it closes, otherwise
+-- those before the first unreadable item after its HDR1
 abbrev pub believed : SectionCopy → ℕ
 believed s = believed_by s.closed s.section.certain s.section.blocks
   where
@@ -67,7 +67,7 @@ wrong_count s = wrong_by s.closed s.section.blocks
     wrong_by (Some closed) blocks =
         if closed.count == label_count blocks then None else Some closed.count
 
--- how many of its blocks were read
+-- the number of its blocks that were read
 abbrev pub blocks_read : SectionCopy → ℕ
 blocks_read s = if is_some s.closed then s.section.blocks - s.section.unreadable else believed s
 

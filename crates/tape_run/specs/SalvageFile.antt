@@ -88,8 +88,8 @@ RecoversBlocks = (set_id : List ℕ) (volumes : ℕ) (known : Option FileForm) (
     (g.piece.done ≡ (piece_after form nothing bs).done)
     × (g.missing ≡ false → AllByRecursion (λ b. b.0 ≡ true) bs)
 
--- Exactly those records of the file are recovered all of whose parts are in blocks that were read;
--- and if nothing is missing, these are all parts of the file.
+-- The recovered records of the file are exactly those that lie entirely in blocks that were read.
+-- If nothing is missing, all parts of the file were read.
 abbrev pub RecoversFile : Type 0
 RecoversFile = (set_id : List ℕ) (volumes : ℕ) (known : Option FileForm) (form : FileForm)
     (eof : Bool) (ts : List Taken) (t : Taken) (rs : List SectionRead) (r : SectionRead)

@@ -20,7 +20,7 @@ abbrev pub is_in : SectionKey → Expected → Bool
 is_in key (Data u) = same_key u.key key
 is_in key _ = false
 
--- how many data items of this section were read, if nothing more is read
+-- the number of data items of this section that were read, if nothing more is read
 abbrev pub read_in : SectionKey → Expected → ℕ
 read_in key (Data u) = if same_key u.key key then u.blocks else 0
 read_in key (Trailer u) = if same_key u.key key then u.blocks else 0

@@ -36,7 +36,7 @@ refused_line sect block fault records =
     ++ number_text (cause_number fault.cause) ++ number_text fault.place ++ number_text records
     ++ codes "\n"
 
--- a record is left out because of a cut at the start of this block
+-- a record is left out because the data are interrupted before this block
 abbrev pub torn_line : ℕ → ℕ → ℕ → List ℕ
 torn_line sect block records =
     codes "TORN" ++ number_text sect ++ number_text block ++ number_text records ++ codes "\n"

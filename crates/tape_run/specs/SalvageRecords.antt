@@ -84,7 +84,7 @@ abbrev pub mended : Option FileForm → Piece → List ℕ → Piece
 mended None p block = with_part p (as_it_is block)
 mended (Some form) p block = mended_by form p block (judged_at form p block)
 
--- why the block contains no records in this form
+-- the reason why the block contains no records in this form
 abbrev pub fault_by : Result Bool BlockFault → Option BlockFault
 fault_by (Ok end) = None
 fault_by (Err fault) = Some fault

@@ -75,7 +75,7 @@ taken_text content known sect (Some c) items g =
     then copy_text sect c (form_for content c.section.form known) items g
     else no_form_text sect g
 
--- how the section ended
+-- the end of the section
 abbrev pub end_by : Option Closing → SectionEnd
 end_by None = Unknown
 end_by (Some closed) = if closed.eof then FileEnds else Continues
@@ -165,7 +165,7 @@ all_text content known sect (t ∷ ts) g = taken_text content known sect t.copy 
 abbrev pub GoOn : Content → Option FileForm → List Taken → Type 0
 GoOn content known = AllByRecursion (λ t. end_of_taken content known t.copy t.items ≢ FileEnds)
 
--- how the last of these sections ended; a file has at least one section
+-- the end of the last of these sections; a file has at least one section
 abbrev pub last_end : Content → Option FileForm → List Taken → SectionEnd
 last_end content known [] = Continues
 last_end content known (t ∷ []) = end_of_taken content known t.copy t.items
@@ -194,7 +194,7 @@ last_text Unknown sect g = []
 abbrev pub next_section : ℕ → ℕ
 next_section n = min (n + 1) 65535
 
--- after all sections, with their lines
+-- the salvaged data after all sections and their lines
 abbrev pub after_file : Content → List SectionCopy → List Taken → Salvaged → Salvaged
 after_file content copies taken g =
     at_last (last_end content (form_of_file copies) taken)

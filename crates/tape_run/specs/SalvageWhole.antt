@@ -1,5 +1,5 @@
--- The records recovered of a file with missing blocks: exactly those all of whose parts are in
--- blocks that were read.
+-- The records recovered of a file with missing blocks: exactly those that lie entirely in blocks
+-- that were read.
 use Rattle.std.specs.Prelude.{◌≡◌, ◌≢◌, ◌&&◌, Bool, true, false, if◌then◌else◌, List, []}
 use Rattle.std.specs.Prelude.{◌∷◌, ◌++◌, Some}
 use Rattle.std.specs.List.{AllByRecursion}
@@ -28,8 +28,8 @@ abbrev pub all_parts : Blocks → List Portion
 all_parts [] = []
 all_parts (b ∷ bs) = b.1.parts ++ all_parts bs
 
--- The parts of the records that end here and were all read. `front` has the parts so far of the
--- unfinished record, and `all` says whether they were all read.
+-- The parts of the records that end here and were all read. `front` contains the parts of the
+-- unfinished record so far, and `all` says whether they were all read.
 abbrev pub whole_from : List Portion → Bool → List (Bool × Portion) → List Portion
 whole_from front all [] = []
 whole_from front all (x ∷ xs) =
@@ -50,8 +50,8 @@ pub record IsBlock (form : FileForm) (b : Bool × Filled) : Type 0 where
   pub holds : Holds form.format form.rec_len form.offset b.1.bytes b.1.parts
   pub some : b.0 ≡ false → b.1.parts ≢ []
 
--- If the parts of a file are in order, exactly the parts of those records are recovered all of
--- whose parts are in blocks that were read.
+-- If the parts of a file are in order, the recovered parts are exactly those of the records that
+-- lie entirely in blocks that were read.
 abbrev pub RecoversWhole : Type 0
 RecoversWhole = (form : FileForm) (bs : Blocks) (end : Bool) → AllByRecursion (IsBlock form) bs
     → InOrder false (all_parts bs) end

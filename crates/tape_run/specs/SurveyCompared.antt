@@ -21,7 +21,7 @@ abbrev pub section_front : SectionKey → List ℕ
 section_front key = trimmed_text key.set_id ++ codes " file " ++ decimal key.file
     ++ codes " section " ++ decimal key.sect ++ codes ": "
 
--- how many copies agree
+-- the number of copies that agree
 abbrev pub agreed_text : ℕ → List ℕ
 agreed_text copies = codes "good, " ++ decimal copies ++ codes " copies agree\n"
 

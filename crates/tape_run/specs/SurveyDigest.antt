@@ -44,7 +44,7 @@ block_digests block = side_over (0 ∷ 0 ∷ 0 ∷ 0 ∷ []) (words_of block) ++
 abbrev pub digest_with : ℕ → List ℕ → ℕ
 digest_with d block = digest_over d (block_digests block)
 
--- the same after these blocks
+-- the digest after a number of blocks
 abbrev pub digest_all : ℕ → List (List ℕ) → ℕ
 digest_all d [] = d
 digest_all d (b ∷ bs) = digest_all (digest_with d b) bs

@@ -43,13 +43,13 @@ first_by b (Err _) = first_other b
 abbrev pub first_block : List ℕ → First
 first_block b = first_by b (vol1_at b)
 
--- what an image with this first item begins with
+-- the class of an image with this first item
 abbrev pub first_of : TapeItem → First
 first_of (block b) = first_block b
 first_of bad = firsts.Bad
 first_of mark = firsts.Mark
 
--- the same, for an item with this number
+-- the class of an image after one more item, which has this number: the first item decides
 abbrev pub first_with : First → ℕ → TapeItem → First
 first_with first number x = if number == 1 then first_of x else first
 
@@ -188,7 +188,7 @@ damage_in None = None
 abbrev pub is_second : Option SectionLine → Option SectionLine → Bool
 is_second first second = is_some first && is_some second
 
--- nothing was looked at
+-- the summary before any item was read
 abbrev pub blank_glance : ImageSummary
 blank_glance = record {
   items = 0;

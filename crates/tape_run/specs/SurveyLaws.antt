@@ -1,5 +1,7 @@
--- What a glance at an image says of its items.
+-- What a survey says of the items of an image, and of the volumes of a set.
 use Rattle.std.specs.Prelude.{◌≡◌, ◌≢◌, ℕ, ◌+◌, Bool, true, false, List, [], ◌∷◌, ◌++◌, length, map}
+use Rattle.std.specs.Prelude.{◌≤◌, ◌<◌, Option, Some, None, replicate}
+use Rattle.std.specs.Str.{bytes_eq}
 use Rattle.std.specs.List.{AllByRecursion, flat_map}
 use Rattle.tape_image.specs.Tape.{TapeItem, block, mark}
 use Rattle.tape_label.specs.declared.values.Kind.TheVariants as kinds
@@ -11,10 +13,17 @@ use Rattle.tape_label.specs.Vol1.{IsVol1}
 use Rattle.tape_label.specs.Head1.{IsHead1}
 use Rattle.tape_label.specs.Trail1.{IsTrail1}
 use Rattle.tape_label.specs.VolumeLabels.{is_volume_label}
+use Rattle.tape_run.specs.declared.section.Entry.{Entry}
 use Rattle.tape_run.specs.declared.survey.course.ExpectedItem.{ExpectedItem}
 use Rattle.tape_run.specs.declared.survey.course.LabelOrder.{LabelOrder}
 use Rattle.tape_run.specs.declared.survey.course.LabelOrder.TheVariants.{Ended, Leaves}
+use Rattle.tape_run.specs.declared.survey.volumes.VolumeItem.TheVariants.{Named, MissingAfter}
+use Rattle.tape_run.specs.Lacks.{SetFiles, entry_at, key_at}
+use Rattle.tape_run.specs.SurveyChain.{is_last, volumes_from, volumes_of}
+use Rattle.tape_run.specs.SurveyConflicts.{IsIn}
+use Rattle.tape_run.specs.SurveyGaps.{is_found}
 use Rattle.tape_run.specs.SurveyGlance.{glance_of}
+use Rattle.tape_run.specs.SurveyRead.{Found}
 
 -- ---- the order of a volume
 
@@ -62,7 +71,7 @@ pub record IsVolumeInOrder (items : List TapeItem) : Type 0 where
 
 -- ---- what a glance says
 
--- how far items follow the order of a volume
+-- the extent to which items are in the order of a volume
 abbrev pub course_of : List TapeItem → LabelOrder
 course_of items = (glance_of items).course
 
@@ -71,8 +80,8 @@ abbrev pub has_left : LabelOrder → Bool
 has_left (Leaves n w) = true
 has_left _ = false
 
--- The item with this number, counted from 1, is the first that is not in the order of a volume:
--- those before it follow the order, and with it they do not.
+-- Item n, counted from 1, is the first that breaks the order of a volume: the items before it are
+-- in that order, and together with it they are not.
 pub record IsFirstAstray (items : List TapeItem) (n : ℕ) : Type 0 where
   pub before : List TapeItem
   pub item : TapeItem
@@ -82,7 +91,7 @@ pub record IsFirstAstray (items : List TapeItem) (n : ℕ) : Type 0 where
   pub follow : has_left (course_of before) ≡ false
   pub leaves : has_left (course_of (before ++ item ∷ [])) ≡ true
 
--- If a summary says that an item leaves the order, it is the first that does.
+-- If a summary says that an item breaks the order, it is the first that does so.
 abbrev pub LeavesThere : Type 0
 LeavesThere = (items : List TapeItem) (n : ℕ) (w : ExpectedItem) → course_of items ≡ Leaves n w
     → IsFirstAstray items n
@@ -90,3 +99,19 @@ LeavesThere = (items : List TapeItem) (n : ℕ) (w : ExpectedItem) → course_of
 -- If a summary says that the volume ended, the items are a volume, and nothing follows it.
 abbrev pub EndedIsVolume : Type 0
 EndedIsVolume = (items : List TapeItem) → course_of items ≡ Ended → IsVolumeInOrder items
+
+-- ---- volumes
+
+-- What the volumes of a set are said to be.
+pub record VolumesAreListed : Type 0 where
+  -- the volume of a section that was found is one of them, if no section before it ends its file
+  pub named : (d : Found) (x : SetFiles) (file sect : ℕ) (e : Entry) → 1 ≤ file → file ≤ x.1
+      → is_found d x.0 file ≡ true → 1 ≤ sect → sect ≤ 9999
+      → ((i : ℕ) → 1 ≤ i → i < sect → is_last (entry_at d.sections (key_at x.0 file i)) ≡ false)
+      → entry_at d.sections (key_at x.0 file sect) ≡ Some e
+      → IsIn (volumes_of d x) (Named e.volume)
+  -- sections that are missing between two volumes are one missing volume, however many they are
+  pub one : (front rest : List (Option (List ℕ))) (u v : List ℕ) (n : ℕ) → bytes_eq u v ≡ false
+      → volumes_from None false (front ++ Some u ∷ None ∷ (replicate n None ++ Some v ∷ rest))
+      ≡ volumes_from None false (front ++ Some u ∷ [])
+      ++ (MissingAfter u ∷ Named v ∷ volumes_from (Some v) false rest)

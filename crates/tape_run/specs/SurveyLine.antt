@@ -1,6 +1,6 @@
 -- The description of an image in a survey. The text is for people, and may change.
-use Rattle.std.specs.Prelude.{Bool, true, false, not, is_some, length, take, ◌-◌, ℕ, ◌==◌, ◌&&◌}
-use Rattle.std.specs.Prelude.{nat_le, nat_lt, map, if◌then◌else◌, List, [], ◌++◌, codes, decimal}
+use Rattle.std.specs.Prelude.{Bool, true, false, not, length, take, ◌-◌, ℕ, ◌==◌}
+use Rattle.std.specs.Prelude.{nat_lt, map, if◌then◌else◌, List, [], ◌++◌, codes, decimal}
 use Rattle.std.specs.Prelude.{Option, Some, None, replicate}
 use Rattle.tape_image.specs.declared.item.ImageFault.{ImageFault}
 use Rattle.std.specs.List.{suffix_len}
@@ -18,20 +18,22 @@ use Rattle.tape_run.specs.declared.survey.course.ExpectedItem.TheVariants as wan
 use Rattle.tape_run.specs.declared.survey.course.LabelOrder.{LabelOrder}
 use Rattle.tape_run.specs.declared.survey.course.LabelOrder.TheVariants.{Follows, Blank, Ended, Leaves}
 use Rattle.tape_run.specs.declared.survey.glance.ImageSummary.{ImageSummary}
+use Rattle.tape_run.specs.declared.survey.line.ImageState.{ImageState}
+use Rattle.tape_run.specs.declared.survey.line.ImageState.TheVariants as states
 use Rattle.tape_run.specs.declared.survey.view.ImageSurvey.{ImageSurvey}
 use Rattle.tape_run.specs.Identifier.{printed}
 use Rattle.tape_run.specs.Quoting.{name_text}
-use Rattle.tape_run.specs.SurveyRead.{is_sound, is_ended, is_end}
+use Rattle.tape_run.specs.SurveyTally.{is_no_image, state_of}
 
 -- a space
 abbrev pub is_space : ℕ → Bool
 is_space byte = byte == 32
 
--- the length of bytes without the spaces at their end
+-- the length of bytes without trailing spaces
 abbrev pub trimmed_len : List ℕ → ℕ
 trimmed_len bytes = length bytes - suffix_len is_space bytes
 
--- an identifier without the spaces at its end
+-- an identifier without trailing spaces
 abbrev pub trimmed_text : List ℕ → List ℕ
 trimmed_text bytes = map printed (take (trimmed_len bytes) bytes)
 
@@ -50,12 +52,12 @@ abbrev pub written_text : List ℕ → List ℕ
 written_text system =
     if nat_lt 0 (trimmed_len system) then codes ", written by " ++ trimmed_text system else []
 
--- the same, if a header label says so
+-- the name of the system, if a header label gives it
 abbrev pub system_text : Option Head1 → List ℕ
 system_text None = []
 system_text (Some head) = written_text head.implementation
 
--- how many sections it has
+-- the text of the number of sections
 abbrev pub files_text : ℕ → List ℕ
 files_text n =
     if n == 0 then [] else if n == 1 then codes ", 1 section"
@@ -63,7 +65,7 @@ files_text n =
 
 -- Each further fact is preceded by the text between two facts.
 
--- how many blocks are unreadable
+-- the text of the number of unreadable blocks
 abbrev pub bad_text : List ℕ → ℕ → List ℕ
 bad_text between n =
     if n == 0 then [] else if n == 1 then between ++ codes "1 unreadable block"
@@ -103,13 +105,13 @@ abbrev pub damages_text : List ℕ → ImageSummary → List ℕ
 damages_text between g = damaged_text between g.damage ++ (more_text between g.more
     ++ damaged_text between g.unfinished)
 
--- what an image contains
+-- the text of the contents of an image
 abbrev pub glance_text : List ℕ → ImageSummary → List ℕ
 glance_text between g =
     first_text g.first ++ (system_text g.head ++ (files_text g.files ++ (bad_text between g.bad
     ++ (late_text between g.late ++ unread_text between g.unread))))
 
--- the item that is missing where the order is left
+-- the text for the item that was expected where another item breaks the label order
 abbrev pub wanted_text : ExpectedItem → List ℕ
 wanted_text wanted.Volume = codes "is not VOL1"
 wanted_text wanted.Section = codes "is not HDR1"
@@ -125,7 +127,7 @@ abbrev pub is_told : ExpectedItem → Bool
 is_told wanted.Volume = false
 is_told _ = true
 
--- the item that leaves the order
+-- the text about the item that breaks the label order
 abbrev pub left_text : List ℕ → ℕ → ExpectedItem → List ℕ
 left_text between n w =
     if is_told w
@@ -139,18 +141,23 @@ early_text between (Fault fault) = []
 early_text between Marked = between ++ codes "ends before the end of the volume"
 early_text between Physical = between ++ codes "ends before the end of the volume"
 
--- how far the items follow the order of a volume
+-- the text that says how far the items are in the order of a volume
 abbrev pub course_text : List ℕ → LabelOrder → ImageStop → List ℕ
 course_text between Ended stop = []
 course_text between (Leaves n w) stop = left_text between n w
 course_text between Follows stop = early_text between stop
 course_text between Blank stop = early_text between stop
 
--- nothing of it reads as an image
-abbrev pub is_no_image : ImageFault → Bool
-is_no_image fault = (fault.place == 0) && nat_le (number_of fault.cause) 3
+-- the course that is described: an image without items has none
+abbrev pub course_shown : First → LabelOrder → LabelOrder
+course_shown firsts.Nothing course = Ended
+course_shown (firsts.Volume label) course = course
+course_shown firsts.Ebcdic course = course
+course_shown (firsts.Block n) course = course
+course_shown firsts.Bad course = course
+course_shown firsts.Mark course = course
 
--- what it probably is then
+-- the text of what the image probably is then
 abbrev pub guess_text : ImageFault → List ℕ
 guess_text fault =
     if is_no_image fault then codes ": not a SIMH image, or compressed (try zcat)" else []
@@ -171,48 +178,26 @@ stop_text between (Fault fault) = fault_text between fault
 stop_text between Marked = []
 stop_text between Physical = []
 
--- what an image is
+-- the description of an image
 abbrev pub seen_text : List ℕ → ImageSurvey → List ℕ
 seen_text between s = glance_text between s.glance
-    ++ (course_text between s.glance.course s.stop ++ (stop_text between s.stop
+    ++ (course_text between (course_shown s.glance.first s.glance.course) s.stop ++ (stop_text between s.stop
     ++ damages_text between s.glance))
 
--- The state of an image: a word, padded to a column.
-
--- of one that begins with a volume label
-abbrev pub volume_state : ImageSurvey → List ℕ
-volume_state s =
-    if is_sound s
-    then (if s.glance.files == 0 then codes "blank        " else codes "ok           ")
-    else if is_ended s.glance.course && (is_end s.stop && not (is_some s.glance.damage))
-    then codes "unsupported  "
-    else codes "damaged      "
-
--- of one without items
-abbrev pub empty_state : ImageStop → List ℕ
-empty_state (Fault fault) =
-    if is_no_image fault then codes "not a tape   " else codes "damaged      "
-empty_state Marked = codes "empty        "
-empty_state Physical = codes "empty        "
-
--- of one that begins with this
-abbrev pub state_by : First → ImageSurvey → List ℕ
-state_by firsts.Nothing s = empty_state s.stop
-state_by (firsts.Volume label) s = volume_state s
-state_by firsts.Bad s = codes "damaged      "
-state_by firsts.Ebcdic s = codes "unsupported  "
-state_by (firsts.Block n) s = codes "unsupported  "
-state_by firsts.Mark s = codes "unsupported  "
-
--- of any
-abbrev pub state_of : ImageSurvey → List ℕ
-state_of s = state_by s.glance.first s
+-- the word for a state, padded to a column
+abbrev pub state_word : ImageState → List ℕ
+state_word states.Ok = codes "ok           "
+state_word states.Blank = codes "blank        "
+state_word states.Damaged = codes "damaged      "
+state_word states.Unsupported = codes "unsupported  "
+state_word states.Empty = codes "empty        "
+state_word states.NotTape = codes "not a tape   "
 
 -- its state and what it is, each fact after the first on a line of its own
 abbrev pub opened_text : ImageSurvey → List ℕ
-opened_text s = state_of s ++ (seen_text (codes "\n    ") s ++ codes "\n")
+opened_text s = state_word (state_of s) ++ (seen_text (codes "\n    ") s ++ codes "\n")
 
--- the same, or that it was not opened
+-- the description of an image, or the text that it was not opened
 abbrev pub sight_text : Option ImageSurvey → List ℕ
 sight_text (Some s) = opened_text s
 sight_text None = codes "not opened\n"

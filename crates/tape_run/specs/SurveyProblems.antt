@@ -1,49 +1,55 @@
--- The sections of a file that are damaged or missing. The text is for people, and may change.
+-- The sections of a file that are damaged or missing: a line for each, for people, which may change;
+-- or, in the last column of its row, its number and its state.
 use Rattle.std.specs.Prelude.{ℕ, zero, suc, ◌+◌, ◌-◌, nat_lt, Bool, true, false, ◌||◌}
 use Rattle.std.specs.Prelude.{if◌then◌else◌, List, [], ◌++◌, codes, decimal, Option, Some, None}
 use Rattle.tape_run.specs.declared.section.Entry.{Entry}
 use Rattle.tape_run.specs.declared.section.SectionState.{SectionState}
 use Rattle.tape_run.specs.declared.section.SectionState.TheVariants.{Good, Bad, Count, Cut}
+use Rattle.tape_run.specs.declared.survey.Wording.{Wording}
+use Rattle.tape_run.specs.declared.survey.Wording.TheVariants.{Words, Rows}
+use Rattle.tape_run.specs.CheckLine.{state_text}
 use Rattle.tape_run.specs.Lacks.{entry_at, key_at}
 use Rattle.tape_run.specs.Noted.{is_good}
 use Rattle.tape_run.specs.Passing.{Told}
 use Rattle.tape_run.specs.SurveyGaps.{numbers_text}
 use Rattle.tape_run.specs.SurveyLine.{trimmed_text, damage_text}
 
--- the line of a damaged section
-abbrev pub damage_line : ℕ → Entry → List ℕ
-damage_line sect entry =
+-- a damaged section
+abbrev pub damage_line : Wording → ℕ → Entry → List ℕ
+damage_line Words sect entry =
     codes "        section " ++ (decimal sect ++ (codes " " ++ (damage_text entry.state
     ++ (codes " on " ++ (trimmed_text entry.volume ++ codes ": no good copy\n")))))
+damage_line Rows sect entry =
+    decimal sect ++ (codes ":" ++ (state_text entry.state ++ codes ";"))
 
--- the line about a section that was found, if it is damaged
-abbrev pub found_line : ℕ → Entry → List ℕ
-found_line sect entry = if is_good entry.state then [] else damage_line sect entry
+-- a section that was found, if it is damaged
+abbrev pub found_line : Wording → ℕ → Entry → List ℕ
+found_line y sect entry = if is_good entry.state then [] else damage_line y sect entry
 
--- where to look for missing sections, if the section before them is known
+-- the text that says where to look for missing sections, if the section before them is known
 abbrev pub where_text : Option Entry → List ℕ
 where_text (Some before) = codes " missing, after volume " ++ trimmed_text before.volume
 where_text None = codes " not found"
 
--- the line about the missing sections from the first one up to the one before the next
-abbrev pub missing_line : ℕ → ℕ → Option Entry → List ℕ
-missing_line first next before =
+-- the missing sections from the first one up to the one before the next
+abbrev pub missing_line : Wording → ℕ → ℕ → Option Entry → List ℕ
+missing_line Rows first next before = numbers_text first next ++ codes ":MISSING;"
+missing_line Words first next before =
     codes "        section" ++ ((if nat_lt first (next - 1) then codes "s" else [])
     ++ (codes " " ++ (numbers_text first next ++ (where_text before ++ codes "\n"))))
 
--- the missing sections of a file, from the first number after the last section found up to the next
--- one found
-abbrev pub missing_text : List Told → List ℕ → ℕ → ℕ → ℕ → List ℕ
-missing_text c set_id file first next =
+-- of a file, from the first number after the last section that was found before the next one
+abbrev pub missing_text : Wording → List Told → List ℕ → ℕ → ℕ → ℕ → List ℕ
+missing_text y c set_id file first next =
     if nat_lt first next
-    then missing_line first next (entry_at c (key_at set_id file (first - 1)))
+    then missing_line y first next (entry_at c (key_at set_id file (first - 1)))
     else []
 
--- the lines about a section with this entry, after those about the missing sections before it
-abbrev pub known_text : List Told → List ℕ → ℕ → ℕ → ℕ → Option Entry → List ℕ
-known_text c set_id file first sect (Some entry) =
-    missing_text c set_id file first sect ++ found_line sect entry
-known_text c set_id file first sect None = []
+-- a section of which this is known, after the missing ones before it
+abbrev pub known_text : Wording → List Told → List ℕ → ℕ → ℕ → ℕ → Option Entry → List ℕ
+known_text y c set_id file first sect (Some entry) =
+    missing_text y c set_id file first sect ++ found_line y sect entry
+known_text y c set_id file first sect None = []
 
 -- the number after a section's, if it was found
 abbrev pub first_after : ℕ → ℕ → Option Entry → ℕ
@@ -63,19 +69,20 @@ ends (Some entry) = entry.eof || is_cut entry.state
 ends None = false
 
 -- the section after the last one that was found, if one follows
-abbrev pub next_text : ℕ → Option Entry → List ℕ
-next_text first last = if ends last then [] else missing_line first (first + 1) last
+abbrev pub next_text : Wording → ℕ → Option Entry → List ℕ
+next_text y first last = if ends last then [] else missing_line y first (first + 1) last
 
--- the lines about n sections of a file, beginning with this one, if those from the first number up
--- to it were not found, and about the section after the last
-abbrev pub sections_from : List Told → List ℕ → ℕ → ℕ → ℕ → ℕ → List ℕ
-sections_from c set_id file first sect zero =
-    next_text first (entry_at c (key_at set_id file (first - 1)))
-sections_from c set_id file first sect (suc n) =
+-- n sections of a file, beginning with this one, if those from the first number up to it were
+-- not found, and the section after the last
+abbrev pub sections_from : Wording → List Told → List ℕ → ℕ → ℕ → ℕ → ℕ → List ℕ
+sections_from y c set_id file first sect zero =
+    next_text y first (entry_at c (key_at set_id file (first - 1)))
+sections_from y c set_id file first sect (suc n) =
     let entry = entry_at c (key_at set_id file sect) in
-    known_text c set_id file first sect entry
-    ++ sections_from c set_id file (first_after first sect entry) (sect + 1) n
+    known_text y c set_id file first sect entry
+    ++ sections_from y c set_id file (first_after first sect entry) (sect + 1) n
 
--- a line for each damaged section of a file, and for those that are missing before or after it
-unfoldable pub problem_lines : List Told → List ℕ → ℕ → List ℕ
-problem_lines c set_id file = sections_from c set_id file 1 1 9999
+-- each damaged section of a file, and the sections that are missing before or after the sections
+-- found
+unfoldable pub problem_lines : Wording → List Told → List ℕ → ℕ → List ℕ
+problem_lines y c set_id file = sections_from y c set_id file 1 1 9999

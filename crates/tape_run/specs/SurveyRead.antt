@@ -1,12 +1,9 @@
 -- What was read of images for a survey.
-use Rattle.std.specs.Prelude.{◌≡◌, ℕ, ◌+◌, ◌&&◌, not, is_some, Bool, true, false, List, [], ◌∷◌}
+use Rattle.std.specs.Prelude.{◌≡◌, ℕ, ◌+◌, ◌&&◌, Bool, true, false, List, [], ◌∷◌}
 use Rattle.std.specs.Prelude.{Option, Some, None}
 use Rattle.tape_image.specs.Tape.{TapeItem}
 use Rattle.tape_image.specs.Reader.{IfKnown}
-use Rattle.tape_run.specs.declared.section.ImageStop.{ImageStop}
-use Rattle.tape_run.specs.declared.section.ImageStop.TheVariants.{Marked, Physical, Fault}
-use Rattle.tape_run.specs.declared.survey.course.LabelOrder.{LabelOrder}
-use Rattle.tape_run.specs.declared.survey.course.LabelOrder.TheVariants.{Ended}
+use Rattle.tape_run.specs.declared.survey.tally.Tally.{Tally}
 use Rattle.tape_run.specs.declared.survey.view.ImageSurvey.{ImageSurvey}
 use Rattle.tape_run.specs.Added.{StopsBehind}
 use Rattle.tape_run.specs.Checked.{Reel}
@@ -17,9 +14,11 @@ use Rattle.tape_run.specs.SurveyCopies.{Copied, no_copies, copied_in}
 use Rattle.tape_run.specs.SurveyFiles.{Filed, filed_in}
 use Rattle.tape_run.specs.SurveyGlance.{glance_of}
 use Rattle.tape_run.specs.SurveyLocations.{Located, located_in, next_image}
+use Rattle.tape_run.specs.SurveyTally.{is_whole_sight, state_of, no_images, with_state}
 
--- what is known of sections and of files, whether every image was read completely, on which image
--- each section is, its good copies, and how many images there were
+-- the results of reading images: the sections and files found, whether every image was read
+-- completely, the image of each section, its good copies, and the number of images, in all and in
+-- each state
 pub record Found : Type 0 where
   pub sections : List Told
   pub files : List Filed
@@ -27,6 +26,7 @@ pub record Found : Type 0 where
   pub locations : List Located
   pub copies : Copied
   pub images : ℕ
+  pub tally : Tally
 
 -- nothing was found
 abbrev pub nothing_found : Found
@@ -37,34 +37,11 @@ nothing_found = record {
   locations = [];
   copies = no_copies;
   images = 0;
+  tally = no_images;
 }
 
--- the image does not end with a fault
-abbrev pub is_end : ImageStop → Bool
-is_end Marked = true
-is_end Physical = true
-is_end (Fault fault) = false
-
--- the volume ended
-abbrev pub is_ended : LabelOrder → Bool
-is_ended Ended = true
-is_ended _ = false
-
--- nothing was found
-abbrev pub is_none : Option ℕ → Bool
-is_none None = true
-is_none (Some n) = false
-
--- The items are a complete volume in its order, and each second header label can be read.
-abbrev pub is_whole_sight : ImageSurvey → Bool
-is_whole_sight s = is_ended s.glance.course && (is_none s.glance.unread && is_end s.stop)
-
--- They are such a volume, and none of its sections is damaged.
-abbrev pub is_sound : ImageSurvey → Bool
-is_sound s = is_whole_sight s && not (is_some s.glance.damage)
-
--- All items that a reader of the image with this number returned were looked at, and the sections
--- and header labels in them were added, where the sections are, and the good copies. Before the
+-- All items that a reader of the image with this number returned were surveyed: the sections and
+-- header labels in them were added, the places of the sections, and the good copies. Before the
 -- call the reader had the bytes `before`, and then the bytes `after`.
 pub record ViewsItems (before after : Option (List ℕ)) (image : ℕ) (sections : List Told)
     (files : List Filed) (located : List Located) (known : Copied) (sight : ImageSurvey)
@@ -80,11 +57,16 @@ pub record ViewsItems (before after : Option (List ℕ)) (image : ℕ) (sections
 
 -- An image was read, completely if it is a whole volume; or it was not opened.
 abbrev pub IsViewed : Reel → Option ImageSurvey → Found → Found → Type 0
-IsViewed None None c d = d ≡ record c { whole = false; images = next_image c.images }
+IsViewed None None c d = d ≡ record c {
+  whole = false;
+  images = next_image c.images;
+  tally = with_state c.tally None;
+}
 IsViewed (Some before) (Some sight) c d = (after : Option (List ℕ))
     × ViewsItems before after c.images c.sections c.files c.locations c.copies sight d.sections
     d.files d.locations d.copies
     × (d.whole ≡ (c.whole && is_whole_sight sight)) × (d.images ≡ next_image c.images)
+    × (d.tally ≡ with_state c.tally (Some (state_of sight)))
 IsViewed _ _ c d = ⊥
 
 -- Images of a source from this number on, opened one after another, were read.

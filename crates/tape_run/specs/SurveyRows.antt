@@ -17,8 +17,10 @@ use Rattle.tape_run.specs.SurveyCopies.{dispute_at}
 use Rattle.tape_run.specs.SurveyFiles.{note_at, file_key}
 use Rattle.tape_run.specs.Quoting.{name_text}
 use Rattle.tape_run.specs.SurveyLine.{trimmed_text, seen_text}
-use Rattle.tape_run.specs.SurveyRead.{Found, is_sound}
-use Rattle.tape_run.specs.SurveySets.{standing_of, is_mixed}
+use Rattle.tape_run.specs.SurveyRead.{Found}
+use Rattle.tape_run.specs.SurveyTally.{is_sound}
+use Rattle.tape_run.specs.declared.survey.Wording.TheVariants.{Rows}
+use Rattle.tape_run.specs.SurveySets.{standing_of, is_mixed, is_whole_file, rest_lines}
 
 -- whether an image was read completely
 abbrev pub whole_cell : Bool → List ℕ
@@ -35,12 +37,12 @@ head_cells (Some head) =
     trimmed_text head.set_id ++ codes "\t" ++ trimmed_text head.implementation
 head_cells None = codes "\t"
 
--- how many items there are, sections and bad blocks
+-- the numbers of items, sections and bad blocks
 abbrev pub count_cells : ImageSummary → List ℕ
 count_cells g =
     decimal g.items ++ codes "\t" ++ decimal g.files ++ codes "\t" ++ decimal g.bad
 
--- what an image is
+-- the description of an image
 abbrev pub seen_cells : ImageSurvey → List ℕ
 seen_cells s =
     whole_cell (is_sound s) ++ codes "\t" ++ volume_cell s.glance.first ++ codes "\t"
@@ -102,13 +104,18 @@ standing_cells (Missing sect) = wanted_cells (codes "MISSING") sect []
 
 -- labels of different files were found under its number, or good copies of a section differ
 abbrev pub conflict_cell : Bool → List ℕ
-conflict_cell differs = if differs then codes "\tCONFLICT\n" else codes "\t\n"
+conflict_cell differs = if differs then codes "\tCONFLICT\t" else codes "\t\t"
 
--- the row of a file
-abbrev pub file_row : Found → List ℕ → ℕ → List ℕ
-file_row d set_id file =
+-- the columns of a file, up to the last one
+abbrev pub file_cells : Found → List ℕ → ℕ → List ℕ
+file_cells d set_id file =
     let key = file_key set_id file in
     let note = note_at d.files key in
     codes "FILE\t" ++ trimmed_text set_id ++ codes "\t" ++ decimal file ++ codes "\t"
     ++ known_cells note ++ codes "\t" ++ standing_cells (standing_of d.sections set_id file)
     ++ conflict_cell (is_mixed note || is_some (dispute_at d.copies key))
+
+-- its row: the last column has each of its sections that is damaged or missing
+abbrev pub file_row : Found → List ℕ → ℕ → List ℕ
+file_row d set_id file = (file_cells d set_id file
+    ++ rest_lines Rows (is_whole_file d.sections set_id file) d.sections set_id file) ++ codes "\n"

@@ -1,23 +1,27 @@
 -- What a survey says of sets and their files. The text is for people, and may change.
-use Rattle.std.specs.Prelude.{ℕ, zero, suc, ◌+◌, ◌-◌, ◌&&◌, not, nat_lt, Bool, true, false}
+use Rattle.std.specs.Prelude.{ℕ, zero, suc, ◌+◌, ◌-◌, ◌&&◌, ◌||◌, not, nat_lt, Bool, true, false}
 use Rattle.std.specs.Prelude.{if◌then◌else◌, List, [], ◌∷◌, ◌++◌, codes, decimal}
 use Rattle.std.specs.Prelude.{Option, Some, None, is_some}
+use Rattle.std.specs.List.{flat_map}
 use Rattle.tape_run.specs.declared.section.Entry.{Entry}
 use Rattle.tape_run.specs.declared.survey.files.FileNote.{FileNote}
 use Rattle.tape_run.specs.declared.survey.sets.Standing.{Standing}
 use Rattle.tape_run.specs.declared.survey.sets.Standing.TheVariants.{Complete, Damaged, Behind}
 use Rattle.tape_run.specs.declared.survey.sets.Standing.TheVariants.{Missing}
+use Rattle.tape_run.specs.declared.survey.Wording.{Wording}
+use Rattle.tape_run.specs.declared.survey.Wording.TheVariants.{Words, Rows}
 use Rattle.tape_run.specs.Dates.{date_of, date_text}
 use Rattle.tape_run.specs.Identifier.{identifier_text}
 use Rattle.tape_run.specs.Lacks.{entry_at, key_at, lack_of, found_all}
 use Rattle.tape_run.specs.Noted.{is_good}
 use Rattle.tape_run.specs.Passing.{Told}
 use Rattle.tape_run.specs.SurveyCopies.{dispute_at, is_agreed}
-use Rattle.tape_run.specs.SurveyLine.{trimmed_text}
+use Rattle.tape_run.specs.SurveyLine.{trimmed_text, damage_text}
 use Rattle.tape_run.specs.SurveyFiles.{note_at, file_key, any_differs}
 use Rattle.tape_run.specs.SurveyGlance.{one_if}
 use Rattle.tape_run.specs.SurveyProblems.{problem_lines}
-use Rattle.tape_run.specs.SurveyRead.{Found, is_none}
+use Rattle.tape_run.specs.SurveyRead.{Found}
+use Rattle.tape_run.specs.SurveyTally.{is_none}
 
 -- a missing section, with what is known of the one before it
 abbrev pub behind_by : ℕ → Option Entry → Standing
@@ -77,9 +81,9 @@ head_line file note disputed complete = number_text file ++ (codes " " ++ (known
     ++ (codes "  " ++ (file_word (is_mixed note) disputed complete ++ codes "\n"))))
 
 -- the damaged and missing sections of a file, unless it is complete
-abbrev pub rest_lines : Bool → List Told → List ℕ → ℕ → List ℕ
-rest_lines true c set_id file = []
-rest_lines false c set_id file = problem_lines c set_id file
+abbrev pub rest_lines : Wording → Bool → List Told → List ℕ → ℕ → List ℕ
+rest_lines y true c set_id file = []
+rest_lines y false c set_id file = problem_lines y c set_id file
 
 -- the lines about a file: its state and, unless it is complete, its damaged and missing sections
 abbrev pub file_lines : Found → List ℕ → ℕ → List ℕ
@@ -87,7 +91,7 @@ file_lines d set_id file =
     let complete = is_whole_file d.sections set_id file in
     let key = file_key set_id file in
     head_line file (note_at d.files key) (is_some (dispute_at d.copies key)) complete
-    ++ rest_lines complete d.sections set_id file
+    ++ rest_lines Words complete d.sections set_id file
 
 -- the file is complete, no label of another file has its number, and no good copies of its sections
 -- differ
@@ -97,7 +101,7 @@ is_sure d set_id file =
     is_whole_file d.sections set_id file && (not (is_mixed (note_at d.files key))
     && is_none (dispute_at d.copies key))
 
--- how many of n files of a set, from this one on, are complete
+-- the number of complete files among n files of a set, from this one on
 abbrev pub sure_files : Found → List ℕ → ℕ → ℕ → ℕ
 sure_files d set_id file zero = 0
 sure_files d set_id file (suc n) =
@@ -107,6 +111,22 @@ sure_files d set_id file (suc n) =
 abbrev pub set_line : List ℕ → ℕ → ℕ → List ℕ
 set_line set_id complete files = codes "Set " ++ (trimmed_text set_id ++ (codes ": "
     ++ (decimal complete ++ (codes " of " ++ (decimal files ++ codes " files complete\n")))))
+
+-- the line of a damaged section of a file that is complete without it
+abbrev pub stray_line : Told → List ℕ
+stray_line t = trimmed_text t.0.set_id ++ (codes " file " ++ (decimal t.0.file ++ (codes " section "
+    ++ (decimal t.0.sect ++ (codes " " ++ (damage_text t.1.state ++ (codes " on "
+    ++ (trimmed_text t.1.volume ++ codes ": the file ends before it\n"))))))))
+
+-- of a section, if it is one of them
+abbrev pub stray_text : List Told → Told → List ℕ
+stray_text c t =
+    if is_good t.1.state || not (is_whole_file c t.0.set_id t.0.file) then [] else stray_line t
+
+-- of all of them, in words; rows have the state of each section
+abbrev pub strays_text : Wording → List Told → List ℕ
+strays_text Words c = flat_map (stray_text c) c
+strays_text Rows c = []
 
 -- each of these sections is good
 abbrev pub all_good : List Told → Bool

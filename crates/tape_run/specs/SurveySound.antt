@@ -7,7 +7,8 @@ use Rattle.tape_run.specs.Lacks.{lacks}
 use Rattle.tape_run.specs.Reeling.{Mounting}
 use Rattle.tape_run.specs.SurveyConflicts.{Placed, all_placed, IsIn}
 use Rattle.tape_run.specs.SurveyDigest.{digest_of}
-use Rattle.tape_run.specs.SurveyRead.{Found, nothing_found, AreViewed, is_whole_sight}
+use Rattle.tape_run.specs.SurveyRead.{Found, nothing_found, AreViewed}
+use Rattle.tape_run.specs.SurveyTally.{is_whole_sight}
 
 -- an image was opened, and is a volume from its label to its last mark in formats that are read
 abbrev pub IsWhole : Option ImageSurvey → Type 0

@@ -1,19 +1,21 @@
 -- The text of a survey, in words or in rows.
-use Rattle.std.specs.Prelude.{ℕ, zero, suc, ◌+◌, ◌-◌, Bool, if◌then◌else◌, List, [], ◌++◌, Option}
+use Rattle.std.specs.Prelude.{ℕ, zero, suc, ◌+◌, ◌-◌, if◌then◌else◌, List, [], ◌++◌, Option}
 use Rattle.std.specs.List.{flat_map}
 use Rattle.tape_run.specs.declared.survey.Wording.{Wording}
 use Rattle.tape_run.specs.declared.survey.Wording.TheVariants.{Words, Rows}
 use Rattle.tape_run.specs.declared.survey.view.ImageSurvey.{ImageSurvey}
 use Rattle.tape_run.specs.Lacks.{SetFiles, sets_from}
 use Rattle.tape_run.specs.Passing.{Told}
+use Rattle.tape_run.specs.SurveyChain.{volumes_of, volumes_line}
 use Rattle.tape_run.specs.SurveyCompared.{copies_text}
 use Rattle.tape_run.specs.SurveyGaps.{is_found, gap_first, gap_text}
 use Rattle.tape_run.specs.SurveyLine.{image_line}
 use Rattle.tape_run.specs.SurveyRead.{Found}
 use Rattle.tape_run.specs.SurveyRows.{image_row, section_row, file_row}
-use Rattle.tape_run.specs.SurveySets.{file_lines, set_line, sure_files, is_all, last_text}
+use Rattle.tape_run.specs.SurveyTally.{tally_line}
+use Rattle.tape_run.specs.SurveySets.{file_lines, set_line, sure_files, strays_text, is_all, last_text}
 
--- what is said of an image
+-- the text about an image
 abbrev pub image_text : Wording → List ℕ → Option ImageSurvey → List ℕ
 image_text Words name sight = image_line name sight
 image_text Rows name sight = image_row name sight
@@ -37,9 +39,10 @@ file_texts y d set_id file zero = []
 file_texts y d set_id file (suc n) =
     file_text y d set_id file ++ file_texts y d set_id (file + 1) n
 
--- the heading of a set
+-- the heading of a set: how many of its files are complete, and its volumes
 abbrev pub set_front : Wording → Found → SetFiles → List ℕ
-set_front Words d x = set_line x.0 (sure_files d x.0 1 x.1) x.1
+set_front Words d x =
+    set_line x.0 (sure_files d x.0 1 x.1) x.1 ++ volumes_line (volumes_of d x)
 set_front Rows d x = []
 
 -- a set, and its files up to the greatest number of one
@@ -54,17 +57,18 @@ set_texts y d sets = flat_map (set_text y d) sets
 abbrev pub sets_text : Wording → Found → List ℕ
 sets_text y d = set_texts y d (sets_from [] d.sections)
 
--- what precedes the sets: in rows, each section that was found
+-- the text before the sets: in rows, each section that was found
 abbrev pub sections_text : Wording → List Told → List ℕ
 sections_text Words c = []
 sections_text Rows c = flat_map section_row c
 
--- the last line, which rows do not have
-abbrev pub end_text : Wording → Bool → List ℕ
-end_text Words all = last_text all
-end_text Rows all = []
+-- the last lines, which rows do not have: how many images there are, and whether all is well
+abbrev pub end_text : Wording → Found → List ℕ
+end_text Words d = tally_line d.tally ++ last_text (is_all d)
+end_text Rows d = []
 
--- what follows the images with these names
+-- the text after the images with these names
 abbrev pub summary : Wording → List (List ℕ) → Found → List ℕ
 summary y names d = sections_text y d.sections
-    ++ (sets_text y d ++ (copies_text y names d.copies.notes ++ end_text y (is_all d)))
+    ++ (sets_text y d ++ (strays_text y d.sections ++ (copies_text y names d.copies.notes
+    ++ end_text y d)))

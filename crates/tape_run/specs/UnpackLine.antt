@@ -1,16 +1,25 @@
 -- The lines that `unpack` prints.
-use Rattle.std.specs.Prelude.{ℕ, Bool, true, false, List, [], ◌∷◌, ◌++◌, codes, decimal}
+use Rattle.std.specs.Prelude.{ℕ, List, [], ◌∷◌, ◌++◌, codes, decimal}
 use Rattle.tape_run.specs.declared.unpack.line.UnpackOutcome.{UnpackOutcome}
-use Rattle.tape_run.specs.declared.unpack.line.UnpackOutcome.TheVariants.{Exists, Conflict}
-use Rattle.tape_run.specs.declared.unpack.line.UnpackOutcome.TheVariants.{Failed}
+use Rattle.tape_run.specs.declared.unpack.line.UnpackOutcome.TheVariants.{Complete, Awaits, Ready}
+use Rattle.tape_run.specs.declared.unpack.line.UnpackOutcome.TheVariants.{Lacks, Exists, Conflict}
+use Rattle.tape_run.specs.declared.unpack.line.UnpackOutcome.TheVariants.{NotFound, Failed, Salvaged}
+use Rattle.tape_run.specs.declared.unpack.line.Notice.{Notice}
+use Rattle.tape_run.specs.declared.unpack.line.Notice.TheVariants.{NoSet, NoFile, Unread}
 use Rattle.tape_run.specs.Identifier.{identifier_text}
 use Rattle.tape_run.specs.Quoting.{name_text}
 
--- why a file was not unpacked, as `unpack` prints it
+-- what became of a file, as `unpack` prints it
 abbrev pub unpack_outcome_text : UnpackOutcome → List ℕ
+unpack_outcome_text Complete = codes "COMPLETE"
+unpack_outcome_text Awaits = codes "AWAITS"
+unpack_outcome_text Ready = codes "READY"
+unpack_outcome_text Lacks = codes "LACKS"
 unpack_outcome_text Exists = codes "EXISTS"
 unpack_outcome_text Conflict = codes "CONFLICT"
+unpack_outcome_text NotFound = codes "NOT FOUND"
 unpack_outcome_text Failed = codes "FAILED"
+unpack_outcome_text Salvaged = codes "SALVAGED"
 
 -- the first words of a line: set and number
 abbrev pub file_front : List ℕ → ℕ → List ℕ
@@ -22,11 +31,18 @@ abbrev pub path_text : List ℕ → List ℕ
 path_text [] = []
 path_text (b ∷ bs) = codes " " ++ name_text (b ∷ bs)
 
--- the line of a file: its outcome, and the path of its records or its stage
-abbrev pub file_line : List ℕ → ℕ → List ℕ → List ℕ → List ℕ
-file_line set_id file told path = file_front set_id file ++ told ++ path_text path ++ codes "\n"
+-- the line of a file: its outcome with any details, and the path of its records or its stage
+abbrev pub file_line : List ℕ → ℕ → UnpackOutcome → List ℕ → List ℕ → List ℕ
+file_line set_id file outcome details path =
+    file_front set_id file ++ unpack_outcome_text outcome ++ details ++ path_text path
+    ++ codes "\n"
 
--- the last line, which is printed if an image was not read completely
-abbrev pub left_over_line : Bool → List ℕ
-left_over_line true = []
-left_over_line false = codes "INCOMPLETE IMAGES\n"
+-- what a line reports about a name
+abbrev pub notice_text : Notice → List ℕ
+notice_text NoSet = codes "NO SET "
+notice_text NoFile = codes "NO FILE "
+notice_text Unread = codes "INCOMPLETE IMAGE "
+
+-- such a line
+abbrev pub notice_line : Notice → List ℕ → List ℕ
+notice_line notice name = notice_text notice ++ name_text name ++ codes "\n"

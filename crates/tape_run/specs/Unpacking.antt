@@ -1,12 +1,12 @@
 -- Which files are unpacked from images, and under which names.
-use Rattle.std.specs.Prelude.{◌≡◌, ◌==◌, ◌&&◌, ◌||◌, not, ℕ, zero, suc, ◌+◌, ◌-◌, ◌/◌, ◌%◌}
+use Rattle.std.specs.Prelude.{◌≡◌, ◌==◌, ◌&&◌, ◌||◌, not, false, ℕ, zero, suc, ◌+◌, ◌-◌, ◌/◌, ◌%◌}
 use Rattle.std.specs.Prelude.{nat_le, Bool, if◌then◌else◌, List, [], ◌∷◌, ◌++◌, length, map, take}
 use Rattle.std.specs.Prelude.{Option, Some, None, option_map, is_some, codes, decimal, get_or}
 use Rattle.std.specs.List.{flat_map}
 use Rattle.tape_run.specs.declared.survey.view.ImageSurvey.{ImageSurvey}
 use Rattle.tape_run.specs.declared.survey.files.FileNote.{FileNote}
-use Rattle.tape_run.specs.declared.unpack.Heading.{Heading}
-use Rattle.tape_run.specs.declared.unpack.Heading.TheVariants.{Differs, Named}
+use Rattle.tape_run.specs.declared.survey.glance.First.{First}
+use Rattle.tape_run.specs.declared.survey.glance.First.TheVariants.{Volume}
 use Rattle.tape_run.specs.declared.unpack.SetFile.{SetFile}
 use Rattle.tape_run.specs.declared.unpack.FoundFiles.{FoundFiles}
 use Rattle.tape_run.specs.Lacks.{SetFiles, sets_from, lack_of}
@@ -15,22 +15,18 @@ use Rattle.tape_run.specs.Reeling.{Mounting}
 use Rattle.tape_run.specs.SurveyCopies.{dispute_at}
 use Rattle.tape_run.specs.SurveyFiles.{note_at, file_key}
 use Rattle.tape_run.specs.SurveyLine.{trimmed_len}
-use Rattle.tape_run.specs.SurveyRead.{Found, nothing_found, AreViewed}
+use Rattle.tape_run.specs.SurveyRead.{Found, nothing_found, is_whole_sight, AreViewed}
 
--- what the header labels of a file and its good copies say, given what is known of the file: they
--- are those of different files if the labels differ, or good copies of a section do
-abbrev pub heading_of : FileNote → Bool → Heading
-heading_of note disputed =
-    if note.differs || disputed then Differs else Named note.head.file_id
-
--- a file, if this is known of its labels; without a label there is no file
+-- a file, if this is known of its labels; without a label there is no file. It differs if its
+-- labels do, or good copies of a section do.
 abbrev pub file_by : Found → List ℕ → ℕ → Option FileNote → List SetFile
 file_by d set_id file None = []
 file_by d set_id file (Some note) = record {
   set_id = set_id;
   file = file;
-  heading = heading_of note (is_some (dispute_at d.copies (file_key set_id file)));
-  lacks = is_some (lack_of d.sections set_id file);
+  file_id = note.head.file_id;
+  differs = note.differs || is_some (dispute_at d.copies (file_key set_id file));
+  lacks = lack_of d.sections set_id file;
 } ∷ []
 
 -- the file with this number, if a label of it was found
@@ -50,10 +46,25 @@ set_files d sets = flat_map (λ x. files_from d x.0 1 x.1) sets
 abbrev pub files_of : Found → List SetFile
 files_of d = set_files d (sets_from [] d.sections)
 
+-- the image was opened, and is a complete volume in its order, in formats that are read
+abbrev pub is_read : Option ImageSurvey → Bool
+is_read None = false
+is_read (Some sight) = is_whole_sight sight
+
 -- the set of the section that begins first on an image, if any
 abbrev pub set_of : Option ImageSurvey → Option (List ℕ)
 set_of None = None
 set_of (Some sight) = option_map (λ head. head.set_id) sight.glance.head
+
+-- the volume identifier of an image that begins with this
+abbrev pub volume_in : First → Option (List ℕ)
+volume_in (Volume label) = Some label.volume
+volume_in _ = None
+
+-- the volume identifier of an image, if it was opened and begins with a volume label
+abbrev pub volume_of : Option ImageSurvey → Option (List ℕ)
+volume_of None = None
+volume_of (Some sight) = volume_in sight.glance.first
 
 -- All images of a source were opened and read, one after another, and this was found. Each is this,
 -- and was read up to where it stops.
@@ -113,7 +124,7 @@ fit_first n bytes =
     if n == 0 then fit_last 32
     else flat_map fit (take (n - 1) bytes) ++ fit_last (get_or bytes (n - 1) 32)
 
--- a file identifier, without the spaces at its end
+-- a file identifier without trailing spaces
 abbrev pub fit_text : List ℕ → List ℕ
 fit_text bytes = fit_first (trimmed_len bytes) bytes
 

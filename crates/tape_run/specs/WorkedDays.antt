@@ -1,4 +1,4 @@
--- The consequences of the headline for the worked set if a reader fails, if the sink refuses a
+-- The consequences of the headline for the example set if a reader fails, if the sink refuses a
 -- part, and if a session is resumed on another day.
 use Rattle.std.specs.Prelude.{◌≡◌, ℕ, true, List, [], ◌∷◌, Option, None, Some, codes}
 use Rattle.tape_label.specs.declared.values.Format.TheVariants.{Spanned}

@@ -134,8 +134,8 @@ reel_1 = headers_1 ++ (data_block block_0 ++ (data_block block_1 ++ trailers_1))
 abbrev pub reel_2 : List ℕ
 reel_2 = headers_2 ++ (data_block block_2 ++ trailers_2)
 
--- volume 1 complete, truncated inside its second data block, and with a bad block instead of a data
--- block
+-- images of volume 1: truncated inside its second data block, with its first data block bad, and
+-- with its second data block bad
 abbrev pub cut_reel : List ℕ
 cut_reel = headers_1 ++ (data_block block_0 ++ (18 ∷ 0 ∷ 0 ∷ 0 ∷ codes "20018AA"))
 

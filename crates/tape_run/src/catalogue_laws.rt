@@ -24,7 +24,7 @@ pub fn whole_sets_are_good()
     ensures { WholeSetIsGood }
 {}
 
-/// What a file is missing is its first section that is not good, and nothing is missing if its
+/// The missing section of a file is its first section that is not good. Nothing is missing if its
 /// sections are good up to one that ends it.
 pub fn what_lacks_comes_first()
     ensures { LackIsFirst }
@@ -40,8 +40,8 @@ pub fn whole_sets_are_found()
     ensures { WholeSetIsFound }
 {}
 
-/// What [`Catalogue::add`](crate::Catalogue::add) adds for a complete copy whose reader did not
-/// fail are the sections in the volume's items.
+/// For a complete copy whose reader did not fail, [`Catalogue::add`](crate::Catalogue::add) adds
+/// exactly the sections in the volume's items.
 pub fn whole_copies_are_added()
     ensures { WholeCopiesAreAdded }
 {}

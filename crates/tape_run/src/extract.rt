@@ -133,14 +133,15 @@ fn end_report<P: Write>(report: &mut P, want: Option<Want>, records: u64) -> Res
     Ok(flush(report)?)
 }
 
-/// Writes the records that the parts of a sink join to, flushes, and returns their number. An
+/// Writes the records into which the parts of a sink join, flushes, and returns their number. An
 /// unfinished record is left out, so for an incomplete file these are the records before the first
 /// missing part.
 ///
 /// # Errors
 ///
 /// Returns `Run(Sink)` with the refusal of the sink's device, or `Failed` if it returns fewer
-/// records than when they were counted; `WriteFailed`. The records written so far are a prefix.
+/// records than when they were counted; `WriteFailed`. The records written so far are a prefix of
+/// the sink's records.
 pub fn write_file<S: PartWalk, W: Write>(
     sink: &mut S,
     form: Form,
@@ -161,7 +162,7 @@ pub fn write_file<S: PartWalk, W: Write>(
     Ok(records)
 }
 
-/// Returns how many records the parts of the sink join to, without an unfinished one.
+/// Returns the number of records into which the parts of the sink join, without an unfinished one.
 ///
 /// # Errors
 ///
@@ -191,13 +192,14 @@ pub fn count_records<S: PartWalk>(sink: &mut S) -> Result<u64, SinkFault>
     }
 }
 
-/// Writes the first `records` records that the parts still to come join to, up to the last part
-/// that ends a record, without an unfinished one.
+/// Writes the first `records` records into which the remaining parts join, up to the last part that
+/// ends a record, without an unfinished one.
 ///
 /// # Errors
 ///
 /// Returns `Run(Sink)` with the refusal of the sink's device, or `Failed` if it returns fewer
-/// records than when they were counted; `WriteFailed`. The text written so far is a prefix.
+/// records than when they were counted; `WriteFailed`. The text written so far is a prefix of the
+/// text of the records.
 pub fn write_records<S: PartWalk, W: Write>(
     sink: &mut S,
     records: u64,

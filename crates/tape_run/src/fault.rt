@@ -9,7 +9,7 @@ use tape_core::SinkFault;
 use tape_image::ImageFault;
 use thiserror::Error;
 
-/// Why a step of a run failed. The steps before it took effect.
+/// The reason why a step of a run failed. The steps before it took effect.
 #[derive(Clone, Copy, Debug, PartialEq, Eq, Error)]
 pub enum RunFault {
     /// The sink refused a call for this reason. During a reel the session's position is the part
@@ -47,14 +47,14 @@ impl RunFault {
     }
 }
 
-/// Where a run stopped: the number of the step that failed, counted from 0, and why it failed. The
-/// steps before it took effect, and none after it was begun.
+/// The place where a run stopped: the number of the step that failed, counted from 0, and the
+/// reason. The steps before it took effect, and none after it was begun.
 #[derive(Clone, Copy, Debug, PartialEq, Eq, Error)]
 #[error("step {step}: {fault}")]
 pub struct Stopped {
-    /// How many steps were made: the number of the step that failed.
+    /// The number of steps made, which is the number of the step that failed.
     pub step: usize,
-    /// Why it failed.
+    /// The reason why the step failed.
     pub fault: RunFault,
 }
 
@@ -63,7 +63,7 @@ pub struct Stopped {
 #[error("a write failed")]
 pub struct WriteFailed;
 
-/// What ends a report of reels.
+/// A fault that ends a report of reels.
 #[derive(Clone, Copy, Debug, PartialEq, Eq, Error)]
 pub enum EngineFault {
     /// A session or a catalogue could not continue.
@@ -93,7 +93,7 @@ impl From<WriteFailed> for EngineFault {
     }
 }
 
-/// What ends the listing of an image.
+/// A fault that ends the listing of an image.
 #[derive(Clone, Copy, Debug, PartialEq, Eq, Error)]
 pub enum ListFault {
     /// The rest of the image could not be read.

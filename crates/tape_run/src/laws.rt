@@ -105,8 +105,8 @@ pub fn cases()
     ensures catalogue_laws { CasesOfCatalogueLaws }
 {}
 
-/// What the reader of one file read up to the end of a section is skipped by the reader of each
-/// later file of the set, which then continues as if it had read the reel from its start.
+/// The reader of a later file of the set skips the items that the reader of one file read up to the
+/// end of a section, and then continues as if it had read the reel from its start.
 pub fn passes_files()
     ensures passes { PassesFiles }
     ensures leads { LeadsOverAll }

@@ -27,14 +27,14 @@ use tape_image::{ImageWriteFault, ImageWriter};
 /// The tape that the readings combine to.
 #[derive(Clone, Copy, Debug, PartialEq, Eq)]
 pub struct Merged {
-    /// How many items it has.
+    /// The number of items.
     pub items: u64,
-    /// How many of these items are bad.
+    /// The number of bad items among them.
     pub bad: u64,
-    /// How many of these items only one reading has in readable form.
+    /// The number of items that only one reading could read.
     pub alone: u64,
-    /// How many file sections have another number of blocks than their trailer label says, as
-    /// `check` finds them.
+    /// The number of file sections, as `check` finds them, whose trailer labels give a wrong number
+    /// of blocks.
     pub miscounted: u64,
 }
 
@@ -66,11 +66,11 @@ impl Merged {
     }
 }
 
-/// Why readings were not merged to their ends.
+/// The reason why readings were not merged to their ends.
 #[derive(Clone, Copy, Debug, PartialEq, Eq)]
 pub enum MergeFault {
-    /// At the item with this number, counted from 1, two readings have different readable items:
-    /// they are not readings of one tape.
+    /// Two readings have different readable items at the given number, counted from 1: they are not
+    /// readings of one tape.
     Differ(u64),
     /// Memory was refused.
     OutOfMemory,
@@ -126,7 +126,7 @@ fn ask_all<R: Read>(
 }
 
 /// Reads the readings side by side, item by item, and writes the tape that they make together. The
-/// log gets a row for each item that fewer than two readings have, or one has as bad.
+/// log gets a row for each item that fewer than two readings have, or that is bad in one.
 ///
 /// `best` and `other` hold the item under way: the best one that was read, and one that differs
 /// from it. At a difference every reading was asked for its item, and its `verdict` says how the

@@ -34,8 +34,8 @@ pub fn readers_give_images()
     ensures { ReadersGiveImages }
 {}
 
-/// The merged image of copies of a volume is a copy of it. Reading it once takes each position at
-/// least as far as the copies do, each alone and all of them in turn.
+/// The merged image of copies of a volume is a copy of it. Reading it once advances any position at
+/// least as far as reading any one copy, or all copies in turn.
 pub fn merged_copies()
     ensures copy { MergedIsCopy }
     ensures far { BetterIsAsFar }

@@ -67,7 +67,7 @@ impl Met {
         }
     }
 
-    /// Returns the description that its trailer label completes.
+    /// Returns the description of the section, completed from its trailer label.
     pub(crate) fn told(&self, trail: &Trail1) -> Told
         ensures { result ≡ told self.now trail.now }
     {

@@ -13,7 +13,7 @@ use crate::section::SectionKey;
 use tape_image::Item;
 use tape_label::{Field, Kind, Trail1, is_volume_label, kind, read_head1, read_trail1, read_vol1};
 
-/// What is expected next.
+/// The kind of item that is expected next.
 #[derive(Clone, Copy)]
 pub(crate) enum Phase {
     /// The volume label.
@@ -22,13 +22,13 @@ pub(crate) enum Phase {
     Labels(Field<6>),
     /// A section's second label.
     Second(Met),
-    /// What follows a section's labels, up to a tape mark.
+    /// Blocks that follow a section's labels, up to a tape mark.
     Headers(Met),
     /// A section's data, up to a tape mark.
     Data(Met),
     /// A section's first trailer label.
     Trailer(Met),
-    /// What follows a trailer label, up to a tape mark.
+    /// Blocks that follow a trailer label, up to a tape mark.
     Trailers(Field<6>),
     /// The next section.
     Next(Field<6>),

@@ -38,7 +38,7 @@ pub struct ReelAnswer {
     pub answer: Answer,
     /// The fault of the image that ended the reading, if any.
     pub fault: Option<ImageFault>,
-    /// How many blocks of the file were delivered.
+    /// The number of blocks of the file that were delivered.
     pub blocks: u32,
 }
 
@@ -70,7 +70,7 @@ impl ReelAnswer {
 /// A part of a block that a sink refused.
 #[derive(Clone, Copy)]
 pub struct Refused {
-    /// Why the part was refused.
+    /// The reason why the part was refused.
     pub cause: SinkFault,
     /// The part's number in its block, counted from 0.
     pub part: u32,

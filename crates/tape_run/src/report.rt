@@ -96,7 +96,7 @@ fn note_file(sets: &mut Sets, set_id: Field<6>, file: u16) -> Result<(), AllocEr
     }
 }
 
-/// Adds the file of the section at an index after those before it.
+/// Adds the file of the section at index `place`, after the files of the sections before it.
 fn note_place(sets: &mut Sets, sections: &Sections, place: usize) -> Result<(), AllocError>
     requires { place < length sections.now.entries }
     ensures { OnOk result (sets.old.entries ≡ sets_from [] (take place sections.now.entries)

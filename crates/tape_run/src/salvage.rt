@@ -47,7 +47,7 @@ pub struct SalvageTask {
     pub file: u16,
     /// Whether its records are recovered, or its blocks.
     pub content: Content,
-    /// How records or blocks are written.
+    /// The form in which records or blocks are written.
     pub form: Form,
 }
 

@@ -7,8 +7,8 @@ ghost use Rattle.tape_run.specs.SalvageSections.{RecoversSectionOf, PassesSectio
 ghost use Rattle.tape_run.specs.SalvageSections.{RecoversFromVolume, RecoversFromReading};
 ghost use Rattle.tape_run.specs.SalvageFile.{RecoversBlocks, RecoversFile, RecoversUpToGap};
 
-/// If the parts of a file are in order, and any of its blocks are missing, exactly the records are
-/// recovered all of whose parts are in blocks that were read.
+/// If the parts of a file are in order, and any of its blocks are missing, the recovered records
+/// are exactly those that lie entirely in blocks that were read.
 pub fn whole_records_are_recovered()
     ensures { RecoversWhole }
 {}
@@ -78,8 +78,8 @@ pub fn sections_make_a_file()
     ensures { RecoversBlocks }
 {}
 
-/// So exactly those records of a file are recovered all of whose parts are in blocks that were
-/// read. If nothing is missing, all parts of the file are recovered.
+/// So the recovered records of a file are exactly those that lie entirely in blocks that were read.
+/// If nothing is missing, all parts of the file are recovered.
 pub fn files_are_recovered()
     ensures { RecoversFile }
 {}

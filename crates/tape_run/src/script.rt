@@ -60,7 +60,7 @@ pub fn run<S: PartSink, R: Read>(
         × IfTold R.remaining reels.old (λ bytes.
         (run : HasRun old steps.now bytes (map R.remaining reels.new) new)
         × (failed.new ≡ written run.which failed.old))))) }
-    // The same for a session that has read nothing of its file.
+    // If the session has read nothing of its file, this is also true from the start of the file.
     ensures start { OnOk result ((set_id : List ℕ) (file : ℕ) → S.holds session.old.sink []
         → IsStart set_id file (seen S.PartSink session.old [])
         → IsSeen S.PartSink session.new (λ new. IfTold R.remaining reels.old (λ bytes.

@@ -303,8 +303,8 @@ impl<S: PartSink> Session<S> {
         ensures calm { OnOk result (S.refusals self.new.sink ≡ S.refusals self.old.sink) }
         ensures refuses { IfErr result (λ fault.
             RefusesRestart S.PartSink n fault self.old self.new) }
-        // In any case: a crash during or after it leaves the checkpoint with this number, with its
-        // parts, or what one before it could.
+        // In any case: a crash during or after the call leaves checkpoint `n` with its parts, or
+        // what a crash before the call could have left.
         ensures crash { IfSeen S.PartSink self.old (λ old. IsKept old → AddsOnly (IsNoteOf n old)
             (S.crashes self.old.sink) (S.crashes self.new.sink)) }
     {

@@ -1,5 +1,5 @@
 //! `survey`: describes images, by their names, and the sets and files on them.
-ghost use Rattle.std.specs.Prelude.{◌≡◌, map, option_map, IfOk, OnOk, OnErr, IfErr};
+ghost use Rattle.std.specs.Prelude.{◌≡◌, ◌++◌, map, option_map, IfOk, OnOk, OnErr, IfErr};
 ghost use Rattle.std.specs.Io.KnownBytes.{Appends};
 ghost use Rattle.tape_run.specs.Checked.{IsCheckFault};
 ghost use Rattle.tape_image.specs.Written.{AppendsFront};
@@ -20,14 +20,17 @@ mod digest;
 mod facts;
 pub(crate) mod files;
 pub(crate) mod gaps;
-mod glance;
+pub(crate) mod glance;
 mod line;
 pub(crate) mod locations;
 mod problems;
 mod rows;
 mod sets;
+mod strays;
+mod tally;
 mod texts;
 pub(crate) mod view;
+mod volumes;
 
 use crate::check::pass_on;
 use crate::extract::images::ImageSource;
@@ -40,10 +43,12 @@ use rows::middle_cells;
 use sets::is_all;
 use std::alloc::{AllocError, Global};
 use std::io::{Read, Write};
+use strays::strays_text;
+use tally::TallyLine;
 use texts::{sections_text, sets_text};
 use view::{Findings, ImageSurvey};
 
-/// How a survey is printed.
+/// The form in which a survey is printed.
 #[derive(Clone, Copy)]
 pub enum Wording {
     /// In words, for people.
@@ -215,19 +220,31 @@ fn summary(
     let mut text = sections_text(alloc, wording, &findings.sections)?;
     let sets = sets_text(alloc, findings, wording)?;
     text.extend_from_slice(sets.as_slice())?;
+    let strays = strays_text(alloc, wording, &findings.sections)?;
+    text.extend_from_slice(strays.as_slice())?;
     let copies = copies_text(alloc, wording, names, &findings.copies.notes)?;
     text.extend_from_slice(copies.as_slice())?;
-    text.extend_from_slice(end_text(wording, all))?;
+    add_end(alloc, &mut text, findings, wording, all)?;
     Ok(text)
 }
 
-/// What follows the sets.
-fn end_text(wording: Wording, all: bool) -> &'static [u8]
-    ensures { result.now ≡ end_text wording all }
+/// Appends what follows the sets.
+fn add_end(
+    alloc: Global,
+    text: &mut Vec<u8>,
+    findings: &Findings,
+    wording: Wording,
+    all: bool,
+) -> Result<(), AllocError>
+    requires { all ≡ is_all findings.now }
+    ensures { OnOk result (text.new.items ≡ text.old.items ++ end_text wording findings.now) }
 {
     match wording {
-        Wording::Words => last_text(all),
-        Wording::Rows => b"",
+        Wording::Words => {
+            append(alloc, text, TallyLine(findings.tally))?;
+            text.extend_from_slice(last_text(all))
+        }
+        Wording::Rows => Ok(()),
     }
 }
 

@@ -3,10 +3,10 @@
 
 ghost use Rattle.tape_run.specs.SurveyConflicts.{CopiesAreShown};
 ghost use Rattle.tape_run.specs.SurveyDigest.{TellsWordsApart};
-ghost use Rattle.tape_run.specs.SurveyLaws.{LeavesThere, EndedIsVolume};
+ghost use Rattle.tape_run.specs.SurveyLaws.{LeavesThere, EndedIsVolume, VolumesAreListed};
 
-/// If an item is reported to leave the order of a volume, those before it follow the order, and
-/// with it they do not.
+/// If an item is reported to break the order of a volume, the items before it are in that order,
+/// and together with it they are not.
 pub fn leaves_there()
     ensures { LeavesThere }
 {}
@@ -17,8 +17,8 @@ pub fn ended_is_volume()
     ensures { EndedIsVolume }
 {}
 
-/// Digests of data blocks that differ in one word are different. (A lost or a doubled block changes
-/// the number of blocks, which is compared too.)
+/// Digests of data blocks that differ in one word of one block are different. (A lost or a doubled
+/// block changes the number of blocks, which is compared too.)
 pub fn one_word_changes_the_digest()
     ensures { TellsWordsApart }
 {}
@@ -26,4 +26,11 @@ pub fn one_word_changes_the_digest()
 /// Each complete copy that is compared is one that the items show, with all its data blocks.
 pub fn copies_are_shown()
     ensures { CopiesAreShown }
+{}
+
+/// The volume of each section that was found is among the volumes of its set, unless a section
+/// before it ends its file; and where sections are missing between two volumes, one volume is
+/// missing.
+pub fn volumes_are_listed()
+    ensures { VolumesAreListed }
 {}

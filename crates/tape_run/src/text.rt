@@ -72,7 +72,7 @@ pub fn put_identifier<const W: usize, const N: usize>(text: &mut ArrayVec<u8, N>
     }
 }
 
-/// Returns the length of the bytes without the spaces at their end.
+/// Returns the length of the bytes without trailing spaces.
 pub(crate) fn trimmed_len(bytes: &[u8]) -> usize
     ensures { result ≡ trimmed_len bytes.now }
 {
@@ -83,8 +83,7 @@ pub(crate) fn trimmed_len(bytes: &[u8]) -> usize
     count
 }
 
-/// Appends an identifier without the spaces at its end, with a question mark for each unprintable
-/// byte.
+/// Appends an identifier without trailing spaces, with a question mark for each unprintable byte.
 pub(crate) fn put_trimmed<const W: usize, const N: usize>(
     text: &mut ArrayVec<u8, N>,
     field: &Field<W>,
@@ -117,7 +116,7 @@ impl<const W: usize> Display for Identifier<'_, W> {
     }
 }
 
-/// An identifier without the spaces at its end, with a question mark for each unprintable byte.
+/// An identifier without trailing spaces, with a question mark for each unprintable byte.
 #[derive(Clone, Copy)]
 pub(crate) struct Trimmed<'a, const W: usize>(pub(crate) &'a Field<W>);
 

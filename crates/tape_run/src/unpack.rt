@@ -1,21 +1,24 @@
 //! `unpack`: which files are on the images of a shelf.
 
+pub mod choice;
 pub mod line;
 pub mod name;
 mod order;
+pub mod tally;
 
 ghost use Rattle.std.specs.Prelude.{◌≡◌, ◌<◌, ◌+◌, ◌++◌, length, take, IfOk, OnOk};
 ghost use Rattle.std.specs.Result.{IsOkUnless};
 ghost use Rattle.tape_run.specs.SurveyRead.{nothing_found};
-ghost use Rattle.tape_run.specs.Unpacking.{heading_of, file_at, files_from, set_files, files_of};
-ghost use Rattle.tape_run.specs.Unpacking.{set_of, FilesOn, ViewsAll};
+ghost use Rattle.tape_run.specs.Unpacking.{file_at, files_from, set_files, files_of};
+ghost use Rattle.tape_run.specs.Unpacking.{is_read, set_of, volume_of, FilesOn, ViewsAll};
 ghost use Rattle.tape_run.specs.declared.fault.RunFault.TheVariants as faults;
 
 use crate::extract::images::ImageSource;
 use crate::fault::RunFault;
 use crate::lacks::lack_of;
 use crate::report::{Sets, sets_of};
-use crate::survey::files::{FileKey, FileNote};
+use crate::survey::files::FileKey;
+use crate::survey::glance::First;
 use crate::survey::locations::Locations;
 use crate::survey::view::{Findings, ImageSurvey};
 use std::alloc::{AllocError, Global};
@@ -23,24 +26,18 @@ use std::io::Read;
 use tape_label::Field;
 use tape_set::Sequence;
 
-/// What the header labels of a file's number and the complete copies of its sections say.
-#[derive(Clone, Copy)]
-pub enum Heading {
-    /// They are of different files: the labels differ, or complete copies of a section do.
-    Differs,
-    /// They are of one file, with this file identifier.
-    Named(Field<17>),
-}
-
 /// A file of a set.
 #[derive(Clone, Copy)]
 pub struct SetFile {
     pub set_id: Field<6>,
     /// Its number in the set, from 1.
     pub file: u16,
-    pub heading: Heading,
-    /// Whether one of its sections is whole on no image.
-    pub lacks: bool,
+    /// The file identifier of the header label that was found first.
+    pub file_id: Field<17>,
+    /// Whether labels of different files have the number, or complete copies of a section differ.
+    pub differs: bool,
+    /// The first section that is complete on no image, if there is one.
+    pub lacks: Option<u16>,
 }
 
 /// The findings of `unpack` on its images.
@@ -112,6 +109,17 @@ fn view_images<R: Read + Drop, L: ImageSource<R>>(
     Ok(sights)
 }
 
+/// Returns whether an image was read completely: it was opened, and is a volume from its label to
+/// its end, in formats that are read.
+pub fn is_read(sight: &Option<ImageSurvey>) -> bool
+    ensures { result ≡ is_read sight.now }
+{
+    match sight {
+        Some(sight) => sight.is_whole(),
+        None => false,
+    }
+}
+
 /// Returns the set of the section that begins first on an image, if any. The image contains nothing
 /// of a file of another set.
 pub fn set_of(sight: &Option<ImageSurvey>) -> Option<Field<6>>
@@ -123,15 +131,17 @@ pub fn set_of(sight: &Option<ImageSurvey>) -> Option<Field<6>>
     }
 }
 
-/// Returns what the header labels of a file say, given what is known of it and whether complete
-/// copies of a section differ.
-fn heading_of(note: &FileNote, disputed: bool) -> Heading
-    ensures { result ≡ heading_of note.now disputed }
+/// Returns the volume identifier of an image, if it was opened and begins with a volume label.
+pub fn volume_of(sight: &Option<ImageSurvey>) -> Option<Field<6>>
+    ensures { result ≡ volume_of sight.now }
 {
-    if note.differs || disputed {
-        return Heading::Differs;
+    match sight {
+        Some(sight) => match sight.glance.first {
+            First::Volume(label) => Some(label.volume),
+            _ => None,
+        },
+        None => None,
     }
-    Heading::Named(note.head.file_id)
 }
 
 /// Adds a file to those before it, if a label of it was found.
@@ -148,13 +158,12 @@ fn add_file(
     let Some(note) = findings.files.get(&key) else {
         return Ok(());
     };
-    let heading = heading_of(note, findings.copies.dispute(&key).is_some());
-    let lacks = lack_of(&findings.sections, set_id, file).is_some();
     let added = files.push(SetFile {
         set_id,
         file,
-        heading,
-        lacks,
+        file_id: note.head.file_id,
+        differs: note.differs || findings.copies.dispute(&key).is_some(),
+        lacks: lack_of(&findings.sections, set_id, file),
     });
     match added {
         Ok(()) => Ok(()),
@@ -178,7 +187,7 @@ fn add_files(
     Ok(())
 }
 
-/// Adds the files of the set at an index to those of the sets before it.
+/// Adds the files of the set at index `place` to those of the sets before it.
 fn add_place(
     files: &mut Vec<SetFile>,
     findings: &Findings,

@@ -4,7 +4,7 @@
 ghost use Rattle.tape_run.specs.UnpackLaws.{NamesDiffer, NamesStay, NamesFit};
 
 /// Files with different numbers, or in different sets, never have the same name, even if case is
-/// ignored; neither do their stages.
+/// ignored; the same is true of their stages.
 pub fn names_differ()
     ensures { NamesDiffer }
 {}

@@ -59,6 +59,8 @@ mod survey;
 #[cfg(test)]
 mod survey_copies;
 #[cfg(test)]
+mod survey_rows;
+#[cfg(test)]
 mod taken_back;
 #[cfg(test)]
 mod unpack;

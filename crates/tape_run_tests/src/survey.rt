@@ -101,20 +101,26 @@ fn undefined(alloc: Global) -> Result<Image, AllocError> {
 const BOTH: &str = "2.tap                     ok           volume ABC002, 1 section
 1\\u0009.tap               ok           volume ABC001, 1 section
 Set ABC001: 1 of 1 files complete
+  Volumes: ABC001, ABC002
    1 PAYROLL                        complete
+2 images: 2 ok
 All files are complete, and every image was read to its end.
 ";
 
 const FIRST: &str = "one.tap                   ok           volume ABC001, 1 section
 Set ABC001: 0 of 1 files complete
+  Volumes: ABC001, missing (follows ABC001)
    1 PAYROLL                        incomplete
         section 2 missing, after volume ABC001
+1 image: 1 ok
 ";
 
 const SECOND: &str = "one.tap                   ok           volume ABC002, 1 section
 Set ABC001: 0 of 1 files complete
+  Volumes: missing, ABC002
    1 PAYROLL                        incomplete
         section 1 not found
+1 image: 1 ok
 ";
 
 #[test]
@@ -132,23 +138,26 @@ fn whole_reels(rt: HostRuntime) -> Result<(), Fail> {
     one(&rt, &second, SECOND)
 }
 
-const BLANK: &str = "one.tap                   blank        volume ABC001\n";
+const BLANK: &str =
+    "one.tap                   blank        volume ABC001\n1 image: 0 ok, 1 blank\n";
 
 const SHORT: &str = "one.tap                   unsupported  no labels; its first block has 300 \
-         bytes\n";
+         bytes\n1 image: 0 ok, 1 unsupported\n";
 
-const EBCDIC: &str = "one.tap                   unsupported  labels in EBCDIC\n";
+const EBCDIC: &str =
+    "one.tap                   unsupported  labels in EBCDIC\n1 image: 0 ok, 1 unsupported\n";
 
 const NOISE: &str = "one.tap                   damaged      does not begin with a label
     1 unreadable block
     a VOL1 at item 2
+1 image: 0 ok, 1 damaged
 ";
 
 const NONE: &str = "empty.tap                 empty        no items
-    ends before the end of the volume
 lost.tap                  not opened
 text.tap                  not a tape   no items
     image fault 3 at byte 0: not a SIMH image, or compressed (try zcat)
+3 images: 0 ok, 1 empty, 1 not a tape, 1 not opened
 ";
 
 #[test]
@@ -171,31 +180,40 @@ fn no_labelled_volumes(rt: HostRuntime) -> Result<(), Fail> {
 
 const NO_SECOND: &str = "one.tap                   damaged      volume ABC001, 1 section
     item 3 is not HDR2: the rest is ignored
+1 image: 0 ok, 1 damaged
 ";
 
 const UNREAD: &str = "one.tap                   damaged      volume ABC001, 1 section
     1 unreadable block
     item 9 is neither HDR1 nor a tape mark: the rest is ignored
 Set ABC001: 1 of 1 files complete
+  Volumes: ABC001
    1 PAYROLL                        complete
+1 image: 0 ok, 1 damaged
 ";
 
 const BEHIND: &str = "one.tap                   damaged      volume ABC001, 1 section
     item 13 follows the end of the volume: the rest is ignored
 Set ABC001: 1 of 1 files complete
+  Volumes: ABC001
    1 PAYROLL                        complete
+1 image: 0 ok, 1 damaged
 ";
 
 const CUT: &str = "one.tap                   damaged      volume ABC001, 1 section
     ends before the end of the volume
 Set ABC001: 1 of 1 files complete
+  Volumes: ABC001
    1 PAYROLL                        complete
+1 image: 0 ok, 1 damaged
 ";
 
 const UNDEFINED: &str = "one.tap                   unsupported  volume ABC001, 1 section
     file 1 has an unsupported record format
 Set ABC001: 1 of 1 files complete
+  Volumes: ABC001
    1 PAYROLL                        complete
+1 image: 0 ok, 1 unsupported
 ";
 
 #[test]
@@ -212,23 +230,29 @@ const COUNT: &str = "one.tap                   damaged      volume ABC001, 1 sec
     1 unreadable block
     section 1 of file 1 has a wrong block count, blocks found: 5
 Set ABC001: 0 of 1 files complete
+  Volumes: ABC001
    1 PAYROLL                        incomplete
         section 1 has a wrong block count on ABC001: no good copy
+1 image: 0 ok, 1 damaged
 ";
 
 const BROKEN_OFF: &str = "one.tap                   damaged      volume ABC001, 1 section
     image fault 1 at byte 1884
     section 1 of file 1 is truncated, blocks found: 2
 Set ABC001: 0 of 1 files complete
+  Volumes: ABC001
    1 PAYROLL                        incomplete
         section 1 is truncated on ABC001: no good copy
+1 image: 0 ok, 1 damaged
 ";
 
 const MIXED: &str = "one.tap                   ok           volume ABC001, 1 section
 two.tap                   ok           volume ABC001, 1 section
 Set ABC001: 0 of 1 files complete
+  Volumes: ABC001
    1 PAYROLL                        conflict: labels of different files have this number
 ABC001 file 1 section 1: CONFLICT, one.tap and two.tap differ ('tape compare' shows where)
+2 images: 2 ok
 ";
 
 /// The header of another file, with the numbers of the worked one.
@@ -255,11 +279,13 @@ const PROBLEMS: &str = "two.tap                   damaged      volume ABC001, 1 
     section 2 of file 1 is truncated, blocks found: 1
 five.tap                  ok           volume ABC001, 1 section
 Set ABC001: 0 of 1 files complete
+  Volumes: missing, ABC001, missing (follows ABC001)
    1 PAYROLL                        incomplete
         section 1 not found
         section 2 is truncated on ABC001: no good copy
         sections 3-4 missing, after volume ABC001
         section 6 missing, after volume ABC001
+2 images: 1 ok, 1 damaged
 ";
 
 /// The second section of the worked file.
@@ -281,7 +307,9 @@ fn each_section_that_is_damaged_or_missing(rt: HostRuntime) -> Result<(), Fail> 
 
 const DATED: &str = "one.tap                   ok           volume ABC001, 1 section
 Set ABC001: 1 of 1 files complete
+  Volumes: ABC001
    1 PAYROLL            1985-04-23  complete
+1 image: 1 ok
 All files are complete, and every image was read to its end.
 ";
 
@@ -298,47 +326,5 @@ fn date_of_a_file(rt: HostRuntime) -> Result<(), Fail> {
         &["one.tap"],
         true,
         DATED,
-    )
-}
-
-const ROWS: &str = "IMAGE\t1\\u0009.tap\tWHOLE\tABC001\tABC001\t\t12\t1\t0\tMARKED\tvolume ABC001, \
-         1 section
-IMAGE\tcut.tap\tPARTIAL\tABC001\tABC001\t\t6\t1\t0\tFAULT 1 1884\tvolume ABC001, 1 section; \
-         image fault 1 at byte 1884; section 1 of file 1 is truncated, blocks found: 2
-IMAGE\tlost.tap\tNOT OPENED\t\t\t\t\t\t\t\tnot opened
-SECTION\tABC001\t1\t1\tABC001\t3\tGOOD\tEOF
-FILE\tABC001\t1\tPAYROLL\t 00000\tCOMPLETE\t\t\t
-";
-
-#[test]
-fn rows(rt: HostRuntime) -> Result<(), Fail> {
-    let alloc = rt.alloc();
-    let (whole, cut) = (payroll(alloc)?, cut(alloc, 2000)?);
-    let images = [
-        Some(whole.bytes.as_slice()),
-        Some(cut.bytes.as_slice()),
-        None,
-    ];
-    let names = ["1\t.tap", "cut.tap", "lost.tap"];
-    told(&rt, &images, &names, Wording::Rows, false, ROWS)
-}
-
-const ROWS_OF_COUNT: &str = "IMAGE\tone.tap\tPARTIAL\tABC001\tABC001\t\t14\t1\t1\tMARKED\tvolume \
-         ABC001, 1 section; 1 unreadable block; section 1 of file 1 has a wrong block \
-         count, blocks found: 5
-SECTION\tABC001\t1\t1\tABC001\t5\tCOUNT\tEOF
-FILE\tABC001\t1\tPAYROLL\t 00000\tCOUNT\t1\tABC001\t
-";
-
-#[test]
-fn rows_of_a_wrong_count(rt: HostRuntime) -> Result<(), Fail> {
-    let counted = five_blocks(rt.alloc(), 3, EOF_FOUR)?;
-    told(
-        &rt,
-        &[Some(counted.bytes.as_slice())],
-        &["one.tap"],
-        Wording::Rows,
-        false,
-        ROWS_OF_COUNT,
     )
 }

@@ -10,16 +10,20 @@ use tape_run::Wording;
 const AGREED: &str = "one.tap                   ok           volume ABC001, 1 section
 two.tap                   ok           volume ABC001, 1 section
 Set ABC001: 1 of 1 files complete
+  Volumes: ABC001
    1 PAYROLL                        complete
 ABC001 file 1 section 1: good, 2 copies agree
+2 images: 2 ok
 All files are complete, and every image was read to its end.
 ";
 
 const DISPUTED: &str = "one.tap                   ok           volume ABC001, 1 section
 two.tap                   ok           volume ABC001, 1 section
 Set ABC001: 0 of 1 files complete
+  Volumes: ABC001
    1 PAYROLL                        conflict: good copies of a section differ
 ABC001 file 1 section 1: CONFLICT, one.tap and two.tap differ ('tape compare' shows where)
+2 images: 2 ok
 ";
 
 const ROWS_OF_THREE: &str =
@@ -28,7 +32,7 @@ const ROWS_OF_THREE: &str =
 IMAGE\t2.tap\tWHOLE\tABC001\tABC001\t\t12\t1\t0\tMARKED\tvolume ABC001, 1 section
 IMAGE\t3.tap\tWHOLE\tABC001\tABC001\t\t12\t1\t0\tMARKED\tvolume ABC001, 1 section
 SECTION\tABC001\t1\t1\tABC001\t3\tGOOD\tEOF
-FILE\tABC001\t1\tPAYROLL\t 00000\tCOMPLETE\t\t\tCONFLICT
+FILE\tABC001\t1\tPAYROLL\t 00000\tCOMPLETE\t\t\tCONFLICT\t
 COPIES\tABC001\t1\t1\t2\t1.tap\t2.tap\tCONFLICT
 ";
 

@@ -5,23 +5,16 @@ use crate::volumes::EOF_ONE;
 use std::alloc::{AllocError, Global};
 use std::process::Abort;
 use std::test::Fail;
-use tape_run::{
-    Heading, SetFile, UnpackOutcome, file_line, file_name, find_files, unpack_outcome_text,
-};
+use tape_label::Field;
+use tape_run::{FileChoice, SetFile, UnpackOutcome, file_line, file_name, find_files, means};
 
 /// The line of a file: its name, or the text in its place.
 fn line_of(alloc: Global, file: &SetFile) -> Result<Vec<u8>, AllocError> {
-    let (set_id, number) = (&file.set_id, file.file);
-    match file.heading {
-        Heading::Differs => {
-            let told = unpack_outcome_text(UnpackOutcome::Conflict);
-            file_line(alloc, set_id, number, told, "")
-        }
-        Heading::Named(file_id) => {
-            let name = file_name(set_id, number, &file_id);
-            file_line(alloc, set_id, number, &name, "out/a\n")
-        }
+    if file.differs {
+        return file_line(alloc, file, UnpackOutcome::Conflict, b"", "");
     }
+    let name = file_name(&file.set_id, file.file, &file.file_id);
+    file_line(alloc, file, UnpackOutcome::Ready, &name, "out/a\n")
 }
 
 /// Fails unless these files are on the images, which were all read completely, or were not.
@@ -67,8 +60,8 @@ fn files_of_shelves(rt: HostRuntime) -> Result<(), Fail> {
     let [first, second, whole, third, other, shorter] = images.map(|image| Some(
         image.bytes.as_slice(),
     ));
-    let payroll = "FILE ABC001 1 ABC001.1.PAYROLL out/a\\u000A\n";
-    let thirds = "FILE AB. 01 3 AB%2E_01.3.TH%2FRD out/a\\u000A\n";
+    let payroll = "FILE ABC001 1 READYABC001.1.PAYROLL out/a\\u000A\n";
+    let thirds = "FILE AB. 01 3 READYAB%2E_01.3.TH%2FRD out/a\\u000A\n";
     let mixed = "FILE ABC001 1 CONFLICT\n";
     found(&rt, &[], true, "")?;
     found(&rt, &[None], false, "")?;
@@ -78,4 +71,61 @@ fn files_of_shelves(rt: HostRuntime) -> Result<(), Fail> {
     found(&rt, &[whole, other], true, mixed)?;
     found(&rt, &[whole, shorter], true, mixed)?;
     found(&rt, &[whole, whole], true, payroll)
+}
+
+/// Words, the name of file 12, and whether the word means the file.
+const MEANT: &[(&str, &[u8; 17], bool)] = &[
+    ("12", b"PAYROLL          ", true),
+    ("012", b"PAYROLL          ", false),
+    ("1", b"PAYROLL          ", false),
+    ("1*", b"PAYROLL          ", false),
+    ("12", b"99               ", true),
+    ("99", b"99               ", true),
+    ("PAYROLL", b"PAYROLL          ", true),
+    ("payroll", b"PAYROLL          ", false),
+    ("PAYROL", b"PAYROLL          ", false),
+    ("PAYROLLS", b"PAYROLL          ", false),
+    ("", b"PAYROLL          ", false),
+    ("", b"                 ", true),
+    ("*", b"                 ", true),
+    ("*", b"A.B C            ", true),
+    ("A*", b"A                ", true),
+    ("*A", b"A                ", true),
+    ("*.DAT", b"LEDGER.DAT       ", true),
+    ("*.DAT", b"LEDGER.DAT.OLD   ", false),
+    ("*.DAT*", b"LEDGER.DAT.OLD   ", true),
+    ("*DAT", b"DADADAT          ", true),
+    ("*AB*AC*", b"ABABAAC          ", true),
+    ("*AB*AC*", b"ACABAAB          ", false),
+    ("A**C", b"ABC              ", true),
+    ("A*B*C", b"ACB              ", false),
+    ("*A*A*A*A*A*A*A*A*B", b"AAAAAAAAAAAAAAAAA", false),
+    ("*************A", b"AAAAAAAAAAAAAAAAB", false),
+    ("A?C", b"A\x00C              ", true),
+    ("A\u{fc}", b"A\xfc               ", false),
+];
+
+#[test]
+fn words_mean_files(rt: HostRuntime) {
+    for (word, name, is_meant) in MEANT {
+        let file = SetFile {
+            set_id: Field::of_bytes(*b"ABC001"),
+            file: 12,
+            file_id: Field::of_bytes(**name),
+            differs: false,
+            lacks: None,
+        };
+        assert!(rt; means(*word, &file) == *is_meant, "{word}");
+        for (set_id, is_of_set) in [
+            (None, true),
+            (Some(*b"ABC001"), true),
+            (Some(*b"ABC002"), false),
+        ] {
+            let choice = FileChoice {
+                set_id: set_id.map(Field::of_bytes),
+                words: &[*word, "no other"],
+            };
+            assert!(rt; choice.chooses(&file) == (is_of_set && *is_meant), "{word}");
+        }
+    }
 }

@@ -22,7 +22,7 @@ pub enum DiskFault {
 
 pub trait Disk {
     /// Whether the contract of each call holds in full; on other disks only the contracts about
-    /// lengths and counts hold. A failed sync may end this.
+    /// lengths and counts hold. After a failed sync, a disk may no longer be honest.
     ghost is_honest: { Self → Type 0 };
 
     /// The length in bytes.

@@ -1,4 +1,4 @@
-//! Laws about the texts of checkpoints and the bytes of stages, as contracts of calls.
+//! Laws about the texts of checkpoints and the bytes of stages, each as the contract of a function.
 
 ghost use Rattle.std.specs.Prelude.{◌≡◌, Ok, ℕ, List};
 ghost use Rattle.tape_stage.specs.Cases.{CasesOfCrashes, CasesOfMoments, CasesOfFiles};
@@ -42,7 +42,7 @@ pub fn stands_once()
     ensures { (bytes : List ℕ) → StandsOnce bytes }
 {}
 
-/// Of a damaged stage at most one generation, checkpoint and list of parts remain, with at most one
+/// At most one generation, checkpoint and list of parts remain of a damaged stage, with at most one
 /// offset of the damage.
 pub fn remains_once()
     ensures { (bytes : List ℕ) → RemainsOnce bytes }

@@ -33,7 +33,7 @@ pub enum Version {
 pub struct Place {
     /// The number of the block in its section, counted from 0.
     pub block: u64,
-    /// How many parts of the block were delivered.
+    /// The number of delivered parts of the block.
     pub part: u64,
 }
 

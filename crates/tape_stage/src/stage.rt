@@ -50,7 +50,7 @@ pub(crate) const OPEN: u8 = b'O';
 /// The byte written to close a gate.
 pub(crate) const CLOSED: u8 = b'C';
 
-/// Why a stage refused a call.
+/// The reason why a stage refused a call.
 #[derive(Clone, Copy, Debug, PartialEq, Eq, Error)]
 pub enum StageFault {
     /// The disk does not contain a stage: it is too short, or no slot is valid.

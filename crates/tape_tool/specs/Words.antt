@@ -176,17 +176,29 @@ pub record AsksToExtract (rows : List Row) (order : Extract) : Type 0 where
 abbrev pub IsNoExtract : List Row → Type 0
 IsNoExtract rows = IsNoTask rows ⊎ AreTooMany rows
 
+-- the set that is named, if one is
+pub record IsSetNamed (rows : List Row) (set : Option (Bor (List ℕ))) : Type 0 where
+  pub named : option_map (λ s. s.now) set ≡ first_of (codes "set") rows
+  pub is_set : IfSome set (λ s. IsNoSet s.now → ⊥)
+
+-- there is no set of the identifier that is named
+abbrev pub NamesNoSet : List Row → Type 0
+NamesNoSet rows = (set : List ℕ) × (first_of (codes "set") rows ≡ Some set) × IsNoSet set
+
 -- what `unpack` is asked for
 pub record AsksToUnpack (rows : List Row) (order : Unpack) : Type 0 where
   pub folder : order.folder.now ≡ text_in rows (codes "DIR")
   pub named : text_in rows (codes "DIR") ≢ []
   pub images : NamesImages rows order.images
   pub form : IsForm rows order.form
+  pub set : IsSetNamed rows order.set
+  pub files : map (λ w. w.now) order.files.items ≡ texts_in rows (codes "file")
+  pub list : IsFlag rows (codes "list") order.list
   pub salvage : IsFlag rows (codes "salvage") order.salvage
 
 -- why `unpack` is refused
 abbrev pub IsNoUnpack : List Row → Type 0
-IsNoUnpack rows = (text_in rows (codes "DIR") ≡ []) ⊎ AreTooMany rows
+IsNoUnpack rows = (text_in rows (codes "DIR") ≡ []) ⊎ AreTooMany rows ⊎ NamesNoSet rows
 
 -- what `salvage` is asked for
 pub record AsksToSalvage (rows : List Row) (order : SalvageOrder) : Type 0 where

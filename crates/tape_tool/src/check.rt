@@ -1,4 +1,4 @@
-//! `check`: which sections are on images.
+//! `check`: reports which sections are on images.
 mod run;
 pub mod words;
 

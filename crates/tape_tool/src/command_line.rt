@@ -18,7 +18,8 @@ use clap::error::ErrorKind;
 use clap::{Arg, ArgAction, Command, Error};
 use std::alloc::{AllocError, Global};
 
-/// The program. Its usage has the name that users know, whatever the file is called.
+/// The program and its commands. The usage line shows the name that users know, whatever the file
+/// is called.
 pub const TAPE: CommandSpec = CommandSpec {
     name: "tape",
     called: "tape",
@@ -28,8 +29,8 @@ pub const TAPE: CommandSpec = CommandSpec {
     words: &[],
 };
 
-/// Returns the request of the arguments, of which the first is the program's name; or, with its
-/// text, a usage error, a call for help, or a refused allocation.
+/// Returns the request in the arguments `words`, the first of which is the program's name. On
+/// error, returns a usage error or a call for help, with its text, or a refused allocation.
 pub fn call_of<'a>(alloc: Global, words: &'a [String]) -> Result<Call<'a>, Error> {
     match command(alloc)?.try_get_matches_from(words) {
         Ok(matches) => call_in(alloc, &matches),
@@ -38,9 +39,9 @@ pub fn call_of<'a>(alloc: Global, words: &'a [String]) -> Result<Call<'a>, Error
     }
 }
 
-/// Returns why these arguments are refused, in a text that contains them as they are printed. The
-/// parser refuses the printed arguments for the same reason, since none of its names has a
-/// character that is printed differently.
+/// Returns the reason why the arguments `words` are refused, in a text that contains them as they
+/// are printed. The parser refuses the printed arguments for the same reason, since none of its
+/// names has a character that is printed differently.
 fn refused_as_shown(alloc: Global, words: &[String]) -> Error {
     match refusal_of(alloc, words) {
         Ok(error) => error,
@@ -48,7 +49,7 @@ fn refused_as_shown(alloc: Global, words: &[String]) -> Error {
     }
 }
 
-/// Does the same; its error is that memory was refused.
+/// Does what `refused_as_shown` does, but fails if an allocation is refused.
 fn refusal_of(alloc: Global, words: &[String]) -> Result<Error, AllocError> {
     let mut shown = Vec::new(alloc);
     for word in words {

@@ -1,4 +1,4 @@
-//! Commands and their arguments, as tables.
+//! Tables of commands and their arguments.
 ghost use Rattle.std.specs.Prelude.{◌≡◌, ⊤, IfOk};
 ghost use Rattle.clap.specs.Words.{kind_of};
 ghost use Rattle.tape_tool.specs.Words.{RefusedFor};
@@ -9,13 +9,13 @@ use clap::error::ErrorKind;
 use clap::{Arg, ArgAction, Command, Error};
 use std::alloc::{AllocError, Global};
 
-/// A command: its texts, and its arguments.
+/// The description of a command: its texts, and its arguments.
 pub struct CommandSpec {
     pub name: &'static str,
-    /// Its name in the usage line.
+    /// The name of the command in its usage line.
     pub called: &'static str,
     pub about: &'static str,
-    /// What the long help says after the arguments.
+    /// The text that the long help prints after the arguments.
     pub after_help: &'static str,
     /// The usage line, if it is not derived from the arguments.
     pub usage: Option<&'static str>,
@@ -25,32 +25,34 @@ pub struct CommandSpec {
 /// An argument or an option of a command: its name, its value, and its help.
 pub struct Word(pub &'static str, pub Kind, pub &'static str);
 
-/// The value of an argument or an option.
+/// The kind of an argument or an option: its value.
 #[derive(Clone, Copy)]
 pub enum Kind {
-    /// A text, which is required.
+    /// A required text.
     Text,
-    /// A number in a range; it must be specified.
+    /// A required number between the two bounds.
     Number(u64, u64),
     /// One or more texts.
     Texts,
-    /// One or more texts; none if a certain option is present.
+    /// One or more texts, required unless the option with this name is present.
     TextsOr(&'static str),
-    /// Any number of texts.
+    /// Any number of texts, also none.
     AnyTexts,
     /// An option without a value.
     Flag,
-    /// An option with a text; help shows this name for the text.
+    /// An option without a value, which requires the option with this name.
     FlagOf(&'static str),
-    /// An option with a text, which help calls so.
+    /// An option with a text, for which help shows this name.
     TextOption(&'static str),
-    /// An option with a number, up to this one, and its default.
+    /// The same, which may be repeated.
+    TextOptions(&'static str),
+    /// An option with a number up to this maximum, and its default.
     NumberOption(u64, &'static [&'static str]),
     /// An option with one of several values: the name that help shows, the values, and the default.
     NameOption(&'static str, &'static [&'static str], &'static [&'static str]),
 }
 
-/// Returns the command of a command description.
+/// Returns the parser's command for `command_spec`, with its arguments.
 pub fn command_of<'a>(
     alloc: Global,
     command_spec: &CommandSpec,
@@ -65,7 +67,7 @@ pub fn command_of<'a>(
     }
 }
 
-/// Returns the command with only its texts.
+/// Returns the parser's command for `command_spec`, with its texts but without arguments.
 fn bare<'a>(alloc: Global, command_spec: &CommandSpec) -> Result<Command<'a>, AllocError> {
     Command::new(alloc, command_spec.name)
         .about(command_spec.about)
@@ -89,30 +91,38 @@ fn argument<'a>(alloc: Global, word: &Word) -> Result<Arg<'a>, AllocError> {
     }
 }
 
-/// Returns whether a value follows a name.
+/// Returns whether an argument of this kind is an option, which has a name.
 fn is_option(kind: Kind) -> bool {
     matches!(
         kind,
-        Kind::TextOption(_) | Kind::NumberOption(_, _) | Kind::NameOption(_, _, _)
+        Kind::TextOption(_)
+            | Kind::TextOptions(_)
+            | Kind::NumberOption(_, _)
+            | Kind::NameOption(_, _, _)
     )
 }
 
-/// Returns the parser's argument for a positional argument.
+/// Returns `arg` as a positional argument of this kind.
 fn word_argument<'a>(arg: Arg<'a>, kind: Kind) -> Arg<'a> {
     arg.required(!matches!(kind, Kind::AnyTexts))
         .num_args(count_of(kind))
         .value_parser(parser_of(kind))
 }
 
-/// The parser's argument for an option with a value.
+/// Returns `long` as an option with a value of this kind.
 fn option_argument<'a>(long: Arg<'a>, kind: Kind) -> Arg<'a> {
+    let long = if let Kind::TextOptions(_) = kind {
+        long.action(ArgAction::Append)
+    } else {
+        long
+    };
     long.value_name(value_name_of(kind))
         .hide_possible_values(true)
         .value_parser(parser_of(kind))
         .default_values(defaults_of(kind))
 }
 
-/// Returns how many values an argument accepts.
+/// Returns the number of values that an argument of this kind accepts.
 fn count_of(kind: Kind) -> ValueRange {
     match kind {
         Kind::Texts => ValueRange::from(1..),
@@ -121,7 +131,7 @@ fn count_of(kind: Kind) -> ValueRange {
     }
 }
 
-/// Which values are accepted.
+/// Returns the parser of the values that are accepted.
 fn parser_of(kind: Kind) -> ValueParser<'static> {
     match kind {
         Kind::Number(least, most) => ValueParser::Unsigned(least, most),
@@ -134,7 +144,7 @@ fn parser_of(kind: Kind) -> ValueParser<'static> {
 /// Returns the name of an option's value in help.
 fn value_name_of(kind: Kind) -> &'static str {
     match kind {
-        Kind::TextOption(name) | Kind::NameOption(name, _, _) => name,
+        Kind::TextOption(name) | Kind::TextOptions(name) | Kind::NameOption(name, _, _) => name,
         _ => "N",
     }
 }
@@ -147,7 +157,8 @@ fn defaults_of(kind: Kind) -> &'static [&'static str] {
     }
 }
 
-/// Returns a usage error of a command, with its usage line after the text; or out of memory for it.
+/// Returns a usage error of the command, whose usage line follows `text`. If that cannot be
+/// allocated, returns the error for out of memory.
 pub fn mistake(alloc: Global, command_spec: &CommandSpec, text: &str) -> Error
     ensures { RefusedFor ⊤ result }
 {
@@ -157,8 +168,8 @@ pub fn mistake(alloc: Global, command_spec: &CommandSpec, text: &str) -> Error
     }
 }
 
-/// Returns the usage error for a value that is not accepted; the message shows the value before the
-/// text.
+/// Returns the usage error for `value`, which is not accepted; the message shows `value` before
+/// `text`.
 pub fn wrong_value(alloc: Global, command_spec: &CommandSpec, value: &str, text: &str) -> Error
     ensures { RefusedFor ⊤ result }
 {
@@ -168,7 +179,7 @@ pub fn wrong_value(alloc: Global, command_spec: &CommandSpec, value: &str, text:
     }
 }
 
-/// Returns the usage error, unless there is no memory for it.
+/// Returns the usage error with `text`. Fails if it cannot be allocated.
 fn told(alloc: Global, command_spec: &CommandSpec, text: &str) -> Result<Error, AllocError>
     ensures { IfOk result (λ error. kind_of error ≡ ErrorKind.ValueValidation) }
 {

@@ -1,5 +1,6 @@
-//! Explanations of faults, printed after the line of the fault if `--explain` asks for them.
+//! Explanations of faults, printed after the line of the fault if `--explain` is specified.
 mod files;
+mod missing;
 mod reason;
 
 use crate::fault::{ToolFault, number_of_file, number_of_write};
@@ -8,18 +9,21 @@ use files::{
     FILE_OF_FOLDER, FILE_OF_IMAGE, FILE_OF_IMAGES, FILE_OF_INPUT, FILE_OF_LINES, FILE_OF_LIST,
     FILE_OF_LOG, FILE_OF_NEW, FILE_OF_OUT, FILE_OF_STAGE, FILE_OF_VOLUME,
 };
+#[cfg(test)]
+pub use missing::MISSING_TEXTS;
+pub use missing::explain_missing;
 pub use reason::reason_of;
 use std::{fmt, io};
 use tape_image::{ImageCause, ImageFault};
 use tape_run::RunFault;
 use tape_writer::Prefix;
 
-/// What the program was working on when a fault occurred, as far as it knows.
+/// What the program was working on when a fault occurred, as far as it is known.
 #[derive(Clone, Copy, PartialEq, Eq)]
 pub enum FaultSite<'a> {
-    /// Unknown.
+    /// The site is unknown.
     Unknown,
-    /// Its lines on standard output.
+    /// The report on standard output.
     Lines,
     /// The image on standard input.
     Stdin,
@@ -27,21 +31,21 @@ pub enum FaultSite<'a> {
     Image(&'a str),
     /// The image of a volume, by its directory and number.
     Volume(&'a str, Prefix, u16),
-    /// The input of `write` that an argument names.
+    /// The input of `write` that this argument names.
     Input(&'a str),
-    /// The images that `write` writes into a directory.
+    /// The images that `write` creates in a directory.
     Images(&'a str),
     /// The list of images in a file, or on standard input.
     List(Option<&'a str>),
-    /// The image with a number in a list.
+    /// The image with this number in a list.
     Listed(usize),
-    /// Where the records of a file go.
+    /// The output file for the records.
     Out(&'a str),
-    /// Where the merged image goes.
+    /// The output file for the merged image.
     New(&'a str),
-    /// Where the log of a merge goes.
+    /// The log of a merge.
     Log(&'a str),
-    /// Where recovered data is saved.
+    /// The stage, where recovered data is saved.
     Stage(&'a str),
     /// The directory that files are unpacked into.
     Folder(&'a str),
@@ -66,7 +70,7 @@ impl fmt::Display for FaultSite<'_> {
 }
 
 impl<'a> FaultSite<'a> {
-    /// Returns the kind of the site, and its name.
+    /// Returns the kind of the site, and the name of the file.
     fn named(&self) -> (&'static str, &'a str) {
         match *self {
             FaultSite::Unknown | FaultSite::Volume(_, _, _) | FaultSite::Listed(_) => ("", ""),
@@ -83,7 +87,7 @@ impl<'a> FaultSite<'a> {
     }
 }
 
-/// A fault, its site and the system's reason, as lines of text.
+/// An explanation: a fault, its site and the system's reason, as lines of text.
 #[derive(Clone, Copy)]
 pub struct Explanation<'a> {
     pub fault: ToolFault,
@@ -107,7 +111,8 @@ impl fmt::Display for Explanation<'_> {
     }
 }
 
-/// Returns the site of a fault: the directory of `unpack` has a stage for each file.
+/// Returns the site to explain for `fault`: in `unpack`, a fault of a stage is one of the stage of
+/// the file, not of the directory.
 fn site_of<'a>(fault: ToolFault, site: FaultSite<'a>) -> FaultSite<'a> {
     let is_stage = matches!(
         fault,
@@ -119,7 +124,7 @@ fn site_of<'a>(fault: ToolFault, site: FaultSite<'a>) -> FaultSite<'a> {
     }
 }
 
-/// Returns whether the fault is one of the file being worked on.
+/// Returns whether `fault` concerns the file at `site`.
 fn is_at(fault: ToolFault, site: FaultSite<'_>) -> bool {
     match (fault, site) {
         (ToolFault::Run(_), FaultSite::Stage(_)) => true,
@@ -128,7 +133,7 @@ fn is_at(fault: ToolFault, site: FaultSite<'_>) -> bool {
     }
 }
 
-/// Returns the explanation: what happened, what was saved, and what to do next.
+/// Returns the explanation of `fault`: what happened, what was saved, and what to do next.
 pub fn text_of(fault: ToolFault, site: FaultSite<'_>) -> &'static str {
     match fault {
         ToolFault::Image(_) if matches!(site, FaultSite::New(_) | FaultSite::Lines) =>
@@ -143,7 +148,7 @@ pub fn text_of(fault: ToolFault, site: FaultSite<'_>) -> &'static str {
     }
 }
 
-/// Returns the explanation of an image's fault.
+/// Returns the explanation of an image fault.
 fn image_text(fault: ImageFault) -> &'static str {
     let is_first = fault.place == 0;
     match fault.cause {
@@ -154,7 +159,7 @@ fn image_text(fault: ImageFault) -> &'static str {
     }
 }
 
-/// Returns the texts for faults of a file, by its site.
+/// Returns the explanations of file faults for this kind of site.
 fn files_at(site: FaultSite<'_>) -> &'static [&'static str] {
     match site {
         FaultSite::Stdin | FaultSite::Image(_) | FaultSite::Listed(_) => FILE_OF_IMAGE,
@@ -171,7 +176,7 @@ fn files_at(site: FaultSite<'_>) -> &'static [&'static str] {
     }
 }
 
-/// Returns the explanation of fault `number`, counted from 1.
+/// Returns the explanation of fault number `number`, counted from 1.
 fn nth(texts: &'static [&'static str], number: u8) -> &'static str {
     match texts.get(usize::from(number).saturating_sub(1)) {
         Some(text) => *text,
@@ -179,12 +184,12 @@ fn nth(texts: &'static [&'static str], number: u8) -> &'static str {
     }
 }
 
-/// The stage of the file at which `unpack` ended, from the line about that file.
+/// The stage of the file for which `unpack` failed, described by the line about that file.
 const STAGE_OF_FAILED: &str = "the path reported as FAILED, with .stage after it";
 
-// The texts for each kind of fault, in the order of its numbers.
+// The texts for each kind of fault, in order of fault number.
 
-/// For faults that the program never reports.
+/// The explanation of faults that the program never reports.
 const NEVER: &str = "  This should never happen: it is a bug in tape.
   CONTRIBUTING.md says what to include in a report.
 ";
@@ -193,12 +198,12 @@ const NO_MEMORY: &str = "  Out of memory. What was written before it remains.
   Close other programs and try again.
 ";
 
-/// For an image whose first bytes are not valid.
+/// The explanation for an image whose first bytes are not valid.
 const NO_IMAGE: &str = "  This does not look like a .tap image. Nothing was listed.
   Is it compressed (try 'zcat NAME | tape list'), or a different kind of file?
 ";
 
-/// For a merged image that would be too long.
+/// The explanation for a merged image that would be too long.
 const MERGED_TOO_LONG: &str =
     "  The merged image would have more than 4,294,967,295 bytes. Nothing was
   created. Leave out an image whose good blocks replace short bad ones.
@@ -301,7 +306,7 @@ const STAGE: &[&str] = &[
 ",
 ];
 
-/// All texts.
+/// All explanations.
 #[cfg(test)]
 pub const TEXTS: &[&[&str]] = &[
     &[NEVER, NO_MEMORY, NO_IMAGE, MERGED_TOO_LONG],

@@ -26,8 +26,8 @@ pub use salvage::{
 pub use stage::{ABOUT_STAGE, AFTER_STAGE, DAMAGED, ONE_OUT, OUT_OF_STAGE, STAGE_READ};
 pub use survey::{ABOUT_SURVEY, AFTER_SURVEY, ROWS, SHELF};
 pub use unpack::{
-    ABOUT_UNPACK, AFTER_UNPACK, DIR_IS_NO_FOLDER, FOLDER_OF_FILES, FORM_OF_FILES, SALVAGE_FILES,
-    TOO_MANY_TO_UNPACK,
+    ABOUT_UNPACK, AFTER_UNPACK, DIR_IS_NO_FOLDER, FILES_TO_UNPACK, FOLDER_OF_FILES, FORM_OF_FILES,
+    LIST_ONLY, SALVAGE_FILES, SET_TO_UNPACK, TOO_MANY_TO_UNPACK,
 };
 pub use volumes::{
     ABOUT_INIT, ABOUT_WRITE, AFTER_INIT, AFTER_WRITE, BLOCK, CAPACITY, COUNT, FILES, FOLDER, FORM,
@@ -35,16 +35,16 @@ pub use volumes::{
     RECORD, RECORD_WANTED, WRONG_CAPACITY, WRONG_PREFIX,
 };
 
-/// No command is named. The parser reports this itself.
+/// The error if no command is named. The parser reports this itself.
 pub const NO_COMMAND: &str = "name a command, for example 'tape list'";
 
 /// What the program does.
 pub const ABOUT: &str = "Read and write ANSI-labelled tape volumes (ECMA-13) as SIMH .tap images";
 
-/// What `--explain` does.
+/// The description of `--explain`.
 pub const EXPLAIN: &str = "Explain errors, and say what to do next";
 
-/// Help after the list of commands.
+/// The help text after the list of commands.
 pub const AFTER: &str =
     "An error is one line on standard error: 'tape: KIND fault NUMBER', followed for
 images by the byte offset ('tape: image fault 1 at 1884'). With --explain, or if
@@ -88,16 +88,16 @@ Examples:
   zcat reel.tap.gz | tape list
   tape survey *.tap";
 
-/// What `list` does.
+/// The description of `list`.
 pub const ABOUT_LIST: &str = "List the blocks, tape marks and labels of an image";
 
-/// What IMAGE is.
+/// The description of IMAGE.
 pub const IMAGE: &str = "SIMH .tap image [default: standard input]";
 
-/// What `--offsets` does.
+/// The description of `--offsets`.
 pub const OFFSETS: &str = "Print the byte offset and size of each item before its line";
 
-/// Help after the arguments of `list`.
+/// The help text after the arguments of `list`.
 pub const AFTER_LIST: &str =
     "Each line has the item's number, its kind, and the contents of a label:
   000001 VOL1 ABC001                                 volume
@@ -132,14 +132,14 @@ Examples:
   mkdir ../lists
   for f in *.tap; do tape list \"$f\" >\"../lists/$f.txt\" || echo \"$f\"; done";
 
-/// What `check` does.
+/// The description of `check`.
 pub const ABOUT_CHECK: &str = "Report which file sections are on the images and what is missing";
 
-/// What the IMAGEs of `check` and `survey` are.
+/// The description of the IMAGEs of `check` and `survey`.
 pub const IMAGES: &str = "SIMH .tap images, in any order (at most 256; see
 --files-from); '-' is standard input";
 
-/// Help after the arguments of `check`.
+/// The help text after the arguments of `check`.
 pub const AFTER_CHECK: &str =
     "One line per image, in the order given: its number, how many items it has, and
 how it ends.
@@ -172,18 +172,18 @@ Examples:
   tape check *.tap
   find . -name '*.tap' -print0 | tape check --files-from - --null";
 
-/// `list` was called with the argument '-'.
+/// The error if `list` gets the argument '-'.
 pub const DASH: &str = "'-' is not an image: omit IMAGE to read standard input,
 or write './-' for a file of that name";
 
-/// `list` was called with several images.
+/// The error if `list` gets several images.
 pub const ONE_IMAGE: &str = "list takes one image; to list several:
   for f in *.tap; do echo \"$f\"; tape list \"$f\"; done";
 
-/// The arguments are refused, for a reason that the parser does not name.
+/// The error if the arguments are refused for a reason that the parser does not name.
 pub const REFUSED: &str = "these arguments are not accepted";
 
-/// The arguments are not text.
+/// The error if an argument is not text.
 pub const NO_TEXT: &str = "error: a name on the command line is not valid UTF-8. Find it with
   ls | grep -axv '.*'
 and rename it, or use 'tape list < NAME'\n";

@@ -1,2 +1,2 @@
-//! What the program requires of its operating system.
+//! The interface of the program to its operating system.
 pub use tape_writer::system::Host;

@@ -20,7 +20,7 @@ use tape_run::{FoundFiles, ImageSource, SectionKey, set_of};
 /// The source of the names of a run's images.
 #[derive(Drop)]
 pub struct Named<'a> {
-    /// The names among the arguments.
+    /// The names in the arguments.
     pub words: Vec<&'a str>,
     pub list: Option<List<'a>>,
 }
@@ -34,8 +34,8 @@ pub struct List<'a> {
     pub null: bool,
 }
 
-/// Returns the names of all images: those of the arguments, followed by those of the list, whose
-/// text is kept for them. Nothing else is opened. On error, the site is the list.
+/// Returns the names of all images: those in the arguments, followed by those in the list, whose
+/// text is stored in `text`. Opens nothing but the list. On error, `site` is the list.
 ///
 /// # Errors
 ///
@@ -68,7 +68,7 @@ fn read_list<R: Runtime + AllocGlobal>(rt: &R, list: List<'_>) -> Result<String,
             let place = error.utf8_error().valid_up_to();
             Err(Refusal::NoText(list.null, number_at(error.as_bytes(), list.null, place)))
         }
-        // No file name contains one.
+        // No file name contains a NUL.
         Ok(text) if !list.null && text.as_str().contains('\0') => {
             Err(Refusal::Words(help::NUL_IN_LINES))
         }
@@ -79,7 +79,7 @@ fn read_list<R: Runtime + AllocGlobal>(rt: &R, list: List<'_>) -> Result<String,
     }
 }
 
-/// Returns whether a list of lines begins with a byte order mark, or a line of it ends with a
+/// Returns whether a list of lines begins with a byte order mark, or one of its lines ends with a
 /// carriage return.
 fn is_of_windows(text: &str) -> bool {
     text.starts_with('\u{FEFF}') || text.contains("\r\n") || text.ends_with('\r')
@@ -96,7 +96,7 @@ fn bytes_of<R: Runtime + AllocGlobal>(rt: &R, list: List<'_>) -> Result<Vec<u8>,
     }
 }
 
-/// Reads all that is left of a reader.
+/// Reads the rest of `device`.
 fn read_all<D: Read>(alloc: Global, device: &mut D) -> Result<Vec<u8>, Refusal>
     ensures { IfOk result (λ bytes.
         IfSome (D.remaining device.old) (λ left. bytes.items ≡ left)) }
@@ -109,7 +109,7 @@ fn read_all<D: Read>(alloc: Global, device: &mut D) -> Result<Vec<u8>, Refusal>
     }
 }
 
-/// Returns the number, counted from 1, of the name at offset `place` of a list; empty names count.
+/// Returns the number, counted from 1, of the name at offset `place` of `list`; empty names count.
 fn number_at(list: &[u8], null: bool, place: usize) -> usize {
     let end = end_of(null);
     let mut number = 1usize;
@@ -121,7 +121,7 @@ fn number_at(list: &[u8], null: bool, place: usize) -> usize {
     number
 }
 
-/// Returns the names in the arguments, followed by those in the text of a list.
+/// Returns the names in the arguments `words`, followed by those in `text`, the contents of a list.
 pub fn all_names<'a>(
     alloc: Global,
     words: &[&'a str],
@@ -140,7 +140,7 @@ pub fn all_names<'a>(
     Ok(names)
 }
 
-/// Returns the terminator of each name in a list.
+/// Returns the character that ends each name in a list.
 fn end_of(null: bool) -> char
     ensures { result ≡ end_byte null }
 {
@@ -152,9 +152,9 @@ fn no_memory() -> Refusal {
     Refusal::Faulted(OUT_OF_MEMORY)
 }
 
-/// Returns the names in the order in which the images of a file are read: first those on which its
-/// sections begin, in the order of the sections, and then all others in the order of their names;
-/// of these, unless `all`, only images of the set. No name comes twice.
+/// Returns the names in the order in which the images of file `key` are read: first those on which
+/// its sections begin, in the order of the sections, and then all others in the order of their
+/// names. Unless `all`, the others are only images of the set. No name is returned twice.
 pub fn in_reading_order<'n>(
     alloc: Global,
     names: &[&'n str],
@@ -182,7 +182,7 @@ pub fn in_reading_order<'n>(
     Ok(order)
 }
 
-/// Adds the name with this number, unless it was added before.
+/// Appends name `at` to `order`, unless it was appended before.
 fn take_name<'n>(
     order: &mut Vec<&'n str>,
     taken: &mut Vec<bool>,
@@ -198,16 +198,16 @@ fn take_name<'n>(
     Ok(())
 }
 
-/// The greatest number of a section.
+/// The highest number of a section.
 const LAST_SECTION: u16 = 9_999;
 
-/// The maximum number of bytes of an image that are read ahead.
+/// The size in bytes of the read buffer of an image.
 pub const READ_AHEAD: usize = 32_768;
 
 /// An open image, with a read buffer.
 pub type Image<R> = BufReader<<R as Files>::File>;
 
-/// The images of a run, by their names: each is opened, with a read buffer, when it is mounted.
+/// The images of a run, by their names. Each is opened, with a read buffer, when it is mounted.
 #[derive(Drop)]
 pub struct Images<'a, R> {
     rt: &'a R,
@@ -263,7 +263,7 @@ impl<R: Host> Read for ImageBytes<R> {
     }
 }
 
-/// The images of a run, one of which may be standard input.
+/// The images of a run, of which one may be standard input.
 #[derive(Drop)]
 pub struct ImagesOrInput<'a, R> {
     rt: &'a R,

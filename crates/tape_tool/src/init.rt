@@ -1,4 +1,4 @@
-//! `init`: images of volumes without files.
+//! `init`: creates images of volumes without files.
 mod run;
 pub mod words;
 

@@ -1,4 +1,4 @@
-//! Examples for the definitions, proved as the contract of a call that does nothing.
+//! Examples for the definitions, proved as the contract of a function that does nothing.
 
 ghost use Rattle.tape_tool.specs.Cases.{CasesOfEnds, CasesOfFaults, CasesOfLines, CasesOfNames};
 ghost use Rattle.tape_tool.specs.Cases.{CasesOfStaging};
@@ -10,7 +10,7 @@ use tape_stage::Disk;
 
 /// Examples for the definitions of the program: how runs end, the numbers of faults, the lines that
 /// are printed, the names in a list, sessions over a stage, the report on a stage, refused shapes,
-/// what arguments ask for, and why they are refused.
+/// the requests in arguments, and the reasons for refusing them.
 pub fn cases<D: Disk>()
     ensures ends { CasesOfEnds }
     ensures faults { CasesOfFaults }

@@ -1,4 +1,5 @@
-//! Files of this program that are removed, or named on standard error if they cannot be.
+//! Removal of files that this program created. Files that cannot be removed are named on standard
+//! error.
 use crate::host::Host;
 use crate::shown::Shown;
 use std::fmt;
@@ -14,7 +15,8 @@ impl fmt::Display for Left<'_> {
     }
 }
 
-/// Removes a file of this program if it exists, or reports that it remains.
+/// Removes the file at `path`, which this program created, if it exists. If that fails, reports
+/// that the file remains.
 pub fn remove<R: Host>(rt: &R, path: &str) {
     match rt.remove_file(path) {
         Err(error) if error.kind() != ErrorKind::NotFound => {

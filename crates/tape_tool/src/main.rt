@@ -5,17 +5,17 @@
 mod program;
 mod words;
 
-// How it ends.
+// The report on how a run ends.
 mod diagnostics;
 mod fault;
 
-// Its texts.
+// The texts of the program.
 mod command_line;
 mod command_spec;
 mod explain;
 mod help;
 
-// One directory per command: its arguments, and its runner.
+// One directory per command, with its arguments and its runner.
 mod check;
 mod extract;
 mod init;
@@ -27,7 +27,7 @@ mod survey;
 mod unpack;
 mod write;
 
-// What several of them share.
+// The modules that several commands share.
 mod host;
 mod images;
 mod laws;

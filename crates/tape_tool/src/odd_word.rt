@@ -23,7 +23,7 @@ impl fmt::Display for OddWord<'_> {
     }
 }
 
-/// The buffer for an argument.
+/// A buffer for one argument.
 pub type Room = [u8; 4096];
 
 /// Finds the first argument that is not UTF-8. Returns `None` if it is longer than the buffer.

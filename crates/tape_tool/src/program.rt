@@ -11,7 +11,7 @@ use crate::check::check;
 use crate::command_line::call_of;
 use crate::command_spec::{CommandSpec, mistake};
 use crate::diagnostics::FaultLine;
-use crate::explain::{Explanation, FaultSite, reason_of};
+use crate::explain::{Explanation, FaultSite, explain_missing, reason_of};
 use crate::extract::extract;
 use crate::fault::{FileFault, OUT_OF_MEMORY, ToolFault};
 use crate::help;
@@ -37,13 +37,13 @@ use tape_set::Want;
 /// How a run of the program ends.
 #[derive(Clone, Copy, Debug, PartialEq, Eq)]
 pub enum End {
-    /// It did what it was asked for, or printed help.
+    /// The program did what was asked, or printed help.
     Done,
-    /// An error, which is reported on one line.
+    /// A fault occurred, which is reported on one line.
     Faulted(ToolFault),
     /// The command line is invalid.
     WrongWords,
-    /// It did what it was asked for, but something is missing.
+    /// The program did what was asked, but something is missing.
     Incomplete,
 }
 
@@ -61,7 +61,7 @@ impl End {
     }
 }
 
-/// Returns how a command ends that had this result.
+/// Returns how a command with the result `done` ends.
 pub fn end_of(done: Result<(), ToolFault>) -> End
     ensures { result ≡ end_of done }
 {
@@ -71,7 +71,7 @@ pub fn end_of(done: Result<(), ToolFault>) -> End
     }
 }
 
-/// Returns how a check ends that found all sections, or did not.
+/// Returns how a check ends, given whether it found all sections.
 pub fn check_end(checked: Result<bool, EngineFault>) -> End
     ensures { result ≡ check_end checked }
 {
@@ -115,7 +115,8 @@ pub fn damaged_end(answer: Result<StageEnding, ToolFault>) -> End
     }
 }
 
-/// Returns how a run ends if the argument parser has only a text for it, which was printed or not.
+/// Returns how a run ends for which the argument parser has only a text, given whether the text was
+/// printed.
 pub fn words_end(kind: ErrorKind, printed: bool) -> End
     ensures { result ≡ words_end kind printed }
 {
@@ -126,7 +127,7 @@ pub fn words_end(kind: ErrorKind, printed: bool) -> End
     }
 }
 
-/// Returns how a call for help ends: with success if the help was printed.
+/// Returns how a call for help ends, given whether the help was printed.
 fn help_end(printed: bool) -> End
     ensures { result ≡ help_end printed }
 {
@@ -137,8 +138,8 @@ fn help_end(printed: bool) -> End
     }
 }
 
-/// Returns how a run ends that could not get its arguments, because memory ran out or they are not
-/// text.
+/// Returns how a run ends that could not get its arguments, because memory ran out or an argument
+/// is not text.
 pub fn no_words_end(kind: io::ErrorKind) -> End
     ensures { result ≡ no_words_end kind }
 {
@@ -153,7 +154,7 @@ pub fn finish<R: Eprint>(rt: &R, end: End) -> u8
     ensures { result ≡ exit_status end }
 {
     if let End::Faulted(fault) = end {
-        // If standard error is closed, nobody can be informed.
+        // If standard error is closed, the fault cannot be reported.
         let _ = rt.eprint(FaultLine(fault));
     }
     end.status()
@@ -161,7 +162,7 @@ pub fn finish<R: Eprint>(rt: &R, end: End) -> u8
 
 /// Runs the program, reports a fault, and returns the exit status.
 pub fn run<R: Host>(rt: &R) -> u8 {
-    // Kept open until the run ends.
+    // These files stay open until the run ends.
     let _kept = match keep_numbers(rt) {
         Ok(kept) => kept,
         Err(fault) => return finish(rt, End::Faulted(fault)),
@@ -172,8 +173,8 @@ pub fn run<R: Host>(rt: &R) -> u8 {
     }
 }
 
-/// Returns the arguments of the command line, beginning with the program's name; or, if there are
-/// none, how the run ends.
+/// Returns the arguments of the command line, beginning with the program's name. If they cannot be
+/// obtained, returns how the run ends.
 fn words_of<R: Host>(rt: &R) -> Result<Vec<String>, End>
     ensures { IfErr result (λ end. end ≢ End.Done) }
 {
@@ -192,7 +193,7 @@ fn words_of<R: Host>(rt: &R) -> Result<Vec<String>, End>
     }
 }
 
-/// Returns the arguments, or how a run ends that had no memory for them.
+/// Returns the arguments. If there was no memory for them, returns how the run ends.
 fn kept(words: Result<Vec<String>, AllocError>) -> Result<Vec<String>, End>
     ensures { IfErr result (λ end. end ≡ End.Faulted no_memory) }
 {
@@ -202,15 +203,15 @@ fn kept(words: Result<Vec<String>, AllocError>) -> Result<Vec<String>, End>
     }
 }
 
-/// How a call ended.
+/// The end of a run.
 #[derive(Clone, Copy)]
 pub struct Outcome<'a> {
     pub end: End,
-    /// What the program was doing, for `--explain`.
+    /// The site of the fault, if it is to be explained.
     pub explained: Option<FaultSite<'a>>,
 }
 
-/// Reports how a call ended, and returns the exit status.
+/// Reports how a run ended, and returns the exit status.
 fn tell<R: Host>(rt: &R, outcome: Outcome<'_>) -> u8
     ensures { result ≡ exit_status outcome.entry.end }
 {
@@ -251,7 +252,7 @@ pub fn perform<'a, R: Host>(rt: &R, words: &'a [String]) -> Outcome<'a> {
     }
 }
 
-/// Returns whether the environment asks for explanations.
+/// Returns whether the environment requests explanations.
 fn is_asked<R: Host>(rt: &R) -> bool {
     match env::var(rt, "TAPE_EXPLAIN") {
         Ok(value) => !value.as_str().is_empty(),
@@ -266,13 +267,16 @@ fn follow<'a, R: Host>(rt: &R, call: &Call<'a>) -> Outcome<'a>
 {
     let mut site = FaultSite::Unknown;
     let end = obey(rt, &call.order, &mut site);
+    if call.explained && end == End::Incomplete {
+        explain_missing(rt, &call.order);
+    }
     Outcome {
         end,
         explained: call.explained.then_some(site),
     }
 }
 
-/// Executes a command. On error, the site says where it occurred.
+/// Executes the command in `order`. On error, `site` says where it occurred.
 fn obey<'a, R: Host>(rt: &R, order: &Order<'a>, site: &mut FaultSite<'a>) -> End {
     match order {
         Order::List(order) => list(rt, *order, site),
@@ -295,12 +299,12 @@ pub fn refuse<R: Print + Eprint>(rt: &R, error: &clap::Error) -> End
     ensures { (printed : Bool) × (result ≡ words_end (kind_of error.now) printed) }
 {
     let kind = error.kind();
-    // Out of memory is a fault, and is reported by the one line of a fault.
+    // Out of memory is a fault, and is reported on the line of a fault.
     let printed = kind != ErrorKind::OutOfMemory && error.print(rt).is_ok();
     words_end(kind, printed)
 }
 
-/// Ends a command that is not started, for the given reason.
+/// Ends a run whose command is refused for the reason `refusal`.
 pub fn end_refused<R>(rt: &R, command_spec: &CommandSpec, refusal: Refusal) -> End
 where
     R: Print + Eprint + AllocGlobal,

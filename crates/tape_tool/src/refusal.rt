@@ -1,5 +1,5 @@
 //! Reasons for refusing to start a command: its arguments name files that it would destroy, or
-//! files that do not exist. Also the files found under these names.
+//! files that do not exist. Also the identity of the files found under these names.
 ghost use Rattle.std.specs.Prelude.{◌≡◌, ◌⊎◌, None, Some, Ok, Err, IfErr, IsOk};
 
 use crate::fault::{FileFault, ToolFault};
@@ -8,12 +8,13 @@ use std::fs::{Files, Metadata};
 use std::os::unix::fs::MetadataExt;
 use tape_writer::system::found;
 
-/// Why files may not be used as the arguments ask.
+/// The reason why files may not be used as the arguments request.
 #[derive(Clone, Copy)]
 pub enum Refusal {
     /// The arguments would destroy a file, or name nothing that exists.
     Words(&'static str),
-    /// A name in a list is not text: its number, counted from 1, and whether names end with a NUL.
+    /// A name in a list is not text. Contains whether names end with a NUL, and the number of the
+    /// name, counted from 1.
     NoText(bool, usize),
     /// A file cannot be used, or looking it up failed.
     Faulted(ToolFault),
@@ -24,11 +25,11 @@ pub fn refused(fault: FileFault) -> Refusal {
     Refusal::Faulted(ToolFault::File(fault))
 }
 
-/// Returns the file that `path` leads to, if any.
+/// Returns the file to which `path` leads, if any.
 ///
 /// # Errors
 ///
-/// Returns `Faulted` with `NotOpened` if the lookup failed: a file may exist there.
+/// Returns `Faulted` with `NotOpened` if the lookup failed: the file may exist.
 pub fn look<R: Files>(files: &R, path: &str) -> Result<Option<Metadata>, Refusal> {
     match found(fs::metadata(files, path)) {
         Ok(there) => Ok(there),
@@ -36,24 +37,24 @@ pub fn look<R: Files>(files: &R, path: &str) -> Result<Option<Metadata>, Refusal
     }
 }
 
-/// Returns whether both are the same file, whatever names or links led to it. On a file system
-/// without file numbers, returns false.
+/// Returns whether `one` and `other` are the same file, whatever names or links led to them. On a
+/// file system without file numbers, returns false.
 pub fn same_file(one: &Metadata, other: &Metadata) -> bool {
     one.ino() != 0 && one.dev() == other.dev() && one.ino() == other.ino()
 }
 
-/// Identifies a file; for a regular file also its contents, by length and time.
+/// The identity of a file and, for a regular file, of its contents: their length and time.
 #[derive(Clone, Copy, PartialEq, Eq)]
 pub struct FileId {
     device: u64,
     number: u64,
     length: u64,
-    /// When it was last written, in seconds and nanoseconds.
+    /// The time when the file was last written, in seconds and nanoseconds.
     written: (i64, i64),
 }
 
 impl FileId {
-    /// Returns the identity of the file with this metadata.
+    /// Returns the identity of the file with metadata `found`.
     pub fn of(found: &Metadata) -> FileId {
         let (length, written) = if found.is_file() {
             (found.len(), (found.mtime(), found.mtime_nsec()))
@@ -85,12 +86,12 @@ impl FileId {
 pub enum Taking {
     /// Only if no file has the name.
     New,
-    /// By replacing the file that has it.
+    /// By replacing the file that has the name.
     Over,
 }
 
 /// Returns how a new file takes a name, given the file found under the name before the run and the
-/// one found now. A name that was free before never replaces a file.
+/// one found now. A file whose name was free before never replaces another file.
 ///
 /// # Errors
 ///

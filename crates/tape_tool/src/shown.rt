@@ -1,16 +1,17 @@
-//! The names and other arguments of a user, as they are printed.
+//! Names and other arguments of a user, as they are printed.
 ghost use Rattle.std.specs.Prelude.{◌≡◌, Some};
 ghost use Rattle.tape_run.specs.Quoting.{name_text};
 
 use std::fmt;
 use tape_run::quoted_char;
 
-/// A name or another argument, printed character by character as `quoted_char` does.
+/// A name or another argument, printed character by character by `quoted_char`.
 #[derive(Clone, Copy)]
 pub struct Shown<'a>(pub &'a str);
 
 impl Shown<'_> {
-    /// Returns the name. The result of a call is known to be text, but a field is not.
+    /// Returns the name. This is a function because the result of a call is known to be text, but a
+    /// field is not.
     fn name(&self) -> &str
         ensures { result.now ≡ self.now.0.now }
     {

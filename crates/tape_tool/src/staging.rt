@@ -26,51 +26,52 @@ use tape_run::{RunFault, Session};
 use tape_stage::{BufferedFile, Disk, Refused, Stage, StageFault, buffered_file, new_slots};
 use tape_writer::system::{LockFault, locked, sync_folder_of};
 
-/// Why there is no session over a stage.
+/// The reason why a session over a stage could not be opened.
 #[derive(Clone, Copy, PartialEq, Eq)]
 pub enum StagingFault {
     /// The stage could not be opened or created.
     Stage(StageFault),
-    /// The staged data belong to a file with another number or to another set; or no file has the
-    /// number.
+    /// The staged data belong to a file with another number or to another set; or no file can have
+    /// the number.
     OtherFile,
 }
 
-/// Opens a session for file `file` of the set over the stage on a disk: it continues at the stage's
-/// checkpoint, with the parts before it. On an empty disk it creates a stage, and the session
-/// begins at the file's start.
+/// Opens a session for file `file` of set `set_id` over the stage on `disk`. It continues at the
+/// stage's checkpoint, with the parts before it. If the disk is empty, creates a stage, with which
+/// the session begins at the file's start.
 ///
 /// # Errors
 ///
-/// Returns `Stage` with the fault of opening or creating it; `OtherFile` if the checkpoint belongs
-/// to another file or set, or the number is not 1 to 9,999. Each returns the disk.
+/// Returns `Stage` with the fault of opening or creating the stage; `OtherFile` if the checkpoint
+/// belongs to another file or set, or `file` is not in 1 to 9,999. Each error returns the disk.
 pub fn open_session<D: Disk + Drop>(
     alloc: Global,
     disk: D,
     set_id: Field<6>,
     file: u16,
 ) -> Result<Session<Stage<D>>, Refused<D, StagingFault>>
-    // If something is staged, the session's position is the checkpoint that was read, with its
-    // parts.
+    // If the disk has a stage, the session's position and parts are those of the checkpoint that
+    // was read.
     ensures goes_on { D.is_honest disk → (D.length_of disk ≡ 0 → ⊥)
         → IfOk result (GoesOn set_id file (D.seen disk)) }
-    // If the disk is empty, it is the file's start, without parts.
+    // If the disk is empty, the session begins at the file's start, without parts.
     ensures begins { D.is_honest disk → D.length_of disk ≡ 0
         → IfOk result (StandsAt (first_point set_id file) []) }
     ensures start { D.length_of disk ≡ 0
         → IfOk result (λ session. IsStart set_id file (seen as_sink session [])) }
-    // On any disk it is a session of this file.
+    // On any disk, the session is one of this file.
     ensures file { IfOk result (λ session.
         (session.core.set_id ≡ set_id) × (session.core.file ≡ file)) }
-    // If a fault says something about the bytes, that is true.
+    // Whatever a fault says about the bytes is true.
     ensures says { D.is_honest disk → (D.length_of disk ≡ 0 → ⊥)
         → IfErr result (λ refused. Says set_id file (D.seen disk) refused.fault) }
     ensures number { D.length_of disk ≡ 0 → IfErr result
         (λ refused. refused.fault ≡ StagingFault.OtherFile → IsFileNumber file → ⊥) }
-    // An empty disk is never reported as one without a stage: a stage is created.
+    // An empty disk is never reported as one without a stage, since a stage is created.
     ensures not_none { D.length_of disk ≡ 0 → IfErr result
         (λ refused. SaysNoStage refused.fault → ⊥) }
-    // At any moment of the call, if the disk is not empty.
+    // A crash at any moment of the call leaves a disk that is not empty with contents that were
+    // possible before, or that represent the same.
     ensures any_moment { D.is_honest disk → (D.length_of disk ≡ 0 → ⊥)
         → IfOk result (λ session. OpensOver D.Disk disk session.sink.disk) }
     ensures any_moment_err { D.is_honest disk → (D.length_of disk ≡ 0 → ⊥)
@@ -78,13 +79,13 @@ pub fn open_session<D: Disk + Drop>(
     // A disk that is not empty and has no stage is unchanged, even if it failed.
     ensures foreign { D.is_honest disk → (D.length_of disk ≡ 0 → ⊥) → HoldsNone (D.seen disk)
         → IfErr result (λ refused. Untouched D.Disk disk refused.disk) }
-    // What is staged is unchanged, and at most what follows it was cut.
+    // What is staged is unchanged; at most, the bytes after it were removed.
     ensures kept { D.is_honest disk → (D.length_of disk ≡ 0 → ⊥)
         → IfErr result (λ refused. KeepsStaged (D.seen disk) (D.seen refused.disk)) }
-    // On any disk, even a dishonest one.
+    // Even a dishonest disk that is not empty keeps its length if the stage could not be opened.
     ensures same_length { (D.length_of disk ≡ 0 → ⊥) → IfErr result (λ refused.
         IsUnopened refused.fault → D.length_of refused.disk ≡ D.length_of disk) }
-    // A stage that is opened or created is neither full nor one that failed before.
+    // Opening or creating a stage never fails because a stage is full or has failed before.
     ensures not_full { IfErr result
         (λ refused. refused.fault ≡ StagingFault.Stage StageFault.Full → ⊥) }
     ensures not_failed { IfErr result
@@ -103,7 +104,7 @@ pub fn open_session<D: Disk + Drop>(
     }
 }
 
-/// Creates a new stage, and a session at the start of the file over it.
+/// Creates a new stage, and a session over it at the start of file `file`.
 fn begin<D: Disk + Drop>(
     alloc: Global,
     disk: D,
@@ -145,7 +146,7 @@ fn begin<D: Disk + Drop>(
     }
 }
 
-/// Returns a session at the checkpoint of the stage on the disk.
+/// Returns a session at the checkpoint of the stage on `disk`.
 fn resume<D: Disk>(
     alloc: Global,
     disk: D,
@@ -191,8 +192,8 @@ fn resume<D: Disk>(
     }
 }
 
-/// Opens a session as `open_session` does. If the disk has the beginning of a new stage of this
-/// file, for example after the disk was full, the stage is created again.
+/// Opens a session as `open_session` does. If the disk has only the beginning of a new stage of
+/// this file, for example because the disk was full, the stage is created anew.
 fn open_or_make<D: Disk + Drop>(
     alloc: Global,
     disk: D,
@@ -203,8 +204,8 @@ fn open_or_make<D: Disk + Drop>(
         (session.core.set_id ≡ set_id) × (session.core.file ≡ file)) }
     ensures begins { D.is_honest disk → IsUnmade set_id file (D.seen disk)
         → IfOk result (StandsAt (first_point set_id file) []) }
-    // No other disk is emptied: what is staged is opened or unchanged, at any moment of the call,
-    // and what is not a stage is unchanged.
+    // No other disk is emptied. At any moment of the call, a stage is opened or unchanged, and
+    // anything else on the disk is unchanged.
     ensures says { D.is_honest disk → (IsUnmade set_id file (D.seen disk) → ⊥)
         → IfErr result (λ refused. Says set_id file (D.seen disk) refused.fault) }
     ensures goes_on { D.is_honest disk → (IsUnmade set_id file (D.seen disk) → ⊥)
@@ -232,9 +233,9 @@ fn open_or_make<D: Disk + Drop>(
 }
 
 /// Returns whether the disk has at most 256 bytes, each of them zero or equal to the byte at the
-/// same offset of a new stage of the file, before its first gate is opened. A file has zeros where
-/// its system lost written bytes. The disk is only read.
-fn is_unmade<D: Disk>(disk: &mut D, set_id: Field<6>, file: u16) -> bool
+/// same offset of a new stage of the file whose first gate is not yet open. A file contains zeros
+/// where its system lost written bytes. The disk is only read.
+pub fn is_unmade<D: Disk>(disk: &mut D, set_id: Field<6>, file: u16) -> bool
     ensures unmade { D.is_honest disk.old
         → OnTrue result (IsUnmade set_id file (D.seen disk.old)) }
     ensures reads { OnlyReads D.Disk disk.old disk.new }
@@ -255,7 +256,7 @@ fn is_unmade<D: Disk>(disk: &mut D, set_id: Field<6>, file: u16) -> bool
     is_begun(bytes, &new_slots(&core.save(0)))
 }
 
-/// Returns whether each byte is zero, or the byte due at its offset.
+/// Returns whether each of `bytes` is zero or equal to the byte of `due` at the same offset.
 fn is_begun(bytes: &[u8], due: &[u8; 256]) -> bool
     requires { length bytes.now ≤ 256 }
     ensures { OnTrue result ((i : ℕ) → i < length bytes.now → (slice_index bytes.now i ≡ 0)
@@ -282,7 +283,7 @@ type FileSession = Session<Stage<BufferedFile<File>>>;
 /// Opens a session over the stage in the file at `path`. If the file does not exist or is empty,
 /// creates a stage.
 ///
-/// The file is locked before anything is read of it, for as long as it is open.
+/// The file is locked before anything is read from it, and as long as it is open.
 ///
 /// # Errors
 ///
@@ -299,13 +300,13 @@ pub fn session_in<R: Host>(
         Ok(disk) => disk,
         Err(fault) => return Err(ToolFault::Stage(fault)),
     };
-    // A new stage is useless without its name, so the directory is synced.
+    // A new stage is lost if its name is, so the directory is synced.
     if sync_folder_of(rt, path).is_err() {
         return Err(ToolFault::Stage(StageFault::Device));
     }
     match open_or_make(rt.alloc(), disk, set_id, file) {
         Ok(mut session) => {
-            // The checkpoint of the opened stage, to return to after a reel with a wrong count.
+            // Takes the checkpoint to which the session returns after a reel with a wrong count.
             if let Err(fault) = session.note() {
                 return Err(ToolFault::Run(fault));
             }
@@ -326,8 +327,8 @@ fn locked_file<R: Host>(rt: &R, path: &str) -> Result<File, ToolFault> {
     Ok(file)
 }
 
-/// Returns whether a run may continue with a stage that it tried to lock. On a file system without
-/// locks other runs are not excluded.
+/// Returns whether a run may use a stage, given the result of locking it. On a file system without
+/// locks, other runs are not excluded.
 pub fn locked_stage(attempt: Result<(), TryLockError>) -> Result<(), ToolFault>
     ensures { result ≡ locked_stage attempt }
 {
@@ -338,7 +339,7 @@ pub fn locked_stage(attempt: Result<(), TryLockError>) -> Result<(), ToolFault>
     }
 }
 
-/// Returns the fault as the program reports it.
+/// Returns the program's fault for `fault`.
 fn tool_fault(fault: StagingFault) -> ToolFault {
     match fault {
         StagingFault::Stage(fault) => ToolFault::Stage(fault),

@@ -5,16 +5,16 @@ use std::fs::File;
 use std::io;
 use std::os::fd::AsRawFd;
 
-/// The number of standard error, the last of them.
+/// The number of standard error, the last standard stream.
 const LAST: i32 = 2;
 
-/// The number of the error of a process that has reached its limit of open files.
+/// The error number of a process that has reached its limit of open files.
 const EMFILE: i32 = 24;
 
-/// Keeps files open under the numbers of closed standard streams. Otherwise the next file that is
-/// opened would get such a number, and would receive what is printed.
+/// Keeps files open under the numbers of closed standard streams. Otherwise the next file to be
+/// opened would get such a number, and would receive the program's output.
 ///
-/// Reading from these files fails, and so does writing, as on a closed stream.
+/// Reading from these files and writing to them fail, as on a closed stream.
 ///
 /// # Errors
 ///
@@ -30,7 +30,7 @@ pub fn keep_numbers<R: Host>(rt: &R) -> Result<Vec<File>, ToolFault> {
                     return Err(OUT_OF_MEMORY);
                 }
             }
-            // No number is free, so no file gets one of these.
+            // No number is free, so no other file can get one of these.
             Err(error) if error.raw_os_error() == Some(EMFILE) => break,
             Err(_) => return Err(ToolFault::File(FileFault::NotOpened)),
         }
@@ -38,8 +38,8 @@ pub fn keep_numbers<R: Host>(rt: &R) -> Result<Vec<File>, ToolFault> {
     Ok(kept)
 }
 
-/// Opens a directory for reading: a directory has no bytes to read. If the root directory may not
-/// be read, opens a device that accepts and returns no bytes.
+/// Opens a directory for reading, since a directory has no bytes to read. If the root directory may
+/// not be read, opens a device that accepts no bytes and returns none.
 fn neither_read_nor_written<R: Host>(rt: &R) -> io::Result<File> {
     match File::open(rt, "/") {
         Ok(folder) => Ok(folder),

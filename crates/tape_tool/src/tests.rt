@@ -1,4 +1,4 @@
-//! The program: command lines, files, and output.
+//! Tests of the program: command lines, files, and output.
 mod again_program;
 mod calls;
 mod check_program;

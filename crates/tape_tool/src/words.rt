@@ -1,4 +1,4 @@
-//! Which command is run, and the arguments that several commands share.
+//! The commands, and the arguments that several of them share.
 
 ghost use Rattle.std.specs.Prelude.{◌≡◌, ◌≢◌, codes, IfOk, IfErr, IfSome, IfNone, ◌<◌, ℕ, map};
 ghost use Rattle.std.specs.Prelude.{length, None, ◌↔◌, IsTrue, option_map};
@@ -32,7 +32,7 @@ use tape_blocks::Form;
 /// The maximum number of images in the arguments of a run.
 const MOST_IMAGES: usize = 256;
 
-/// The names of forms.
+/// The values of `--form`.
 pub const FORMS: &[&str] = &["lines", "raw"];
 
 /// Returns the value of argument `name`, which the parser guarantees to be present.
@@ -74,7 +74,7 @@ pub fn form_of(matches: &ArgMatches<'_>) -> Form
     }
 }
 
-/// Returns whether the argument means a stream.
+/// Returns whether the argument is `-`, which means a standard stream.
 pub fn is_dash(word: &str) -> bool
     ensures value { result ≡ bytes_eq word.now (codes "-") }
     ensures is { IsTrue result ↔ (word.now ≡ codes "-") }
@@ -90,7 +90,7 @@ pub fn is_read_twice(matches: &ArgMatches<'_>) -> bool
     most < count_dashes(matches.get_strs("IMAGE").unwrap_or(&[]))
 }
 
-/// Returns how many images may be standard input, given the list.
+/// Returns how many images may be standard input, given the path of the list.
 fn inputs_beside(list: Option<&str>) -> usize
     ensures { result ≡ inputs_beside (option_map (λ l. l.now) list.entry) }
 {
@@ -100,15 +100,15 @@ fn inputs_beside(list: Option<&str>) -> usize
     }
 }
 
-/// Counts the arguments that mean a stream.
+/// Returns how many of `words` are `-`.
 fn count_dashes(words: &[&str]) -> usize
     ensures { result ≡ dashes (map (λ w. w.now) words.now) }
 {
     words.iter().filter(|word| is_dash(**word)).count()
 }
 
-/// Returns the only text, if there is one. Several texts are a usage error, and so is a stream;
-/// each error has its own message.
+/// Returns the only text, if there is one. Several texts are a usage error with the message `more`,
+/// and `-` is one with the message `dash`.
 pub fn at_most_one<'a>(
     texts: &[&'a str],
     dash: &'static str,
@@ -126,8 +126,8 @@ pub fn at_most_one<'a>(
     }
 }
 
-/// Returns the source of image names: arguments, or a list. If there are too many arguments, prints
-/// `too_many`.
+/// Returns the source of image names: arguments, or a list. If there are too many arguments, the
+/// error has the message `too_many`.
 pub fn named<'a>(
     alloc: Global,
     matches: &ArgMatches<'a>,
@@ -165,7 +165,7 @@ pub fn named_once<'a>(
     named(alloc, matches, command_spec, too_many)
 }
 
-/// Returns the list that the arguments name, if any.
+/// Returns the list that `matches` contain, if any.
 fn list_of<'a>(matches: &ArgMatches<'a>) -> Option<List<'a>>
     ensures { IsListIn (rows_of (found_of matches.now)) result }
 {
@@ -178,14 +178,14 @@ fn list_of<'a>(matches: &ArgMatches<'a>) -> Option<List<'a>>
     }
 }
 
-/// Returns the file of a list, unless it is standard input.
+/// Returns the path of the list's file, unless the list is standard input.
 fn file_of<'a>(path: &'a str) -> Option<&'a str>
     ensures { option_map (λ p. p.now) result ≡ list_file path.now }
 {
     if is_dash(path) { None } else { Some(path) }
 }
 
-/// What a command line asks for.
+/// A parsed command line.
 #[derive(Drop)]
 pub struct Call<'a> {
     pub order: Order<'a>,
@@ -193,34 +193,34 @@ pub struct Call<'a> {
     pub explained: bool,
 }
 
-/// The command, with its arguments.
+/// A command with its arguments.
 #[derive(Drop)]
 pub enum Order<'a> {
-    /// List the image at a path, or on standard input.
+    /// Lists the image at a path, or on standard input.
     List(Listing<'a>),
-    /// Create images of volumes without files.
+    /// Creates images of volumes without files.
     Init(Init<'a>),
-    /// Report the sections on images.
+    /// Reports the sections on images.
     Check(Named<'a>),
-    /// Describe images.
+    /// Describes images.
     Survey(Survey<'a>),
-    /// Write files to volumes.
+    /// Writes files to volumes.
     Write(WriteOrder<'a>),
-    /// Recover a file from images.
+    /// Recovers a file from images.
     Extract(Extract<'a>),
-    /// Recover every file on images.
+    /// Recovers every file on images.
     Unpack(Unpack<'a>),
-    /// Recover the readable parts of a file.
+    /// Recovers the readable parts of a file.
     Salvage(SalvageOrder<'a>),
-    /// Show a stage.
+    /// Shows a stage.
     Stage(StageOrder<'a>),
-    /// Merge readings of one tape.
+    /// Merges readings of one tape.
     Merge(Merge<'a>),
-    /// Compare readings of one tape.
+    /// Compares readings of one tape.
     Compare(Named<'a>),
 }
 
-/// The commands.
+/// A command.
 #[derive(Clone, Copy)]
 enum Verb {
     List,
@@ -236,7 +236,7 @@ enum Verb {
     Compare,
 }
 
-/// Returns what the parsed arguments ask for.
+/// Returns the request in `matches`, the parsed arguments.
 pub fn call_in<'a>(alloc: Global, matches: &ArgMatches<'a>) -> Result<Call<'a>, Error>
     ensures order { IfOk result (λ call. IsOrderIn (subcommand_rows_of matches.now) call.order) }
     ensures explained { IfOk result (λ call.
@@ -249,7 +249,7 @@ pub fn call_in<'a>(alloc: Global, matches: &ArgMatches<'a>) -> Result<Call<'a>, 
     })
 }
 
-/// Returns what the arguments of the command ask for. The parser guarantees that there is a
+/// Returns the command in `matches`, with its arguments. The parser guarantees that there is a
 /// command.
 fn order_of<'a>(alloc: Global, matches: &ArgMatches<'a>) -> Result<Order<'a>, Error>
     ensures ok { IfOk result (IsOrderIn (subcommand_rows_of matches.now)) }
@@ -261,7 +261,7 @@ fn order_of<'a>(alloc: Global, matches: &ArgMatches<'a>) -> Result<Order<'a>, Er
     }
 }
 
-/// Returns what the arguments of command `name` ask for.
+/// Returns command `name` with the arguments `words`.
 fn order_by<'a>(alloc: Global, name: &str, words: &ArgMatches<'a>) -> Result<Order<'a>, Error>
     ensures ok { IfOk result (IsOrderOf name.now (rows_of (found_of words.now))) }
     ensures err { IfErr result (RefusedFor (IsNoOrderOf name.now (rows_of (found_of words.now)))) }
@@ -272,7 +272,7 @@ fn order_by<'a>(alloc: Global, name: &str, words: &ArgMatches<'a>) -> Result<Ord
     }
 }
 
-/// Returns what the arguments of the command ask for.
+/// Returns command `verb` with the arguments `words`.
 fn order_with<'a>(alloc: Global, verb: Verb, words: &ArgMatches<'a>) -> Result<Order<'a>, Error>
     ensures ok { IfOk result (IsOrderOf (name_of verb) (rows_of (found_of words.now))) }
     ensures err { IfErr result (RefusedFor (IsNoOrder verb (rows_of (found_of words.now)))) }
@@ -292,7 +292,7 @@ fn order_with<'a>(alloc: Global, verb: Verb, words: &ArgMatches<'a>) -> Result<O
     })
 }
 
-/// Returns the command named `name`.
+/// Returns the command named `name`, if there is one.
 fn verb_of(name: &str) -> Option<Verb>
     ensures some { IfSome result (λ verb. name.now ≡ name_of verb) }
     ensures none { IfNone result ((verb : Verb) → name.now ≢ name_of verb) }

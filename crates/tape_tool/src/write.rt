@@ -1,4 +1,4 @@
-//! `write`: file sets written as images.
+//! `write`: writes file sets as images.
 pub mod guard;
 pub mod report;
 pub mod run;

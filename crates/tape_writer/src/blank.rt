@@ -20,7 +20,7 @@ pub struct Prefix {
 }
 
 impl Prefix {
-    /// Returns the prefix, or `None` if `text` is not three such characters.
+    /// Returns the prefix, or `None` if `text` is not three of these characters.
     pub fn new(text: &str) -> Option<Prefix>
         ensures some { IsSome result ↔ IsPrefix text.now }
         ensures same { IfSome result (λ prefix. prefix.characters ≡ text.now) }

@@ -27,13 +27,14 @@ use crate::tape::Tape;
 use tape_blocks::Packer;
 use tape_label::Vol1;
 
-/// The end of a volume inside a file: a mark, EOV1, EOV2, two marks and the end-of-medium marker.
+/// The size of the end of a volume inside a file: a mark, EOV1, EOV2, two marks and the
+/// end-of-medium marker.
 const VOLUME_END: u32 = 192;
 
-/// The end of a file: a mark, EOF1, EOF2 and a mark.
+/// The size of the end of a file: a mark, EOF1, EOF2 and a mark.
 const FILE_END: u32 = 184;
 
-/// The headers of one more file: HDR1, HDR2 and a mark.
+/// The size of the headers of one more file: HDR1, HDR2 and a mark.
 const HEADERS: u32 = 180;
 
 impl<T: TapeOut> Tape<T> {
@@ -45,7 +46,7 @@ impl<T: TapeOut> Tape<T> {
         u64::from(self.course.used) + u64::from(more) <= u64::from(capacity)
     }
 
-    /// Writes a data block, after a change of the volume if it does not fit.
+    /// Writes a data block, on the next volume if it does not fit on the current one.
     #[tactic(auto, using(crate::proofs::Last::kept))]
     pub(crate) fn write_block(
         &mut self,
@@ -66,8 +67,8 @@ impl<T: TapeOut> Tape<T> {
             self.old.course d
             → OnOk result (Grew (T.holds self.new.out) volumes.now capacity set_id file.now
             self.new.course d b) }
-        // Unless a volume was needed and none was left, the tapes contain a prefix of the same
-        // items.
+        // Unless a volume was needed and none was left, the tapes contain a prefix of the items of
+        // a complete call.
         ensures front { (set_id : List ℕ) (d : Draft) (b : Filled) → b.bytes ≡ bytes.now
             → IsOpen (T.holds self.old.out) volumes.now capacity set_id file.now
             self.old.course d
@@ -98,8 +99,8 @@ impl<T: TapeOut> Tape<T> {
         self.add_block(bytes)
     }
 
-    /// Writes the file's last block, and ends the file, after a change of the volume if its end
-    /// does not fit.
+    /// Writes the file's last block, and then ends the file, on the next volume if the end does not
+    /// fit on the current one.
     #[tactic(auto, using(crate::proofs::Last::kept))]
     pub(crate) fn end_file(
         &mut self,

@@ -13,7 +13,7 @@ use tape_label::{Head1, Head2};
 pub struct Opened {
     /// The fields of HDR1 in the file's first section.
     pub head: Head1,
-    /// How the file's blocks contain its records.
+    /// The shape of the file's blocks and records.
     pub shape: Shape,
 }
 

@@ -1,9 +1,9 @@
-//! Why nothing more was written.
+//! The reasons why nothing more was written.
 
 ghost use Rattle.std.specs.Prelude.{◌≡◌};
 ghost use Rattle.tape_writer.specs.Faults.{IsOfOut};
 
-/// Why a call of a `TapeOut` was refused.
+/// The reason why a call to a `TapeOut` was refused.
 #[derive(Clone, Copy, Debug, PartialEq, Eq)]
 pub enum OutFault {
     /// The device failed.
@@ -12,7 +12,7 @@ pub enum OutFault {
     OutOfMemory,
 }
 
-/// Why a call of a set writer was refused.
+/// The reason why a call to a set writer was refused.
 ///
 /// After `OutOfVolumes`, `Device` and `OutOfMemory` every call returns `Failed`; every other fault
 /// leaves the writer unchanged. If several faults apply, the first is returned in the order
@@ -45,7 +45,7 @@ pub enum WriteFault {
     Finished,
 }
 
-/// Why a set was not written completely.
+/// The reason why a set was not written completely.
 #[derive(Clone, Copy, Debug, PartialEq, Eq)]
 pub enum SetFault {
     /// The fault with which the set writer refused a call, or for which a record could not be

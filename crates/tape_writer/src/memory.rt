@@ -1,4 +1,4 @@
-//! Volumes in memory.
+//! In-memory volumes.
 
 ghost use Rattle.std.specs.Prelude.{◌≡◌, ◌≤◌, [], length, slice_get};
 ghost use Rattle.std.specs.Option.{option_map, option_copied};
@@ -12,7 +12,7 @@ use std::marker::Model;
 use tape_image::Item;
 use tape_label::Vol1;
 
-/// An item in memory.
+/// An item of an in-memory volume.
 #[derive(Drop)]
 enum Kept {
     /// A block.
@@ -28,10 +28,10 @@ fn nth<T>(elements: &[T], n: usize) -> Option<&T>
     elements.get(n)
 }
 
-/// Keeps the volumes in memory.
+/// A `TapeOut` that keeps the volumes in memory.
 ///
-/// `count`, `length` and `item` return the contents. Returns `Device` if there is no current
-/// volume.
+/// `count`, `length` and `item` return the contents. A call that needs a current volume returns
+/// `Device` if there is none.
 #[derive(Drop)]
 pub struct MemoryTapes {
     alloc: Global,

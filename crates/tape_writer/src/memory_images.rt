@@ -1,4 +1,4 @@
-//! Images in memory.
+//! In-memory images.
 
 ghost use Rattle.std.specs.Prelude.{◌≡◌, [], Some, false, IfOk, map, vec_capacity};
 ghost use Rattle.tape_writer.specs.Kept.{HoldsImages};
@@ -8,7 +8,7 @@ use std::alloc::{AllocError, Global};
 use std::io::{Result as IoResult, Write};
 use tape_label::Vol1;
 
-/// An image in memory, as far as it has been written.
+/// An in-memory image, as far as it has been written.
 #[derive(Drop)]
 pub struct MemoryImage {
     pub bytes: Vec<u8>,
@@ -27,7 +27,7 @@ impl Write for MemoryImage {
     }
 }
 
-/// Keeps images in memory.
+/// An image store that keeps the images in memory.
 #[derive(Drop)]
 pub struct MemoryImages {
     alloc: Global,
@@ -40,7 +40,7 @@ impl MemoryImages {
     ///
     /// # Errors
     ///
-    /// `AllocError` if there is no memory for a list of `count` images.
+    /// Returns `AllocError` if there is no memory for a list of `count` images.
     pub fn new(alloc: Global, count: usize) -> Result<Self, AllocError>
         ensures left { IfOk result (λ images. images.left ≡ count) }
         ensures held { IfOk result (λ images. HoldsImages (map (λ v. v.items) images.images.items)

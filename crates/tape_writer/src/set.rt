@@ -27,9 +27,9 @@ const MOST_VOLUMES: usize = 9_999;
 /// volume (ECMA-13, 4th edition: the order of labels and tape marks on volumes, file sections).
 ///
 /// The caller begins each file, puts its records, and ends it, one file after another. The writer
-/// writes all labels, packs the records into blocks, and changes the volume if a block or the end
-/// of a file does not fit. It keeps one block in memory, and the heads and shapes of the files that
-/// have ended.
+/// writes all labels, packs the records into blocks, and changes the volume if a block or the
+/// end-of-file labels do not fit. It keeps one block in memory, and the heads and shapes of the
+/// files that have ended.
 ///
 /// Its contracts guarantee that the volumes are those of a valid file set: its files, in order,
 /// have the given heads and shapes and contain exactly the given records, and a new block or volume
@@ -64,7 +64,7 @@ impl<T: TapeOut + Drop> Model for SetWriter<T> {
     ghost invariant = { λ w. IsSound w.volumes.items w.capacity w.tape.course w.phase };
 }
 
-/// Why no writer was created, and the output that was passed.
+/// The fault because of which no writer was created, and the output that was passed.
 #[derive(Drop)]
 pub struct RefusedWriter<T: TapeOut + Drop> {
     pub fault: WriteFault,
@@ -80,9 +80,9 @@ impl<T: TapeOut + Drop> SetWriter<T> {
     ///
     /// # Errors
     ///
-    /// `BadField` if the set identifier, or a field of a volume other than its version, contains a
-    /// byte that is not an a-character; `OutOfVolumes` if there are no volumes; `TooMany` if there
-    /// are more than 9,999. A refusal returns `out`, and drops the labels.
+    /// Returns `BadField` if the set identifier, or a field of a volume other than its version,
+    /// contains a byte that is not an a-character; `OutOfVolumes` if there are no volumes;
+    /// `TooMany` if there are more than 9,999. A refusal returns `out`, and drops the labels.
     pub fn new(
         alloc: Global,
         set_id: Field<6>,
@@ -158,9 +158,9 @@ impl<T: TapeOut + Drop> SetWriter<T> {
         }
     }
 
-    /// Returns the size of the current or last volume as an image so far, in bytes: 0 before the
-    /// first file; including the end-of-medium marker after `finish`; after a failure the number of
-    /// bytes accepted.
+    /// Returns the size of the current or last volume as an image so far, in bytes. The size is 0
+    /// before the first file, includes the end-of-medium marker after `finish`, and is the number
+    /// of bytes accepted after a failure.
     pub fn used(&self) -> u32
         ensures { result ≡ self.now.course.used }
     {

@@ -1,4 +1,4 @@
-//! The sections missing from the sets on some reels.
+//! Finds the sections missing from the sets on some reels.
 use super::reel::SECOND_BAD;
 use std::alloc::Global;
 use std::io::Read;

@@ -3,7 +3,7 @@ use std::test::Fail;
 use tape_blocks::{BlockFault, Offer, Packer, Parts, Shape, check_block};
 use tape_label::Format;
 
-/// The counts so far.
+/// The records and bytes counted so far, and whether a record is unfinished.
 #[derive(Clone, Copy, Debug, PartialEq, Eq)]
 struct Counts {
     records: u64,

@@ -18,8 +18,8 @@ enum Outcome {
     Stopped(usize),
 }
 
-/// Returns the records of a file from two readings, each followed by a line feed, if the whole file
-/// was read.
+/// Appends the records of the file to `lines`, each followed by a line feed, if the two readings
+/// have the whole file.
 fn lines_of<R: Read>(
     alloc: Global,
     set_id: Field<6>,

@@ -1,4 +1,4 @@
-//! How a reader processes the items of a reel.
+//! The processing of the items of a reel.
 
 ghost use Rattle.std.specs.Prelude.{◌≡◌, ◌≢◌, false, Some, ◌<◌, ◌≤◌, ◌⊎◌, Bool, List, true, length};
 ghost use Rattle.std.specs.Prelude.{OnOk, IfOk, Ok, not};
@@ -231,9 +231,9 @@ impl ReaderCore {
     }
 }
 
-/// Returns whether a block, if it is block number `number`, leaves a record unfinished, or why it
-/// is refused. `part` is the number of its parts already delivered; `begun` says whether a record
-/// is unfinished before the next one.
+/// Returns whether `block`, as block number `number`, leaves a record unfinished, or the reason why
+/// it is refused. `part` is the number of its parts already delivered; `begun` says whether a
+/// record is unfinished before the next one.
 #[inline(always)]
 fn judge_awaited(
     form: &Known,

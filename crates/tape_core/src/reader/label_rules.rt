@@ -194,7 +194,7 @@ pub(crate) fn heading_of(head: &Head1) -> Heading
     }
 }
 
-/// Returns whether the form is known and has another file identifier.
+/// Returns whether the form is known and has a file identifier other than `file_id`.
 pub(crate) fn other_file_id(known: &Option<Known>, file_id: &Field<17>) -> bool
     ensures { result ≡ Labels.other_file_id known.now file_id.now }
 {
@@ -204,7 +204,7 @@ pub(crate) fn other_file_id(known: &Option<Known>, file_id: &Field<17>) -> bool
     }
 }
 
-/// Returns whether the form is known and has another format, record length or offset.
+/// Returns whether the form is known and has another format, record length or offset than `form`.
 pub(crate) fn other_shape(known: &Option<Known>, form: &Known) -> bool
     ensures { result ≡ Labels.other_shape known.now form.now }
 {

@@ -17,7 +17,7 @@ use Rattle.tape_run.proofs.reel_reader.refused_point.Reads as refused_point
 use Rattle.tape_run.proofs.reel_reader.ReelReader.put_block.Reads as put_block
 use Rattle.tape_run.proofs.reel_reader.ReelReader.take.Reads as take
 
--- a sink of this kind contains only one list of parts, as a sink in memory does
+-- a sink of this kind contains only one list of parts, as an in-memory sink does
 abbrev HoldsOne : (List Portion → Type 0) → Type 0
 HoldsOne holds = (xs ys : List Portion) → holds xs → holds ys → xs ≡ ys
 

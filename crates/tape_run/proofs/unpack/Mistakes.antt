@@ -23,7 +23,13 @@ use Rattle.tape_run.proofs.unpack.set_of.Reads as set_of
 use Rattle.tape_run.proofs.unpack.name.file_name.Reads as file_name
 use Rattle.tape_run.proofs.unpack.line.file_line.Reads as file_line
 use Rattle.tape_run.proofs.unpack.line.unpack_outcome_text.Reads as unpack_outcome_text
-use Rattle.tape_run.proofs.unpack.line.left_over_line.Reads as left_over_line
+use Rattle.tape_run.proofs.unpack.line.notice_line.Reads as notice_line
+use Rattle.tape_run.proofs.unpack.choice.FileChoice.chooses.Reads as chooses
+use Rattle.tape_run.proofs.unpack.tally.Tally.count.Reads as count
+use Rattle.tape_run.specs.declared.unpack.line.Notice.TheVariants as notices
+use Rattle.tape_run.specs.declared.unpack.tally.Tally.{Tally}
+use Rattle.tape_run.specs.UnpackChoice.{IsOfSet}
+use Rattle.tape_run.specs.UnpackTally.{nothing_counted, counted}
 
 -- slash_kept: the name of a file leads into another folder
 slash_kept : (κs : _) (a : _) (z : _) (s : _) → file_name.Learnt κs a z s
@@ -71,16 +77,17 @@ final_stop_kept κs a z s h set file name w =
 
 -- path_left_out: it is not told where the records of a file are
 path_left_out : (κs : _) (a : _) (z : _) (s : _) → file_line.Learnt κs a (Ok z) s
-    → a.1.0.now ≡ codes "ABC001" → a.1.1.0 ≡ 1 → a.1.1.1.0.now ≡ codes "EXISTS"
-    → a.1.1.1.1.0.now ≡ codes "out/ABC001.1.PAYROLL"
+    → a.1.0.now.set_id ≡ codes "ABC001" → a.1.0.now.file ≡ 1 → a.1.1.0 ≡ outcomes.Exists
+    → a.1.1.1.0.now ≡ [] → a.1.1.1.1.0.now ≡ codes "out/ABC001.1.PAYROLL"
     → z.items ≡ codes "FILE ABC001 1 EXISTS\n" → ⊥
 unfolding digits
-path_left_out κs a z s h set file told path w =
+path_left_out κs a z s h set file told no_details path w =
     absurd (let e : 10 ≡ 32 = ap (λ v. slice_index v 20) (sym w ∙ h
-    ∙ ap (λ x. lines.file_line x a.1.1.0 a.1.1.1.0.now a.1.1.1.1.0.now) set
-    ∙ ap (λ n. lines.file_line (codes "ABC001") n a.1.1.1.0.now a.1.1.1.1.0.now) file
-    ∙ ap (λ x. lines.file_line (codes "ABC001") 1 x a.1.1.1.1.0.now) told
-    ∙ ap (lines.file_line (codes "ABC001") 1 (codes "EXISTS")) path) in omega arith)
+    ∙ ap (λ x. lines.file_line x a.1.0.now.file a.1.1.0 a.1.1.1.0.now a.1.1.1.1.0.now) set
+    ∙ ap (λ n. lines.file_line (codes "ABC001") n a.1.1.0 a.1.1.1.0.now a.1.1.1.1.0.now) file
+    ∙ ap (λ x. lines.file_line (codes "ABC001") 1 x a.1.1.1.0.now a.1.1.1.1.0.now) told
+    ∙ ap (λ x. lines.file_line (codes "ABC001") 1 outcomes.Exists x a.1.1.1.1.0.now) no_details
+    ∙ ap (lines.file_line (codes "ABC001") 1 outcomes.Exists []) path) in omega arith)
 
 -- mixed_told_as_kept: labels of different files were met, and that is not told
 mixed_told_as_kept : (κs : _) (z : _) (s : _)
@@ -89,11 +96,26 @@ mixed_told_as_kept : (κs : _) (z : _) (s : _)
 mixed_told_as_kept κs z s h w =
     absurd (let e : 69 ≡ 67 = ap (λ v. slice_index v 0) (sym w ∙ h) in omega arith)
 
--- left_over_not_told: something on the images is left over, and that is not told
-left_over_not_told : (κs : _) (z : _) (s : _) → left_over_line.Learnt κs (false, tt) z s
-    → z.now ≡ [] → ⊥
-left_over_not_told κs z s h w =
-    absurd (let e : 0 ≡ 18 = ap length (sym w ∙ h) in omega arith)
+-- left_over_not_told: an image was not read, and a line says that no set was found
+left_over_not_told : (κs : _) (a : _) (z : _) (s : _) → notice_line.Learnt κs a (Ok z) s
+    → a.1.0 ≡ notices.Unread → a.1.1.0.now ≡ codes "a" → z.items ≡ codes "NO SET a\n" → ⊥
+left_over_not_told κs a z s h notice name w =
+    absurd (let e : 78 ≡ 73 = ap (λ v. slice_index v 0) (sym w ∙ h
+    ∙ ap (λ n. lines.notice_line n a.1.1.0.now) notice) in omega arith)
+
+-- conflict_counted_as_complete: a file in conflict is counted as a complete one
+conflict_counted_as_complete : (κs : _) (t : _) (s : _)
+    → count.Learnt κs (t, (outcomes.Conflict, (1, tt))) tt s → t.now ≡ nothing_counted
+    → s.0.now.complete ≡ 1 → ⊥
+conflict_counted_as_complete κs t s h none w =
+    absurd (let e : 1 ≡ 0 = sym w ∙ ap (λ (x : Tally). x.complete) (h
+    ∙ ap (λ x. counted x outcomes.Conflict 1) none) in omega arith)
+
+-- file_of_other_set_chosen: a set is named, and a file of another one is chosen
+file_of_other_set_chosen : (κs : _) (a : _) (s : _) (set : List ℕ) → chooses.Learnt κs a true s
+    → a.0.now.set_id ≡ Some set → a.1.0.now.set_id ≢ set → ⊥
+file_of_other_set_chosen κs a s set h named other =
+    other (subst (λ o. IsOfSet o a.1.0.now) named (h.0 refl).set)
 
 -- without images nothing was found
 none_found : {L R : Type 0} (gives : Mounting L R) (remaining : R → Option (List ℕ))

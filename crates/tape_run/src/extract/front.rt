@@ -20,14 +20,14 @@ use tape_core::{PartWalk, SinkFault};
 /// The records written during the first walk over the parts of a sink.
 #[derive(Clone, Copy)]
 pub struct Front {
-    /// How many parts were written, each of which is a record.
+    /// The number of parts that were written, each of which is a record.
     pub records: u64,
     /// Whether the sink has no other parts.
     pub all: bool,
 }
 
-/// Writes the records that the parts of the sink join to, and returns their number. An unfinished
-/// record is left out.
+/// Writes the records into which the parts of the sink join, and returns their number. An
+/// unfinished record is left out.
 ///
 /// Only blocks of format S contain parts that end no record. Without such parts the sink is walked
 /// once; otherwise the records are counted before the rest is written.
@@ -95,8 +95,8 @@ fn write_front<S: PartWalk, W: Write>(
     }
 }
 
-/// Writes what the parts after the first `n` join to, each of which ends a record, and returns how
-/// many records all parts join to.
+/// Writes the records into which the parts after the first `n` join, and returns the number of
+/// records into which all parts join. Each of the first `n` parts ends a record.
 fn write_rest<S: PartWalk, W: Write>(
     sink: &mut S,
     passed: u64,

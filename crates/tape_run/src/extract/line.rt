@@ -36,7 +36,7 @@ impl fmt::Display for ReelLine {
     }
 }
 
-/// What ended a reading.
+/// The text of the answer that ended a reading.
 #[derive(Clone, Copy)]
 struct AnswerText(Answer);
 
@@ -57,7 +57,7 @@ impl fmt::Display for AnswerText {
     }
 }
 
-/// Why a reading yielded nothing more.
+/// The text of the reason why a reading yielded nothing more.
 #[derive(Clone, Copy)]
 struct ReasonText(Reason);
 

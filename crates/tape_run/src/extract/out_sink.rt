@@ -32,17 +32,17 @@ const MOST_STAGED: u64 = 999_999_999_999_999;
 pub struct OutSink<W> {
     /// The writer of the records.
     out: W,
-    /// How records are terminated.
+    /// The form in which records are terminated.
     form: Form,
     /// The weight of the parts.
     weight: u64,
-    /// How many records have ended.
+    /// The number of records that have ended.
     records: u64,
     /// Whether a record is unfinished.
     begun: bool,
     /// Whether a write failed.
     failed: bool,
-    /// How many calls were refused.
+    /// The number of calls that were refused.
     refused: u64,
     ghost light: { weight ≤ most_staged },
     ghost few: { records ≤ weight },

@@ -18,7 +18,7 @@ use std::io::Write;
 use std::marker::Model;
 use tape_image::{ImageWriteFault, ImageWriter, Item};
 
-/// What a candidate is.
+/// The kind of a candidate.
 #[derive(Clone, Copy)]
 pub(crate) enum Kind {
     /// No reading has an item here.
@@ -94,7 +94,7 @@ impl Candidate {
         matches!(self.kind, Kind::Bad)
     }
 
-    /// What the item is, if there is one.
+    /// The kind of the item, if there is one.
     pub(crate) fn kind(&self) -> Option<ItemKind>
         ensures none { self.now ≡ None → result ≡ None }
         ensures some { IfSome self.now (λ x. result ≡ Some (kind_at x)) }
@@ -107,7 +107,8 @@ impl Candidate {
         }
     }
 
-    /// What is expected after the item on a labelled volume, and the section that it completes.
+    /// Returns what is expected after the item on a labelled volume, and the section that the item
+    /// completes.
     pub(crate) fn step(&self, phase: Phase) -> (Phase, Option<Told>)
         requires { blocks_of phase < most_blocks }
         ensures { IfSome self.now (λ x. result ≡ step phase x) }

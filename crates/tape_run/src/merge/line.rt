@@ -16,18 +16,18 @@ use crate::text::{Text, put, put_decimal};
 use std::alloc::{AllocError, Global};
 use std::io::Read;
 
-/// The items read from an image in parallel with others.
+/// The line about an image that is read in parallel with others.
 #[derive(Clone, Copy)]
 pub(crate) struct ReadingLine {
-    /// How many items.
+    /// The number of items.
     pub items: u64,
-    /// How many of these items are bad.
+    /// The number of bad items among them.
     pub bad: u64,
-    /// How the reading stopped, if it did.
+    /// The end of the reading, if it has stopped.
     pub stop: Option<ImageStop>,
 }
 
-/// How the merged image ends.
+/// The end of the merged image.
 #[derive(Clone, Copy, PartialEq, Eq)]
 pub(crate) enum MergedEnd {
     /// By an end word.
@@ -225,7 +225,7 @@ fn kind_of(length: u64) -> ItemKind
     }
 }
 
-/// Returns the name of the image with this number, counted from 0.
+/// Returns the name of image `number`, counted from 0.
 pub(crate) fn name_at<'n>(names: &[&'n str], number: usize) -> &'n str
     ensures { result.now ≡ name_at (map (λ n. n.now) names.now) number }
 {

@@ -1,4 +1,5 @@
-//! The log of a merge: a row for each item that fewer than two readings have, or one has as bad.
+//! The log of a merge: a row for each item that fewer than two readings have, or that is bad in
+//! one.
 
 ghost use Rattle.std.specs.Prelude.{◌≡◌, ◌++◌, codes, decimal, map, IfOk, OnOk};
 ghost use Rattle.std.specs.Io.KnownBytes.{Appends};
@@ -15,7 +16,7 @@ use crate::text::{Text, put, put_decimal, write_text};
 use std::alloc::{AllocError, Global};
 use std::io::{Read, Write};
 
-/// The names of the columns: those of the images are last.
+/// The names of the columns: the names of the images come last.
 pub(crate) fn log_head(alloc: Global, names: &[&str]) -> Result<Vec<u8>, AllocError>
     ensures { IfOk result (λ head. head.items ≡ log_head (map (λ n. n.now) names.now)) }
 {
@@ -29,7 +30,8 @@ pub(crate) fn log_head(alloc: Global, names: &[&str]) -> Result<Vec<u8>, AllocEr
     Ok(head)
 }
 
-/// Writes the row of the candidate, unless two readings have it and none has a bad item there.
+/// Writes the row of the candidate, unless at least two readings have it, and none has a bad item
+/// there.
 pub(crate) fn log_item<R: Read, G: Write>(
     number: u64,
     best: &Candidate,
@@ -62,7 +64,7 @@ fn log_cells<R: Read, G: Write>(readings: &[Reading<'_, R>], log: &mut G) -> Res
     Ok(())
 }
 
-/// Whether one of the readings has a bad item.
+/// Returns whether one of the readings has a bad item.
 fn has_bad<R: Read>(readings: &[Reading<'_, R>]) -> bool
     ensures { result ≡ has_bad_verdict readings.now }
 {
@@ -85,7 +87,7 @@ fn row_head(number: u64, kind: ItemKind) -> Text
     row
 }
 
-/// What a reading has of it.
+/// The item of a reading there.
 fn cell(verdict: Verdict) -> &'static [u8]
     ensures { result.now ≡ verdict_cell verdict }
 {

@@ -28,7 +28,7 @@ use std::alloc::{AllocError, Global};
 use std::io::{Read, Write};
 use tape_image::{Ending, ImageWriteFault, ImageWriter};
 
-/// What came of merging.
+/// The result of merging.
 #[derive(Clone, Copy, Debug, PartialEq, Eq)]
 pub enum MergeEnd {
     /// The merged image is complete, as far as its readings show.
@@ -39,12 +39,13 @@ pub enum MergeEnd {
     Differs,
 }
 
-/// Why there is no merged image, although no two readings were found to differ.
+/// The reason why there is no merged image, although no two readings were found to differ.
 #[derive(Clone, Copy, Debug, PartialEq, Eq)]
 pub enum MergeStop {
-    /// The image with this number, counted from 0, could not be opened.
+    /// The image with the given number, counted from 0, could not be opened.
     NotOpened(usize),
-    /// The merged image would be longer than an image may be: it has this number of bytes so far.
+    /// The merged image would be longer than an image may be. The number is that of its bytes so
+    /// far.
     TooLong(u64),
     OutOfMemory,
     /// The merged image or the report could not be written.
@@ -81,9 +82,9 @@ fn write_stop(fault: ImageWriteFault, size: u64) -> MergeStop
 
 /// Reads the images of a shelf side by side, all of them opened first, and writes to `out` the tape
 /// that they make together, and to `log` a row for each item that fewer than two of them have, or
-/// one has as bad. Then the log is flushed, `place` puts `out` in its place, and the report ends
-/// with its line. If the images differ, the log is not flushed, the place is not touched, and the
-/// report says what each image has at that item.
+/// that is bad in one. Then the log is flushed, `place` puts `out` in its place, and the report
+/// ends with its line. If the images differ, the log is not flushed, the place is not touched, and
+/// the report says what each image has at that item.
 ///
 /// It allocates 100,000 bytes for each image, what mounting takes, and 200,000.
 ///
@@ -256,8 +257,9 @@ fn whole_or_partial(merged: &Merged, end: MergedEnd) -> MergeEnd
     }
 }
 
-/// Returns how the merged image ends: as one of its longest readings, with an end-of-medium marker
-/// if one of them does.
+/// Returns the end of the merged image: an end-of-medium marker if one of the longest readings has
+/// one, otherwise the end of its bytes if one of them reached it, otherwise the fault at which all
+/// of them stopped.
 fn end_of<R: Read>(readings: &[Reading<'_, R>], items: u64) -> MergedEnd
     ensures { EndsAs items readings.now result }
 {
@@ -274,7 +276,7 @@ fn end_of<R: Read>(readings: &[Reading<'_, R>], items: u64) -> MergedEnd
     end
 }
 
-/// Reports a line for each reading.
+/// Writes the line of each reading to the report.
 fn report_readings<R: Read, P: Write>(
     alloc: Global,
     readings: &[Reading<'_, R>],

@@ -34,8 +34,8 @@ pub fn open_all<'r, R: Read>(
 }
 
 /// Merges readings of images, which are read side by side, and writes the tape that they make
-/// together, and the rows of the log. Afterwards the fields of each reading say what was taken of
-/// it, and how it stopped.
+/// together, and the rows of the log. Afterwards the fields of each reading say which items were
+/// read, and how the reading stopped.
 ///
 /// It allocates 200,000 bytes.
 ///

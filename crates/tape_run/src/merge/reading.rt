@@ -11,7 +11,7 @@ use std::alloc::AllocError;
 use std::io::Read;
 use tape_image::{ImageFault, ImageReader, Item};
 
-/// How the item of one reading compares with those of the readings before it.
+/// The result of comparing the item of one reading with the items of the readings before it.
 #[derive(Clone, Copy, Debug, PartialEq, Eq)]
 pub enum Verdict {
     /// It is the first item that could be read, or equal to it.
@@ -32,15 +32,15 @@ pub enum Verdict {
 #[derive(Drop)]
 pub struct Reading<'r, R: Read> {
     pub image: ImageReader<'r, R>,
-    /// How many items were read.
+    /// The number of items that were read.
     pub items: u64,
-    /// How many of these items are bad.
+    /// The number of bad items among them.
     pub bad: u64,
     /// The byte offset at which the last of them begins, including an erase gap before it.
     pub from: u64,
     /// The number of bytes of the last item, or 0 if it is not a block.
     pub length: u64,
-    /// How its current item compares.
+    /// The verdict on its current item.
     pub verdict: Verdict,
 }
 

@@ -25,8 +25,8 @@ pub struct SectionCopy {
     pub image: usize,
     /// The section, and its data.
     pub section: OpenSection,
-    /// How it ended. If it is `None`, the section did not close, and may have other data than were
-    /// found.
+    /// The end of the section. If it is `None`, the section did not close, and may have other data
+    /// than were found.
     pub closed: Option<Closing>,
     /// If its HDR1 was not read: how many items of the image precede its data.
     pub skip: Option<u64>,

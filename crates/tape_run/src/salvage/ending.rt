@@ -18,7 +18,7 @@ use crate::salvage::walk::Closing;
 use crate::text::write_text;
 use std::io::Write;
 
-/// How a section ended.
+/// The end of a section.
 #[derive(Clone, Copy)]
 pub enum SectionEnd {
     /// The file ends with it.

@@ -24,11 +24,11 @@ use tape_label::Format;
 pub struct Mender<W> {
     /// The writer of the records.
     out: W,
-    /// How they are written.
+    /// The form in which records are written.
     form: Form,
     /// The bytes of an unfinished record.
     unfinished: Vec<u8>,
-    /// How many records were written.
+    /// The number of records that were written.
     records: u64,
     /// Whether a record is unfinished.
     begun: bool,

@@ -1,5 +1,5 @@
-//! What is expected after an item outside of sections, where a section may begin. A section whose
-//! first label was not read is identified by its trailer label.
+//! The step after an item outside of sections, where a section may begin. A section whose first
+//! label was not read is identified by its trailer label.
 
 ghost use Rattle.std.specs.Prelude.{◌≡◌, if◌then◌else◌};
 ghost use Rattle.tape_run.specs.SalvageWalk as Walk;

@@ -24,11 +24,11 @@ pub struct OpenSection {
     pub file_id: Field<17>,
     /// The form of its blocks in its HDR2 or, if no HDR2 was read, in its EOF2 or EOV2.
     pub form: Option<Known>,
-    /// How many data items it has so far, including unreadable ones.
+    /// The number of data items so far, including unreadable ones.
     pub blocks: u32,
-    /// How many data items precede the first unreadable item after its HDR1.
+    /// The number of data items before the first unreadable item after the section's HDR1.
     pub certain: Option<u32>,
-    /// How many of its data items are unreadable.
+    /// The number of unreadable data items.
     pub unreadable: u32,
     /// If its HDR1 was not read: how many items follow its data so far.
     pub after: Option<u32>,
@@ -38,13 +38,13 @@ pub struct OpenSection {
 /// label was not read.
 #[derive(Clone, Copy)]
 pub struct UnnamedItems {
-    /// How many.
+    /// The number of items.
     pub items: u32,
-    /// How many of them are unreadable.
+    /// The number of unreadable items.
     pub unreadable: u32,
 }
 
-/// What is expected next.
+/// The kind of item that is expected next.
 #[derive(Clone, Copy)]
 pub enum Expected {
     /// A section's first label, at any block. After two tape marks only a trailer label shows that
@@ -52,13 +52,13 @@ pub enum Expected {
     Outside(u8),
     /// A section's second label.
     Second(OpenSection),
-    /// What follows a section's labels, up to a tape mark.
+    /// Blocks that follow a section's labels, up to a tape mark.
     Headers(OpenSection),
     /// A section's data, up to a tape mark.
     Data(OpenSection),
     /// A section's first trailer label.
     Trailer(OpenSection),
-    /// What follows a section's trailer label, up to a tape mark.
+    /// Blocks that follow a section's trailer label, up to a tape mark.
     Trailers(OpenSection, Closing),
     /// The next section, or the mark that ends the volume.
     Next,
@@ -73,7 +73,7 @@ pub enum Expected {
     Skipping(u64, OpenSection),
 }
 
-/// How a section ended.
+/// The end of a section.
 #[derive(Clone, Copy)]
 pub struct Closing {
     /// Whether the file ends with it.

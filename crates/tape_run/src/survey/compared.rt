@@ -196,7 +196,7 @@ fn copy_text(
     }
 }
 
-/// Appends the text for the section at an index.
+/// Appends the text for the section at index `place`.
 fn add_place(
     alloc: Global,
     texts: &mut Vec<u8>,

@@ -27,7 +27,7 @@ pub struct CopyNote {
     pub blocks: u32,
     /// The digest of its data blocks.
     pub digest: u64,
-    /// How many copies agree with it, including itself.
+    /// The number of copies that agree with this one, including itself.
     pub copies: u32,
     /// The number of the image with the first copy that differs from it.
     pub other: Option<usize>,

@@ -1,4 +1,4 @@
-//! How far the items of an image follow the order of a volume.
+//! The extent to which the items of an image are in the order of a volume.
 ghost use Rattle.std.specs.Prelude.{◌≡◌};
 ghost use Rattle.tape_image.specs.Reader.{tape_item};
 ghost use Rattle.tape_run.specs.SurveyGlance.{wanted_in, left_by, behind_mark, behind};
@@ -28,7 +28,7 @@ pub enum ExpectedItem {
     End,
 }
 
-/// How far the items follow the order of a volume.
+/// The extent to which the items are in the order of a volume.
 #[derive(Clone, Copy)]
 pub enum LabelOrder {
     /// All items do so far, and the volume continues.

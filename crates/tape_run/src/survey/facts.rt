@@ -2,9 +2,10 @@
 ghost use Rattle.std.specs.Prelude.{◌≡◌, Some};
 ghost use Rattle.tape_run.specs.SurveyLine.{first_text, written_text, system_text, files_text};
 ghost use Rattle.tape_run.specs.SurveyLine.{bad_text, late_text, unread_text, wanted_text, is_told};
-ghost use Rattle.tape_run.specs.SurveyLine.{left_text, early_text, course_text, is_no_image};
+ghost use Rattle.tape_run.specs.SurveyLine.{left_text, early_text, course_text};
+ghost use Rattle.tape_run.specs.SurveyTally.{is_no_image};
 ghost use Rattle.tape_run.specs.SurveyLine.{guess_text, fault_at, fault_text, stop_text};
-ghost use Rattle.tape_run.specs.SurveyLine.{glance_text, seen_text};
+ghost use Rattle.tape_run.specs.SurveyLine.{course_shown, glance_text, seen_text};
 
 use super::course::{ExpectedItem, LabelOrder};
 use super::damages::DamagesText;
@@ -16,7 +17,7 @@ use std::fmt;
 use tape_image::ImageFault;
 use tape_label::{Field, Head1};
 
-/// What an image begins with.
+/// The kind of item that an image begins with.
 #[derive(Clone, Copy)]
 struct FirstText<'a>(&'a First);
 
@@ -76,7 +77,7 @@ impl fmt::Display for WrittenText<'_> {
     }
 }
 
-/// How many sections it has.
+/// The text of the number of sections.
 #[derive(Clone, Copy)]
 struct FilesText(u32);
 
@@ -93,7 +94,7 @@ impl fmt::Display for FilesText {
     }
 }
 
-/// How many blocks are unreadable.
+/// The number of unreadable blocks.
 #[derive(Clone, Copy)]
 struct BadText(&'static str, u32);
 
@@ -142,7 +143,7 @@ impl fmt::Display for UnreadText {
     }
 }
 
-/// How far it follows the order of a volume.
+/// The extent to which the items are in the order of a volume.
 #[derive(Clone, Copy)]
 struct CourseText(&'static str, LabelOrder, ImageStop);
 
@@ -165,6 +166,16 @@ impl fmt::Display for CourseText {
     }
 }
 
+/// Returns the course that is described: an image without items has none.
+fn course_shown(glance: &ImageSummary) -> LabelOrder
+    ensures { result ≡ course_shown glance.now.first glance.now.course }
+{
+    match glance.first {
+        First::Nothing => LabelOrder::Ended,
+        _ => glance.course,
+    }
+}
+
 /// That the items end before the volume does; a fault says so itself.
 #[derive(Clone, Copy)]
 struct EarlyText(&'static str, ImageStop);
@@ -183,7 +194,7 @@ impl fmt::Display for EarlyText {
     }
 }
 
-/// The item that leaves the order.
+/// The text about the item that breaks the label order.
 #[derive(Clone, Copy)]
 struct LeftText(&'static str, u32, ExpectedItem);
 
@@ -211,7 +222,7 @@ fn is_told(wanted: ExpectedItem) -> bool
     }
 }
 
-/// Returns what the item that leaves the order is not.
+/// Returns the text for the item that was expected in its place.
 fn wanted_text(wanted: ExpectedItem) -> &'static str
     ensures { result.now ≡ wanted_text wanted }
 {
@@ -320,7 +331,7 @@ impl fmt::Display for SeenText<'_> {
     fn fmt<W: fmt::Write>(&self, f: &mut fmt::Formatter<W>) -> fmt::Result {
         let (between, sight) = (self.0, self.1);
         let glance = GlanceText(between, &sight.glance);
-        let course = CourseText(between, sight.glance.course, sight.stop);
+        let course = CourseText(between, course_shown(&sight.glance), sight.stop);
         let stop = StopText(between, sight.stop);
         let damages = DamagesText(between, &sight.glance);
         write!(f, "{glance}{course}{stop}{damages}")

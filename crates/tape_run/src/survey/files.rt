@@ -82,7 +82,7 @@ pub(crate) fn note_met(files: &mut Files, head: Option<Head1>) -> Result<(), Run
     }
 }
 
-/// Returns whether labels of different files were found for the file at an index.
+/// Returns whether labels of different files were found for the file at index `place`.
 fn differs_at(files: &Files, place: usize) -> bool
     requires { place < length files.now.entries }
     ensures { any_differs (take (place + 1) files.now.entries)

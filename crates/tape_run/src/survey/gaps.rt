@@ -10,7 +10,7 @@ use super::view::Findings;
 use crate::text::{Text, put, put_decimal, put_identifier, put_trimmed};
 use tape_label::Field;
 
-/// Returns whether a header label of a file was found.
+/// Returns whether a header label of file `file` of the set was found.
 pub(crate) fn is_found(findings: &Findings, set_id: Field<6>, file: u16) -> bool
     ensures { result ≡ is_found findings.now set_id file }
 {
@@ -92,7 +92,7 @@ fn gap_row(set_id: Field<6>, first: u16, file: u16) -> Text
     put_trimmed(&mut text, &set_id);
     put(&mut text, b"\t");
     put_numbers(&mut text, first, file);
-    put(&mut text, b"\t\t\tMISSING\t1\t\t\n");
+    put(&mut text, b"\t\t\tMISSING\t1\t\t\t1:MISSING;\n");
     text
 }
 

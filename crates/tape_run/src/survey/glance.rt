@@ -1,4 +1,4 @@
-//! What an image is, at a glance over its items.
+//! A summary of an image, from its items alone.
 ghost use Rattle.std.specs.Prelude.{◌≡◌, ◌<◌, ◌≤◌};
 ghost use Rattle.tape_image.specs.Reader.{tape_item};
 ghost use Rattle.tape_image.specs.Begins.{image_limit};
@@ -19,7 +19,7 @@ use crate::section::SectionLine;
 use tape_image::Item;
 use tape_label::{Head1, Kind, Vol1, kind, read_head1, read_head2, read_vol1};
 
-/// What an image begins with.
+/// The kind of item that an image begins with.
 #[derive(Clone, Copy)]
 pub enum First {
     /// It has no items.
@@ -36,20 +36,20 @@ pub enum First {
     Mark,
 }
 
-/// What an image is, at a glance.
+/// The summary of an image.
 #[derive(Clone, Copy)]
 pub struct ImageSummary {
     /// The number of its items.
     pub items: u32,
-    /// What it begins with.
+    /// The kind of item that the image begins with.
     pub first: First,
     /// The number of the first volume label after the first item.
     pub late: Option<u32>,
     /// The first section's `HDR1`.
     pub head: Option<Head1>,
-    /// How many sections begin on it.
+    /// The number of sections that begin on the image.
     pub files: u32,
-    /// How many blocks are unreadable.
+    /// The number of unreadable blocks.
     pub bad: u32,
     /// The number of the first file whose `HDR2` is not supported.
     pub unread: Option<u16>,
@@ -59,7 +59,7 @@ pub struct ImageSummary {
     pub more: bool,
     /// The section whose data or trailer label the items end in.
     pub unfinished: Option<SectionLine>,
-    /// How far it follows the order of a volume.
+    /// The extent to which the items are in the order of a volume.
     pub course: LabelOrder,
 }
 
@@ -90,7 +90,7 @@ fn is_ebcdic(block: &[u8]) -> bool
     block.len() == 80 && &block[..4] == b"\xE5\xD6\xD3\xF1".as_slice()
 }
 
-/// Returns what an image begins with whose first item is `item`.
+/// Classifies an image by its first item, `item`.
 fn first_of(item: Item<'_>) -> First
     ensures { result ≡ first_of (tape_item item.entry) }
 {
@@ -101,7 +101,7 @@ fn first_of(item: Item<'_>) -> First
     }
 }
 
-/// Returns what an image begins with whose first block is `bytes`.
+/// Classifies an image by its first block, `bytes`.
 fn first_block(bytes: &[u8]) -> First
     ensures { result ≡ first_block bytes.now }
 {
@@ -111,7 +111,7 @@ fn first_block(bytes: &[u8]) -> First
     }
 }
 
-/// Returns what an image begins with whose first block is not a supported volume label.
+/// Classifies an image by its first block, `bytes`, which is not a supported volume label.
 fn first_other(bytes: &[u8]) -> First
     ensures { result ≡ first_other bytes.now }
 {
@@ -181,7 +181,7 @@ fn head_of(bytes: &[u8]) -> Option<Head1>
     }
 }
 
-/// Returns the number of the file whose unsupported `HDR2` the item is, if it is one.
+/// Returns the number of the current file if `item` is an `HDR2` that is not supported.
 fn unread_in(phase: &Phase, item: Item<'_>) -> Option<u16>
     ensures { result ≡ unread_in phase.now (tape_item item.entry) }
 {
@@ -191,7 +191,7 @@ fn unread_in(phase: &Phase, item: Item<'_>) -> Option<u16>
     }
 }
 
-/// Returns the number of the file whose unsupported `HDR2` the block is, if it is one.
+/// Returns the number of the current file if `bytes` is an `HDR2` that is not supported.
 fn unread_at(phase: &Phase, bytes: &[u8]) -> Option<u16>
     ensures { result ≡ unread_at phase.now bytes.now }
 {

@@ -1,7 +1,8 @@
 //! The line of an image in a survey.
 ghost use Rattle.std.specs.Prelude.{◌≡◌, Some, replicate};
-ghost use Rattle.tape_run.specs.SurveyLine.{volume_state, empty_state, state_of, opened_text};
-ghost use Rattle.tape_run.specs.SurveyLine.{line_end};
+ghost use Rattle.tape_run.specs.SurveyLine.{opened_text};
+ghost use Rattle.tape_run.specs.SurveyTally.{volume_state, empty_state, state_of};
+ghost use Rattle.tape_run.specs.SurveyLine.{state_word, line_end};
 ghost use Rattle.tape_run.specs.SurveyRows.{words_cell};
 
 use super::facts::{SeenText, is_no_image};
@@ -13,45 +14,74 @@ use std::fmt;
 /// The minimum width of a name in columns.
 const NAME: usize = 24;
 
-/// Returns the state of a volume, padded to a column.
-fn volume_state(sight: &ImageSurvey) -> &'static str
-    ensures { result.now ≡ volume_state sight.now }
+/// The state of an image that was opened.
+#[derive(Clone, Copy)]
+pub(crate) enum ImageState {
+    /// A volume without damage.
+    Ok,
+    /// A volume without sections.
+    Blank,
+    Damaged,
+    Unsupported,
+    /// It has no items.
+    Empty,
+    /// Nothing of it reads as an image.
+    NotTape,
+}
+
+/// Returns the state of a volume.
+fn volume_state(sight: &ImageSurvey) -> ImageState
+    ensures { result ≡ volume_state sight.now }
 {
     if sight.is_sound() {
         return if sight.glance.files == 0 {
-            "blank        "
+            ImageState::Blank
         } else {
-            "ok           "
+            ImageState::Ok
         };
     }
     let ends = is_ended(sight.glance.course) && is_end(sight.stop);
     if ends && sight.glance.damage.is_none() {
-        "unsupported  "
+        ImageState::Unsupported
     } else {
-        "damaged      "
+        ImageState::Damaged
     }
 }
 
-/// Returns the state of an image without items, padded to a column.
-fn empty_state(stop: &ImageStop) -> &'static str
-    ensures { result.now ≡ empty_state stop.now }
+/// Returns the state of an image without items.
+fn empty_state(stop: &ImageStop) -> ImageState
+    ensures { result ≡ empty_state stop.now }
 {
     match stop {
-        ImageStop::Fault(fault) if is_no_image(fault) => "not a tape   ",
-        ImageStop::Fault(_) => "damaged      ",
-        ImageStop::Marked | ImageStop::Physical => "empty        ",
+        ImageStop::Fault(fault) if is_no_image(fault) => ImageState::NotTape,
+        ImageStop::Fault(_) => ImageState::Damaged,
+        ImageStop::Marked | ImageStop::Physical => ImageState::Empty,
     }
 }
 
-/// Returns the state of an image in a word, padded to a column.
-fn state_of(sight: &ImageSurvey) -> &'static str
-    ensures { result.now ≡ state_of sight.now }
+/// Returns the state of an image.
+pub(crate) fn state_of(sight: &ImageSurvey) -> ImageState
+    ensures { result ≡ state_of sight.now }
 {
     match sight.glance.first {
         First::Nothing => empty_state(&sight.stop),
         First::Volume(_) => volume_state(sight),
-        First::Bad => "damaged      ",
-        First::Ebcdic | First::Block(_) | First::Mark => "unsupported  ",
+        First::Bad => ImageState::Damaged,
+        First::Ebcdic | First::Block(_) | First::Mark => ImageState::Unsupported,
+    }
+}
+
+/// Returns the word for a state, padded to a column.
+fn state_word(state: ImageState) -> &'static str
+    ensures { result.now ≡ state_word state }
+{
+    match state {
+        ImageState::Ok => "ok           ",
+        ImageState::Blank => "blank        ",
+        ImageState::Damaged => "damaged      ",
+        ImageState::Unsupported => "unsupported  ",
+        ImageState::Empty => "empty        ",
+        ImageState::NotTape => "not a tape   ",
     }
 }
 
@@ -78,7 +108,7 @@ impl fmt::Display for OpenedText<'_> {
     ghost output = { λ text. Some (opened_text text.0.now) };
 
     fn fmt<W: fmt::Write>(&self, f: &mut fmt::Formatter<W>) -> fmt::Result {
-        let state = state_of(self.0);
+        let state = state_word(state_of(self.0));
         let seen = SeenText("\n    ", self.0);
         write!(f, "{state}{seen}\n")
     }
@@ -103,7 +133,7 @@ impl fmt::Display for LineEnd<'_> {
     }
 }
 
-/// What an image is, or that it was not opened, at the end of its row.
+/// The description of an image at the end of its row, or the text that it was not opened.
 #[derive(Clone, Copy)]
 pub(crate) struct WordsCell<'a>(pub(crate) &'a Option<ImageSurvey>);
 

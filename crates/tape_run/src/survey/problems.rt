@@ -1,5 +1,7 @@
 //! The sections of a file that are damaged or missing.
 ghost use Rattle.std.specs.Prelude.{◌≡◌, ◌≤◌, ◌<◌, ◌+◌, ◌-◌, ◌++◌, OnOk, IfOk, Some};
+ghost use Rattle.std.specs.Prelude.{None};
+ghost use Rattle.tape_run.specs.declared.survey.Wording.TheVariants.{Words, Rows};
 ghost use Rattle.tape_run.specs.Lacks.{entry_at, key_at};
 ghost use Rattle.tape_run.specs.SurveyGaps.{numbers_text};
 ghost use Rattle.tape_run.specs.SurveyProblems.{damage_line, found_line, where_text};
@@ -7,10 +9,12 @@ ghost use Rattle.tape_run.specs.SurveyProblems.{missing_line, missing_text, know
 ghost use Rattle.tape_run.specs.SurveyProblems.{first_after, ends, next_text, sections_from};
 ghost use Rattle.tape_run.specs.SurveyProblems.{problem_lines};
 
+use super::Wording;
 use super::damages::damage_text;
+use crate::check_line::state_text;
 use crate::section::{Entry, SectionKey, SectionState};
 use crate::sections::Sections;
-use crate::text::{Trimmed, append};
+use crate::text::{Text, Trimmed, append, put, put_decimal};
 use std::alloc::{AllocError, Global};
 use std::fmt;
 use tape_label::Field;
@@ -26,7 +30,7 @@ struct DamageLine {
 }
 
 impl fmt::Display for DamageLine {
-    ghost output = { λ line. Some (damage_line line.sect line.entry) };
+    ghost output = { λ line. Some (damage_line Words line.sect line.entry) };
 
     fn fmt<W: fmt::Write>(&self, f: &mut fmt::Formatter<W>) -> fmt::Result {
         let sect = self.sect;
@@ -60,7 +64,7 @@ impl fmt::Display for Numbers {
     }
 }
 
-/// Where to look for missing sections, if the section before them is known.
+/// The text that says where to look for missing sections, if the section before them is known.
 #[derive(Clone, Copy)]
 struct Where(Option<Entry>);
 
@@ -86,7 +90,8 @@ struct MissingLine {
 }
 
 impl fmt::Display for MissingLine {
-    ghost output = { λ line. Some (missing_line line.numbers.first line.numbers.next line.before) };
+    ghost output = { λ line. Some (missing_line Words line.numbers.first line.numbers.next
+        line.before) };
 
     fn fmt<W: fmt::Write>(&self, f: &mut fmt::Formatter<W>) -> fmt::Result {
         let numbers = self.numbers;
@@ -97,26 +102,73 @@ impl fmt::Display for MissingLine {
     }
 }
 
-/// Appends the line about the missing sections `first` to `next - 1`, if there are any.
-fn add_missing(
+/// The numbers of missing sections, in a row.
+#[derive(Clone, Copy)]
+struct MissingCell(Numbers);
+
+impl fmt::Display for MissingCell {
+    ghost output = { λ cell. Some (missing_line Rows cell.0.first cell.0.next None) };
+
+    fn fmt<W: fmt::Write>(&self, f: &mut fmt::Formatter<W>) -> fmt::Result {
+        let numbers = self.0;
+        write!(f, "{numbers}:MISSING;")
+    }
+}
+
+/// The number of a damaged section, in a row.
+fn damage_cell(sect: u16, entry: Entry) -> Text
+    ensures { result.items ≡ damage_line Rows sect entry }
+{
+    let mut text = Text::new();
+    put_decimal(&mut text, u64::from(sect));
+    put(&mut text, b":");
+    put(&mut text, state_text(entry.state));
+    put(&mut text, b";");
+    text
+}
+
+/// Appends the missing sections from this one up to the one before the next.
+fn add_numbers(
     alloc: Global,
     texts: &mut Vec<u8>,
+    wording: Wording,
     sections: &Sections,
     first: &SectionKey,
     next: u16,
 ) -> Result<(), AllocError>
-    ensures { OnOk result (texts.new.items ≡ texts.old.items ++ missing_text sections.now.entries
-        first.now.set_id first.now.file first.now.sect next) }
+    ensures { OnOk result (texts.new.items ≡ texts.old.items ++ missing_line wording first.now.sect
+        next (entry_at sections.now.entries
+        (key_at first.now.set_id first.now.file (first.now.sect - 1)))) }
 {
-    if first.sect >= next {
-        return Ok(());
-    }
     let numbers = Numbers {
         first: first.sect,
         next,
     };
-    let before = before_of(sections, first);
-    append(alloc, texts, MissingLine { numbers, before })
+    match wording {
+        Wording::Words => {
+            let before = before_of(sections, first);
+            append(alloc, texts, MissingLine { numbers, before })
+        }
+        Wording::Rows => append(alloc, texts, MissingCell(numbers)),
+    }
+}
+
+/// Appends the missing sections from this one up to the one before the next, if any.
+fn add_missing(
+    alloc: Global,
+    texts: &mut Vec<u8>,
+    wording: Wording,
+    sections: &Sections,
+    first: &SectionKey,
+    next: u16,
+) -> Result<(), AllocError>
+    ensures { OnOk result (texts.new.items ≡ texts.old.items ++ missing_text wording
+        sections.now.entries first.now.set_id first.now.file first.now.sect next) }
+{
+    if first.sect >= next {
+        return Ok(());
+    }
+    add_numbers(alloc, texts, wording, sections, first, next)
 }
 
 /// Returns the entry of the section before section `key`.
@@ -132,21 +184,31 @@ fn before_of(sections: &Sections, key: &SectionKey) -> Option<Entry>
     sections.get(&before).copied()
 }
 
-/// Appends the line about section `sect`, if it is damaged.
-fn add_found(alloc: Global, texts: &mut Vec<u8>, sect: u16, entry: Entry) -> Result<(), AllocError>
-    ensures { OnOk result (texts.new.items ≡ texts.old.items ++ found_line sect entry) }
+/// Appends a section that was found, if it is damaged.
+fn add_found(
+    alloc: Global,
+    texts: &mut Vec<u8>,
+    wording: Wording,
+    sect: u16,
+    entry: Entry,
+) -> Result<(), AllocError>
+    ensures { OnOk result (texts.new.items ≡ texts.old.items ++ found_line wording sect entry) }
 {
     if entry.state.is_good() {
         return Ok(());
     }
-    append(alloc, texts, DamageLine { sect, entry })
+    match wording {
+        Wording::Words => append(alloc, texts, DamageLine { sect, entry }),
+        Wording::Rows => texts.extend_from_slice(&damage_cell(sect, entry)),
+    }
 }
 
-/// Appends the lines about section `sect`, if it was found, after those about the missing sections
-/// from `first` on before it. Returns the first number that may be missing after it.
+/// Appends a section, if it was found, after the missing ones before it, of which this one is the
+/// first. Returns the first one that may be missing after it.
 fn add_section(
     alloc: Global,
     texts: &mut Vec<u8>,
+    wording: Wording,
     sections: &Sections,
     first: &SectionKey,
     sect: u16,
@@ -157,7 +219,8 @@ fn add_section(
     ensures next { IfOk result (λ next. next ≡ first_after first.now.sect sect
         (entry_at sections.now.entries (key_at first.now.set_id first.now.file sect))) }
     ensures text { IfOk result (λ _. texts.new.items ≡ texts.old.items
-        ++ known_text sections.now.entries first.now.set_id first.now.file first.now.sect sect
+        ++ known_text wording sections.now.entries first.now.set_id first.now.file first.now.sect
+        sect
         (entry_at sections.now.entries (key_at first.now.set_id first.now.file sect))) }
 {
     let key = SectionKey {
@@ -167,8 +230,8 @@ fn add_section(
     };
     match sections.get(&key) {
         Some(entry) => {
-            add_missing(alloc, texts, sections, first, sect)?;
-            add_found(alloc, texts, sect, *entry)?;
+            add_missing(alloc, texts, wording, sections, first, sect)?;
+            add_found(alloc, texts, wording, sect, *entry)?;
             Ok(sect + 1)
         }
         None => Ok(first.sect),
@@ -185,8 +248,8 @@ fn is_cut(state: SectionState) -> bool
     }
 }
 
-/// Whether no section is known to follow the one before this one.
-fn ends(sections: &Sections, first: &SectionKey) -> bool
+/// Returns whether no section is known to follow the one before this one.
+pub(crate) fn ends(sections: &Sections, first: &SectionKey) -> bool
     ensures { result ≡ ends (entry_at sections.now.entries
         (key_at first.now.set_id first.now.file (first.now.sect - 1))) }
 {
@@ -196,33 +259,30 @@ fn ends(sections: &Sections, first: &SectionKey) -> bool
     }
 }
 
-/// Appends the line about the section after the last one that was found, if one follows.
+/// Appends the section after the last one that was found, if one follows.
 fn add_next(
     alloc: Global,
     texts: &mut Vec<u8>,
+    wording: Wording,
     sections: &Sections,
     first: &SectionKey,
 ) -> Result<(), AllocError>
     requires { first.now.sect < 65535 }
-    ensures { OnOk result (texts.new.items ≡ texts.old.items ++ next_text first.now.sect
+    ensures { OnOk result (texts.new.items ≡ texts.old.items ++ next_text wording first.now.sect
         (entry_at sections.now.entries
         (key_at first.now.set_id first.now.file (first.now.sect - 1)))) }
 {
     if ends(sections, first) {
         return Ok(());
     }
-    let numbers = Numbers {
-        first: first.sect,
-        next: first.sect + 1,
-    };
-    let before = before_of(sections, first);
-    append(alloc, texts, MissingLine { numbers, before })
+    add_numbers(alloc, texts, wording, sections, first, first.sect + 1)
 }
 
 /// Appends the lines about the first `most` sections of a file.
 fn add_sections(
     alloc: Global,
     texts: &mut Vec<u8>,
+    wording: Wording,
     sections: &Sections,
     set_id: Field<6>,
     file: u16,
@@ -230,7 +290,7 @@ fn add_sections(
 ) -> Result<(), AllocError>
     requires { most ≤ 9999 }
     ensures { OnOk result (texts.new.items
-        ≡ texts.old.items ++ sections_from sections.now.entries set_id file 1 1 most) }
+        ≡ texts.old.items ++ sections_from wording sections.now.entries set_id file 1 1 most) }
 {
     let mut first = 1;
     for before in 0..most {
@@ -239,28 +299,28 @@ fn add_sections(
             file,
             sect: first,
         };
-        first = add_section(alloc, texts, sections, &missing, before + 1)?;
+        first = add_section(alloc, texts, wording, sections, &missing, before + 1)?;
     }
     let missing = SectionKey {
         set_id,
         file,
         sect: first,
     };
-    add_next(alloc, texts, sections, &missing)
+    add_next(alloc, texts, wording, sections, &missing)
 }
 
-/// Appends a line for each damaged section of a file, and for those that are missing before or
-/// after it.
+/// Appends each damaged section of a file, and those that are missing before or after it.
 #[tactic(auto, unfolding(crate::specs::SurveyProblems::problem_lines))]
 pub(crate) fn add_problems(
     alloc: Global,
     texts: &mut Vec<u8>,
+    wording: Wording,
     sections: &Sections,
     set_id: Field<6>,
     file: u16,
 ) -> Result<(), AllocError>
     ensures { OnOk result (texts.new.items
-        ≡ texts.old.items ++ problem_lines sections.now.entries set_id file) }
+        ≡ texts.old.items ++ problem_lines wording sections.now.entries set_id file) }
 {
-    add_sections(alloc, texts, sections, set_id, file, MOST)
+    add_sections(alloc, texts, wording, sections, set_id, file, MOST)
 }

@@ -4,7 +4,7 @@ ghost use Rattle.arrayvec.specs.ArrayVec.{array_vec_len};
 ghost use Rattle.tape_run.specs.SurveyRows.{whole_cell, volume_cell, head_cells, count_cells};
 ghost use Rattle.tape_run.specs.SurveyRows.{seen_cells, middle_cells, sight_cells};
 ghost use Rattle.tape_run.specs.SurveyRows.{key_cells, eof_cell, section_row, known_cells};
-ghost use Rattle.tape_run.specs.SurveyRows.{wanted_cells, standing_cells, conflict_cell, file_row};
+ghost use Rattle.tape_run.specs.SurveyRows.{wanted_cells, standing_cells, conflict_cell, file_cells};
 
 use super::files::{FileKey, FileNote};
 use super::glance::{First, ImageSummary};
@@ -163,9 +163,9 @@ fn eof_cell(eof: bool) -> &'static [u8]
     if eof { b"EOF" } else { b"" }
 }
 
-/// Returns the row for a file.
-pub(crate) fn file_row(findings: &Findings, set_id: Field<6>, file: u16) -> Text
-    ensures { result.items ≡ file_row findings.now set_id file }
+/// Returns the columns of a file, up to the last one.
+pub(crate) fn file_cells(findings: &Findings, set_id: Field<6>, file: u16) -> Text
+    ensures { result.items ≡ file_cells findings.now set_id file }
 {
     let mut text = Text::new();
     let key = FileKey { set_id, file };
@@ -235,5 +235,5 @@ fn conflict_cell(differs: bool) -> &'static [u8]
     ensures text { result.now ≡ conflict_cell differs }
     ensures short { length result.now ≤ 10 }
 {
-    if differs { b"\tCONFLICT\n" } else { b"\t\n" }
+    if differs { b"\tCONFLICT\t" } else { b"\t\t" }
 }

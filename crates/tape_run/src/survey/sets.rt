@@ -1,6 +1,6 @@
 //! The part of a survey about sets and their files.
-ghost use Rattle.std.specs.Prelude.{◌≡◌, ◌<◌, ◌+◌, ◌++◌, ◌&&◌, length, take};
-ghost use Rattle.std.specs.Prelude.{IfOk, OnOk, Some, is_some, option_map};
+ghost use Rattle.std.specs.Prelude.{◌≡◌, ◌<◌, ◌+◌, ◌++◌, ◌&&◌, length, take, IfOk, OnOk, Some};
+ghost use Rattle.std.specs.Prelude.{is_some, option_map};
 ghost use Rattle.tape_run.specs.Lacks.{entry_at, found_all};
 ghost use Rattle.tape_run.specs.SurveyCopies.{dispute_at};
 ghost use Rattle.tape_run.specs.SurveyFiles.{note_at, file_key};
@@ -8,11 +8,14 @@ ghost use Rattle.tape_run.specs.SurveySets.{wanted_at, standing_of, known_text, 
 ghost use Rattle.tape_run.specs.SurveySets.{file_word, head_line, file_lines, set_line, is_all};
 ghost use Rattle.tape_run.specs.SurveySets.{is_sure, sure_files, is_whole_file, rest_lines};
 ghost use Rattle.tape_run.specs.SurveySets.{behind_by, is_mixed, all_good};
+ghost use Rattle.tape_run.specs.SurveyRows.{file_row};
 
+use super::Wording;
 use super::dates::DateText;
 use super::files::{FileKey, FileNote, any_differs};
 use super::glance::one_if;
 use super::problems::add_problems;
+use super::rows::file_cells;
 use super::view::Findings;
 use crate::check::is_found;
 use crate::lacks::lack_of;
@@ -155,8 +158,7 @@ pub(crate) fn is_mixed(note: Option<&FileNote>) -> bool
     }
 }
 
-/// Appends the lines about a file: its state and, unless it is complete, its damaged and missing
-/// sections.
+/// Appends the lines of a file: what it is, and then what is damaged or missing of it.
 pub(crate) fn add_lines(
     texts: &mut Vec<u8>,
     findings: &Findings,
@@ -168,7 +170,7 @@ pub(crate) fn add_lines(
 {
     let complete = is_whole_file(&findings.sections, set_id, file);
     add_head(texts, findings, set_id, file, complete)?;
-    add_rest(texts, findings, set_id, file, complete)
+    add_rest(texts, findings, Wording::Words, set_id, file, complete)
 }
 
 /// Appends the first line about a file.
@@ -197,21 +199,46 @@ fn add_head(
 fn add_rest(
     texts: &mut Vec<u8>,
     findings: &Findings,
+    wording: Wording,
     set_id: Field<6>,
     file: u16,
     complete: bool,
 ) -> Result<(), AllocError>
     ensures { OnOk result (texts.new.items
-        ≡ texts.old.items ++ rest_lines complete findings.now.sections set_id file) }
+        ≡ texts.old.items ++ rest_lines wording complete findings.now.sections set_id file) }
 {
     if complete {
         return Ok(());
     }
-    add_problems(findings.alloc, texts, &findings.sections, set_id, file)
+    add_problems(
+        findings.alloc,
+        texts,
+        wording,
+        &findings.sections,
+        set_id,
+        file,
+    )
 }
 
-/// Whether nothing of a file is missing.
-fn is_whole_file(sections: &Sections, set_id: Field<6>, file: u16) -> bool
+/// Appends the row of a file, with what is damaged or missing of it.
+pub(crate) fn add_file_row(
+    texts: &mut Vec<u8>,
+    findings: &Findings,
+    set_id: Field<6>,
+    file: u16,
+) -> Result<(), AllocError>
+    ensures { OnOk result (texts.new.items ≡ texts.old.items ++ file_row findings.now set_id file) }
+{
+    let front = file_cells(findings, set_id, file);
+    texts.extend_from_slice(&front)?;
+    let complete = is_whole_file(&findings.sections, set_id, file);
+    add_rest(texts, findings, Wording::Rows, set_id, file, complete)?;
+    texts.push(b'\n')?;
+    Ok(())
+}
+
+/// Returns whether nothing of a file is missing.
+pub(crate) fn is_whole_file(sections: &Sections, set_id: Field<6>, file: u16) -> bool
     ensures { result ≡ is_whole_file sections.now.entries set_id file }
 {
     match lack_of(sections, set_id, file) {
@@ -220,8 +247,7 @@ fn is_whole_file(sections: &Sections, set_id: Field<6>, file: u16) -> bool
     }
 }
 
-/// Returns whether a file is complete, no label of another file has its number, and no complete
-/// copies of its sections differ.
+/// Whether a file is complete and not in conflict.
 fn is_sure(findings: &Findings, set_id: Field<6>, file: u16) -> bool
     ensures { result ≡ is_sure findings.now set_id file }
 {
@@ -289,7 +315,7 @@ fn is_complete(alloc: Global, sections: &Sections) -> Result<bool, AllocError>
     Ok(found)
 }
 
-/// Returns whether the section at an index is complete.
+/// Returns whether the section at index `place` is complete.
 fn good_at(sections: &Sections, place: usize) -> bool
     requires { place < length sections.now.entries }
     ensures { all_good (take (place + 1) sections.now.entries)
@@ -313,8 +339,7 @@ fn all_good(sections: &Sections) -> bool
     all
 }
 
-/// Returns whether nothing is missing, no complete copies differ, and every image was read
-/// completely.
+/// Returns whether all is well, as the status of a survey says it.
 pub(crate) fn is_all(alloc: Global, findings: &Findings) -> Result<bool, AllocError>
     ensures { IfOk result (λ all. all ≡ is_all findings.now) }
 {

@@ -1,4 +1,4 @@
-//! What a survey says after its images: of sections, sets and files, in words or in rows.
+//! The part of a survey after its images: sections, sets and files, in words or in rows.
 ghost use Rattle.std.specs.List.{flat_map};
 ghost use Rattle.std.specs.Prelude.{◌≡◌, ◌<◌, ◌+◌, ◌-◌, ◌++◌, length, take, IfOk, OnOk};
 ghost use Rattle.tape_run.specs.SurveyGaps.{gap_first, gap_text};
@@ -9,9 +9,10 @@ ghost use Rattle.tape_run.specs.SurveyRows.{section_row};
 
 use super::Wording;
 use super::gaps::{gap_first, gap_text, is_found};
-use super::rows::{file_row, section_row};
-use super::sets::{add_lines, add_set_line};
+use super::rows::section_row;
+use super::sets::{add_file_row, add_lines, add_set_line};
 use super::view::Findings;
+use super::volumes::add_volumes;
 use crate::report::{Sets, sets_of};
 use crate::section::{Entry, SectionKey};
 use crate::sections::Sections;
@@ -31,10 +32,7 @@ fn add_known(
 {
     match wording {
         Wording::Words => add_lines(texts, findings, set_id, file),
-        Wording::Rows => {
-            let row = file_row(findings, set_id, file);
-            texts.extend_from_slice(&row)
-        }
+        Wording::Rows => add_file_row(texts, findings, set_id, file),
     }
 }
 
@@ -50,7 +48,10 @@ fn add_front(
         ≡ texts.old.items ++ set_front wording findings.now (set_id, greatest)) }
 {
     match wording {
-        Wording::Words => add_set_line(texts, findings, set_id, greatest),
+        Wording::Words => {
+            add_set_line(texts, findings, set_id, greatest)?;
+            add_volumes(texts, findings, set_id, greatest)
+        }
         Wording::Rows => Ok(()),
     }
 }
@@ -126,7 +127,7 @@ fn add_set(
     Ok(())
 }
 
-/// Appends the text for the set at an index.
+/// Appends the text for the set at index `place`.
 fn add_place(
     texts: &mut Vec<u8>,
     findings: &Findings,

@@ -6,15 +6,17 @@ ghost use Rattle.tape_set.specs.Lawful.{most_blocks};
 ghost use Rattle.tape_run.specs.Noted.{noted_all};
 ghost use Rattle.tape_run.specs.Passing.{step, in_list, under_way, blocks_of};
 ghost use Rattle.tape_run.specs.declared.fault.RunFault.TheVariants as faults;
-ghost use Rattle.tape_run.specs.SurveyRead.{ViewsItems, IsViewed, is_whole_sight, is_sound};
-ghost use Rattle.tape_run.specs.SurveyRead.{nothing_found, is_ended, is_none, is_end};
+ghost use Rattle.tape_run.specs.SurveyRead.{ViewsItems, IsViewed, nothing_found};
+ghost use Rattle.tape_run.specs.SurveyTally.{is_whole_sight, is_sound, is_ended, is_none, is_end};
 
 use super::copies::Copies;
 use super::course::LabelOrder;
 use super::digest::digest_in;
 use super::files::{Files, note_met};
 use super::glance::{ImageSummary, blank_glance, head_in, look};
+use super::line::state_of;
 use super::locations::{Locations, note_location};
+use super::tally::{NO_IMAGES, Tally, with_state};
 use crate::catalogue::stop_at;
 use crate::fault::RunFault;
 use crate::passing::{Phase, step};
@@ -25,7 +27,7 @@ use std::io::Read;
 use std::marker::Model;
 use tape_image::{ImageReader, Item};
 
-/// What an image is: what its items are at a glance, and how they stop.
+/// The survey of an image: the summary of its items, and how they end.
 #[derive(Clone, Copy)]
 pub struct ImageSurvey {
     pub glance: ImageSummary,
@@ -44,12 +46,15 @@ pub(crate) struct Findings {
     pub(crate) locations: Locations,
     /// The complete copies of each section.
     pub(crate) copies: Copies,
-    /// How many images there were.
+    /// The number of images.
     images: usize,
+    /// How many there were in each state.
+    pub(crate) tally: Tally,
 }
 
 // Contracts see findings as what is known of sections and files, whether all images were read
-// completely, where the sections are, their complete copies, and how many images there were.
+// completely, where the sections are, their complete copies, and how many images there were, in all
+// and in each state.
 impl Model for Findings {
     ghost use Rattle.tape_run.specs.SurveyRead.{Found};
 
@@ -62,6 +67,7 @@ impl Model for Findings {
       locations = f.locations.entries;
       copies = f.copies;
       images = f.images;
+      tally = f.tally;
     } };
 }
 
@@ -125,6 +131,7 @@ impl Findings {
             locations: Locations::new(alloc),
             copies: Copies::new(alloc),
             images: 0,
+            tally: NO_IMAGES,
         }
     }
 
@@ -140,12 +147,14 @@ impl Findings {
         let Some(mut reader) = image else {
             self.whole = false;
             self.images = self.images.saturating_add(1);
+            self.tally = with_state(self.tally, None);
             return Ok(None);
         };
         let sight = self.read_items(&mut reader)?;
         let whole = sight.is_whole();
         self.whole = self.whole && whole;
         self.images = self.images.saturating_add(1);
+        self.tally = with_state(self.tally, Some(state_of(&sight)));
         Ok(Some(sight))
     }
 
@@ -158,6 +167,7 @@ impl Findings {
             self.new.locations self.new.copies) }
         ensures same { OnOk result (self.new.whole ≡ self.old.whole) }
         ensures count { OnOk result (self.new.images ≡ self.old.images) }
+        ensures tally { OnOk result (self.new.tally ≡ self.old.tally) }
     {
         let Ok(mut image) = ImageReader::new(self.alloc, reader) else {
             return Err(RunFault::OutOfMemory);

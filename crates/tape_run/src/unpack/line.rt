@@ -2,22 +2,35 @@
 ghost use Rattle.std.specs.Prelude.{◌≡◌, ◌≤◌, ◌++◌, length, IfOk};
 ghost use Rattle.arrayvec.specs.ArrayVec.{array_vec_len};
 ghost use Rattle.tape_run.specs.UnpackLine.{file_front, path_text, file_line, unpack_outcome_text};
-ghost use Rattle.tape_run.specs.UnpackLine.{left_over_line};
+ghost use Rattle.tape_run.specs.UnpackLine.{notice_text, notice_line};
 
+use super::SetFile;
 use crate::quoting::name_text;
 use crate::text::{Text, put, put_decimal, put_identifier};
 use std::alloc::{AllocError, Global};
 use tape_label::Field;
 
-/// Why a file was not unpacked.
+/// What became of a file, or what would.
 #[derive(Clone, Copy, PartialEq, Eq)]
 pub enum UnpackOutcome {
+    /// It was recovered completely.
+    Complete,
+    /// Something of it is missing.
+    Awaits,
+    /// Not recovered yet: each of its sections is complete on some image.
+    Ready,
+    /// Not recovered yet: a section of it is complete on no image.
+    Lacks,
     /// A file of its name exists; it was not changed.
     Exists,
-    /// Labels of different files have its number.
+    /// Labels of different files have its number, or complete copies of a section differ.
     Conflict,
+    /// No label of it was found.
+    NotFound,
     /// An error ended the recovery of the file.
     Failed,
+    /// A further line of an incomplete file: what is readable of it was written.
+    Salvaged,
 }
 
 /// Returns the words that `unpack` prints for an outcome.
@@ -25,31 +38,39 @@ pub fn unpack_outcome_text(outcome: UnpackOutcome) -> &'static [u8]
     ensures { result.now ≡ unpack_outcome_text outcome }
 {
     match outcome {
+        UnpackOutcome::Complete => b"COMPLETE",
+        UnpackOutcome::Awaits => b"AWAITS",
+        UnpackOutcome::Ready => b"READY",
+        UnpackOutcome::Lacks => b"LACKS",
         UnpackOutcome::Exists => b"EXISTS",
         UnpackOutcome::Conflict => b"CONFLICT",
+        UnpackOutcome::NotFound => b"NOT FOUND",
         UnpackOutcome::Failed => b"FAILED",
+        UnpackOutcome::Salvaged => b"SALVAGED",
     }
 }
 
-/// Returns the line of a file: its set, its number, its outcome, and the path of its records or of
-/// its stage if there is one. A question mark replaces each unprintable byte of the set identifier,
-/// and each byte of the path that would break the line.
+/// Returns the line of a file: its set, its number, its outcome with any details, and the path of
+/// its records or of its stage if there is one. A question mark replaces each unprintable byte of
+/// the set identifier; the path is printed as `name_text` does.
 ///
 /// # Errors
 ///
 /// `AllocError`: a growth was refused.
 pub fn file_line(
     alloc: Global,
-    set_id: &Field<6>,
-    file: u16,
-    told: &[u8],
+    file: &SetFile,
+    outcome: UnpackOutcome,
+    details: &[u8],
     path: &str,
 ) -> Result<Vec<u8>, AllocError>
-    ensures { IfOk result (λ line. line.items ≡ file_line set_id.now file told.now path.now) }
+    ensures { IfOk result (λ line.
+        line.items ≡ file_line file.now.set_id file.now.file outcome details.now path.now) }
 {
-    let front = file_front(set_id, file);
+    let front = file_front(&file.set_id, file.file);
     let mut line = Vec::from_slice(alloc, &front)?;
-    line.extend_from_slice(told)?;
+    line.extend_from_slice(unpack_outcome_text(outcome))?;
+    line.extend_from_slice(details)?;
     put_path(alloc, &mut line, path)?;
     line.push(b'\n')?;
     Ok(line)
@@ -80,9 +101,39 @@ fn put_path(alloc: Global, line: &mut Vec<u8>, path: &str) -> Result<(), AllocEr
     line.extend_from_slice(name.as_slice())
 }
 
-/// The last line, which is printed if an image was not read completely.
-pub fn left_over_line(whole: bool) -> &'static [u8]
-    ensures { result.now ≡ left_over_line whole }
+/// What a line reports about a name.
+#[derive(Clone, Copy)]
+pub enum Notice {
+    /// No file of this set was found.
+    NoSet,
+    /// No file was found that this word means.
+    NoFile,
+    /// The image with this name was not read completely.
+    Unread,
+}
+
+/// The words before the name.
+fn notice_text(notice: Notice) -> &'static [u8]
+    ensures { result.now ≡ notice_text notice }
 {
-    if whole { b"" } else { b"INCOMPLETE IMAGES\n" }
+    match notice {
+        Notice::NoSet => b"NO SET ",
+        Notice::NoFile => b"NO FILE ",
+        Notice::Unread => b"INCOMPLETE IMAGE ",
+    }
+}
+
+/// Returns the line that reports this about a name.
+///
+/// # Errors
+///
+/// `AllocError`: a growth was refused.
+pub fn notice_line(alloc: Global, notice: Notice, name: &str) -> Result<Vec<u8>, AllocError>
+    ensures { IfOk result (λ line. line.items ≡ notice_line notice name.now) }
+{
+    let mut line = Vec::from_slice(alloc, notice_text(notice))?;
+    let name = name_text(alloc, name)?;
+    line.extend_from_slice(name.as_slice())?;
+    line.push(b'\n')?;
+    Ok(line)
 }

@@ -109,7 +109,7 @@ fn put_last(text: &mut Text, byte: u8)
     }
 }
 
-/// Appends a file identifier without the spaces at its end, or one space instead of none.
+/// Appends a file identifier without trailing spaces, or one space if it has no other characters.
 fn put_file_id(text: &mut Text, file_id: &Field<17>)
     requires { array_vec_len text.old ≤ 200 }
     ensures { text.new.items ≡ text.old.items ++ fit_text file_id.now }

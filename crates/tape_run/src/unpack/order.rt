@@ -75,7 +75,7 @@ impl Order {
         })
     }
 
-    /// Adds an image, if one has this number and was not added before.
+    /// Adds image `number`, if it exists and was not added before.
     fn add(&mut self, number: usize) -> Result<(), AllocError>
         ensures ok { OnOk result (self.new.numbers.items
             ≡ with_image (length self.old.taken.items) self.old.numbers.items number) }

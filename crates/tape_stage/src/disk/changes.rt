@@ -1,4 +1,4 @@
-//! The effects of calls on the contents of a disk in memory.
+//! The effects of calls on the contents of an in-memory disk.
 ghost use Rattle.std.specs.Prelude.{◌≡◌, ◌≤◌, ◌+◌, ◌-◌, [], ◌∷◌, ◌++◌, length, take, drop};
 ghost use Rattle.std.specs.Prelude.{replicate, true, false, OnOk, OnErr, IfOk};
 ghost use Rattle.tape_stage.specs.Same.{SameContent, DidCall};

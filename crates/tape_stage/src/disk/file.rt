@@ -12,7 +12,7 @@ use std::alloc::{AllocError, Global};
 use std::fs::OpenFile;
 use std::io::{Read, Seek, SeekFrom, Write};
 
-/// A file as a disk; each call is one call on the file.
+/// A file used as a disk. Each call is one call on the file.
 ///
 /// Tracks the length itself, so it never asks for bytes past the end, and reports each failure of
 /// the file as `Device`: an error, an interruption, an early end, or a write of no bytes. A
@@ -30,8 +30,8 @@ pub struct FileDisk<F> {
 }
 
 impl<F: Seek + Drop> FileDisk<F> {
-    /// Uses the whole file, which must be open for reading and writing. Nothing else may change its
-    /// length.
+    /// Creates a disk from the whole of `file`, which must be open for reading and writing. Nothing
+    /// else may change its length.
     ///
     /// # Errors
     ///
@@ -291,11 +291,11 @@ fn write_whole<W: Write>(file: &mut W, bytes: &[u8]) -> Result<(), DiskFault> {
 /// The size of the write buffer and of the read-ahead buffer, in bytes.
 const ROOM: usize = 32_768;
 
-/// A file as a disk, with 32,768 bytes of write buffer and 32,768 bytes of read-ahead.
+/// A file used as a disk, with 32,768 bytes of write buffer and 32,768 bytes of read-ahead.
 pub type BufferedFile<F> = ReadAhead<WriteBehind<FileDisk<F>>>;
 
-/// Uses the whole file, with buffers. It must be open for reading and writing, and nothing else may
-/// change its length.
+/// Creates a buffered disk from the whole of `file`, which must be open for reading and writing.
+/// Nothing else may change its length.
 ///
 /// # Errors
 ///

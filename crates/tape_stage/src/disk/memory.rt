@@ -1,4 +1,4 @@
-//! A disk in memory, which keeps a record of its calls.
+//! An in-memory disk, which keeps a record of its calls.
 ghost use Rattle.std.specs.Prelude.{◌≡◌, ◌≤◌, [], length, Some, None, OnOk, OnErr};
 ghost use Rattle.tape_core.specs.Weight.{Rose};
 ghost use Rattle.tape_stage.specs.Disk.{Only, CountsDown};

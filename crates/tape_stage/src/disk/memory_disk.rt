@@ -1,4 +1,4 @@
-//! A disk in memory is an honest disk.
+//! An in-memory disk is an honest disk.
 ghost use Rattle.std.specs.Prelude.{length, refl};
 ghost use Rattle.tape_stage.specs.Calls.{counts_image, only_image, seen_image};
 ghost use Rattle.tape_stage.specs.Memory.{first_of, memory_bytes, memory_leaves, memory_left};

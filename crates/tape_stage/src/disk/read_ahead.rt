@@ -7,7 +7,8 @@ ghost use Rattle.tape_stage.specs.OnlyReading.{Looks};
 use crate::disk::{Disk, DiskFault};
 
 /// A disk with read-ahead, so that consecutive small reads need one read of the disk. Consecutive
-/// reads of any length read each byte of the disk once. Writes and cuts drop the bytes read ahead.
+/// reads of any length read each byte of the disk once. Writing and truncating drop the bytes read
+/// ahead.
 ///
 /// Fails at most as often as the disk.
 #[derive(Drop)]

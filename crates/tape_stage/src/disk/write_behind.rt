@@ -11,7 +11,7 @@ ghost use Rattle.tape_stage.specs.Holding.{held_long, held_over, held_counts, he
 use crate::disk::{Disk, DiskFault};
 
 /// A disk with a write buffer that merges adjacent small writes. The buffer is written when a write
-/// is not adjacent or does not fit, and before a read, a cut and a sync; so reads return the
+/// is not adjacent or does not fit, and before reading, truncating and syncing; so reads return the
 /// buffered bytes, and a sync makes them durable.
 ///
 /// If writing the buffer fails, the call returns `Device` and the bytes stay buffered: a failure
@@ -29,8 +29,8 @@ pub struct WriteBehind<D: Disk> {
 }
 
 impl<D: Disk> WriteBehind<D> {
-    /// Creates a disk with an empty write buffer of the capacity of `room`; the contents of `room`
-    /// are dropped.
+    /// Creates a disk with an empty write buffer that has the capacity of `room`; the contents of
+    /// `room` are dropped.
     pub fn over(disk: D, room: Vec<u8>) -> WriteBehind<D>
         ensures disk { result.disk ≡ disk }
         ensures bytes { result.bytes.items ≡ [] }
@@ -93,7 +93,7 @@ impl<D: Disk> WriteBehind<D> {
         self.start <= place && place - self.start == self.bytes.len() as u64
     }
 
-    /// Appends bytes to the buffer.
+    /// Appends `bytes` to the buffer.
     fn add(&mut self, bytes: &[u8])
         requires fits { length self.old.bytes.items + length bytes.now
             ≤ vec_capacity self.old.bytes }

@@ -17,7 +17,7 @@ use arrayvec::ArrayVec;
 use tape_label::{Field, Format, digits_of, digits_value};
 use thiserror::Error;
 
-/// Why a text is not a checkpoint. Positions are counted from 1.
+/// The reason why a text is not a checkpoint. Positions in the text are counted from 1.
 #[derive(Clone, Copy, Debug, PartialEq, Eq, Error)]
 pub enum PointFault {
     /// The text does not have 80 characters.
@@ -68,7 +68,7 @@ pub(crate) fn number_at(text: &[u8], first: u8, last: u8) -> Result<u64, PointFa
     }
 }
 
-/// Returns true if the character at the position is `yes`, and false if it is `no`.
+/// Returns true if the character at `position` is `yes`, and false if it is `no`.
 pub(crate) fn flag_at(text: &[u8], position: u8, yes: u8, no: u8) -> Result<bool, PointFault>
     requires first { 1 ≤ position }
     requires last { position ≤ length text.now }
@@ -84,7 +84,7 @@ pub(crate) fn flag_at(text: &[u8], position: u8, yes: u8, no: u8) -> Result<bool
     Err(PointFault::Field(position))
 }
 
-/// Returns the record format at the position, or `None` for a space.
+/// Returns the record format at `position`, or `None` for a space.
 pub(crate) fn format_at(text: &[u8], position: u8) -> Result<Option<Format>, PointFault>
     requires first { 1 ≤ position }
     requires last { position ≤ length text.now }
@@ -99,7 +99,7 @@ pub(crate) fn format_at(text: &[u8], position: u8) -> Result<Option<Format>, Poi
     }
 }
 
-/// Accepts spaces from the position to the end.
+/// Accepts spaces from position `first` to the end.
 pub(crate) fn tail_at(text: &[u8], first: u8) -> Result<(), PointFault>
     requires size { length text.now ≡ 80 }
     requires first { (69 ≤ first) × (first ≤ 81) }
@@ -248,7 +248,7 @@ pub(crate) fn staged_at(text: &[u8], first: u8) -> Result<u64, PointFault>
     Ok(staged)
 }
 
-/// Appends a piece that fits.
+/// Appends `piece`, which must fit.
 pub(crate) fn put<const N: usize>(text: &mut ArrayVec<u8, N>, piece: &[u8])
     requires { array_vec_len text.old + length piece.now ≤ N }
     ensures items { text.new.items ≡ text.old.items ++ piece.now }

@@ -117,8 +117,8 @@ pub(crate) fn break_of<D: Disk>(disk: &mut D, staged: u64) -> Result<Option<u64>
     walk(disk, staged, (256 + staged).min(len))
 }
 
-/// Reads the frame at an offset into the buffer, and returns its span and the length of its part.
-/// Returns `Failed` if there is no frame at that offset.
+/// Reads the frame at offset `place` into `buffer`, and returns its span and the length of its
+/// part. Returns `Failed` if there is no frame at that offset.
 pub(crate) fn read_frame<D: Disk>(
     disk: &mut D,
     buffer: &mut [u8],
@@ -200,8 +200,8 @@ impl<D: Disk> Stage<D> {
         }
     }
 
-    /// Keeps the first parts, up to the weight in the checkpoint: immediately if no acknowledged
-    /// part is dropped, otherwise by saving the checkpoint as a new generation.
+    /// Keeps the first parts, up to the weight in `point`: immediately if no acknowledged part is
+    /// dropped, otherwise by saving the checkpoint as a new generation.
     pub(crate) fn cut_back(&mut self, point: &Checkpoint) -> Result<(), StageFault>
         requires { point.now.staged ≤ self.old.weight }
         ensures ok { D.is_honest self.old.disk → OnOk result ((acked parts front : List Portion)

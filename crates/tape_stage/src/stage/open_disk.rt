@@ -166,7 +166,8 @@ pub struct Refused<D, F> {
 }
 
 impl<D: Disk> Stage<D> {
-    /// Opens the stage on a disk, and removes the bytes after it. A crash may interrupt this too.
+    /// Opens the stage on `disk`, and removes the bytes after it. A crash may also interrupt this
+    /// call.
     ///
     /// # Errors
     ///

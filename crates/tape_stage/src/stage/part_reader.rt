@@ -8,7 +8,7 @@ use crate::stage::Stage;
 use tape_blocks::Part;
 use tape_core::{PartWalk, SinkFault};
 
-/// Reads the parts of a stage.
+/// A reader of the parts of a stage.
 #[derive(Drop)]
 pub struct PartReader<'s, D: Disk> {
     stage: &'s mut Stage<D>,
@@ -22,7 +22,7 @@ impl<'s, D: Disk> PartReader<'s, D> {
     ///
     /// # Errors
     ///
-    /// As for `PartWalk::next_part`: the same part is still to come.
+    /// Returns the error of `PartWalk::next_part`; the same part is still to come.
     pub fn next(&mut self) -> Result<Option<Part<'_>>, SinkFault>
         ensures* after { sem 𝓛 (ReadsAs D.row D.Disk self.entry result) }
     {
@@ -31,7 +31,7 @@ impl<'s, D: Disk> PartReader<'s, D> {
 }
 
 impl<D: Disk> Stage<D> {
-    /// Reads the parts, beginning with the first.
+    /// Returns a reader of the parts, starting with the first.
     pub fn parts(&mut self) -> PartReader<'_, D>
         ensures same_stage { result.stage.ghost_name ≡ self.entry.ghost_name }
         ensures keeps { (parts : List Portion) → Holds self.old parts

@@ -25,7 +25,7 @@ use std::alloc::Global;
 use tape_blocks::Part;
 use tape_core::{Checkpoint, PartSink, PartWalk, SinkFault};
 
-/// Returns the weight of the intact frames, given the full weight and the place of the damage.
+/// Returns the weight of the intact frames, given the full weight and the offset of the damage.
 fn standing(staged: u64, broken: Option<u64>) -> u64
     requires low { IfSome broken (λ place. 256 ≤ place) }
     ensures { result ≡ standing staged broken }

@@ -87,8 +87,8 @@ impl<D: Disk> Stage<D> {
         }
     }
 
-    /// Returns the last acknowledged checkpoint: that of the last successful creating, opening,
-    /// saving or rolling back.
+    /// Returns the last acknowledged checkpoint: that of the last call that successfully created,
+    /// opened, saved or rolled back the stage.
     pub fn acknowledged(&self) -> Checkpoint
         ensures value { result ≡ self.now.acknowledged }
         // Whatever a crash leaves now represents this checkpoint and its parts.
@@ -107,7 +107,7 @@ impl<D: Disk> Stage<D> {
         self.pending
     }
 
-    /// Acknowledges all parts under a checkpoint.
+    /// Makes `point` the acknowledged checkpoint, which counts all parts.
     ///
     /// # Errors
     ///
@@ -133,7 +133,8 @@ impl<D: Disk> Stage<D> {
         self.acknowledge(point)
     }
 
-    /// Acknowledges the first parts under a checkpoint, and drops the other parts.
+    /// Makes `point` the acknowledged checkpoint, which counts only the first parts, and drops the
+    /// other parts.
     ///
     /// # Errors
     ///

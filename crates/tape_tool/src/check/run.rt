@@ -22,7 +22,7 @@ pub fn check<'a, R: Host>(rt: &R, named: &Named<'a>, site: &mut FaultSite<'a>) -
     }
 }
 
-/// Reports the sections on the images named `names`, and returns whether all sections were found.
+/// Reports the sections on the images named `names`. Returns whether all sections were found.
 fn check_files<R: Host>(rt: &R, named: &Named<'_>, names: &[&str]) -> Result<bool, EngineFault> {
     let Ok(mut report) = BufWriter::new(rt.alloc(), io::writer(rt)) else {
         return Err(EngineFault::Run(RunFault::OutOfMemory));

@@ -10,7 +10,7 @@ use crate::words::named_once;
 use clap::{ArgMatches, Error};
 use std::alloc::Global;
 
-/// `check`.
+/// The `check` command and its arguments.
 pub const CHECK: CommandSpec = CommandSpec {
     name: "check",
     called: "tape check",
@@ -24,7 +24,7 @@ pub const CHECK: CommandSpec = CommandSpec {
     ],
 };
 
-/// Returns what the arguments of `check` ask for.
+/// Returns the request in `matches`, the arguments of `check`.
 pub fn check_order<'a>(alloc: Global, matches: &ArgMatches<'a>) -> Result<Named<'a>, Error>
     ensures ok { IfOk result (NamesInput (rows_of (found_of matches.now))) }
     ensures err { IfErr result (RefusedFor (IsNoInput (rows_of (found_of matches.now)))) }

@@ -1,8 +1,7 @@
-//! The meaning of faults of a file, by the purpose of the file: each list is in the order of its
-//! numbers.
+//! Explanations of file faults, one list for each purpose of a file, in order of fault number.
 use super::NEVER;
 
-/// An input of `write` that was not found.
+/// Faults of an input of `write`.
 pub const FILE_OF_INPUT: &[&str] = &[
     NEVER,
     "  The input could not be opened. Nothing was written.
@@ -12,7 +11,7 @@ pub const FILE_OF_INPUT: &[&str] = &[
     NEVER,
 ];
 
-/// The images of `write`, and its inputs once they are read.
+/// Faults of the images of `write`, and of its inputs once they are read.
 pub const FILE_OF_IMAGES: &[&str] = &[
     "  An image of this set already exists and is not blank; it was not changed.
   Remove it, or choose another PRE or DIR. Images that were written before it,

@@ -10,7 +10,7 @@ use tape_image::ImageCause;
 use tape_writer::system::folder_of;
 
 /// Accesses the file with the fault again, and returns the system's error. Returns `None` if there
-/// is no error now, or if the fault is not that of a file that can be read.
+/// is no error now, or if there is no file that can be accessed again.
 pub fn reason_of<R: Runtime>(rt: &R, fault: ToolFault, site: FaultSite<'_>) -> Option<io::Error> {
     match fault {
         ToolFault::File(FileFault::NotOpened | FileFault::ReadFailed) => {}
@@ -36,13 +36,13 @@ pub fn reason_of<R: Runtime>(rt: &R, fault: ToolFault, site: FaultSite<'_>) -> O
     }
 }
 
-/// Returns why the lookup of `path` finds nothing.
+/// Returns the error with which looking up `path` fails, if any.
 fn not_there<R: Runtime>(rt: &R, path: &str) -> Option<io::Error> {
     fs::metadata(rt, path).err()
 }
 
-/// Returns why the file at `path` cannot be read. A pipe or a device is not opened, since that
-/// might block.
+/// Returns the error with which reading the file at `path` fails, if any. A pipe or a device is not
+/// opened, since that might block.
 fn unread<R: Runtime>(rt: &R, path: &str) -> Option<io::Error> {
     match fs::metadata(rt, path) {
         Ok(found) if found.is_file() || found.is_dir() => {}

@@ -1,4 +1,4 @@
-//! The draft of an output: a new file, which is given the output's name when it is complete.
+//! The draft of an output: a new file, which gets the output's name when it is complete.
 
 ghost use Rattle.std.specs.Prelude.{◌≡◌, None, Bool};
 ghost use Rattle.tape_tool.specs.Guards.{is_written_in_place};
@@ -17,8 +17,8 @@ use tape_run::{Place, WriteFailed};
 use tape_writer::system::{LockFault, found, locked, sync_folder_of};
 
 /// Returns whether the output may be written in place after creating a draft failed with error
-/// `kind`: in a directory that accepts no new file, or in one that does not exist, where nothing
-/// can be lost.
+/// `kind`: either its directory accepts no new files, or the directory does not exist, so that
+/// nothing can be lost.
 pub fn is_written_in_place(kind: ErrorKind, there: bool) -> bool
     ensures { result ≡ is_written_in_place kind there }
 {
@@ -45,14 +45,13 @@ impl Write for DraftFile {
     }
 }
 
-/// The name of an output, and the name of its draft.
+/// The name of an output and the name of its draft.
 #[derive(Drop)]
 pub struct OutName<'a, R: Host> {
     rt: &'a R,
     draft: String,
     name: &'a str,
-    /// The draft, which is locked as long as this is open: until it gets the output's name or is
-    /// removed.
+    /// The draft, locked while this is open: until it gets the output's name or is removed.
     lock: File,
     /// The file found under the output's name, before anything was read.
     before: Option<FileId>,
@@ -81,9 +80,9 @@ impl<'a, R: Host> OutName<'a, R> {
         }
     }
 
-    /// Gives a draft the owner and the permissions of the file that it will replace, as far as the
-    /// user is allowed to. Set-user-ID and set-group-ID permissions are not copied to a file with
-    /// other contents.
+    /// Gives the draft the owner and the permissions of the file that it will replace, as far as
+    /// the user may do that. Set-user-ID and set-group-ID permissions are not copied, since the
+    /// contents are different.
     fn keep_rights(&self, draft: &File) -> io::Result<()> {
         let there = fs::metadata(self.rt, self.name)?;
         let _ = fchown(draft, Some(there.uid()), Some(there.gid()));
@@ -116,8 +115,9 @@ impl<'a, R: Host> OutName<'a, R> {
         }
     }
 
-    /// Takes a name that no file has: the draft gets it as a second name, and loses its own. On a
-    /// file system without second names, an empty file takes the name first.
+    /// Gives the draft the output's name if no file has that name: the draft gets it as a second
+    /// name, and loses its own. On a file system without hard links, an empty file takes the name
+    /// first.
     fn take_new(&mut self) -> io::Result<()> {
         match self.rt.hard_link(self.draft.as_str(), self.name) {
             Ok(()) => {
@@ -142,7 +142,7 @@ impl<'a, R: Host> OutName<'a, R> {
         Ok(())
     }
 
-    /// Removes the draft, unless it took the output's name.
+    /// Removes the draft, unless it got the output's name.
     fn clear(&mut self) {
         if self.is_draft {
             remove(self.rt, self.draft.as_str());
@@ -150,20 +150,20 @@ impl<'a, R: Host> OutName<'a, R> {
         }
     }
 
-    /// Whether the draft took the output's name.
+    /// Returns whether the draft got the output's name.
     pub fn has_taken(&self) -> bool {
         !self.is_draft
     }
 
-    /// Removes the output, if the draft took its name and no other file has it now.
+    /// Removes the output if the draft got its name and no other file has the name now.
     pub fn give_back(&mut self) {
         if self.has_taken() && has_name(self.rt, &self.lock, self.name) {
             remove(self.rt, self.name);
         }
     }
 
-    /// Ends a run with `end`: removes the draft, and reports whether another file prevented it from
-    /// taking its name.
+    /// Ends a run with `end`, or with `Exists` if another file prevented the draft from getting the
+    /// output's name. Removes the draft.
     pub fn ended(&mut self, end: End) -> End {
         self.clear();
         if self.is_taken {
@@ -188,7 +188,7 @@ impl<R: Host> Place<BufWriter<DraftFile>> for OutName<'_, R> {
     }
 }
 
-/// A draft that takes the output's name when it is flushed: all is written then.
+/// A draft that gets the output's name when it is flushed, since everything is written by then.
 #[derive(Drop)]
 pub struct Draft<'a, R: Host> {
     pub name: OutName<'a, R>,
@@ -204,7 +204,7 @@ impl<'a, R: Host> Draft<'a, R> {
     ///
     /// # Errors
     ///
-    /// Returns `File` with `NotOpened` if none can be created, or `OUT_OF_MEMORY`.
+    /// Returns `File` with `NotOpened` if no draft can be created, or `OUT_OF_MEMORY`.
     pub fn make(
         alloc: Global,
         rt: &'a R,
@@ -251,8 +251,8 @@ impl<R: Host> Write for Draft<'_, R> {
     }
 }
 
-/// Returns the name of draft `number`. It is short, since the output's name may be as long as the
-/// system permits, and only this program uses such names.
+/// Returns the name of draft `number` of the output `name`. It is short, since the output's name
+/// may be as long as the system permits. Only this program uses such names.
 fn draft_name(alloc: Global, name: &str, number: u16) -> Result<String, AllocError> {
     let folder = match name.rfind('/') {
         Some(end) => &name[..end + 1],
@@ -261,9 +261,8 @@ fn draft_name(alloc: Global, name: &str, number: u16) -> Result<String, AllocErr
     format!(in alloc; "{folder}.tape-{number}.part")
 }
 
-/// Creates a file at `path` and locks it for as long as the draft is open. Returns `None` if
-/// another run has a file with this name. A file that a killed run left has no lock, and is
-/// removed.
+/// Creates a file at `path` and locks it as long as the draft is open. Returns `None` if another
+/// run has a file with this name. A file left by a killed run is not locked, and is removed.
 fn make_new<R: Host>(rt: &R, path: &str) -> Result<Option<File>, ErrorKind> {
     if let Err(error) = fs::symlink_metadata(rt, path) {
         if error.kind() != ErrorKind::NotFound {
@@ -279,8 +278,8 @@ fn make_new<R: Host>(rt: &R, path: &str) -> Result<Option<File>, ErrorKind> {
     }
 }
 
-/// Locks a file that was just created. Returns `None` if another run took it for a leftover, which
-/// it then removes.
+/// Locks a file that was just created. Returns `None` if another run took it for a leftover file,
+/// which that run then removes.
 fn lock_new<R: Host>(rt: &R, path: &str, file: File) -> Result<Option<File>, ErrorKind> {
     match locked(file.try_lock()) {
         Ok(()) if has_name(rt, &file, path) => Ok(Some(file)),
@@ -292,7 +291,8 @@ fn lock_new<R: Host>(rt: &R, path: &str, file: File) -> Result<Option<File>, Err
     }
 }
 
-/// Removes the regular file at `path`, unless a run has locked it, and returns whether it did.
+/// Removes the regular file at `path` unless a run has locked it. Returns whether the file was
+/// removed.
 fn remove_left<R: Host>(rt: &R, path: &str) -> bool {
     let mut options = OpenOptions::new();
     options.read(true).write(true);
@@ -306,7 +306,7 @@ fn remove_left<R: Host>(rt: &R, path: &str) -> bool {
     file.try_lock().is_ok() && has_name(rt, &file, path) && rt.remove_file(path).is_ok()
 }
 
-/// Returns whether the open file is the one at `path`.
+/// Returns whether `file` is the file at `path`.
 fn has_name<R: Host>(rt: &R, file: &File, path: &str) -> bool {
     match (file.metadata(), fs::symlink_metadata(rt, path)) {
         (Ok(open), Ok(named)) => FileId::of(&open).is_same(&FileId::of(&named)),

@@ -1,4 +1,4 @@
-//! OUT: whether it may be written, and how.
+//! Checks of the output of `extract`: whether it may be written, and how.
 
 use crate::extract::words::Extract;
 use crate::fault::{FileFault, OUT_OF_MEMORY};
@@ -12,8 +12,8 @@ use std::rt::Runtime;
 use tape_image::{Ending, ImageCause, ImageFault, ImageReader, fill};
 use tape_writer::system::{folder_of, found, name_in_folder};
 
-/// The beginnings of files that might be a tape although they are not images: an offset, and the
-/// bytes there. The last two are the checkpoints in the slots of a stage.
+/// The first bytes of files that might be tapes although they are not images, each with its offset.
+/// The last two are checkpoints in the slots of a stage.
 const FRONTS: &[(usize, &[u8])] = &[
     // gzip, compress, bzip2, xz, Zstandard, zip.
     (0, b"\x1f\x8b"),
@@ -26,22 +26,22 @@ const FRONTS: &[(usize, &[u8])] = &[
     (144, b"TPCK"),
 ];
 
-/// The number of bytes that the tests need.
+/// The number of bytes that `FRONTS` cover.
 const FRONT: usize = 148;
 
 /// How an output is to be written, and the file found under its name before.
 #[derive(Clone, Copy)]
 pub enum Way {
-    /// To a new file, which gets the name when it is complete.
+    /// To a new file, which gets the output's name when it is complete.
     Renamed(Option<FileId>),
-    /// To a new file, too, under a name that does not exist: it is never written in place.
+    /// To a new file, with a name that does not exist yet; the output is never written in place.
     New,
-    /// The name is that of a pipe, a device or a link: it is written to.
+    /// In place, since the name is that of a pipe, a device or a link.
     InPlace(Option<FileId>),
 }
 
 impl Way {
-    /// Returns the file found under the name, if any.
+    /// Returns the file found under the name before, if any.
     pub fn before(&self) -> Option<FileId> {
         match self {
             Way::Renamed(before) | Way::InPlace(before) => *before,
@@ -50,11 +50,12 @@ impl Way {
     }
 }
 
-/// Returns how the output is to be written, given the names of the images; see `way_to_out`.
+/// Returns how the output of `order` is to be written if the images are named `images`; see
+/// `way_to_out`.
 ///
 /// # Errors
 ///
-/// The errors are those of `way_to_out`, and `Words` if the output is the list, also if the list is
+/// The errors are those of `way_to_out`, and `Words` if the output is the list, even if the list is
 /// standard input.
 pub fn way_of<R: Runtime + AllocGlobal>(
     rt: &R,
@@ -72,11 +73,11 @@ pub fn way_of<R: Runtime + AllocGlobal>(
     way_to_out(rt, order.task.out, order.task.stage, images)
 }
 
-/// The path of standard input, as a file.
+/// The path by which standard input is found as a file.
 const STANDARD_INPUT: &str = "/dev/stdin";
 
-/// Returns how an output recovered from the stage and the images is to be written. Nothing is
-/// created or changed.
+/// Returns how the output `out` of `stage` and `images` is to be written. Nothing is created or
+/// changed.
 ///
 /// # Errors
 ///
@@ -105,8 +106,8 @@ pub fn way_to_out<R: Runtime + AllocGlobal>(
     way_to(rt, out, Some(FileId::of(&there)))
 }
 
-/// Returns how to write to a name that does not exist or leads nowhere. A stage is created before
-/// the output is.
+/// Returns how to write to `out`, a name that does not exist or a link whose target does not exist.
+/// A stage is created before the output is.
 fn way_to_new<R: Runtime>(rt: &R, out: &str, stage: Option<&str>) -> Result<Way, Refusal> {
     if let Some(stage) = stage {
         if is_one_name(rt, out, stage)? {
@@ -116,7 +117,7 @@ fn way_to_new<R: Runtime>(rt: &R, out: &str, stage: Option<&str>) -> Result<Way,
     way_to(rt, out, None)
 }
 
-/// Returns whether both paths name the same entry of the same directory.
+/// Returns whether the paths `one` and `other` name the same entry of the same directory.
 fn is_one_name<R: Runtime>(rt: &R, one: &str, other: &str) -> Result<bool, Refusal> {
     if one == other {
         return Ok(true);
@@ -140,7 +141,7 @@ fn way_to<R: Runtime>(rt: &R, path: &str, before: Option<FileId>) -> Result<Way,
     }
 }
 
-/// Refuses with the message `text` if `path` leads to the file that was found.
+/// Refuses with the message `text` if `path` leads to the file with metadata `there`.
 fn differs<R: Runtime>(
     rt: &R,
     there: &Metadata,
@@ -153,7 +154,7 @@ fn differs<R: Runtime>(
     }
 }
 
-/// Refuses a file that might be a tape.
+/// Refuses the file at `path` if it might be a tape.
 fn keeps_no_tape<R: Runtime + AllocGlobal>(rt: &R, path: &str) -> Result<(), Refusal> {
     let Ok(mut file) = File::open(rt, path) else {
         return Err(refused(FileFault::NotOpened));
@@ -168,21 +169,21 @@ fn keeps_no_tape<R: Runtime + AllocGlobal>(rt: &R, path: &str) -> Result<(), Ref
     holds_no_image(rt, path)
 }
 
-/// Returns whether a name ends like those of images, in upper or lower case.
+/// Returns whether `path` ends in `.tap`, in upper or lower case.
 fn is_named_image(path: &str) -> bool {
     let name = path.as_bytes();
     let end = name.len().saturating_sub(4);
     name[end..].eq_ignore_ascii_case(b".tap")
 }
 
-/// Returns whether one of the tests succeeds.
+/// Returns whether `front` has the bytes of one of `FRONTS`.
 fn begins_as_kept(front: &[u8]) -> bool {
     FRONTS.iter().any(|(place, bytes)| front
         .get(*place..)
         .is_some_and(|there| there.starts_with(*bytes)))
 }
 
-/// Refuses a file that begins like an image.
+/// Refuses the file at `path` if it begins like an image.
 fn holds_no_image<R: Runtime + AllocGlobal>(rt: &R, path: &str) -> Result<(), Refusal> {
     let Ok(mut file) = File::open(rt, path) else {
         return Err(refused(FileFault::NotOpened));
@@ -195,11 +196,12 @@ fn holds_no_image<R: Runtime + AllocGlobal>(rt: &R, path: &str) -> Result<(), Re
     }
 }
 
-/// Returns whether the first item of an image, or its end-of-medium marker, is complete.
+/// Returns whether the first item of the image on `device`, or its end-of-medium marker, is
+/// complete.
 ///
 /// # Errors
 ///
-/// `Device` and `OutOfMemory`, if this cannot be determined.
+/// Returns `Device` or `OutOfMemory` if this cannot be determined.
 fn begins_as_image<R: Read>(alloc: Global, device: &mut R) -> Result<bool, ImageCause> {
     let mut image = match ImageReader::new(alloc, device) {
         Ok(image) => image,
@@ -213,8 +215,8 @@ fn begins_as_image<R: Read>(alloc: Global, device: &mut R) -> Result<bool, Image
     }
 }
 
-/// Returns whether a file is an image, given the fault at its beginning: it is not, or it could not
-/// be read.
+/// Returns `false`, since a file with `fault` at its beginning is not an image, or an error if the
+/// file could not be read.
 fn unseen(fault: ImageFault) -> Result<bool, ImageCause> {
     match fault.cause {
         ImageCause::Device | ImageCause::OutOfMemory => Err(fault.cause),

@@ -11,14 +11,14 @@ use tape_writer::system::is_unable;
 pub struct OutFile<'a, R: Host> {
     rt: &'a R,
     path: &'a str,
-    /// The file found under its name, before anything was read.
+    /// The file found under the output's name, before anything was read.
     before: Option<FileId>,
     file: Option<File>,
     refused: Option<FileFault>,
 }
 
 impl<'a, R: Host> OutFile<'a, R> {
-    /// Returns the file at `path`, without touching it.
+    /// Returns a writer to the file at `path`, which is neither opened nor changed yet.
     pub fn new(rt: &'a R, path: &'a str, before: Option<FileId>) -> OutFile<'a, R> {
         OutFile {
             rt,
@@ -34,8 +34,8 @@ impl<'a, R: Host> OutFile<'a, R> {
         self.refused
     }
 
-    /// Creates it, unless that was done before. A failed attempt is not repeated: a buffer that is
-    /// dropped flushes its contents once more.
+    /// Creates the file, unless that was attempted before. A failed attempt is not repeated: a
+    /// buffer that is dropped flushes its contents once more.
     fn make(&mut self) -> Result<()> {
         if self.refused.is_some() {
             return Err(Error::from(ErrorKind::Other));
@@ -55,8 +55,8 @@ impl<'a, R: Host> OutFile<'a, R> {
         }
     }
 
-    /// Opens the file that was found, or creates one, and truncates it. Leaves another file that
-    /// appeared meanwhile unchanged.
+    /// Opens the file that was found, or creates one, and truncates it. Leaves any other file that
+    /// has appeared since then unchanged.
     fn open(&self) -> std::result::Result<File, FileFault> {
         let mut options = OpenOptions::new();
         options.write(true).create(self.before.is_none());
@@ -90,7 +90,7 @@ impl<R: Host> Write for OutFile<'_, R> {
         }
     }
 
-    /// Syncs the written bytes. A file that is not on a disk has no such call.
+    /// Syncs the written bytes. Files that are not on a disk do not support this call.
     fn flush(&mut self) -> Result<()> {
         self.make()?;
         match &self.file {

@@ -23,7 +23,7 @@ use tape_set::Want;
 /// The maximum number of output bytes that are buffered.
 pub const HELD: usize = 65_536;
 
-/// Recovers the file that the arguments name. On error, the site says where it occurred.
+/// Recovers the file that the arguments name. On error, `site` says where it occurred.
 pub fn extract<'a, R: Host>(rt: &R, order: &Extract<'a>, site: &mut FaultSite<'a>) -> End {
     let mut text = String::new(rt.alloc());
     match names_of(rt, &order.images, &mut text, site) {
@@ -73,8 +73,8 @@ fn names_to_read<'n, R: Host>(
     }
 }
 
-/// Whether each of these is a plain file, or does not exist: only these can be read twice.
-fn are_files<R: Host>(rt: &R, names: &[&str]) -> bool {
+/// Returns whether each of these is a plain file, or does not exist: only these can be read twice.
+pub fn are_files<R: Host>(rt: &R, names: &[&str]) -> bool {
     for name in names {
         if let Ok(found) = fs::metadata(rt, *name) {
             if !found.is_file() {
@@ -85,7 +85,7 @@ fn are_files<R: Host>(rt: &R, names: &[&str]) -> bool {
     true
 }
 
-/// Recovers a file. On error, the site says where it occurred.
+/// Recovers the file that `task` names. On error, `site` says where it occurred.
 pub fn extract_file<'a, R: Host, P: Write>(
     rt: &R,
     task: &Task<'a>,
@@ -101,7 +101,7 @@ pub fn extract_file<'a, R: Host, P: Write>(
     }
 }
 
-/// Recovers the file over the stage at `path`.
+/// Recovers the file, saving the data in the stage at `path`.
 fn on_stage<'a, R: Host, P: Write>(
     rt: &R,
     task: &Task<'a>,
@@ -143,8 +143,9 @@ pub fn draft_of<'a, R: Host>(
     }
 }
 
-/// Recovers the file without a stage: the data is held in memory, where what a suspect reel yielded
-/// can be dropped again, since the session has a checkpoint of its start.
+/// Recovers the file without a stage, but with images that may be read repeatedly. The data is held
+/// in memory, where the data of a suspect reel can be dropped again, since the session has a
+/// checkpoint at its start.
 fn in_memory<'a, R: Host, P: Write>(
     rt: &'a R,
     task: &Task<'a>,
@@ -162,7 +163,7 @@ fn in_memory<'a, R: Host, P: Write>(
     }
 }
 
-/// Recovers the file without a stage: writes its records as they come if there is a draft, and
+/// Recovers the file without a stage: writes its records as they are read if there is a draft, and
 /// otherwise keeps them in memory.
 fn at_once<'a, R: Host, P: Write>(
     rt: &'a R,
@@ -193,7 +194,7 @@ fn from_memory<R: Host, P: Write>(
     }
 }
 
-/// Reads the images and writes the file's records to the draft as they come.
+/// Reads the images and writes the file's records to the draft as they are read.
 fn into_draft<R: Host, P: Write>(
     rt: &R,
     task: &Task<'_>,
@@ -226,7 +227,7 @@ fn session_into<F: Write + Drop>(
     }
 }
 
-/// Returns the result: if a part could not be stored, a record could not be written.
+/// Returns how the run ends: a part that could not be stored is a record that could not be written.
 fn end_as_written(answer: Result<Option<Want>, EngineFault>) -> End {
     match answer {
         Err(EngineFault::Run(RunFault::Sink(SinkFault::Device))) => {
@@ -305,8 +306,8 @@ fn written_to<R: Host, S: PartWalk + Drop, W: Write, P: Write>(
     extract_end(answer)
 }
 
-/// Recovers a file from the images with its sections, and prints the last line if it is complete.
-/// The last image stays open, so that the next file can continue there.
+/// Recovers a file from the images that contain its sections, and prints the last line if it is
+/// complete. The last image stays open, so that the next file can continue there.
 pub fn extract_whole<'a, R: Host, P: Write>(
     rt: &'a R,
     task: &Task<'a>,
@@ -336,7 +337,7 @@ pub fn extract_whole<'a, R: Host, P: Write>(
     name.ended(end)
 }
 
-/// Returns the result if the file is complete.
+/// Returns how the run ends if the file is complete, given whether the last line was printed.
 fn end_reported(reported: Result<(), WriteFailed>) -> End {
     match reported {
         Ok(()) => End::Done,

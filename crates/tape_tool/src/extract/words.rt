@@ -14,27 +14,27 @@ use std::alloc::Global;
 use tape_blocks::Form;
 use tape_label::Field;
 
-/// What `extract` recovers, and from what: a file of a set, from images in their order.
+/// The request to `extract`: a file of a set, to be recovered from images in their order.
 #[derive(Drop)]
 pub struct Extract<'a> {
     pub task: Task<'a>,
     pub images: Named<'a>,
 }
 
-/// A file of a set to recover, and how.
+/// The file of a set to recover, and how to recover it.
 #[derive(Clone, Copy)]
 pub struct Task<'a> {
     pub set_id: Field<6>,
     pub file: u16,
     pub out: &'a str,
     pub form: Form,
-    /// Where recovered data is saved.
+    /// The path of the stage, where recovered data is saved.
     pub stage: Option<&'a str>,
-    /// Whether the images are read repeatedly.
+    /// Whether the images are read again until a pass recovers nothing.
     pub again: bool,
 }
 
-/// `extract`.
+/// The `extract` command and its arguments.
 pub const EXTRACT: CommandSpec = CommandSpec {
     name: "extract",
     called: "tape extract",
@@ -58,8 +58,8 @@ pub const EXTRACT: CommandSpec = CommandSpec {
     ],
 };
 
-/// Returns what the arguments of `extract` ask for. The parser has checked that all required ones
-/// are present.
+/// Returns the request in `matches`, the arguments of `extract`. The parser has checked that all
+/// required ones are present.
 pub fn extract_order<'a>(alloc: Global, matches: &ArgMatches<'a>) -> Result<Extract<'a>, Error>
     ensures ok { IfOk result (AsksToExtract (rows_of (found_of matches.now))) }
     ensures err { IfErr result (RefusedFor (IsNoExtract (rows_of (found_of matches.now)))) }
@@ -69,7 +69,7 @@ pub fn extract_order<'a>(alloc: Global, matches: &ArgMatches<'a>) -> Result<Extr
     Ok(Extract { task, images })
 }
 
-/// Returns which file of which set is to be recovered, and how.
+/// Returns the file to recover, and how to recover it.
 fn task_of<'a>(alloc: Global, matches: &ArgMatches<'a>) -> Result<Task<'a>, Error>
     ensures ok { IfOk result (AsksForFile (rows_of (found_of matches.now))) }
     ensures err { IfErr result (RefusedFor (IsNoTask (rows_of (found_of matches.now)))) }
@@ -94,7 +94,7 @@ fn task_of<'a>(alloc: Global, matches: &ArgMatches<'a>) -> Result<Task<'a>, Erro
     })
 }
 
-/// Returns a set's identifier, padded with spaces; it has 1 to 6 bytes.
+/// Returns the set identifier `text`, padded with spaces, if it has 1 to 6 bytes.
 pub fn set_id_of(text: &str) -> Option<Field<6>>
     ensures some { IfSome result (λ id. id ≡ padded_set text.now) }
     ensures given { IsSome result → IsNoSet text.now → ⊥ }

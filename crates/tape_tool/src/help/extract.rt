@@ -1,56 +1,56 @@
-//! The texts of help for `extract`.
+//! The help texts of `extract`.
 
-/// What `extract` does.
+/// The description of `extract`.
 pub const ABOUT_EXTRACT: &str = "Recover one file from the images of its set";
 
-/// What SET is.
+/// The description of SET.
 pub const SET: &str = "Set identifier, up to 6 characters, as 'tape list' shows it in HDR1";
 
-/// What FILE is.
+/// The description of FILE.
 pub const FILE: &str = "Number of the file in its set, 1 to 9999";
 
-/// What OUT is.
+/// The description of OUT.
 pub const OUT: &str = "Output file; not touched until the file is complete";
 
-/// What IMAGE is, if there are several.
+/// The description of IMAGE, if there may be several.
 pub const REELS: &str = "SIMH .tap images (at most 256; see --files-from)";
 
-/// What the form is.
+/// The description of `--form`.
 pub const FORM_OF_OUT: &str = "lines: end each record with a line feed;
 raw: do not";
 
-/// What the stage is.
+/// The description of `--stage`.
 pub const STAGE: &str = "Save recovered data here, and continue from it";
 
-/// What `--again` does.
+/// The description of `--again`.
 pub const AGAIN: &str = "Repeat until a pass recovers nothing new";
 
-/// SET is none.
+/// The error if SET is not valid.
 pub const WRONG_SET: &str = "SET must have 1 to 6 characters, for example 'ABC001'";
 
-/// Too many images.
+/// The error if there are too many images.
 pub const TOO_MANY_IMAGES: &str =
     "extract takes up to 256 IMAGEs, and any number of names from a list:
   find . -name '*.tap' | tape extract SET FILE OUT --files-from -";
 
-/// OUT is standard output.
+/// The error if OUT is standard output.
 pub const OUT_IS_DASH: &str = "OUT must be a file, because the progress lines go to standard output:
 write './-' for a file of that name, or /dev/stdout to have both";
 
-/// OUT is the stage.
+/// The error if OUT is the stage.
 pub const OUT_IS_STAGE: &str =
     "OUT is the stage itself and would be overwritten: choose another name";
 
-/// OUT is the list.
+/// The error if OUT is the list.
 pub const OUT_IS_LIST: &str =
     "OUT is the list of images and would be overwritten: choose another name";
 
-/// OUT is one of the images.
+/// The error if OUT is one of the images.
 pub const OUT_IS_IMAGE: &str =
     "OUT is one of the images and would be overwritten. OUT comes before them:
   tape extract ABC001 1 payroll.txt *.tap";
 
-/// Help after the arguments of `extract`.
+/// The help text after the arguments of `extract`.
 pub const AFTER_EXTRACT: &str =
     "Name every image you have of the set, good or damaged. Images of other sets do
 no harm. With --again the order does not matter: a block that is unreadable on

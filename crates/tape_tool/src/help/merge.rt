@@ -1,44 +1,44 @@
 //! The help texts of `merge` and `compare`.
 
-/// What `merge` does.
+/// The description of `merge`.
 pub const ABOUT_MERGE: &str = "Make one good image from several readings of a tape";
 
-/// What `compare` does.
+/// The description of `compare`.
 pub const ABOUT_COMPARE: &str = "Report whether images can be readings of the same tape";
 
-/// What OUT is.
+/// The description of OUT.
 pub const MERGED_OUT: &str = "Image to create; it must not exist";
 
-/// What `--log` does.
+/// The description of `--log`.
 pub const LOG: &str = "Also create LOG, with a row for each item that fewer than two
 images have, or that is bad in one; LOG must not exist";
 
-/// What the IMAGEs are.
+/// The description of the IMAGEs.
 pub const READINGS: &str = "Two or more readings of the same tape: SIMH .tap images";
 
-/// Too many images for `merge`.
+/// The error if `merge` gets too many images.
 pub const TOO_MANY_TO_MERGE: &str =
     "merge takes up to 256 IMAGEs, and any number of names from a list:
   tape merge OUT --files-from LIST";
 
-/// Too many images for `compare`.
+/// The error if `compare` gets too many images.
 pub const TOO_MANY_TO_COMPARE: &str =
     "compare takes up to 256 IMAGEs, and any number of names from a list:
   tape compare --files-from LIST";
 
-/// One image alone.
+/// The error if only one image is named.
 pub const ONE_READING: &str = "at least two readings of the tape are needed";
 
-/// OUT is standard output.
+/// The error if OUT is standard output.
 pub const MERGED_OUT_IS_DASH: &str =
     "OUT must be a file, because the report goes to standard output: \
 write './-' for a file of that name";
 
-/// LOG is standard output.
+/// The error if LOG is standard output.
 pub const LOG_IS_DASH: &str = "LOG must be a file, because the report goes to standard output: \
 write './-' for a file of that name";
 
-/// Help after the arguments of `merge`.
+/// The help text after the arguments of `merge`.
 pub const AFTER_MERGE: &str = "Examples:
   tape compare monday.tap tuesday.tap drive2.tap
   tape merge ../out/reel.tap monday.tap tuesday.tap drive2.tap
@@ -85,7 +85,7 @@ end-of-medium marker, and no data of bad blocks, so keep the images.
 Exit status: 0 OUT is complete, 1 error, 2 usage error, 3 OUT has a bad item or
 a wrong count or is cut, or the images differ";
 
-/// Help after the arguments of `compare`.
+/// The help text after the arguments of `compare`.
 pub const AFTER_COMPARE: &str = "Examples:
   tape compare monday.tap tuesday.tap
   find . -name 'ABC001*.tap' | tape compare --files-from -

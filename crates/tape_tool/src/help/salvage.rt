@@ -1,21 +1,21 @@
-//! The texts of `salvage`.
+//! The help texts of `salvage`.
 
-/// What `salvage` does.
+/// The description of `salvage`.
 pub const ABOUT_SALVAGE: &str = "Recover what is readable of a file that no image has completely";
 
-/// What OUT is.
+/// The description of OUT.
 pub const OUT_OF_SALVAGE: &str = "New file for the recovered records (never an existing one)";
 
-/// What the form is.
+/// The description of `--form`.
 pub const FORM_OF_SALVAGED: &str = "lines: end each record with a line feed;
 raw: do not; blocks: whole blocks";
 
-/// Too many images.
+/// The error if `salvage` gets too many images.
 pub const TOO_MANY_TO_SALVAGE: &str =
     "salvage takes up to 256 IMAGEs, and any number of names from a list:
   find . -name '*.tap' -print0 | tape salvage SET FILE OUT --files-from - --null";
 
-/// Help after the arguments of `salvage`.
+/// The help text after the arguments of `salvage`.
 pub const AFTER_SALVAGE: &str = "Examples:
   tape salvage ABC001 1 ../out/payroll.part *.tap > ../out/payroll.gaps
   tape salvage ABC001 2 ../out/dump.bin old.tap --form blocks

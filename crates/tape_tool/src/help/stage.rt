@@ -1,21 +1,21 @@
-//! The texts of help for `stage`.
+//! The help texts of `stage`.
 
-/// What `stage` does.
+/// The description of `stage`.
 pub const ABOUT_STAGE: &str = "Show what a stage contains, and write its records";
 
-/// What PATH is.
+/// The description of PATH.
 pub const STAGE_READ: &str = "Stage of 'tape extract' or 'tape unpack'; it is not changed";
 
-/// What OUT of `stage` is.
+/// The description of OUT of `stage`.
 pub const OUT_OF_STAGE: &str = "Output file for the records recovered so far";
 
-/// What `--damaged` does.
+/// The description of `--damaged`.
 pub const DAMAGED: &str = "Use the intact beginning of a damaged stage";
 
-/// `stage` was called with several outputs.
+/// The error if `stage` gets several outputs.
 pub const ONE_OUT: &str = "stage takes one stage and at most one OUT";
 
-/// Help after the arguments of `stage`.
+/// The help text after the arguments of `stage`.
 pub const AFTER_STAGE: &str =
     "Two lines: set, file and number of complete records, then the last line of
 'extract'.

@@ -1,16 +1,16 @@
-//! The texts of help for `survey`.
+//! The help texts of `survey`.
 
-/// What `survey` does.
+/// The description of `survey`.
 pub const ABOUT_SURVEY: &str =
     "Describe each image, and report what is complete and what is missing";
 
-/// What the IMAGEs of `unpack` and `salvage` are.
+/// The description of the IMAGEs of `unpack` and `salvage`.
 pub const SHELF: &str = "SIMH .tap images, in any order (at most 256; see --files-from)";
 
-/// What `--tsv` says.
+/// The description of `--tsv`.
 pub const ROWS: &str = "Print tab-separated values, for scripts";
 
-/// Help after the arguments of `survey`.
+/// The help text after the arguments of `survey`.
 pub const AFTER_SURVEY: &str =
     "Each image as soon as it is read: its name, its state in a word, and what was
 found on it.
@@ -28,10 +28,11 @@ found on it.
                                          bytes
   zip.tap                   not a tape   no items
       image fault 3 at byte 0: not a SIMH image, or compressed (try zcat)
-Then each set with its files: number, identifier, creation date if there is
-one, and whether all sections were found. Below an incomplete file, each of its
-sections that is damaged or missing:
+Then each set with its volumes in order, and its files: number, identifier,
+creation date if there is one, and whether all sections were found. Below an
+incomplete file, each of its sections that is damaged or missing:
   Set ABC001: 1 of 2 files complete
+    Volumes: ABC001, ABC002, ABC003, missing (follows ABC003)
      1 PAYROLL            1985-04-23  complete
      2 LEDGER             1985-04-23  incomplete
           section 1 is truncated on ABC002: no good copy
@@ -45,7 +46,10 @@ number of their data blocks and a digest of their contents:
   ABC001 file 2 section 1: CONFLICT, 1.tap and 2.tap differ ('tape compare'
                            shows where)
 
-The last line appears only if nothing is missing, each section found has a good
+The last lines are how many images there are, and how many of them in each
+state, and
+  All files are complete, and every image was read to its end.
+That one appears only if nothing is missing, each section found has a good
 copy, each image is a volume from its label to its end in formats that tape
 reads, no number has labels of different files, and no good copies differ. No
 label says whether more files follow the last one found. The wording may change;
@@ -56,9 +60,10 @@ With --tsv these rows; a column whose value is not known is empty:
            state: WHOLE, PARTIAL or NOT OPENED; end as in check
   SECTION set file section volume blocks state EOF
            state as in check; EOF if its trailer label ends the file
-  FILE set file identifier created state section volume CONFLICT
+  FILE set file identifier created state section volume CONFLICT sections
            state: COMPLETE, BAD, COUNT or CUT, or MISSING: the section was not
-           found, and the one before it is on that volume
+           found, and the one before it is on that volume; sections: all that
+           are damaged or missing, as 2:CUT;4-5:MISSING;
   COPIES set file section copies name other AGREE
            for a section with several good copies: how many agree with the
            first one, on the image NAME. If one differs, its image is OTHER, and

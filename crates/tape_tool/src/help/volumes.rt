@@ -1,25 +1,25 @@
-//! The texts of help for `init` and `write`.
+//! The help texts of `init` and `write`.
 
-/// What `init` does.
+/// The description of `init`.
 pub const ABOUT_INIT: &str = "Create blank labelled volumes";
 
-/// What DIR is.
+/// The description of DIR.
 pub const FOLDER: &str = "Existing directory for the images";
 
-/// What PRE is.
+/// The description of PRE.
 pub const PREFIX: &str = "First three characters of the volume identifiers: A to Z, 0 to 9";
 
-/// What COUNT is.
+/// The description of COUNT.
 pub const COUNT: &str = "Number of volumes, 1 to 999: PRE001, PRE002, ...";
 
-/// DIR is empty.
+/// The error if DIR is empty.
 pub const NO_FOLDER: &str = "DIR is empty: write '.' for the current directory";
 
-/// PRE is none.
+/// The error if PRE is not valid.
 pub const WRONG_PREFIX: &str =
     "PRE must be three characters from A to Z and 0 to 9, for example 'ABC'";
 
-/// Help after the arguments of `init`.
+/// The help text after the arguments of `init`.
 pub const AFTER_INIT: &str = "Each image is 100 bytes long: a volume label, two tape marks and the
 end-of-medium marker. Existing files are not overwritten ('tape: file fault 1');
 images created before the error are kept.
@@ -30,7 +30,7 @@ Example:
   tape init . ABC 2          creates ABC001.tap and ABC002.tap, and prints
                              'INIT 2'";
 
-/// What `write` does.
+/// The description of `write`.
 pub const ABOUT_WRITE: &str = "Write files to labelled volumes";
 
 /// What CAPACITY is.
@@ -41,48 +41,48 @@ pub const CAPACITY: &str = "Maximum size of an image in bytes, at least --block 
 pub const WRONG_CAPACITY: &str = "CAPACITY must be a number of bytes up to 4294967295, or a number
 and K, M or G: K is 1024 bytes, M is 1024K, G is 1024M; for example '40M'";
 
-/// What ID=PATH is.
+/// The description of ID=PATH.
 pub const FILES: &str = "File identifier (for the label) and the file with its records";
 
-/// What FORMAT is.
+/// The description of FORMAT.
 pub const FORMAT: &str = "F fixed, D variable, S spanned records";
 
-/// What the block length is.
+/// The description of `--block`.
 pub const BLOCK: &str = "Longest block, 18 to 99999 (S: to 9999)";
 
-/// What the record length is.
+/// The description of `--record`.
 pub const RECORD: &str = "Record length. F: required, 18 to 99999.
 D: maximum plus 4, up to 9999 [default: as much
 as a block holds]. S: not allowed";
 
-/// What the offset is.
+/// The description of `--offset`.
 pub const OFFSET: &str = "Bytes before a block's records, 0 to 99";
 
-/// What padding is.
+/// The description of `--pad-full`.
 pub const PAD_FULL: &str = "D: fill every block to --block with padding";
 
-/// What FORM is.
+/// The description of FORM.
 pub const FORM: &str = "lines: one record per line; raw: F cuts the input
 into records, S takes it as one record";
 
-/// An ID=PATH has no '='.
+/// The error if an ID=PATH has no '='.
 pub const NO_PATH: &str = "files are given as ID=PATH, for example 'PAYROLL=payroll.txt'";
 
-/// An input is an image.
+/// The error if an input is an image.
 pub const INPUT_IS_IMAGE: &str =
     "an input is one of the images to be written and would be overwritten:
 choose other inputs, another DIR or another PRE";
 
-/// F without a record length.
+/// The error if F has no record length.
 pub const RECORD_WANTED: &str = "--format F requires --record N";
 
-/// S with a record length.
+/// The error if S has a record length.
 pub const NO_RECORD: &str = "--format S does not take --record";
 
-/// D with raw inputs.
+/// The error if D has raw inputs.
 pub const RAW_COUNTED: &str = "--form raw requires --format F or S";
 
-/// Help after the arguments of `write`.
+/// The help text after the arguments of `write`.
 pub const AFTER_WRITE: &str =
     "Images are created as DIR/PRE001.tap, DIR/PRE002.tap and so on, as many as
 needed, up to 256. An existing image must be blank, as 'tape init' creates it;

@@ -9,7 +9,7 @@ use std::io::Write;
 use tape_run::{WriteFailed, flush, write_text};
 use tape_writer::system::{image_path, make_image};
 
-/// Creates the images, and prints their number. On error, the site says where it occurred.
+/// Creates the images, and prints their number. On error, `site` says where it occurred.
 pub fn init<'a, R: Host>(rt: &R, order: &Init<'a>, site: &mut FaultSite<'a>) -> End {
     for number in 1..=order.count {
         *site = FaultSite::Volume(order.folder, order.prefix, number);
@@ -21,7 +21,7 @@ pub fn init<'a, R: Host>(rt: &R, order: &Init<'a>, site: &mut FaultSite<'a>) -> 
     tell(rt, order.count)
 }
 
-/// Creates the image of a volume.
+/// Creates the image of volume `number`.
 fn make<R: Host>(rt: &R, order: &Init<'_>, number: u16) -> Result<(), ToolFault> {
     let Ok(path) = image_path(rt.alloc(), order.folder, order.prefix, number) else {
         return Err(OUT_OF_MEMORY);
@@ -32,7 +32,7 @@ fn make<R: Host>(rt: &R, order: &Init<'_>, number: u16) -> Result<(), ToolFault>
     }
 }
 
-/// Prints how many volumes were created.
+/// Prints the number of volumes that were created.
 fn tell<R: Print + AllocGlobal>(rt: &R, count: u16) -> End {
     let Ok(line) = format!(in rt.alloc(); "INIT {count}\n") else {
         return End::Faulted(OUT_OF_MEMORY);
@@ -43,7 +43,7 @@ fn tell<R: Print + AllocGlobal>(rt: &R, count: u16) -> End {
     }
 }
 
-/// Writes a text, and flushes.
+/// Writes `text` and flushes.
 fn say<W: Write>(writer: &mut W, text: &str) -> Result<(), WriteFailed> {
     write_text(writer, text.as_bytes())?;
     flush(writer)

@@ -10,7 +10,7 @@ use clap::{ArgMatches, Error};
 use std::alloc::Global;
 use tape_writer::Prefix;
 
-/// What `init` creates: images of the volumes from 1 to the count, in a directory.
+/// The request to `init`: the directory, the prefix and the number of volumes to create.
 #[derive(Clone, Copy)]
 pub struct Init<'a> {
     pub folder: &'a str,
@@ -18,7 +18,7 @@ pub struct Init<'a> {
     pub count: u16,
 }
 
-/// `init`.
+/// The `init` command and its arguments.
 pub const INIT: CommandSpec = CommandSpec {
     name: "init",
     called: "tape init",
@@ -32,7 +32,8 @@ pub const INIT: CommandSpec = CommandSpec {
     ],
 };
 
-/// Returns what the arguments of `init` ask for. The parser has checked that all three are present.
+/// Returns the request in `matches`, the arguments of `init`. The parser has checked that all three
+/// are present.
 pub fn init_order<'a>(alloc: Global, matches: &ArgMatches<'a>) -> Result<Init<'a>, Error>
     ensures ok { IfOk result (AsksToInit (rows_of (found_of matches.now))) }
     ensures err { IfErr result (RefusedFor (IsNoInit (rows_of (found_of matches.now)))) }

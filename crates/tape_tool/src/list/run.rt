@@ -11,13 +11,13 @@ use std::rt::Runtime;
 use tape_image::{ImageCause, ImageFault};
 use tape_run::{list_places_to, list_to};
 
-/// No memory for a buffer.
+/// The fault if a buffer cannot be allocated.
 const NO_MEMORY: ToolFault = ToolFault::Image(ImageFault {
     place: 0,
     cause: ImageCause::OutOfMemory,
 });
 
-/// Lists the image at the path, or that on standard input.
+/// Lists the image at the path in `order`, or the one on standard input.
 pub fn list<'a, R: Runtime + AllocGlobal>(
     rt: &R,
     order: Listing<'a>,
@@ -34,7 +34,7 @@ pub fn list<'a, R: Runtime + AllocGlobal>(
     end_of(listed)
 }
 
-/// Lists the image at the path.
+/// Lists the image at `path`.
 fn list_file<R: Runtime + AllocGlobal>(rt: &R, path: &str, offsets: bool) -> Result<(), ToolFault> {
     match File::open(rt, path) {
         Ok(file) => list_input(rt, file, offsets),
@@ -42,7 +42,7 @@ fn list_file<R: Runtime + AllocGlobal>(rt: &R, path: &str, offsets: bool) -> Res
     }
 }
 
-/// Lists to the standard output, both streams through buffers.
+/// Lists the image in `input` to standard output. Both are buffered.
 fn list_input<R: Print + AllocGlobal, I: Read + Drop>(
     rt: &R,
     input: I,
@@ -54,7 +54,7 @@ fn list_input<R: Print + AllocGlobal, I: Read + Drop>(
     list_from(rt, &mut reader, offsets)
 }
 
-/// Lists the rest of an image.
+/// Lists the rest of the image in `reader`.
 fn list_from<R: Print + AllocGlobal, I: Read>(
     rt: &R,
     reader: &mut I,

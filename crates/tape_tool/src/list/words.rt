@@ -17,7 +17,8 @@ pub struct Listing<'a> {
     pub offsets: bool,
 }
 
-/// `list`. It accepts any number of images, so that the error for a second one can suggest a loop.
+/// The `list` command and its arguments. It accepts any number of images, so that the error for a
+/// second one can suggest a loop.
 pub const LIST: CommandSpec = CommandSpec {
     name: "list",
     called: "tape list",
@@ -30,7 +31,7 @@ pub const LIST: CommandSpec = CommandSpec {
     ],
 };
 
-/// Returns what the arguments of `list` ask for.
+/// Returns the request in `matches`, the arguments of `list`.
 pub fn list_order<'a>(alloc: Global, matches: &ArgMatches<'a>) -> Result<Listing<'a>, Error>
     ensures ok { IfOk result (AsksToList (rows_of (found_of matches.now))) }
     ensures err { IfErr result (RefusedFor (IsDashOrMore

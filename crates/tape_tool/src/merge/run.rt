@@ -15,8 +15,8 @@ use tape_image::{ImageCause, ImageFault};
 use tape_run::{MergeEnd, MergeStop, Place, WriteFailed, merge_now};
 use tape_writer::system::found;
 
-/// Merges the readings named in the arguments into a new image, and creates its log if one was
-/// asked for. On error, the site says where it occurred.
+/// Merges the readings named in the arguments into a new image, and creates its log if one is
+/// requested. On error, `site` says where it occurred.
 pub fn merge<'a, R: Host>(rt: &R, order: &Merge<'a>, site: &mut FaultSite<'a>) -> End {
     let mut text = String::new(rt.alloc());
     let names = match readings_of(rt, &order.images, &mut text, site) {
@@ -51,8 +51,8 @@ pub fn merge<'a, R: Host>(rt: &R, order: &Merge<'a>, site: &mut FaultSite<'a>) -
     name.ended(end)
 }
 
-/// Merges the images with these names, and creates the log. It gets its name before the merged
-/// image does, and loses it again if that cannot be placed.
+/// Merges the images named `names`, and creates the log. The log gets its name before the merged
+/// image does, and loses it again if the merged image cannot get its own.
 fn merge_logged<'a, R: Host>(
     rt: &R,
     order: &Merge<'a>,
@@ -87,7 +87,7 @@ fn merge_logged<'a, R: Host>(
     draft.name.ended(end)
 }
 
-/// Creates a draft of a file that does not exist.
+/// Creates a draft of a file at `path`, which must not exist.
 fn new_draft<'a, R: Host>(rt: &'a R, path: &'a str) -> Result<Draft<'a, R>, End> {
     match found(fs::symlink_metadata(rt, path)) {
         Ok(None) => {}
@@ -101,7 +101,7 @@ fn new_draft<'a, R: Host>(rt: &'a R, path: &'a str) -> Result<Draft<'a, R>, End>
     }
 }
 
-/// Compares the readings named in the arguments. On error, the site says where it occurred.
+/// Compares the readings named in the arguments. On error, `site` says where it occurred.
 pub fn compare<'a, R: Host>(rt: &R, named: &Named<'a>, site: &mut FaultSite<'a>) -> End {
     let mut text = String::new(rt.alloc());
     match readings_of(rt, named, &mut text, site) {
@@ -123,7 +123,7 @@ pub fn compare<'a, R: Host>(rt: &R, named: &Named<'a>, site: &mut FaultSite<'a>)
     }
 }
 
-/// The destination of the merged image of `compare`.
+/// A destination of the merged image that discards it, for `compare`.
 #[derive(Drop)]
 struct Nowhere;
 
@@ -150,8 +150,8 @@ fn readings_of<'t, 'a: 't, R: Host>(
     }
 }
 
-/// Merges the images with these names, and writes the rows of the log. If the error is in an image
-/// or the log, that is the site.
+/// Merges the images named `names`, and writes the rows of the log. If the error is in an image or
+/// the log, `site` says in which.
 fn merge_files<'a, R: Host, W: Write + Drop, O: Place<W>, G: Write>(
     rt: &R,
     named: &Named<'a>,

@@ -12,17 +12,17 @@ use crate::words::{is_dash, named, option_of, text_of};
 use clap::{ArgMatches, Error};
 use std::alloc::Global;
 
-/// Which readings are merged, and into what.
+/// The request to `merge`: the readings to merge, and the files to create.
 #[derive(Drop)]
 pub struct Merge<'a> {
     /// The image that is created.
     pub out: &'a str,
-    /// The log that is created.
+    /// The path of the log to be created.
     pub log: Option<&'a str>,
     pub images: Named<'a>,
 }
 
-/// `merge`.
+/// The `merge` command and its arguments.
 pub const MERGE: CommandSpec = CommandSpec {
     name: "merge",
     called: "tape merge",
@@ -38,7 +38,7 @@ pub const MERGE: CommandSpec = CommandSpec {
     ],
 };
 
-/// `compare`.
+/// The `compare` command and its arguments.
 pub const COMPARE: CommandSpec = CommandSpec {
     name: "compare",
     called: "tape compare",
@@ -52,7 +52,7 @@ pub const COMPARE: CommandSpec = CommandSpec {
     ],
 };
 
-/// Returns what the arguments of `merge` ask for.
+/// Returns the request in `matches`, the arguments of `merge`.
 pub fn merge_order<'a>(alloc: Global, matches: &ArgMatches<'a>) -> Result<Merge<'a>, Error>
     ensures ok { IfOk result (AsksToMerge (rows_of (found_of matches.now))) }
     ensures err { IfErr result (RefusedFor (IsNoMerge (rows_of (found_of matches.now)))) }
@@ -72,7 +72,7 @@ pub fn merge_order<'a>(alloc: Global, matches: &ArgMatches<'a>) -> Result<Merge<
     })
 }
 
-/// Returns what the arguments of `compare` ask for.
+/// Returns the request in `matches`, the arguments of `compare`.
 pub fn compare_order<'a>(alloc: Global, matches: &ArgMatches<'a>) -> Result<Named<'a>, Error>
     ensures ok { IfOk result (NamesImages (rows_of (found_of matches.now))) }
     ensures err { IfErr result (RefusedFor (AreTooMany (rows_of (found_of matches.now)))) }

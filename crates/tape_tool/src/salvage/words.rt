@@ -16,7 +16,7 @@ use tape_blocks::Form;
 use tape_label::Field;
 use tape_run::{Content, SalvageTask};
 
-/// What `salvage` recovers, and from which images.
+/// The request to `salvage`: the file to recover, the images and the output.
 #[derive(Drop)]
 pub struct SalvageOrder<'a> {
     pub task: SalvageTask,
@@ -27,7 +27,7 @@ pub struct SalvageOrder<'a> {
 /// The values of `--form`.
 const FORMS_OF_SALVAGE: &[&str] = &["lines", "raw", "blocks"];
 
-/// `salvage`.
+/// The `salvage` command and its arguments.
 pub const SALVAGE: CommandSpec = CommandSpec {
     name: "salvage",
     called: "tape salvage",
@@ -49,8 +49,8 @@ pub const SALVAGE: CommandSpec = CommandSpec {
     ],
 };
 
-/// Returns what the arguments of `salvage` ask for. The parser has checked that all required ones
-/// are present.
+/// Returns the request in `matches`, the arguments of `salvage`. The parser has checked that all
+/// required ones are present.
 pub fn salvage_order<'a>(alloc: Global, matches: &ArgMatches<'a>) -> Result<SalvageOrder<'a>, Error>
     ensures ok { IfOk result (AsksToSalvage (rows_of (found_of matches.now))) }
     ensures err { IfErr result (RefusedFor (IsNoExtract (rows_of (found_of matches.now)))) }
@@ -101,7 +101,7 @@ fn out_in<'a>(alloc: Global, matches: &ArgMatches<'a>) -> Result<&'a str, Error>
     Ok(out)
 }
 
-/// Returns whether records or blocks are recovered.
+/// Returns what is to be recovered, records or blocks.
 fn content_in(matches: &ArgMatches<'_>) -> Content
     ensures { (result ≡ Blocks) ↔ (first_of (codes "form") (rows_of (found_of matches.now))
         ≡ Some (codes "blocks")) }
@@ -112,7 +112,7 @@ fn content_in(matches: &ArgMatches<'_>) -> Content
     }
 }
 
-/// Returns how records are written. Blocks are written without terminators.
+/// Returns the form of the recovered records. Blocks are written without terminators.
 fn form_with(matches: &ArgMatches<'_>, content: Content) -> Form
     ensures form { content ≡ Records → IsForm (rows_of (found_of matches.now)) result }
     ensures raw { content ≡ Blocks → result ≡ Form.Raw }

@@ -1,11 +1,11 @@
-//! What follows the parts of a stage.
+//! The end of a stage, after its parts.
 use tape_set::Want;
 
-/// What follows the parts of a stage that was shown.
+/// The end of a stage that was shown, after its parts.
 #[derive(Clone, Copy, Debug, PartialEq, Eq)]
 pub enum StageEnding {
-    /// All frames are intact; the missing part of the file, if any.
+    /// All frames are intact. Contains the missing part of the file, if any.
     Whole(Option<Want>),
-    /// The offset of the stage at which the frames are damaged.
+    /// The frames are damaged at this offset of the stage.
     Broken(u64),
 }

@@ -3,8 +3,9 @@ use std::fs::{Metadata, OpenFile};
 use std::io;
 use std::io::{Error, ErrorKind, Read, Seek, SeekFrom, Write};
 
-/// A file that is never changed. Cuts and syncs do nothing and report success, so that a stage in
-/// it can be opened like a writable one: a cut only hides the bytes from later reads. Writes fail.
+/// A file that is never changed. Truncating and syncing do nothing and report success, so that a
+/// stage in it can be opened like a writable one: truncating only hides the bytes from later reads.
+/// Writes fail.
 #[derive(Drop)]
 pub struct ReadOnly<F> {
     pub file: F,

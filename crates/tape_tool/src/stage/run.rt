@@ -15,10 +15,10 @@ use std::io;
 use std::io::{BufWriter, Write};
 use tape_stage::{BufferedFile, buffered_file};
 
-/// The file of a stage, which is only read.
+/// The disk of a stage: a file that is only read.
 type StageDisk = BufferedFile<ReadOnly<File>>;
 
-/// Shows the stage that the arguments name. On error, the site says where it occurred.
+/// Shows the stage that the arguments name. On error, `site` says where it occurred.
 pub fn stage<'a, R: Host>(rt: &R, order: &StageOrder<'a>, site: &mut FaultSite<'a>) -> End {
     let place = match order.out {
         None => FaultSite::Lines,
@@ -42,7 +42,7 @@ pub fn stage<'a, R: Host>(rt: &R, order: &StageOrder<'a>, site: &mut FaultSite<'
     end
 }
 
-/// Returns how the output is to be written, if there is one.
+/// Returns how the output is to be written, if `order` has one.
 fn way_of<R: Host>(rt: &R, order: &StageOrder<'_>) -> Result<Option<Way>, Refusal> {
     match order.out {
         None => Ok(None),
@@ -51,7 +51,7 @@ fn way_of<R: Host>(rt: &R, order: &StageOrder<'_>) -> Result<Option<Way>, Refusa
 }
 
 /// Opens the file of the stage at `path` for reading only, unless another run is writing to it. On
-/// a file system without locks other runs are not excluded.
+/// a file system without locks, other runs are not excluded.
 fn disk_of<R: Host>(rt: &R, path: &str) -> Result<StageDisk, ToolFault> {
     let Ok(file) = File::open(rt, path) else {
         return Err(ToolFault::File(FileFault::NotOpened));
@@ -63,7 +63,7 @@ fn disk_of<R: Host>(rt: &R, path: &str) -> Result<StageDisk, ToolFault> {
     }
 }
 
-/// Shows the stage on a disk, and writes the records if there is an output.
+/// Shows the stage on `disk`, and writes its records if `way` is `Some`.
 fn show_disk<'a, R: Host>(
     rt: &'a R,
     order: &StageOrder<'a>,
@@ -80,7 +80,7 @@ fn show_disk<'a, R: Host>(
     }
 }
 
-/// Shows the stage on a disk, and writes the records to the draft.
+/// Shows the stage on `disk`, and writes its records to the draft.
 fn show_drafted<R: Host>(
     rt: &R,
     order: &StageOrder<'_>,
@@ -95,7 +95,7 @@ fn show_drafted<R: Host>(
     draft.name.ended(end)
 }
 
-/// Shows the stage on a disk, and writes the records to the file with the output's name.
+/// Shows the stage on `disk`, and writes its records to the file named `out`, in place.
 fn show_in_place<R: Host>(
     rt: &R,
     order: &StageOrder<'_>,
@@ -114,7 +114,7 @@ fn show_in_place<R: Host>(
     }
 }
 
-/// Shows the stage on a disk, and writes the records to `out`.
+/// Shows the stage on `disk`, and writes its records to `out`.
 fn show_to<R: Host, W: Write>(rt: &R, order: &StageOrder<'_>, disk: StageDisk, out: &mut W) -> End {
     let mut report = io::writer(rt);
     if order.damaged {

@@ -1,4 +1,4 @@
-//! The contents of a stage, and its records.
+//! Reports on stages: the contents of a stage, and its records.
 ghost use Rattle.std.specs.Prelude.{◌≡◌, ◌≤◌, ◌++◌, List};
 ghost use Rattle.std.specs.Prelude.{IfOk, IfErr, OnOk, OnErr, None};
 ghost use Rattle.std.specs.Io.KnownBytes.{Appends};
@@ -24,18 +24,18 @@ use tape_run::{EngineFault, WriteFailed, flush, last_line, write_file, write_tex
 use tape_set::Want;
 use tape_stage::{Disk, Salvage, Stage, StageFault};
 
-/// Prints the file of the stage on `disk`, its number of complete records, and the last line that
-/// `extract` would print. The records, from the beginning of the file, are written to `out` and
-/// flushed before anything is printed. Returns the missing part of the file, if any.
+/// Prints the file and the number of complete records of the stage on `disk`, and the last line
+/// that `extract` would print. The records, from the beginning of the file, are written to `out`
+/// and flushed before anything is printed. Returns the missing part of the file, if any.
 ///
-/// Opening a stage cuts what follows its staged end and syncs: to leave the stage unchanged, pass a
-/// disk that only simulates that.
+/// Opening a stage truncates the disk after the staged end, and syncs. To leave a stage unchanged,
+/// pass a disk that only simulates this.
 ///
 /// # Errors
 ///
 /// Returns `Stage` with the fault of opening the stage, after which nothing was written, or with
-/// `Device` if its parts could not be read again; `File` with `WriteFailed` if `out` or the report
-/// failed. `NoPoint` is returned only if there is no stage.
+/// `Device` if its parts could not be read again; `File` with `WriteFailed` if writing to `out` or
+/// `report` failed. `NoPoint` is returned only if there is no stage.
 pub fn show_stage<D: Disk + Drop, W: Write, P: Write>(
     alloc: Global,
     disk: D,
@@ -54,8 +54,8 @@ pub fn show_stage<D: Disk + Drop, W: Write, P: Write>(
     }
 }
 
-/// Prints the file and the parts of a sink that was saved up to checkpoint `point`, and writes its
-/// records.
+/// Prints the file and the number of records of a sink that was saved at checkpoint `point`, and
+/// writes its records.
 fn show_opened<S: PartWalk + Drop, W: Write, P: Write>(
     sink: S,
     point: &Checkpoint,
@@ -85,8 +85,8 @@ fn show_opened<S: PartWalk + Drop, W: Write, P: Write>(
     Ok(want)
 }
 
-/// Shows a damaged stage: prints and writes its complete records before the damage, and prints the
-/// offset of the damage in place of the missing part. For an intact stage this is the same as
+/// Shows a damaged stage: writes its complete records before the damage, and prints the offset of
+/// the damage in place of the missing part. For an intact stage this function is the same as
 /// `show_stage`. The disk is only read.
 ///
 /// # Errors
@@ -110,7 +110,8 @@ pub fn show_damaged<D: Disk + Drop, W: Write, P: Write>(
     }
 }
 
-/// Prints the file and the remaining parts up to checkpoint `point`, and writes its records.
+/// Prints the file and the number of records of the remaining parts, up to checkpoint `point`, and
+/// writes the records.
 fn show_rest<D: Disk + Drop, W: Write, P: Write>(
     salvage: Salvage<D>,
     point: &Checkpoint,
@@ -133,7 +134,7 @@ fn show_rest<D: Disk + Drop, W: Write, P: Write>(
     Ok(ending)
 }
 
-/// Returns what follows the parts of a stage that is damaged there, or intact.
+/// Returns the end of a stage that is damaged at offset `broken`, or intact.
 fn ending_at(point: &Checkpoint, broken: Option<u64>) -> StageEnding
     ensures { result ≡ ending_of point.now broken }
 {
@@ -143,7 +144,7 @@ fn ending_at(point: &Checkpoint, broken: Option<u64>) -> StageEnding
     }
 }
 
-/// Writes the records of the parts, and prints both lines.
+/// Writes the records of the parts of `sink`, and prints both lines.
 fn show_parts<S: PartWalk, W: Write, P: Write>(
     sink: &mut S,
     point: &Checkpoint,
@@ -166,8 +167,8 @@ fn show_parts<S: PartWalk, W: Write, P: Write>(
     }
 }
 
-/// Returns the fault of writing the records: if the parts could not be read, it is a fault of the
-/// stage.
+/// Returns the program's fault if writing the records failed. If the parts could not be read, it is
+/// a fault of the stage.
 fn as_read(fault: EngineFault) -> ToolFault
     ensures ends { EndsInPart result }
     ensures written { fault ≡ EngineFault.WriteFailed
@@ -181,7 +182,8 @@ fn as_read(fault: EngineFault) -> ToolFault
     }
 }
 
-/// Prints the file of a stage, its number of records, and what follows.
+/// Prints the line about the stage, with its file and number of records, and the line about its
+/// end.
 fn tell<P: Write>(
     report: &mut P,
     point: &Checkpoint,
@@ -197,10 +199,10 @@ fn tell<P: Write>(
     flush(report)
 }
 
-/// The maximum length of both lines.
+/// A buffer for both lines, which are shorter.
 type Lines = ArrayVec<u8, 512>;
 
-/// Returns the line about the stage, and the line about what follows its parts.
+/// Returns the line about the stage, and the line about its end.
 fn lines_of(point: &Checkpoint, ending: StageEnding, records: u64) -> Lines
     ensures { result.items ≡ told_with point.now ending records }
 {
@@ -210,8 +212,8 @@ fn lines_of(point: &Checkpoint, ending: StageEnding, records: u64) -> Lines
     lines
 }
 
-/// Appends the line about what follows the parts: the missing part, or that the file is complete,
-/// or where the frames are damaged.
+/// Appends the line about the end of a stage: the missing part, the completeness of the file, or
+/// the offset of the damage.
 fn put_ending(lines: &mut Lines, ending: StageEnding, records: u64)
     requires { array_vec_len lines.old ≤ 200 }
     ensures { lines.new.items ≡ lines.old.items ++ ending_line ending records }
@@ -222,7 +224,7 @@ fn put_ending(lines: &mut Lines, ending: StageEnding, records: u64)
     }
 }
 
-/// Appends the line for the damage.
+/// Appends the line about damage at offset `place`.
 fn put_break(lines: &mut Lines, place: u64)
     requires { array_vec_len lines.old ≤ 200 }
     ensures { lines.new.items ≡ lines.old.items ++ break_line place }
@@ -232,7 +234,7 @@ fn put_break(lines: &mut Lines, place: u64)
     put(lines, b"\n");
 }
 
-/// Appends the line about a stage: set, file, and number of complete records.
+/// Appends the line about a stage: its set, file, and number of complete records.
 fn put_stage(lines: &mut Lines, point: &Checkpoint, records: u64)
     requires { array_vec_len lines.old ≡ 0 }
     ensures items { lines.new.items ≡ lines.old.items ++ stage_line point.now records }

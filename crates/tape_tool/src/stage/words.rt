@@ -10,7 +10,7 @@ use clap::{ArgMatches, Error};
 use std::alloc::Global;
 use tape_blocks::Form;
 
-/// The stage that `stage` shows, and the output of its records.
+/// The request to `stage`: the stage to show, and the output for its records.
 #[derive(Clone, Copy)]
 pub struct StageOrder<'a> {
     pub stage: &'a str,
@@ -20,7 +20,8 @@ pub struct StageOrder<'a> {
     pub damaged: bool,
 }
 
-/// `stage`. It accepts any number of outputs, so that a second one can have its own error message.
+/// The `stage` command and its arguments. It accepts any number of outputs, so that a second one
+/// gets an error message of its own.
 pub const STAGE: CommandSpec = CommandSpec {
     name: "stage",
     called: "tape stage",
@@ -39,7 +40,8 @@ pub const STAGE: CommandSpec = CommandSpec {
     ],
 };
 
-/// Returns what the arguments of `stage` ask for. The parser has checked that a stage is named.
+/// Returns the request in `matches`, the arguments of `stage`. The parser has checked that a stage
+/// is named.
 pub fn stage_order<'a>(alloc: Global, matches: &ArgMatches<'a>) -> Result<StageOrder<'a>, Error>
     ensures ok { IfOk result (AsksForStage (rows_of (found_of matches.now))) }
     ensures err { IfErr result (RefusedFor (IsDashOrMore

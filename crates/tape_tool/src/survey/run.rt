@@ -9,7 +9,7 @@ use std::io;
 use std::io::BufWriter;
 use tape_run::{EngineFault, RunFault, survey_to};
 
-/// Describes the images named in the arguments. On error, the site says where it occurred.
+/// Describes the images named in the arguments. On error, `site` says where it occurred.
 pub fn survey<'a, R: Host>(rt: &R, order: &Survey<'a>, site: &mut FaultSite<'a>) -> End {
     let mut text = String::new(rt.alloc());
     match names_of(rt, &order.images, &mut text, site) {
@@ -21,8 +21,8 @@ pub fn survey<'a, R: Host>(rt: &R, order: &Survey<'a>, site: &mut FaultSite<'a>)
     }
 }
 
-/// Describes the images named `names`, and returns whether nothing is missing and every image was
-/// read completely.
+/// Describes the images named `names`. Returns whether nothing is missing and every image was read
+/// completely.
 fn survey_files<R: Host>(rt: &R, order: &Survey<'_>, names: &[&str]) -> Result<bool, EngineFault> {
     let Ok(mut report) = BufWriter::new(rt.alloc(), io::writer(rt)) else {
         return Err(EngineFault::Run(RunFault::OutOfMemory));

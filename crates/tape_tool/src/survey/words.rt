@@ -11,14 +11,14 @@ use clap::{ArgMatches, Error};
 use std::alloc::Global;
 use tape_run::Wording;
 
-/// What `survey` describes, and how.
+/// The request to `survey`: the images, and how to print their descriptions.
 #[derive(Drop)]
 pub struct Survey<'a> {
     pub images: Named<'a>,
     pub wording: Wording,
 }
 
-/// `survey`.
+/// The `survey` command and its arguments.
 pub const SURVEY: CommandSpec = CommandSpec {
     name: "survey",
     called: "tape survey",
@@ -33,7 +33,7 @@ pub const SURVEY: CommandSpec = CommandSpec {
     ],
 };
 
-/// Returns what the arguments of `survey` ask for.
+/// Returns the request in `matches`, the arguments of `survey`.
 pub fn survey_order<'a>(alloc: Global, matches: &ArgMatches<'a>) -> Result<Survey<'a>, Error>
     ensures ok { IfOk result (AsksToSurvey (rows_of (found_of matches.now))) }
     ensures err { IfErr result (RefusedFor (IsNoInput (rows_of (found_of matches.now)))) }
@@ -44,7 +44,7 @@ pub fn survey_order<'a>(alloc: Global, matches: &ArgMatches<'a>) -> Result<Surve
     })
 }
 
-/// How a survey is printed.
+/// Returns how the survey is printed.
 fn wording_of(matches: &ArgMatches<'_>) -> Wording
     ensures { IsFlag (rows_of (found_of matches.now)) (codes "tsv") (is_in_rows result) }
 {

@@ -1,10 +1,10 @@
-//! `extract --again` as it is called.
+//! Tests of `extract --again`.
 use super::calls::{Step, take_all};
 use crate::program::End;
 use std::test::Fail;
 
-/// Two copies that complete each other, each specified once, and one with a wrong count before a
-/// good one.
+/// Two copies that complete each other, each named once, and one with a wrong count before a good
+/// one.
 const AGAIN: &[Step<'_>] = &[
     Step::PutDamaged("first_bad.tap", 1),
     Step::PutDamaged("second_bad.tap", 2),
@@ -31,7 +31,7 @@ const AGAIN: &[Step<'_>] = &[
     ),
     Step::HasLength("out.txt", 2000),
     Step::HasLength("a.stage", 2381),
-    // The data of the suspect copy is discarded without a stage too.
+    // The data of the suspect copy is discarded even without a stage.
     Step::PutLost("miscounted.tap"),
     Step::PutWorked("counted.tap", 2484),
     Step::Ends(

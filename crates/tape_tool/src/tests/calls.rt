@@ -1,5 +1,5 @@
-//! The program as it is called: how a line ends, and the files around it. The tests share a
-//! directory: each file has a name of its own.
+//! Runs of the program with a command line: how they end, and the files before and after them. The
+//! tests share a directory, so each file has a name of its own.
 
 use super::image::payroll;
 use super::volumes::{damaged, lost, worked};
@@ -17,25 +17,25 @@ use std::process::Abort;
 use std::rt::Runtime;
 use std::test::Fail;
 
-/// How the line ends.
+/// Runs the program with the arguments in `line`, and returns how it ends.
 pub fn end_of<H: Host>(rt: &H, line: &str) -> Result<End, Fail> {
     let words = words_of(rt.alloc(), line)?;
     Ok(perform(rt, words.as_slice()).end)
 }
 
-/// Fails unless the call with this line ends as expected.
+/// Fails unless the run with the arguments in `line` ends with `wanted`.
 pub fn ends<H: Host + Abort>(rt: &H, line: &str, wanted: End) -> Result<(), Fail> {
     let end = end_of(rt, line)?;
     assert!(rt; end == wanted, "{line}: {end:?}");
     Ok(())
 }
 
-/// Fails unless the call with this line ends with the given fault.
+/// Fails unless the run with the arguments in `line` ends with `fault`.
 fn fails<H: Host + Abort>(rt: &H, line: &str, fault: ToolFault) -> Result<(), Fail> {
     ends(rt, line, End::Faulted(fault))
 }
 
-/// Fails unless each call ends as its row says.
+/// Fails unless each run ends as its row says.
 pub fn each_ends<H: Host + Abort>(rt: &H, cases: &[(&str, End)]) -> Result<(), Fail> {
     for (line, wanted) in cases {
         ends(rt, line, *wanted)?;
@@ -43,7 +43,7 @@ pub fn each_ends<H: Host + Abort>(rt: &H, cases: &[(&str, End)]) -> Result<(), F
     Ok(())
 }
 
-/// Fails unless each call ends with the fault in its row.
+/// Fails unless each run ends with the fault in its row.
 pub fn each_fails<H: Host + Abort>(rt: &H, cases: &[(&str, ToolFault)]) -> Result<(), Fail> {
     for (line, fault) in cases {
         fails(rt, line, *fault)?;
@@ -51,7 +51,7 @@ pub fn each_fails<H: Host + Abort>(rt: &H, cases: &[(&str, ToolFault)]) -> Resul
     Ok(())
 }
 
-/// Fails unless each line, which names no existing file, is a usage error.
+/// Fails unless each of `lines`, which name no existing file, is a usage error.
 pub fn each_is_wrong<H: Host + Abort>(rt: &H, lines: &[&str]) -> Result<(), Fail> {
     for line in lines {
         ends(rt, line, End::WrongWords)?;
@@ -62,21 +62,21 @@ pub fn each_is_wrong<H: Host + Abort>(rt: &H, lines: &[&str]) -> Result<(), Fail
 /// A step of a test: an action and its expected result.
 #[derive(Clone, Copy)]
 pub enum Step<'a> {
-    /// A call of the program with a line, and how it ends.
+    /// Runs the program with a line, which ends as specified.
     Ends(&'a str, End),
-    /// A call of the program with a line, and the fault with which it ends.
+    /// Runs the program with a line, which ends with this fault.
     Fails(&'a str, ToolFault),
     /// Creates a directory.
     Folder(&'a str),
     /// Creates a file with the given bytes.
     Put(&'a str, &'a [u8]),
-    /// Creates a file with the worked image, or with its first bytes.
+    /// Creates a file with the example image, or with its first bytes.
     PutWorked(&'a str, usize),
-    /// Creates a file with a volume, one block of which is unreadable.
+    /// Creates a file with a volume that has one unreadable block.
     PutDamaged(&'a str, usize),
-    /// Creates a file with the worked volume without its second block.
+    /// Creates a file with the example volume without its second block.
     PutLost(&'a str),
-    /// Creates a file with the records of the worked volume.
+    /// Creates a file with the records of the example volume.
     PutRecords(&'a str),
     /// Creates a link to a path.
     Link(&'a str, &'a str),
@@ -84,23 +84,23 @@ pub enum Step<'a> {
     Name(&'a str, &'a str),
     /// Removes the file, if it exists.
     Remove(&'a str),
-    /// The file contains the given bytes.
+    /// Checks that the file contains exactly these bytes.
     Holds(&'a str, &'a [u8]),
-    /// The file is the worked image.
+    /// Checks that the file is the example image.
     IsWorked(&'a str),
-    /// The file has the given length.
+    /// Checks that the file has this length.
     HasLength(&'a str, usize),
-    /// The file has the given text at an offset.
+    /// Checks that the file contains this text at an offset.
     HasText(&'a str, usize, &'a [u8]),
-    /// There is no such file.
+    /// Checks that the file does not exist.
     IsMissing(&'a str),
     /// Sets the permissions of the file.
     Allow(&'a str, u32),
-    /// The file has the given permissions.
+    /// Checks that the file has these permissions.
     IsAllowed(&'a str, u32),
 }
 
-/// Takes the steps, one after another, and fails unless each has its expected result.
+/// Executes `steps` in order, and fails unless each has its expected result.
 pub fn take_all<H: Host + Abort>(rt: &H, steps: &[Step<'_>]) -> Result<(), Fail> {
     for (number, step) in steps.iter().enumerate() {
         assert!(rt; take(rt, step)?, "the step behind {number} others");
@@ -108,7 +108,8 @@ pub fn take_all<H: Host + Abort>(rt: &H, steps: &[Step<'_>]) -> Result<(), Fail>
     Ok(())
 }
 
-/// Takes the steps of each script, which has a name.
+/// Executes the steps of each of `scripts`, and fails unless each step has its expected result. The
+/// message names the script.
 pub fn follow_all<H: Host + Abort>(rt: &H, scripts: &[(&str, &[Step<'_>])]) -> Result<(), Fail> {
     for (name, steps) in scripts {
         for (number, step) in steps.iter().enumerate() {
@@ -118,7 +119,7 @@ pub fn follow_all<H: Host + Abort>(rt: &H, scripts: &[(&str, &[Step<'_>])]) -> R
     Ok(())
 }
 
-/// Takes a step, and returns whether it had its expected result.
+/// Executes a step, and returns whether it had its expected result.
 fn take<H: Host>(rt: &H, step: &Step<'_>) -> Result<bool, Fail> {
     match *step {
         Step::Ends(line, wanted) => Ok(end_of(rt, line)? == wanted),
@@ -146,7 +147,7 @@ fn take<H: Host>(rt: &H, step: &Step<'_>) -> Result<bool, Fail> {
     }
 }
 
-/// Creates a file with the given bytes.
+/// Creates a file with contents `bytes`.
 pub fn put<H: Runtime>(rt: &H, path: &str, bytes: &[u8]) -> Result<bool, Fail> {
     let mut file = File::create(rt, path)?;
     file.write_all(bytes)?;
@@ -173,7 +174,7 @@ fn remove<H: Runtime>(rt: &H, path: &str) -> bool {
     true
 }
 
-/// Returns whether the file contains exactly these bytes.
+/// Returns whether the contents of the file at `path` are exactly `bytes`.
 pub fn holds<H: Runtime + AllocGlobal>(rt: &H, path: &str, bytes: &[u8]) -> Result<bool, Fail> {
     let found = fs::read(rt, path)?;
     Ok(found.as_slice() == bytes)
@@ -184,13 +185,13 @@ fn is_worked<H: Runtime + AllocGlobal>(rt: &H, path: &str) -> Result<bool, Fail>
     holds(rt, path, image.bytes.as_slice())
 }
 
-/// Returns whether the file has the given length.
+/// Returns whether the file at `path` has length `length`.
 fn has_length<H: Runtime + AllocGlobal>(rt: &H, path: &str, length: usize) -> Result<bool, Fail> {
     let found = fs::read(rt, path)?;
     Ok(found.len() == length)
 }
 
-/// Returns whether the file has the text at offset `place`.
+/// Returns whether the file at `path` contains `text` at offset `place`.
 fn has_text<H: Runtime + AllocGlobal>(
     rt: &H,
     path: &str,
@@ -201,7 +202,7 @@ fn has_text<H: Runtime + AllocGlobal>(
     Ok(stands(found.as_slice(), place, text))
 }
 
-/// Returns whether the text is at offset `place` of the bytes.
+/// Returns whether `bytes` contain `text` at offset `place`.
 pub fn stands(bytes: &[u8], place: usize, text: &[u8]) -> bool {
     match bytes.get(place..) {
         Some(rest) => rest.starts_with(text),
@@ -209,12 +210,12 @@ pub fn stands(bytes: &[u8], place: usize, text: &[u8]) -> bool {
     }
 }
 
-/// Returns whether there is no such file.
+/// Returns whether there is no file at `path`.
 fn is_missing<H: Runtime + AllocGlobal>(rt: &H, path: &str) -> bool {
     fs::read(rt, path).is_err()
 }
 
-/// Returns the line followed by the names of `count` images that do not exist.
+/// Returns `line` followed by the names of `count` images that do not exist.
 pub fn with_images(alloc: Global, line: &str, count: u16) -> Result<String, AllocError> {
     let mut line = line.to_string(alloc)?;
     for _ in 0..count {

@@ -1,4 +1,4 @@
-//! `check` and `survey` as the program runs them.
+//! Tests of `check` and `survey`.
 use super::calls::{Step, each_ends, ends, put, take_all, with_images};
 use super::volumes::{first_of_two, second_of_two};
 use super::words::words_of;
@@ -24,7 +24,7 @@ const LINES: &[(&str, End)] = &[
     ("survey --help", End::Done),
 ];
 
-/// A list's last line counts without a line feed, and an empty line is ignored.
+/// The last line of a list counts even without a line feed, and an empty line is ignored.
 const LISTS: &[Step<'_>] = &[
     Step::Put("check.names", b"check1.tap\n\ncheck2.tap"),
     Step::Put("check.nulls", b"check2.tap\0"),

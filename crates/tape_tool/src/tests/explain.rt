@@ -1,8 +1,10 @@
-//! What `--explain` prints after the line of a fault.
+//! Tests of the explanations that `--explain` prints after the line of a fault.
 
-use super::calls::{Step, take_all};
+use super::calls::{Step, put, take_all};
+use super::fake_system::called;
+use super::volumes::{first_of_two, second_of_two};
 use super::words::words_of;
-use crate::explain::{Explanation, FaultSite, TEXTS};
+use crate::explain::{Explanation, FaultSite, MISSING_TEXTS, TEXTS};
 use crate::fault::{FileFault, ToolFault};
 use crate::host::Host;
 use crate::program::{End, perform};
@@ -29,6 +31,9 @@ fn texts_fit_on_a_screen(rt: HostRuntime) {
             assert!(rt; fits(*text), "{text}");
         }
     }
+    for text in MISSING_TEXTS {
+        assert!(rt; fits(*text), "{text}");
+    }
 }
 
 const MADE: &[Step<'_>] = &[
@@ -43,7 +48,7 @@ const TLD: Prefix = Prefix {
     characters: *b"TLD",
 };
 
-/// Lines that end with a fault, and its site.
+/// Command lines that end with a fault, and the site of the fault.
 const SITES: &[(&str, Option<FaultSite<'_>>)] = &[
     ("list told_cut.tap", None),
     (
@@ -92,7 +97,7 @@ const SITES: &[(&str, Option<FaultSite<'_>>)] = &[
     ),
 ];
 
-/// Fails unless the call with this line ends with a fault that has the given site.
+/// Fails unless the run with the arguments in `line` ends with a fault at `site`.
 fn is_at<H: Host + Abort>(rt: &H, line: &str, site: Option<FaultSite<'_>>) -> Result<(), Fail> {
     let words = words_of(rt.alloc(), line)?;
     let outcome = perform(rt, words.as_slice());
@@ -118,7 +123,7 @@ const CUT_OFF: ToolFault = ToolFault::Image(ImageFault {
     cause: ImageCause::Truncated,
 });
 
-/// The line that `list` prints for a gzip file.
+/// The fault of `list` for a gzip file.
 const NO_IMAGE: ToolFault = ToolFault::Image(ImageFault {
     place: 0,
     cause: ImageCause::Reserved(529_205_248),
@@ -129,7 +134,7 @@ const NO_MEMORY: ToolFault = ToolFault::Image(ImageFault {
     cause: ImageCause::OutOfMemory,
 });
 
-/// Faults, their sites, and the first line that is printed for them, or the second.
+/// Faults, their sites, and the first or second line of their explanation.
 const TOLD: &[(ToolFault, FaultSite<'_>, &str)] = &[
     (
         CUT_OFF,
@@ -209,6 +214,79 @@ fn faults_are_told_in_words(rt: HostRuntime) -> Result<(), Fail> {
         };
         let told = format!(in rt.alloc(); "{explanation}")?;
         assert!(rt; told.as_str().starts_with(text), "{told}");
+    }
+    Ok(())
+}
+
+/// Lines that end with status 3, and what is printed on standard error then.
+const MISSING: &[(&str, &str)] = &[
+    (
+        "extract DEF001 1 missing.txt missing1.tap --explain",
+        "  No label of set DEF001 was found on these images.\n  \
+            Sets found: ABC001.\n  \
+            Give one of them as SET, or add the images of set DEF001.\n",
+    ),
+    (
+        "extract ABC001 1 missing.txt missing_noise.txt --explain",
+        "  No file of any set was found on these images.\n  'tape survey' says what they are.\n",
+    ),
+    (
+        "extract ABC001 2 missing.txt missing1.tap --explain",
+        "  No label of this file was found. Files of set ABC001 on these images:\n  \
+            1.\n  'tape survey' prints their names.\n",
+    ),
+    (
+        "extract ABC001 1 missing.txt missing1.tap --explain",
+        "  Section 2 of file 1 is on no image. It follows section 1 on\n  \
+            volume ABC001, image missing1.tap.\n  \
+            Look for the reel that comes after that one.\n",
+    ),
+    (
+        "salvage ABC001 1 missing.txt missing2.tap --explain",
+        "  Section 1 of file 1 is on no image: look for the reel with its\n  \
+            beginning. 'tape survey' shows which volumes were found.\n",
+    ),
+    (
+        "extract ABC001 1 missing.txt missing2.tap missing1.tap --explain",
+        "  Each section of the file is complete on some image. With --again, tape reads\n  \
+            the images until they yield nothing more, and their order does not matter.\n",
+    ),
+    (
+        "unpack . missing1.tap --set DEF001 --explain",
+        "  No label of set DEF001 was found on these images.\n  \
+            Sets found: ABC001.\n  \
+            Give one of them as SET, or add the images of set DEF001.\n",
+    ),
+    (
+        "check missing1.tap --explain",
+        "  Each line LACKS names a set, a file and its first section that is complete on\n  \
+            no image: look for another copy of that section. Without such a line, no\n  \
+            section was found at all. 'tape survey' shows what the images are.\n",
+    ),
+    ("check missing1.tap", ""),
+];
+
+#[test]
+fn missing_parts_are_explained(rt: HostRuntime) -> Result<(), Fail> {
+    put(
+        &rt,
+        "missing1.tap",
+        first_of_two(rt.alloc())?.bytes.as_slice(),
+    )?;
+    put(
+        &rt,
+        "missing2.tap",
+        second_of_two(rt.alloc())?.bytes.as_slice(),
+    )?;
+    put(&rt, "missing_noise.txt", b"noise that is not an image")?;
+    for (line, told) in MISSING {
+        let seen = called(&rt, line, true)?;
+        assert!(rt;
+            seen.status == 3 && seen.told.as_str() == *told,
+            "{line}: {}",
+            seen.told
+        );
+        take_all(&rt, &[Step::Remove("missing.txt")])?;
     }
     Ok(())
 }

@@ -1,4 +1,4 @@
-//! `extract` as it is called: arguments, files, ends.
+//! Tests of `extract`: arguments, files, exit statuses.
 use super::calls::{Step, each_is_wrong, ends, take_all, with_images};
 use super::words::words_of;
 use crate::command_line::call_of;
@@ -38,7 +38,7 @@ const NOT_COMPLETE: &[Step<'_>] = &[
     Step::Ends("extract ABC001 1 missing/no.txt part.tap", End::Incomplete),
 ];
 
-/// While something is missing, the existing file is unchanged, and none is created.
+/// While something is missing, an existing output is unchanged, and a new one is not created.
 #[test]
 fn a_file_that_is_not_complete(rt: HostRuntime) -> Result<(), Fail> {
     take_all(&rt, NOT_COMPLETE)
@@ -58,7 +58,7 @@ fn a_file_that_cannot_be_made(rt: HostRuntime) -> Result<(), Fail> {
 }
 
 /// Files that a typing error would destroy are unchanged: the stage, the images under any name, and
-/// an image that is not named like one.
+/// an image whose name does not end in `.tap`.
 const NEVER_OUT: &[Step<'_>] = &[
     Step::PutWorked("only.tap", 2484),
     Step::PutWorked("other.tap", 2484),
@@ -74,7 +74,7 @@ const NEVER_OUT: &[Step<'_>] = &[
     Step::Ends("extract ABC001 1 linked.tap only.tap", End::WrongWords),
     Step::Ends("extract ABC001 1 only.tap linked.tap", End::WrongWords),
     Step::Ends("extract ABC001 1 named.tap only.tap", End::WrongWords),
-    // The same if a list contains the name, and for the list itself.
+    // This also holds if a list contains the name, and for the list itself.
     Step::Put("only.names", b"other.tap\nonly.tap"),
     Step::Ends(
         "extract ABC001 1 linked.tap --files-from only.names",
@@ -85,7 +85,7 @@ const NEVER_OUT: &[Step<'_>] = &[
         End::WrongWords,
     ),
     Step::Holds("only.names", b"other.tap\nonly.tap"),
-    // OUT forgotten.
+    // OUT is forgotten.
     Step::Fails(
         "extract ABC001 1 only.tap other.tap",
         ToolFault::File(FileFault::Exists),
@@ -96,7 +96,8 @@ const NEVER_OUT: &[Step<'_>] = &[
     ),
     Step::IsWorked("only.tap"),
     Step::IsWorked("other.tap"),
-    // A name like that of an image, but contents that are not; and a name that only looks like one.
+    // A file that is named like an image but is not one, and one whose name only resembles that of
+    // an image.
     Step::Put("damaged.tap", b"\x01"),
     Step::Put("damaged.TAP", b"\x01"),
     Step::Fails(
@@ -122,7 +123,7 @@ fn tapes_are_never_the_output(rt: HostRuntime) -> Result<(), Fail> {
     take_all(&rt, NEVER_OUT)
 }
 
-/// Beginnings of files that might be tapes: images, compressed files, archives and stages.
+/// The first bytes of files that might be tapes: images, compressed files, archives and stages.
 const KEPT: &[&[u8]] = &[
     b"\0\0\0\0",
     b"\xff\xff\xff\xff",
@@ -138,7 +139,7 @@ const KEPT: &[&[u8]] = &[
       ------------------------------------------------TPCK2",
 ];
 
-/// Beginnings that differ from those in one byte, and are overwritten.
+/// First bytes that differ from those of `KEPT` in one byte: such files are overwritten.
 const PLAIN: &[&[u8]] = &[
     b"\xff\xff\xff",
     b"\x1f",
@@ -177,7 +178,8 @@ fn what_may_keep_a_tape_is_never_the_output(rt: HostRuntime) -> Result<(), Fail>
 
 const HELD: &str = "extract ABC001 1 kept.bin held.tap";
 
-/// The new file beside the output takes the output's name or is removed, and affects no other file.
+/// The draft beside the output takes the output's name or is removed, and no other file is
+/// affected.
 const DRAFTS: &[Step<'_>] = &[
     Step::PutWorked("whole.tap", 2484),
     Step::PutWorked("front.tap", 2288),
@@ -200,7 +202,7 @@ const DRAFTS: &[Step<'_>] = &[
     Step::Ends("extract ABC001 1 before.txt whole.tap", End::Done),
     Step::HasLength("behind.txt", 2025),
     Step::IsMissing(".tape-1.part"),
-    // A device that accepts nothing.
+    // A device that accepts no bytes.
     Step::Fails(
         "extract ABC001 1 /dev/full whole.tap",
         ToolFault::File(FileFault::WriteFailed),
@@ -213,7 +215,7 @@ fn outputs_take_their_names_at_the_end(rt: HostRuntime) -> Result<(), Fail> {
     take_all(&rt, DRAFTS)
 }
 
-/// Lines that are not calls of `extract`.
+/// Invalid command lines of `extract`.
 const WRONG: &[&str] = &[
     "extract",
     "extract ABC001 1 out.txt",
@@ -225,7 +227,7 @@ const WRONG: &[&str] = &[
     "extract --form records ABC001 1 out.txt a.tap",
 ];
 
-/// Returns whether it is what `extract AB 9999 out.txt a.tap b.tap` asks for.
+/// Returns whether `order` is the request of `extract AB 9999 out.txt a.tap b.tap`.
 fn is_order(order: &Extract<'_>) -> bool {
     let task = &order.task;
     task.set_id.bytes() == b"AB    ".as_slice()
@@ -256,7 +258,7 @@ fn at_most_256_images(rt: HostRuntime) -> Result<(), Fail> {
     Ok(())
 }
 
-/// The missing position at the start of file 1.
+/// The missing part at the start of file 1.
 const START: Want = Want {
     file: 1,
     sect: 1,
@@ -264,7 +266,7 @@ const START: Want = Want {
     part: 0,
 };
 
-/// What the library returns, and how `extract` ends then.
+/// The results of the library, and how `extract` ends with each.
 const ANSWERS: &[(Result<Option<Want>, EngineFault>, End)] = &[
     (Ok(Some(START)), End::Incomplete),
     (Ok(None), End::Done),

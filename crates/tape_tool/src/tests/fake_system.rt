@@ -1,5 +1,5 @@
-//! The program in a fake system: it gets its arguments and standard input, and its output and the
-//! files that it opens are recorded; files and memory are the system's.
+//! The program in a fake system, which provides its arguments and standard input, and records its
+//! output and the files that it opens. Files and memory are those of the real system.
 use super::words::words_of;
 use crate::program::run;
 use std::alloc::{Allocator, Global};
@@ -19,30 +19,30 @@ const STANDARD_INPUT: &[u8] = b"\0\0\0\0\xff\xff\xff\xff";
 /// The end of the path of an image that accepts no bytes.
 const FULL: &str = "/FUL001.tap";
 
-/// What the system refuses, or does in addition.
+/// A peculiarity of the system: what it refuses, or does in addition.
 #[derive(Clone, Copy)]
 pub enum Odd<'a> {
     Nothing,
-    /// Looking up a name fails with an error.
+    /// Looking up this name fails with this error.
     Look(&'a str, ErrorKind),
-    /// Opening a name fails with an error.
+    /// Opening this name fails with this error.
     Open(&'a str, ErrorKind),
-    /// Giving a file a second name fails with an error.
+    /// Giving a file a second name fails with this error.
     Link(ErrorKind),
-    /// No file gets another name.
+    /// No file can be renamed.
     Rename,
-    /// No file is removed.
+    /// No file can be removed.
     Remove,
     /// When the first name is opened, a file appears under the second.
     Comes(&'a str, &'a str),
 }
 
-/// The system, with arguments and streams of its own.
+/// A system with arguments and streams of its own.
 #[derive(Clone, Copy)]
 struct FakeSystem<'a> {
     rt: HostRuntime,
     words: &'a [String],
-    /// Whether standard output accepts anything.
+    /// Whether standard output accepts bytes.
     takes: bool,
     odd: Odd<'a>,
     out: &'a RefCell<String>,
@@ -52,11 +52,11 @@ struct FakeSystem<'a> {
     opened: &'a RefCell<String>,
 }
 
-/// The contents of files that appear.
+/// The contents of a file that appears during a run.
 pub const MINE: &[u8] = b"mine";
 
 impl FakeSystem<'_> {
-    /// Makes looking up `path` fail, if the test says so.
+    /// Fails if the test specifies that looking up `path` fails.
     fn look(&self, path: &str) -> io::Result<()> {
         match self.odd {
             Odd::Look(name, kind) if path == name => Err(io::Error::from(kind)),
@@ -77,7 +77,7 @@ impl FakeSystem<'_> {
     }
 }
 
-/// Appends a value to a page.
+/// Appends `value` to `page`.
 fn note<D: Display + Drop>(page: &RefCell<String>, value: D) -> io::Result<()> {
     match page.try_borrow_mut() {
         Ok(mut page) => Ok(write!(page, "{value}")?),
@@ -246,7 +246,7 @@ impl Alloc for FakeSystem<'_> {
 
 impl Runtime for FakeSystem<'_> {}
 
-/// The result of a call.
+/// The results of a run.
 #[derive(Drop)]
 pub struct Seen {
     pub status: u8,
@@ -256,8 +256,8 @@ pub struct Seen {
 }
 
 impl Seen {
-    /// Returns whether the call had this result; compares the list of opened files if `opened` is
-    /// given.
+    /// Returns whether the run had the results `status`, `out` and `told`. Also compares the list
+    /// of opened files if `opened` is `Some`.
     pub fn comes_to(&self, status: u8, out: &str, told: &str, opened: Option<&str>) -> bool {
         let is_opened = match opened {
             Some(paths) => self.opened.as_str() == paths,
@@ -267,12 +267,13 @@ impl Seen {
     }
 }
 
-/// Calls the program with a line; standard output accepts everything, or nothing.
+/// Runs the program with the arguments in `line`. If `takes`, standard output accepts everything,
+/// otherwise nothing.
 pub fn called(rt: &HostRuntime, line: &str, takes: bool) -> Result<Seen, Fail> {
     called_oddly(rt, line, takes, Odd::Nothing)
 }
 
-/// Calls the program with a line, on a system with a peculiarity.
+/// Runs the program with the arguments in `line`, on a system with the peculiarity `odd`.
 pub fn called_oddly(rt: &HostRuntime, line: &str, takes: bool, odd: Odd<'_>) -> Result<Seen, Fail> {
     let words = words_of(rt.alloc(), line)?;
     let out = RefCell::new(String::new(rt.alloc()));
@@ -288,7 +289,7 @@ pub fn called_oddly(rt: &HostRuntime, line: &str, takes: bool, odd: Odd<'_>) -> 
         opened: &opened,
     });
     let opened = opened.into_inner();
-    // First, the numbers of the standard streams are checked.
+    // The numbers of the standard streams are checked first.
     let Some(opened) = opened.as_str().strip_prefix("/ ") else {
         return Err(Fail::from("the root is opened first"));
     };

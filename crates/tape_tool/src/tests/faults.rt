@@ -1,4 +1,4 @@
-//! The lines of faults.
+//! Tests of the lines that report faults.
 use crate::diagnostics::FaultLine;
 use crate::fault::{FileFault, ToolFault};
 use crate::host::Host;
@@ -57,7 +57,7 @@ const OTHER_FAULTS: &[(ToolFault, &str)] = &[
     (ToolFault::StageInUse, "tape: stage fault 7\n"),
 ];
 
-/// Fails unless a command with this fault ends with it, and prints this line.
+/// Fails unless a command with the fault `fault` ends with it, and prints `line`.
 fn prints<H: Host + Abort>(rt: &H, fault: ToolFault, line: &str) {
     let ends = end_of(Err(fault)) == End::Faulted(fault);
     let printed = format!(in rt.alloc(); "{}", FaultLine(fault));

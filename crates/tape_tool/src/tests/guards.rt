@@ -1,5 +1,5 @@
-//! The program if the system refuses something, or files change during a run. No existing data is
-//! lost.
+//! Tests of the program when the system refuses a call, or files change during a run. No existing
+//! data is lost.
 
 use super::calls::{Step, holds, take_all};
 use super::fake_system::{MINE, Odd, called_oddly};
@@ -7,8 +7,8 @@ use crate::program::End;
 use std::io::ErrorKind;
 use std::test::Fail;
 
-/// The failure, a command line, the exit status, the output, and a file with its contents
-/// afterwards.
+/// The peculiarity of the system, a command line, the exit status, the output, the errors, and a
+/// file with its contents afterwards.
 type Row<'a> = (Odd<'a>, &'a str, u8, &'a str, &'a str, &'a str, &'a [u8]);
 
 const KEPT: &[u8] = b"kept";
@@ -34,7 +34,7 @@ const LOST: ErrorKind = ErrorKind::StaleNetworkFileHandle;
 const COMPLETE: &str = "REEL 1 COMPLETE\nCOMPLETE 25\n";
 
 const ROWS: &[Row<'_>] = &[
-    // A lookup that fails says nothing about what exists.
+    // A lookup that fails does not mean that the file does not exist.
     (
         Odd::Look("guard.txt", LOST),
         "extract ABC001 1 guard.txt guard.tap",
@@ -80,13 +80,14 @@ const ROWS: &[Row<'_>] = &[
         "guard.txt",
         KEPT,
     ),
-    // If a file fails, the others are still unpacked.
+    // If unpacking one file fails, the others are still unpacked.
     (
         Odd::Look("guard/GRD001.1.ONE", LOST),
         "unpack guard GRD001.tap",
         1,
         "FILE GRD001 1 FAILED file fault 2 guard/GRD001.1.ONE\n\
-            FILE GRD001 2 COMPLETE 1 guard/GRD001.2.TWO\n",
+            FILE GRD001 2 COMPLETE 1 guard/GRD001.2.TWO\n\
+            TOTAL 1 complete 0 existing 0 incomplete 0 in conflict 0 not found 1 failed\n",
         "tape: file fault 2\n",
         "guard/GRD001.1.ONE",
         KEPT,
@@ -96,12 +97,13 @@ const ROWS: &[Row<'_>] = &[
         "unpack guard GRD001.tap",
         1,
         "FILE GRD001 1 EXISTS guard/GRD001.1.ONE\n\
-            FILE GRD001 2 FAILED file fault 2 guard/GRD001.2.TWO\n",
+            FILE GRD001 2 FAILED file fault 2 guard/GRD001.2.TWO\n\
+            TOTAL 0 complete 1 existing 0 incomplete 0 in conflict 0 not found 1 failed\n",
         "tape: file fault 2\n",
         "guard/GRD001.2.TWO",
         b"F\n",
     ),
-    // Output is written in place only in a directory that accepts no new file.
+    // Output is written in place only in a directory that accepts no new files.
     (
         Odd::Open(".tape-1.part", ErrorKind::StorageFull),
         "extract ABC001 1 guard.txt guard.tap",
@@ -152,7 +154,8 @@ const ROWS: &[Row<'_>] = &[
         Odd::Comes("guard/.tape-1.part", "guard/ABC001.1.PAYROLL"),
         "unpack guard guard.tap",
         0,
-        "FILE ABC001 1 EXISTS guard/ABC001.1.PAYROLL\n",
+        "FILE ABC001 1 EXISTS guard/ABC001.1.PAYROLL\n\
+            TOTAL 0 complete 1 existing 0 incomplete 0 in conflict 0 not found 0 failed\n",
         "",
         "guard/ABC001.1.PAYROLL",
         MINE,
@@ -162,12 +165,13 @@ const ROWS: &[Row<'_>] = &[
         Odd::Open("guard_new/.tape-1.part", ErrorKind::PermissionDenied),
         "unpack guard_new guard.tap",
         1,
-        "FILE ABC001 1 FAILED file fault 2 guard_new/ABC001.1.PAYROLL\n",
+        "FILE ABC001 1 FAILED file fault 2 guard_new/ABC001.1.PAYROLL\n\
+            TOTAL 0 complete 0 existing 0 incomplete 0 in conflict 0 not found 1 failed\n",
         "tape: file fault 2\n",
         "guard.names",
         b"guard.tap\n",
     ),
-    // If a file gets no second name, an empty file takes the name first.
+    // If a file cannot get a second name, an empty file takes the name first.
     (
         Odd::Link(ErrorKind::AlreadyExists),
         "extract ABC001 1 guard_lost.txt guard.tap",
@@ -186,7 +190,7 @@ const ROWS: &[Row<'_>] = &[
         "guard_second.txt",
         b"F\n",
     ),
-    // What could not be removed is reported.
+    // A file that could not be removed is reported.
     (
         Odd::Remove,
         "extract GRD001 1 guard_third.txt GRD001.tap",
@@ -226,7 +230,7 @@ fn nothing_is_lost(rt: HostRuntime) -> Result<(), Fail> {
         &[
             Step::IsMissing("guard_lost.txt"),
             Step::IsMissing("guard_new/ABC001.1.PAYROLL"),
-            // The next run removes it.
+            // The next run removes the file.
             Step::Ends("extract GRD001 1 guard_fourth.txt GRD001.tap", End::Done),
             Step::IsMissing(".tape-1.part"),
         ],

@@ -1,4 +1,4 @@
-//! Images, written word by word.
+//! Images, written item by item.
 use super::volumes::{FIXED, HDR1, VOL1, labels};
 use std::alloc::{AllocError, Global};
 
@@ -30,7 +30,8 @@ impl Image {
         self.bytes.extend_from_slice(word)
     }
 
-    /// A block, with the high byte of its length words, and a pad byte if its length is odd.
+    /// Appends a block, with the high byte `high` in its length words, and a pad byte if its length
+    /// is odd.
     pub fn block(&mut self, content: &[u8], high: u8) -> Result<(), AllocError> {
         let count = content.len();
         let word = [
@@ -47,7 +48,7 @@ impl Image {
         self.bytes.extend_from_slice(&word)
     }
 
-    /// A block of 80 characters: the text, padded with spaces.
+    /// Appends a block of 80 characters: `text`, padded with spaces.
     pub fn label(&mut self, text: &str) -> Result<(), AllocError> {
         let mut label = [b' '; 80];
         for (slot, byte) in label.iter_mut().zip(text.as_bytes()) {
@@ -56,12 +57,13 @@ impl Image {
         self.block(&label, 0)
     }
 
-    /// The worked volume's labels and mark, up to the first data block: 268 bytes.
+    /// Appends the labels and the mark of the example volume, up to the first data block: 268
+    /// bytes.
     pub fn headers(&mut self) -> Result<(), AllocError> {
         labels(self, &[VOL1, HDR1, FIXED])
     }
 
-    /// The 25 records of the worked volume: 800, 800 and 400 bytes.
+    /// Appends the 25 records of the example volume, in blocks of 800, 800 and 400 bytes.
     pub fn records(&mut self, alloc: Global) -> Result<(), AllocError> {
         let records = payroll(alloc, b"")?;
         for block in records.as_slice().chunks(800) {
@@ -71,8 +73,8 @@ impl Image {
     }
 }
 
-/// Returns the 25 records of the worked volume, each followed by the bytes `behind`. Record i is i
-/// in four digits and 76 spaces.
+/// Returns the 25 records of the example volume, each followed by the bytes `behind`. Record i
+/// consists of i in four digits and 76 spaces.
 pub fn payroll(alloc: Global, behind: &[u8]) -> Result<Vec<u8>, AllocError> {
     let mut bytes = Vec::new(alloc);
     for number in 1..26u8 {
@@ -82,7 +84,7 @@ pub fn payroll(alloc: Global, behind: &[u8]) -> Result<Vec<u8>, AllocError> {
     Ok(bytes)
 }
 
-/// Returns a record of the worked volume.
+/// Returns record `number` of the example volume.
 fn record(number: u8) -> [u8; 80] {
     let mut record = [b' '; 80];
     record[..2].fill(b'0');

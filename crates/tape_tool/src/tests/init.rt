@@ -1,4 +1,4 @@
-//! Blank volumes. Each test has a prefix of its own.
+//! Tests of `init`. Each test has a prefix of its own.
 use super::calls::{Step, each_ends, follow_all};
 use crate::fault::{FileFault, ToolFault};
 use crate::program::End;
@@ -17,7 +17,7 @@ const TWO: &[Step<'_>] = &[
     Step::Ends("list ABC002.tap", End::Done),
 ];
 
-/// No existing file is changed, and volumes created before the error remain.
+/// No existing file is changed, and volumes that were created before the error remain.
 const OLD: &[Step<'_>] = &[
     Step::Put("OLD002.tap", b"kept"),
     Step::Fails("init . OLD 3", ToolFault::File(FileFault::Exists)),

@@ -1,4 +1,4 @@
-//! `merge` and `compare` as they are called.
+//! Tests of `merge` and `compare`.
 use super::calls::{Step, follow_all};
 use crate::fault::{FileFault, ToolFault};
 use crate::program::End;
@@ -24,7 +24,7 @@ const MENDED: &[Step<'_>] = &[
         "extract ABC001 1 merge_turned.txt merge_turned.tap",
         End::Done,
     ),
-    // One reading twice is as good as once.
+    // A reading merged with itself is as good as the reading alone.
     Step::Ends(
         "merge merge_still.tap merge1.tap merge1.tap",
         End::Incomplete,
@@ -36,7 +36,7 @@ const MENDED: &[Step<'_>] = &[
     ),
 ];
 
-/// OUT must be a name that does not exist, whatever kind of file has it.
+/// OUT must be a name that does not exist, whatever kind of file has the name.
 const NEW_NAME: &[Step<'_>] = &[
     Step::PutWorked("name1.tap", 2484),
     Step::Put("name2.tap", b""),
@@ -87,7 +87,7 @@ const LOG: &[u8] = b"ITEM\tKIND\tlog1.tap\tlog2.tap
 7\tBLOCK 400\tGOOD\tBAD
 ";
 
-/// The log is a new file too, which exists exactly with OUT.
+/// The log is a new file, too. It is created if and only if OUT is.
 const LOGGED: &[Step<'_>] = &[
     Step::PutDamaged("log1.tap", 1),
     Step::PutDamaged("log2.tap", 2),

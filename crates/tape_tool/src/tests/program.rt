@@ -1,4 +1,5 @@
-//! The program's exits, and its standard error. A test runs in an empty directory.
+//! Tests of the program's exit statuses and its standard error. Each test runs in an empty
+//! directory.
 
 use super::calls::{Step, each_ends, take_all};
 use super::words::words_of;
@@ -35,7 +36,7 @@ const LAST: End = End::Faulted(ToolFault::Image(ImageFault {
     cause: ImageCause::OutOfMemory,
 }));
 
-/// Stores what is printed, or fails.
+/// A stream that stores what is printed, or fails.
 #[derive(Drop)]
 struct Streams {
     told: RefCell<String>,
@@ -87,7 +88,7 @@ impl Print for Streams {
     }
 }
 
-/// Lines and their ends.
+/// Command lines, and how they end.
 const ENDS: &[(&str, End)] = &[
     ("list --help", End::Done),
     ("--version", End::Done),
@@ -116,7 +117,7 @@ fn a_file_is_listed(rt: HostRuntime) -> Result<(), Fail> {
     take_all(&rt, LISTED)
 }
 
-/// Each end, its status and its message.
+/// Ends of runs, each with its status and message.
 const STATUSES: &[(End, u8, &str)] = &[
     (End::Done, 0, ""),
     (End::WrongWords, 2, ""),
@@ -132,7 +133,8 @@ const STATUSES: &[(End, u8, &str)] = &[
     (End::Faulted(OUT_OF_MEMORY), 1, "tape: run fault 4\n"),
 ];
 
-/// Fails unless the end has this status, and prints this message if standard error is open.
+/// Fails unless a run with this end has status `status`, and prints `text` if standard error is
+/// open.
 fn is_told<H: Abort + AllocGlobal>(rt: &H, end: End, status: u8, text: &str) {
     let open = Streams::new(rt.alloc(), true);
     let closed = Streams::new(rt.alloc(), false);
@@ -140,7 +142,7 @@ fn is_told<H: Abort + AllocGlobal>(rt: &H, end: End, status: u8, text: &str) {
     assert!(rt; open.has_told(text) && found == (status, status), "{text}");
 }
 
-/// Status and standard error of each end.
+/// Each end has its status and its message on standard error.
 #[test]
 fn statuses_and_fault_lines(rt: HostRuntime) {
     for (end, status, text) in STATUSES {
@@ -148,8 +150,8 @@ fn statuses_and_fault_lines(rt: HostRuntime) {
     }
 }
 
-/// Fails unless a run without arguments, for the reason `kind`, ends as expected, with this
-/// message.
+/// Fails unless a run that cannot get its arguments, for the reason `kind`, ends with `wanted` and
+/// the message `text`.
 fn is_without_words<H: Abort + AllocGlobal>(rt: &H, kind: ErrorKind, wanted: End, text: &str) {
     let streams = Streams::new(rt.alloc(), true);
     let end = without_words(&streams, kind);
@@ -166,7 +168,8 @@ and rename it, or use 'tape list < NAME'\n";
     is_without_words(&rt, ErrorKind::OutOfMemory, no_memory, "");
 }
 
-/// Fails unless a line that requests nothing ends as expected, with or without a message.
+/// Fails unless the arguments in `line`, which run no command, end with `wanted`. A message is
+/// printed if and only if `open`.
 fn is_refused<H: Abort + AllocGlobal>(
     rt: &H,
     line: &str,
@@ -186,7 +189,7 @@ fn is_refused<H: Abort + AllocGlobal>(
     Ok(())
 }
 
-/// Lines, whether output succeeds, and their ends.
+/// Command lines, whether output succeeds, and how they end.
 const REFUSED: &[(&str, bool, End)] = &[
     ("list --help", true, End::Done),
     ("list --help", false, NOT_WRITTEN),

@@ -1,10 +1,11 @@
-//! `salvage` as it is called.
+//! Tests of `salvage`.
 use super::calls::{Step, follow_all};
 use crate::fault::{FileFault, ToolFault};
 use crate::program::End;
 use std::test::Fail;
 
-/// If nothing is missing, the output is the file, and an existing file is never overwritten.
+/// If nothing is missing, the output is the complete file, and an existing file is never
+/// overwritten.
 const COMPLETE: &[Step<'_>] = &[
     Step::PutWorked("salvage1.tap", 2484),
     Step::Ends("salvage ABC001 1 salvaged.txt salvage1.tap", End::Done),
@@ -28,7 +29,7 @@ const COMPLETE: &[Step<'_>] = &[
     Step::HasLength("salvaged.blocks", 2000),
 ];
 
-/// The records of the readable blocks: the first ten, and the last ten.
+/// The records of the readable blocks are recovered: the first ten, and the last ten.
 const DAMAGED: &[Step<'_>] = &[
     Step::PutDamaged("salvage2.tap", 2),
     Step::Ends(
@@ -44,7 +45,7 @@ const DAMAGED: &[Step<'_>] = &[
         End::Done,
     ),
     Step::HasLength("salvaged.three", 2025),
-    // A lost block: nothing of the other blocks is left out.
+    // If a block is lost, everything in the other blocks is recovered.
     Step::PutLost("salvage4.tap"),
     Step::Ends(
         "salvage ABC001 1 salvaged.four salvage4.tap",

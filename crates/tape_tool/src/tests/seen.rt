@@ -1,11 +1,12 @@
-//! Whole calls as a caller sees them: exit status, both streams, and which files are opened.
+//! Tests of whole runs as a caller sees them: exit status, both streams, and the files that are
+//! opened.
 use super::calls::{Step, put, take_all, with_images};
 use super::fake_system::{Seen, called};
 use super::volumes::{first_of_two, second_of_two};
 use std::test::Fail;
 
-/// A line, the exit status, standard output and standard error, and, if compared, the files opened:
-/// each path, with a question mark if opening failed.
+/// A command line, the exit status, standard output, standard error, and, if they are compared, the
+/// files opened: each path, with a question mark if opening it failed.
 type Row<'a> = (&'a str, u8, &'a str, &'a str, Option<&'a str>);
 
 const MADE: &[Step<'_>] = &[
@@ -39,7 +40,7 @@ const ROWS: &[Row<'_>] = &[
             Usage: tape [OPTIONS] <COMMAND>\n\nFor more information, try '--help'.\n",
         Some(""),
     ),
-    // Each image once, in the order of the arguments.
+    // Each image is opened once, in the order of the arguments.
     (
         "check seen2.tap lost.tap seen1.tap",
         0,
@@ -49,7 +50,7 @@ const ROWS: &[Row<'_>] = &[
         "",
         Some("seen2.tap lost.tap? seen1.tap "),
     ),
-    // Standard input, which is an image of one mark.
+    // Standard input is an image of one mark.
     (
         "check - seen2.tap",
         3,
@@ -81,13 +82,16 @@ const ROWS: &[Row<'_>] = &[
         3,
         "lost.tap                  not opened\n\
          seen1.tap                 ok           volume ABC001, 1 section\n\
-         Set ABC001: 0 of 1 files complete\n   \
+         Set ABC001: 0 of 1 files complete\n  \
+            Volumes: ABC001, missing (follows ABC001)\n   \
             1 PAYROLL                        incomplete\n        \
-            section 2 missing, after volume ABC001\n",
+            section 2 missing, after volume ABC001\n\
+         2 images: 1 ok, 1 not opened\n",
         "",
         Some("lost.tap? seen1.tap "),
     ),
-    // After the image that completes the file none is opened. The directory is, to be synced.
+    // No image is opened after the one that completes the file. The directory is opened to be
+    // synced.
     (
         "extract ABC001 1 seen.txt lost.tap seen1.tap seen2.tap seen1.tap",
         0,
@@ -95,7 +99,8 @@ const ROWS: &[Row<'_>] = &[
         "",
         Some(".tape-1.part lost.tap? seen1.tap seen2.tap . "),
     ),
-    // If an output cannot be created, a new file and then writing in place are tried, each once.
+    // If an output cannot be created, first a new file and then writing in place are tried, each
+    // once.
     (
         "extract ABC001 1 missing/a.txt seen1.tap seen2.tap",
         1,
@@ -116,6 +121,8 @@ const ROWS: &[Row<'_>] = &[
         "FILE SEE001 1 COMPLETE 2 seen/SEE001.1.ONE
 \
             FILE SEE001 2 COMPLETE 1 seen/SEE001.2.TWO
+\
+            TOTAL 2 complete 0 existing 0 incomplete 0 in conflict 0 not found 0 failed
 ",
         "",
         None,
@@ -142,7 +149,7 @@ const ROWS: &[Row<'_>] = &[
         "",
         None,
     ),
-    // An image that accepts nothing, and a file without records whose output is a link.
+    // An image that accepts no bytes, and a file without records whose output is a link.
     (
         "write . FUL 100000 ONE=seen_one.txt",
         1,
@@ -166,11 +173,11 @@ const ROWS: &[Row<'_>] = &[
     ),
     ("init . SEI 11", 0, "INIT 11\n", "", None),
     ("init . SEI 1", 1, "", "tape: file fault 1\n", None),
-    // An image that accepts nothing is not reported as created.
+    // An image that accepts no bytes is not reported as created.
     ("init . FUL 1", 1, "", "tape: file fault 4\n", None),
 ];
 
-/// The contents of files afterwards.
+/// The contents of the files after these runs.
 const LEFT: &[Step<'_>] = &[
     Step::HasLength("seen.txt", 2025),
     Step::HasLength("seen_again.bin", 120_000),
@@ -204,39 +211,43 @@ fn whole_calls(rt: HostRuntime) -> Result<(), Fail> {
     take_all(&rt, LEFT)
 }
 
-/// Calls that read images: the files opened before them, and the end of the output for 300 images
-/// that do not exist.
+/// Commands that read images: the files opened before the images, and the end of the output for 300
+/// images that do not exist.
 const READERS: &[(&str, &str, &str)] = &[
     ("check", "many.names ", "\nIMAGE 300 0 NOT OPENED\n"),
     (
         "survey",
         "many.names ",
-        "\nlost.tap                  not opened\n",
+        "\nlost.tap                  not opened\n300 images: 0 ok, 300 not opened\n",
     ),
     (
         "extract ABC001 1 many.txt",
         "many.names .tape-1.part ",
         "\nREEL 300 NOT OPENED\nAWAITS 1 1 0\n",
     ),
-    ("unpack many", "many.names ", ""),
+    (
+        "unpack many",
+        "many.names ",
+        "INCOMPLETE IMAGE lost.tap\nTOTAL 0 complete 0 existing 0 incomplete 0 in conflict 0 not found 0 failed\n",
+    ),
 ];
 
-/// Returns whether opening 300 images was tried after the files `first` were opened, and `last` was
-/// printed at the end.
+/// Returns whether the run opened the files `first` and then tried to open 300 images, and its
+/// output ends with `last`.
 fn looks_for_all(seen: &Seen, first: &str, last: &str) -> bool {
     let (opened, out) = (seen.opened.as_str(), seen.out.as_str());
     let looked_for = opened.len() == first.len() + 300 * "lost.tap? ".len();
     seen.status == 3 && opened.starts_with(first) && looked_for && out.ends_with(last)
 }
 
-/// Makes a call with this line, 256 further images and the images of a list.
+/// Runs the program with the arguments in `line`, 256 further images and the images of a list.
 fn called_with_all(rt: &HostRuntime, line: &str) -> Result<Seen, Fail> {
     let mut line = with_images(rt.alloc(), line, 256)?;
     line.push_str(" --files-from many.names")?;
     called(rt, line.as_str(), true)
 }
 
-/// No image is left out, however many are named by arguments and a list.
+/// All images are read, however many are named by arguments and a list.
 #[test]
 fn many_images(rt: HostRuntime) -> Result<(), Fail> {
     let mut names = Vec::new(rt.alloc());

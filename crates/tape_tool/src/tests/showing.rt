@@ -1,4 +1,4 @@
-//! `stage`: what a stage contains.
+//! Tests of `stage`.
 use super::calls::{Step, take_all};
 use super::volumes::damaged;
 use crate::fault::{FileFault, ToolFault};
@@ -28,15 +28,16 @@ fn staged(alloc: Global, bad: usize) -> Result<Option<MemoryDisk>, AllocError> {
     Ok(Some(session.into_sink().into_disk()))
 }
 
-/// The number of the unreadable block, the lines about the stage, and the size of its records in
-/// bytes.
+/// The number of the unreadable block, the lines about the stage, and the number of bytes of its
+/// records.
 const TOLD: &[(usize, &str, usize)] = &[
     (3, "STAGE ABC001 1 15\nAWAITS 1 1 3\n", 1215),
     (0, "STAGE ABC001 1 0\nAWAITS 1 1 0\n", 0),
     (9, "STAGE ABC001 1 25\nCOMPLETE 25\n", 2025),
 ];
 
-/// The lines about the stage are these, and its records are the first ones.
+/// Fails unless showing the stage whose block `bad` was unreadable prints `lines` and writes
+/// `length` bytes.
 fn is_told<H: Abort + AllocGlobal>(
     rt: &H,
     bad: usize,
@@ -62,8 +63,8 @@ fn records_before_what_is_wanted(rt: HostRuntime) -> Result<(), Fail> {
     Ok(())
 }
 
-/// How many bytes remain of a stage of 25 records of 80 bytes, the lines about it, and the size of
-/// its records in bytes.
+/// The number of bytes that remain of a stage of 25 records of 80 bytes, the lines about it, and
+/// the number of bytes of its records.
 const TORN: &[(usize, &str, usize)] = &[
     (2381, "STAGE ABC001 1 25\nCOMPLETE 25\n", 2025),
     (2380, "STAGE ABC001 1 24\nTRUNCATED AT 2296\n", 1944),
@@ -72,7 +73,7 @@ const TORN: &[(usize, &str, usize)] = &[
     (256, "STAGE ABC001 1 0\nTRUNCATED AT 256\n", 0),
 ];
 
-/// The lines about the rest of the stage are these, and its records are the first ones.
+/// Fails unless showing the stage in `bytes` prints `lines` and writes `length` bytes.
 fn is_told_torn<H: Abort + AllocGlobal>(
     rt: &H,
     bytes: &[u8],
@@ -117,7 +118,7 @@ const MADE: &[Step<'_>] = &[
         End::Incomplete,
     ),
     Step::HasLength("shown_raw.txt", 1200),
-    // For an intact stage the lines are the same without the option.
+    // For an intact stage, the lines are the same with and without the option.
     Step::Ends("stage shown.stage --damaged", End::Incomplete),
     // The stage is unchanged, and a file that might be a tape is never overwritten.
     Step::HasLength("shown.stage", 1531),

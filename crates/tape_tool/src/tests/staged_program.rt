@@ -1,4 +1,4 @@
-//! `extract --stage` as it is called.
+//! Tests of `extract --stage`.
 use super::calls::{Step, each_fails, follow_all, take_all};
 use crate::fault::{FileFault, ToolFault};
 use crate::program::End;
@@ -7,7 +7,7 @@ use std::test::Fail;
 use tape_run::RunFault;
 use tape_stage::StageFault;
 
-/// The call of a run whose stage another one is using.
+/// A command line whose stage another run is using.
 const SECOND: &str = "extract ABC001 1 second.txt first.tap --stage first.stage";
 
 const FIRST: &[Step<'_>] = &[
@@ -62,7 +62,7 @@ const DAYS: &[Step<'_>] = &[
     Step::HasLength("days_again.txt", 2025),
 ];
 
-/// A reel that lost a block, before a good one and alone: none of its data is stored in the stage.
+/// A reel that lost a block, before a good reel and alone: none of its data is stored in the stage.
 const IN_DOUBT: &[Step<'_>] = &[
     Step::PutLost("doubt.tap"),
     Step::PutWorked("sure.tap", 2484),
@@ -82,7 +82,7 @@ const IN_DOUBT: &[Step<'_>] = &[
     Step::HasText("doubt.txt", 810, b"0011  "),
 ];
 
-/// A stage of file 1 of the set ABC001; and files that are not stages, which are unchanged.
+/// A stage of file 1 of the set ABC001, and files that are not stages: all are unchanged.
 const REFUSED: &[Step<'_>] = &[
     Step::PutDamaged("refused.tap", 3),
     Step::Remove("refused.stage"),
@@ -109,7 +109,7 @@ const REFUSED: &[Step<'_>] = &[
         ToolFault::File(FileFault::NotOpened),
     ),
     Step::IsMissing("refused.txt"),
-    // The stage is never OUT.
+    // The stage cannot be OUT.
     Step::HasLength("refused.stage", 1531),
     Step::Ends(
         "extract ABC001 1 refused.stage refused.tap --stage refused.stage",

@@ -1,4 +1,4 @@
-//! Sessions over stages, from one day to another.
+//! Tests of sessions over stages, continued from one day to the next.
 use super::calls::{Step, stands, take_all};
 use super::volumes::{damaged, worked};
 use crate::staging::{StagingFault, open_session};
@@ -15,8 +15,8 @@ use tape_stage::{BufferedFile, MemoryDisk, Refused, Stage, StageFault, buffered_
 /// A session over the stage in a file.
 type FileSession = Session<Stage<BufferedFile<File>>>;
 
-/// Runs one day: opens the session, reads the reel with an unreadable block, and saves. Returns the
-/// disk, and what is missing next.
+/// Runs one day: opens the session, reads the reel whose block `bad` is unreadable, and saves.
+/// Returns the disk, and the part that is missing next.
 fn read(
     alloc: Global,
     disk: MemoryDisk,
@@ -34,7 +34,8 @@ fn read(
     Ok(Some((session.into_sink().into_disk(), want)))
 }
 
-/// Checks the disk after a day: what is missing next, and its size in bytes.
+/// Runs one day, and fails unless the part missing next is `wanted` and the disk has `length`
+/// bytes. Returns the disk.
 fn day<H: Abort + AllocGlobal>(
     rt: &H,
     disk: MemoryDisk,
@@ -50,7 +51,7 @@ fn day<H: Abort + AllocGlobal>(
     Ok(disk)
 }
 
-/// The stage has the frame of this record: a span, a length and 80 bytes.
+/// Fails unless the stage has the frame of record `number`: a span, a length and 80 bytes.
 fn has_frame<A: Abort>(rt: &A, stage: &[u8], number: u8) {
     let place = 171 + 85 * usize::from(number);
     let (ten, one) = (b'0' + number / 10 % 10, b'0' + number % 10);
@@ -58,7 +59,7 @@ fn has_frame<A: Abort>(rt: &A, stage: &[u8], number: u8) {
     assert!(rt; stands(stage, place, &frame), "{number}");
 }
 
-/// Block 3 of section 1 of file 1, from its first part on.
+/// Block 3 of section 1 of file 1, from its first part.
 const BLOCK_3: Want = Want {
     file: 1,
     sect: 1,
@@ -70,14 +71,15 @@ const BLOCK_3: Want = Want {
 fn a_damaged_volume_over_two_days(rt: HostRuntime) -> Result<(), Fail> {
     let monday = day(&rt, MemoryDisk::new(rt.alloc()), 3, Some(BLOCK_3), 1531)?;
     let tuesday = day(&rt, monday.crash(), 1, None, 2381)?;
-    // 25 frames, in the order of the records.
+    // The stage has 25 frames, in the order of the records.
     for number in 1..26u8 {
         has_frame(&rt, tuesday.bytes(), number);
     }
     Ok(())
 }
 
-/// The fault with which opening a session for this file over a disk fails, and the disk.
+/// Returns the disk, and the fault with which opening a session for file `file` of set `set_id`
+/// over it fails, if any.
 fn fault_of(
     alloc: Global,
     disk: MemoryDisk,
@@ -90,8 +92,8 @@ fn fault_of(
     }
 }
 
-/// The sets and files that are requested one after another on a disk that is empty at first, with
-/// the fault and the length of the disk after each.
+/// The sets and files requested one after another on a disk that is empty at first, each with the
+/// fault and the length of the disk afterwards.
 const ASKED: &[(&[u8; 6], u16, Option<StagingFault>, usize)] = &[
     (b"ABC001", 0, Some(StagingFault::OtherFile), 0),
     (b"ABC001", 10_000, Some(StagingFault::OtherFile), 0),
@@ -138,7 +140,7 @@ fn a_disk_that_fails(rt: HostRuntime) -> Result<(), AllocError> {
     Ok(())
 }
 
-/// Returns a session over the stage in a file.
+/// Returns a session over the stage in the file at `path`.
 fn session_in(rt: &HostRuntime, path: &str) -> io::Result<Option<FileSession>> {
     let mut options = OpenOptions::new();
     options.read(true).write(true).create(true);
@@ -149,33 +151,33 @@ fn session_in(rt: &HostRuntime, path: &str) -> io::Result<Option<FileSession>> {
     Ok(open_session(rt.alloc(), disk, Field::of_bytes(*b"ABC001"), 1).ok())
 }
 
-/// The file of the stage.
+/// The path of the stage.
 const PATH: &str = "the_worked_volume.stage";
 
-/// A stage of the worked file at its start: its length, and texts at their offsets.
+/// A stage of the example file at its start: its length, and texts at their offsets.
 const BEGUN: &[Step<'_>] = &[
     Step::HasLength(PATH, 256),
     Step::HasText(PATH, 0, b"O000000000000001TPCK2ABC001"),
     Step::HasText(PATH, 128, b"C000000000000000"),
 ];
 
-/// A stage of the whole worked file.
+/// A stage of the complete example file.
 const DONE: &[Step<'_>] = &[
     Step::HasLength(PATH, 2381),
     Step::HasText(PATH, 0, b"O000000000000001TPCK2ABC001"),
     Step::HasText(PATH, 128, b"O000000000000002TPCK2ABC001"),
-    // Done, followed by the record length and the format.
+    // The letter D means done; the record format and the record length follow.
     Step::HasText(PATH, 178, b"D01F00080"),
 ];
 
-/// Returns whether the session reads the worked volume and is saved.
+/// Returns whether the session reads the example volume and is saved.
 fn reads_worked(alloc: Global, session: &mut FileSession) -> Result<bool, AllocError> {
     let image = worked(alloc)?;
     let mut reader = image.bytes.as_slice();
     Ok(session.reel(&mut reader).is_ok() && session.save().is_ok())
 }
 
-/// Returns whether the session needs nothing, and reads nothing.
+/// Returns whether the session is complete and reads nothing.
 fn reads_nothing(session: &mut FileSession) -> bool {
     let mut reader = b"no image".as_slice();
     session.want().is_none() && session.reel(&mut reader).is_ok() && reader.len() == 8
@@ -191,7 +193,7 @@ fn the_worked_volume_in_a_stage_file(rt: HostRuntime) -> Result<(), Fail> {
     assert!(rt; reads_worked(rt.alloc(), &mut session)?);
     drop(session);
     take_all(&rt, DONE)?;
-    // On another day nothing more is read.
+    // On another day, nothing more is read.
     let Some(mut session) = session_in(&rt, PATH)? else {
         return Err(Fail::from("the stage again"));
     };

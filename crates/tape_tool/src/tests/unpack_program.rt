@@ -1,5 +1,6 @@
-//! `unpack` as it is called.
+//! Tests of `unpack`.
 use super::calls::{Step, follow_all, put, take_all};
+use super::fake_system::called;
 use super::image::{END, Image, MARK};
 use super::volumes::{EOF2, FIXED, VOL1, labels};
 use crate::fault::{FileFault, ToolFault};
@@ -10,7 +11,7 @@ use std::io::Write;
 use std::test::Fail;
 use tape_stage::StageFault;
 
-/// All files, twice: existing files are unchanged.
+/// All files are unpacked in one run; a second run leaves them unchanged.
 const AT_ONCE: &[Step<'_>] = &[
     Step::Folder("unpacked"),
     Step::PutWorked("unpack1.tap", 2484),
@@ -25,7 +26,8 @@ const AT_ONCE: &[Step<'_>] = &[
     Step::Holds("unpacked/ABC001.1.PAYROLL", b"kept"),
 ];
 
-/// Damaged copies, one a day: the last one alone does not have all that the others contributed.
+/// Damaged copies are read, one each day: the last one alone does not have all that the others
+/// contributed.
 const DAY_BY_DAY: &[Step<'_>] = &[
     Step::Folder("days"),
     Step::PutDamaged("day1.tap", 1),
@@ -36,7 +38,7 @@ const DAY_BY_DAY: &[Step<'_>] = &[
     Step::Ends("unpack days day1.tap --form raw", End::Done),
     Step::HasLength("days/ABC001.1.PAYROLL", 2000),
     Step::IsMissing("days/ABC001.1.PAYROLL.stage"),
-    // On one day two copies complete each other, in either order.
+    // On one day, two copies complete each other, in either order.
     Step::Remove("days/ABC001.1.PAYROLL"),
     Step::Ends("unpack days day1.tap day2.tap", End::Done),
     Step::HasText("days/ABC001.1.PAYROLL", 1944, b"0025  "),
@@ -95,7 +97,7 @@ const SALVAGED: &[Step<'_>] = &[
     Step::IsMissing("gaps/ABC001.1.PAYROLL.salvaged"),
     Step::IsMissing("gaps/ABC001.1.PAYROLL.gaps"),
     Step::HasLength("gaps/ABC001.1.PAYROLL", 2025),
-    // Files that were changed are kept, and so is one of the two files alone.
+    // Files that were changed are not removed, nor is one of the two files alone.
     Step::Remove("gaps/ABC001.1.PAYROLL"),
     Step::Ends("unpack gaps gaps1.tap --salvage", End::Incomplete),
     Step::Put("gaps/ABC001.1.PAYROLL.salvaged", b"changed"),
@@ -106,7 +108,7 @@ const SALVAGED: &[Step<'_>] = &[
     Step::Put("gaps/ABC001.1.PAYROLL.gaps", b"mine"),
     Step::Ends("unpack gaps gaps2.tap gaps1.tap --salvage", End::Done),
     Step::Holds("gaps/ABC001.1.PAYROLL.gaps", b"mine"),
-    // A complete copy leaves no salvaged files.
+    // No salvaged files remain after a complete copy was read.
     Step::Folder("gaps3"),
     Step::PutWorked("gaps3.tap", 2484),
     Step::Ends("unpack gaps3 gaps3.tap --salvage", End::Done),
@@ -190,11 +192,115 @@ fn a_file_that_was_not_met(rt: HostRuntime) -> Result<(), Fail> {
     take_all(&rt, SECOND)
 }
 
-/// The remembered line is not truncated.
+/// The line that is remembered is not truncated.
 #[test]
 fn the_last_line_is_whole(rt: HostRuntime) -> Result<(), Fail> {
     let mut last = LastLine::new();
     last.write_all(b"REEL 1 COMPLETE\nCOMPLETE 12345678901234567890\n")?;
     assert!(rt; last.text() == b"COMPLETE 12345678901234567890".as_slice());
     Ok(())
+}
+
+/// Images of one set of three files, and of another set.
+const CHOSEN_IMAGES: &[Step<'_>] = &[
+    Step::Folder("chosen"),
+    Step::Folder("chosen1"),
+    Step::Put("chosen_a.txt", b"A\n"),
+    Step::Put("chosen_b.txt", b"B\nB\n"),
+    Step::Put("chosen1/CHO001.1.ONE", b"kept"),
+    Step::Ends(
+        "write . CHO 100000 ONE=chosen_a.txt TWO=chosen_b.txt THREE=chosen_a.txt",
+        End::Done,
+    ),
+    Step::Ends("write . OTH 100000 ONE=chosen_b.txt", End::Done),
+    Step::PutWorked("chosen.tap", 2288),
+];
+
+/// Lines, with their exit status and what they print.
+const CHOSEN: &[(&str, u8, &str)] = &[
+    (
+        "unpack chosen1 --list CHO001.tap chosen.tap OTH001.tap",
+        3,
+        "FILE CHO001 1 EXISTS chosen1/CHO001.1.ONE\n\
+            FILE CHO001 2 READY chosen1/CHO001.2.TWO\n\
+            FILE CHO001 3 READY chosen1/CHO001.3.THREE\n\
+            FILE ABC001 1 LACKS 1 chosen1/ABC001.1.PAYROLL.stage\n\
+            FILE OTH001 1 READY chosen1/OTH001.1.ONE\n\
+            INCOMPLETE IMAGE chosen.tap\n\
+            TOTAL 3 complete 1 existing 1 incomplete 0 in conflict 0 not found 0 failed\n",
+    ),
+    (
+        "unpack chosen --list CHO001.tap",
+        0,
+        "FILE CHO001 1 READY chosen/CHO001.1.ONE\n\
+            FILE CHO001 2 READY chosen/CHO001.2.TWO\n\
+            FILE CHO001 3 READY chosen/CHO001.3.THREE\n\
+            TOTAL 3 complete 0 existing 0 incomplete 0 in conflict 0 not found 0 failed\n",
+    ),
+    (
+        "unpack chosen CHO001.tap OTH001.tap --set CHO001 --file T* --file 3",
+        0,
+        "FILE CHO001 2 COMPLETE 2 chosen/CHO001.2.TWO\n\
+            FILE CHO001 3 COMPLETE 1 chosen/CHO001.3.THREE\n\
+            TOTAL 2 complete 0 existing 0 incomplete 0 in conflict 0 not found 0 failed\n",
+    ),
+    (
+        "unpack chosen OTH001.tap CHO001.tap --file *O*E --file 4 --file FOUR",
+        3,
+        "FILE OTH001 1 COMPLETE 2 chosen/OTH001.1.ONE\n\
+            FILE CHO001 1 COMPLETE 1 chosen/CHO001.1.ONE\n\
+            NO FILE 4\n\
+            NO FILE FOUR\n\
+            TOTAL 2 complete 0 existing 0 incomplete 0 in conflict 2 not found 0 failed\n",
+    ),
+    (
+        "unpack chosen CHO001.tap OTH001.tap --set OTH --file 1",
+        3,
+        "NO SET OTH\n\
+            TOTAL 0 complete 0 existing 0 incomplete 0 in conflict 1 not found 0 failed\n",
+    ),
+    // A number without a label is not reported if other files are chosen.
+    (
+        "unpack chosen second_only.tap --file LEDGER",
+        0,
+        "FILE ABC001 2 COMPLETE 0 chosen/ABC001.2.LEDGER\n\
+            TOTAL 1 complete 0 existing 0 incomplete 0 in conflict 0 not found 0 failed\n",
+    ),
+    (
+        "unpack chosen second_only.tap",
+        3,
+        "FILE ABC001 1 NOT FOUND\n\
+            FILE ABC001 2 EXISTS chosen/ABC001.2.LEDGER\n\
+            TOTAL 0 complete 1 existing 0 incomplete 0 in conflict 1 not found 0 failed\n",
+    ),
+];
+
+/// What is left by the lines.
+const LEFT: &[Step<'_>] = &[
+    Step::Holds("chosen/CHO001.1.ONE", b"A\n"),
+    Step::Holds("chosen/CHO001.2.TWO", b"B\nB\n"),
+    Step::Holds("chosen1/CHO001.1.ONE", b"kept"),
+    Step::IsMissing("chosen1/CHO001.2.TWO"),
+    Step::IsMissing("chosen1/ABC001.1.PAYROLL.stage"),
+    Step::Ends("unpack chosen --set '' CHO001.tap", End::WrongWords),
+    Step::Ends("unpack chosen --set TOOLONG CHO001.tap", End::WrongWords),
+];
+
+#[test]
+fn files_are_chosen(rt: HostRuntime) -> Result<(), Fail> {
+    put(
+        &rt,
+        "second_only.tap",
+        second_alone(rt.alloc())?.bytes.as_slice(),
+    )?;
+    take_all(&rt, CHOSEN_IMAGES)?;
+    for (line, status, out) in CHOSEN {
+        let seen = called(&rt, line, true)?;
+        assert!(rt;
+            seen.comes_to(*status, out, "", None),
+            "{line}: {}",
+            seen.out
+        );
+    }
+    take_all(&rt, LEFT)
 }

@@ -1,4 +1,4 @@
-//! Volumes of the worked file set, complete and damaged, written label by label.
+//! Volumes of the example file set, complete and damaged, written label by label.
 use super::image::{END, Image, MARK, payroll};
 use std::alloc::{AllocError, Global};
 
@@ -13,7 +13,7 @@ pub const HDR1: &str = "HDR1PAYROLL          ABC00100010001000100 00000 00000 00
 /// The header of section 2.
 const HDR1_NEXT: &str = "HDR1PAYROLL          ABC00100020001000100 00000 00000 000000";
 
-/// Format F, records of 80 characters, in blocks of 800 and of 400.
+/// The second header label for format F: records of 80 characters, in blocks of at most 800.
 pub const FIXED: &str = "HDR2F0080000080                                   00";
 
 const FIXED_400: &str = "HDR2F0040000080                                   00";
@@ -26,7 +26,7 @@ pub const EOF2: &str = "EOF2F0080000080                                   00";
 
 const EOF2_400: &str = "EOF2F0040000080                                   00";
 
-/// Labels, followed by a tape mark.
+/// Appends labels, followed by a tape mark.
 pub fn labels(image: &mut Image, texts: &[&str]) -> Result<(), AllocError> {
     for text in texts {
         image.label(text)?;
@@ -34,21 +34,22 @@ pub fn labels(image: &mut Image, texts: &[&str]) -> Result<(), AllocError> {
     image.word(&MARK)
 }
 
-/// The second mark of a volume, and the end-of-medium marker.
+/// Appends the second mark of a volume, and the end-of-medium marker.
 fn end(image: &mut Image) -> Result<(), AllocError> {
     image.word(&MARK)?;
     image.word(&END)
 }
 
-/// The mark after the data, trailer labels, and the volume's end.
+/// Appends the mark after the data, the trailer labels `texts`, and the end of the volume.
 fn close(image: &mut Image, texts: &[&str]) -> Result<(), AllocError> {
     image.word(&MARK)?;
     labels(image, texts)?;
     end(image)
 }
 
-/// Returns a volume with one section: its header labels, data blocks of 400 characters with these
-/// high bytes in their length words (0x80 marks a bad block), and its trailer labels.
+/// Returns a volume with one section: its header labels, one data block of 400 characters for each
+/// of `blocks`, which is the high byte of its length words (0x80 marks a bad block), and its
+/// trailer labels.
 fn reel(
     alloc: Global,
     headers: &[&str],
@@ -64,20 +65,20 @@ fn reel(
     Ok(image)
 }
 
-/// Returns the worked volume: 25 records of 80 characters in blocks of 800, 2,484 bytes.
+/// Returns the example volume: 25 records of 80 characters in blocks of 800, 2,484 bytes.
 pub fn worked(alloc: Global) -> Result<Image, AllocError> {
     payroll_volume(alloc, &[EOF_THREE, EOF2])
 }
 
-/// Returns the worked file on a volume that is too small for its end: three blocks, and an end of
-/// volume.
+/// Returns the example file on a volume that has no room for the end-of-file labels: three blocks,
+/// and end-of-volume labels.
 pub fn first_of_two(alloc: Global) -> Result<Image, AllocError> {
     let trailer = "EOV1PAYROLL          ABC00100010001000100 00000 00000 000003";
     let second = "EOV2F0080000080                                   00";
     payroll_volume(alloc, &[trailer, second])
 }
 
-/// Returns the labels and records of the worked volume, followed by these trailer labels.
+/// Returns the labels and records of the example volume, followed by the trailer labels `trailers`.
 fn payroll_volume(alloc: Global, trailers: &[&str]) -> Result<Image, AllocError> {
     let mut image = Image::new(alloc);
     image.headers()?;
@@ -86,13 +87,13 @@ fn payroll_volume(alloc: Global, trailers: &[&str]) -> Result<Image, AllocError>
     Ok(image)
 }
 
-/// Returns the second volume of the worked file: an empty section, and the end of the file.
+/// Returns the second volume of the example file: an empty section, and the end-of-file labels.
 pub fn second_of_two(alloc: Global) -> Result<Image, AllocError> {
     let trailer = "EOF1PAYROLL          ABC00100020001000100 00000 00000 000000";
     reel(alloc, &[VOL2, HDR1_NEXT, FIXED], &[], &[trailer, EOF2])
 }
 
-/// Returns the worked volume without its second block, which its trailer still counts.
+/// Returns the example volume without its second block, which its trailer label still counts.
 pub fn lost(alloc: Global) -> Result<Image, AllocError> {
     let mut image = Image::new(alloc);
     image.headers()?;
@@ -101,7 +102,7 @@ pub fn lost(alloc: Global) -> Result<Image, AllocError> {
     Ok(image)
 }
 
-/// These records in blocks of 800, without the second.
+/// Appends `records` in blocks of 800, without the second block.
 fn lost_blocks(image: &mut Image, records: &[u8]) -> Result<(), AllocError> {
     for (number, block) in records.chunks(800).enumerate() {
         if number != 1 {
@@ -111,7 +112,7 @@ fn lost_blocks(image: &mut Image, records: &[u8]) -> Result<(), AllocError> {
     Ok(())
 }
 
-/// Returns a volume of the 25 worked records in blocks of 400, one of which is unreadable.
+/// Returns a volume of the 25 example records in blocks of 400. Block `bad` is unreadable.
 pub fn damaged(alloc: Global, bad: usize) -> Result<Image, AllocError> {
     let mut image = Image::new(alloc);
     labels(&mut image, &[VOL1, HDR1, FIXED_400])?;
@@ -120,7 +121,7 @@ pub fn damaged(alloc: Global, bad: usize) -> Result<Image, AllocError> {
     Ok(image)
 }
 
-/// These records in blocks of 400, one of which is unreadable.
+/// Appends `records` in blocks of 400. Block `bad` is unreadable.
 fn damaged_blocks(image: &mut Image, records: &[u8], bad: usize) -> Result<(), AllocError> {
     for (number, block) in records.chunks(400).enumerate() {
         let high = if number == bad { 0x80 } else { 0 };

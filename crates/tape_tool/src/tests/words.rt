@@ -1,4 +1,4 @@
-//! Command lines.
+//! Tests of command lines.
 use crate::command_line::call_of;
 use crate::list::words::Listing;
 use crate::words::Order;
@@ -7,7 +7,8 @@ use std::alloc::{AllocError, Global};
 use std::process::Abort;
 use std::test::Fail;
 
-/// Returns the arguments in a line, after the program's name; two quotes are an empty argument.
+/// Returns the arguments in `line`, after the program's name. Two quotes represent an empty
+/// argument.
 pub fn words_of(alloc: Global, line: &str) -> Result<Vec<String>, AllocError> {
     let mut words = Vec::new(alloc);
     push_word(alloc, &mut words, "out/tape_tool")?;
@@ -43,7 +44,7 @@ fn orders(rt: HostRuntime) -> Result<(), Fail> {
     Ok(())
 }
 
-/// Lines that request nothing, with their exit status and part of the message.
+/// Command lines that run no command, with their exit status and part of the message.
 const SAID: &[(&str, i32, &str)] = &[
     ("", 2, "requires a subcommand"),
     ("lost", 2, "unrecognized subcommand 'lost'"),
@@ -77,7 +78,7 @@ const SAID: &[(&str, i32, &str)] = &[
     ),
     ("check - a.tap -", 2, "standard input can be read only once"),
     ("survey --files-from - -", 2, "A file of this name is './-'"),
-    // The value that is not accepted.
+    // The message contains the value that is not accepted.
     (
         "extract TOOLONG 1 a.txt a.tap",
         2,
@@ -108,12 +109,13 @@ const SAID: &[(&str, i32, &str)] = &[
         2,
         "error: invalid value \"ABCD\": PRE must be three characters",
     ),
-    // No printed argument controls the terminal.
+    // No argument can control the terminal when it is printed.
     ("a\u{1b}b\\", 2, "unrecognized subcommand 'a\\u001Bb\\\\'"),
     ("init . a\u{202e} 2", 2, "invalid value \"a\\u202E\": PRE"),
 ];
 
-/// Fails unless the call with this line ends with this status and message.
+/// Fails unless the run with the arguments in `line` ends with `status` and a message that contains
+/// `text`.
 fn is_answered<H: Abort + AllocGlobal>(
     rt: &H,
     line: &str,

@@ -1,4 +1,4 @@
-//! What `write` prints.
+//! Tests of the lines that `write` prints.
 use crate::write::report::say;
 use std::io;
 use std::io::{Error, ErrorKind, Write};
@@ -7,7 +7,7 @@ use std::test::Fail;
 use tape_label::Field;
 use tape_writer::system::Ended;
 
-/// Accepts all bytes, and fails at each flush.
+/// A writer that accepts all bytes, and fails at each flush.
 #[derive(Drop)]
 struct Unflushed {
     taken: Vec<u8>,
@@ -24,7 +24,7 @@ impl Write for Unflushed {
     }
 }
 
-/// The lines, and nothing more if flushing them fails.
+/// The lines are printed, and nothing more, even if flushing them fails.
 #[test]
 fn what_is_printed(rt: HostRuntime) -> Result<(), Fail> {
     let mut text = Vec::new(rt.alloc());

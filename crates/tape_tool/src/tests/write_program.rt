@@ -1,4 +1,4 @@
-//! `write` with files. Each test has a prefix of its own.
+//! Tests of `write` with files. Each test has a prefix of its own.
 use super::calls::{Step, each_fails, each_is_wrong, ends, follow_all, put};
 use crate::fault::{FileFault, ToolFault};
 use crate::program::End;
@@ -8,12 +8,12 @@ use tape_writer::WriteFault;
 
 const EXISTS: ToolFault = ToolFault::File(FileFault::Exists);
 
-/// The call that writes the worked volume.
+/// The command line that writes the example volume.
 const WRITE: &str = "write worked ABC 100000 PAYROLL=payroll.bin \
     --format F --block 800 --record 80 --form raw";
 
-/// The worked image in a new file, over a blank volume, and over a written volume, which is
-/// refused.
+/// The example image is written to a new file and over a blank volume, but not over a volume that
+/// has files.
 const WORKED_VOLUME: &[Step<'_>] = &[
     Step::PutRecords("payroll.bin"),
     Step::Folder("worked"),
@@ -29,7 +29,7 @@ const WORKED_VOLUME: &[Step<'_>] = &[
     Step::Ends("list worked/ABC001.tap", End::Done),
 ];
 
-/// What cannot be read as a file cannot be an image to overwrite.
+/// A file that cannot be read cannot be an image to overwrite.
 const FOLDER: &[Step<'_>] = &[
     Step::Put("beside.txt", b"AB\n"),
     Step::Folder("TFF001.tap"),
@@ -70,7 +70,7 @@ const UNFIT: &[Step<'_>] = &[
     Step::IsMissing("UNO001.tap"),
 ];
 
-/// A second volume that is not blank: the first one remains.
+/// If a second volume is not blank, the first one remains.
 const SECOND: &[Step<'_>] = &[
     Step::PutRecords("second.bin"),
     Step::Put("SND002.tap", b"kept"),
@@ -82,7 +82,8 @@ const SECOND: &[Step<'_>] = &[
     Step::Holds("SND002.tap", b"kept"),
 ];
 
-/// All inputs are looked for before anything is written: a missing one, and a directory.
+/// All inputs are looked up before anything is written. Here one is missing, and one is a
+/// directory.
 const LOOKED_FOR: &[Step<'_>] = &[
     Step::Put("here.txt", b"AB\n"),
     Step::Fails(
@@ -109,7 +110,7 @@ fn files_are_written(rt: HostRuntime) -> Result<(), Fail> {
     follow_all(&rt, SCRIPTS)
 }
 
-/// Lines that are not calls of `write`.
+/// Invalid command lines of `write`.
 const WRONG: &[&str] = &[
     "write",
     "write . WRD 100000",
@@ -184,7 +185,7 @@ const FAULTS: &[(&str, ToolFault)] = &[
         "write . FLB 100000 A=.",
         ToolFault::File(FileFault::ReadFailed),
     ),
-    // A line without an end.
+    // A line that never ends.
     (
         "write . FLD 100000 A=/dev/zero",
         ToolFault::Write(WriteFault::RecordLength),

@@ -3,7 +3,7 @@ use arrayvec::ArrayVec;
 use std::io;
 use std::io::Write;
 
-/// The line written last, as far as the buffer has room.
+/// A writer that remembers the last line, as far as its buffer has room.
 #[derive(Drop)]
 pub struct LastLine {
     text: ArrayVec<u8, 256>,
@@ -11,7 +11,7 @@ pub struct LastLine {
 }
 
 impl LastLine {
-    /// Nothing was written.
+    /// Creates a writer to which nothing was written.
     pub fn new() -> LastLine {
         LastLine {
             text: ArrayVec::new(),

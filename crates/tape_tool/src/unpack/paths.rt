@@ -1,16 +1,16 @@
 //! The paths of an unpacked file and of its stage.
 use std::alloc::{AllocError, Global};
 
-/// The paths of a file.
+/// The paths of an unpacked file and of its stage.
 #[derive(Drop)]
 pub struct Paths {
-    /// The path of its records.
+    /// The path of the file's records.
     pub out: String,
-    /// The path of its stage.
+    /// The path of the file's stage.
     pub stage: String,
 }
 
-/// Returns the paths of the file named `name` in a directory.
+/// Returns the paths of the file named `name` in directory `folder`.
 pub fn paths_of(alloc: Global, folder: &str, name: &[u8]) -> Result<Paths, AllocError> {
     let mut out = String::new(alloc);
     out.push_str(folder)?;

@@ -2,11 +2,13 @@
 
 use super::last_line::LastLine;
 use super::paths::{Paths, paths_of};
+use super::report::{
+    Ended, Lines, NOT_REPORTED, after_word, end_report, listed, tell, tell_failed, tell_more,
+};
 use super::salvaged::Salvaged;
 use super::words::{UNPACK, Unpack};
-use crate::diagnostics::FaultLine;
 use crate::explain::FaultSite;
-use crate::extract::words::Task;
+use crate::extract::words::{Task, set_id_of};
 use crate::extract::{Way, extract_file, extract_whole};
 use crate::fault::{FileFault, OUT_OF_MEMORY, ToolFault};
 use crate::help;
@@ -19,17 +21,13 @@ use std::io::{BufWriter, Write};
 use std::{fs, io};
 use tape_label::Field;
 use tape_run::{
-    Content, FoundFiles, Heading, Mounted, SalvageTask, SetFile, UnpackOutcome, WriteFailed,
-    file_line, file_name, find_files, flush, left_over_line, numbers_line, set_of,
-    unpack_outcome_text, write_text,
+    Content, FileChoice, FoundFiles, Mounted, SalvageTask, SetFile, Tally, UnpackOutcome,
+    WriteFailed, file_name, find_files, flush, is_of_set, report_numbers, set_of,
 };
 use tape_writer::system::found;
 
 /// The maximum number of bytes of the report that are buffered.
 const LINES: usize = 8_192;
-
-/// The report could not be written.
-const NOT_REPORTED: End = End::Faulted(ToolFault::File(FileFault::WriteFailed));
 
 /// The source of the files: the images by their names, what was found on them, and the image that
 /// stays open from file to file.
@@ -40,7 +38,7 @@ struct Source<'n, D> {
     mounted: Option<Mounted<D>>,
 }
 
-/// Recovers every file on the images that the arguments name. On error, the site says where it
+/// Recovers every file on the images that the arguments name. On error, `site` says where it
 /// occurred.
 pub fn unpack<'a, R: Host>(rt: &R, order: &Unpack<'a>, site: &mut FaultSite<'a>) -> End {
     let mut text = String::new(rt.alloc());
@@ -58,21 +56,25 @@ fn unpack_images<R: Host>(rt: &R, order: &Unpack<'_>, names: &[&str]) -> End {
     if let Err(refusal) = is_folder(rt, order.folder) {
         return end_refused(rt, &UNPACK, refusal);
     }
-    let Ok(mut report) = BufWriter::with_capacity(rt.alloc(), LINES, io::writer(rt)) else {
+    let Ok(out) = BufWriter::with_capacity(rt.alloc(), LINES, io::writer(rt)) else {
         return End::Faulted(OUT_OF_MEMORY);
+    };
+    let mut lines = Lines {
+        out,
+        tally: Tally::new(),
     };
     let met = match find_files(rt.alloc(), &mut Images::new(rt, names)) {
         Ok(met) => met,
         Err(fault) => return end_of(Err(ToolFault::Run(fault))),
     };
-    let end = unpack_all(rt, order, names, &met, &mut report);
-    match (end, flush(&mut report)) {
+    let end = unpack_all(rt, order, names, &met, &mut lines);
+    match (end, flush(&mut lines.out)) {
         (End::Done | End::Incomplete, Err(WriteFailed)) => NOT_REPORTED,
         (end, _) => end,
     }
 }
 
-/// Refuses anything that is not a directory: if it is an image, DIR was forgotten.
+/// Refuses `path` if it is not a directory. If it is an image, DIR was forgotten.
 fn is_folder<R: Host>(rt: &R, path: &str) -> Result<(), Refusal> {
     match fs::metadata(rt, path) {
         Ok(found) if found.is_dir() => Ok(()),
@@ -81,49 +83,56 @@ fn is_folder<R: Host>(rt: &R, path: &str) -> Result<(), Refusal> {
     }
 }
 
-/// Unpacks the files that were found, and returns whether every image was read to its end. If a
-/// file fails, the others are still tried: the run ends with the first such fault.
+/// Unpacks the chosen files, and reports the images that were not read to their end, and counts. If
+/// a file fails, the others are still tried: the run ends with the first such fault.
 fn unpack_all<R: Host, P: Write>(
     rt: &R,
     order: &Unpack<'_>,
     names: &[&str],
     met: &FoundFiles,
-    report: &mut P,
+    lines: &mut Lines<P>,
 ) -> End {
     let files = met.files.as_slice();
-    let mut all = met.whole && !files.is_empty();
+    let choice = FileChoice {
+        set_id: order.set.and_then(set_id_of),
+        words: order.files.as_slice(),
+    };
     let shelf = &mut Source {
         names,
         met,
         mounted: None,
     };
+    let mut all = met.whole && !files.is_empty();
     let mut failed = None;
     let mut before = None;
     for file in files {
-        let first = number_after(before, &file.set_id);
-        if first < file.file {
-            all = false;
-            let line = numbers_line(&file.set_id, first, file.file);
-            if write_text(report, &line).is_err() {
-                return NOT_REPORTED;
+        // Which names missing numbers have is unknown.
+        if choice.words.is_empty() && is_of_set(choice.set_id, file) {
+            let first = number_after(before, &file.set_id);
+            if first < file.file {
+                all = false;
+                let Lines { out, tally } = lines;
+                if let Err(fault) = report_numbers(out, tally, &file.set_id, first, file.file) {
+                    return End::Faulted(ToolFault::from(fault));
+                }
             }
+            before = Some((file.set_id, file.file));
         }
-        match unpack_file(rt, order, shelf, file, report) {
+        if !choice.chooses(file) {
+            continue;
+        }
+        match unpack_file(rt, order, shelf, file, lines) {
             Ok(End::Done) => {}
             Ok(End::Incomplete) => all = false,
             Ok(end) => failed = failed.or(Some(end)),
             Err(end) => return end,
         }
-        before = Some((file.set_id, file.file));
     }
-    match write_text(report, left_over_line(met.whole)) {
-        Ok(()) => failed.unwrap_or(check_end(Ok(all))),
-        Err(WriteFailed) => NOT_REPORTED,
+    match end_report(rt, order, &choice, names, met, lines) {
+        Ok(found) => failed.unwrap_or(check_end(Ok(all && found))),
+        Err(end) => end,
     }
 }
-
-/// How the unpacking of a file ends or, as an error, how the run ends with it.
-type Ended = Result<End, End>;
 
 /// Returns the number after that of the previous file, if both belong to the same set, otherwise 1.
 fn number_after(before: Option<(Field<6>, u16)>, set_id: &Field<6>) -> u16 {
@@ -133,68 +142,63 @@ fn number_after(before: Option<(Field<6>, u16)>, set_id: &Field<6>) -> u16 {
     }
 }
 
-/// Unpacks a file, and prints the outcome.
+/// Unpacks `file`, and prints the outcome.
 fn unpack_file<R: Host, P: Write>(
     rt: &R,
     order: &Unpack<'_>,
     shelf: &mut Source<'_, Image<R>>,
     file: &SetFile,
-    report: &mut P,
+    lines: &mut Lines<P>,
 ) -> Ended {
-    let file_id = match file.heading {
-        Heading::Differs => {
-            return tell(
-                rt,
-                file,
-                unpack_outcome_text(UnpackOutcome::Conflict),
-                "",
-                End::Incomplete,
-                report,
-            );
-        }
-        Heading::Named(file_id) => file_id,
-    };
-    let name = file_name(&file.set_id, file.file, &file_id);
+    if file.differs {
+        return tell(
+            rt,
+            file,
+            UnpackOutcome::Conflict,
+            b"",
+            "",
+            End::Incomplete,
+            lines,
+        );
+    }
+    let name = file_name(&file.set_id, file.file, &file.file_id);
     match paths_of(rt.alloc(), order.folder, &name) {
-        Ok(paths) => unpack_to(rt, order, shelf, file, &paths, report),
+        Ok(paths) => unpack_to(rt, order, shelf, file, &paths, lines),
         Err(_) => Err(End::Faulted(OUT_OF_MEMORY)),
     }
 }
 
-/// Unpacks a file to the given paths, unless a file with its name exists.
+/// Unpacks a file to `paths`, unless a file with its name exists.
 fn unpack_to<R: Host, P: Write>(
     rt: &R,
     order: &Unpack<'_>,
     shelf: &mut Source<'_, Image<R>>,
     file: &SetFile,
     paths: &Paths,
-    report: &mut P,
+    lines: &mut Lines<P>,
 ) -> Ended {
     let (out, stage) = (paths.out.as_str(), paths.stage.as_str());
     let mut last = LastLine::new();
-    match unpacked(rt, order, shelf, file, paths, &mut last) {
-        Ok(end @ End::Done) => tell(rt, file, last.text(), out, end, report),
-        Ok(end) => {
-            let end = tell(rt, file, last.text(), stage, end, report)?;
-            match order.salvage {
-                true => salvage_file(rt, order, shelf, file, out, end, report),
-                false => Ok(end),
-            }
-        }
+    let done = if order.list {
+        listed(rt, file, paths, &mut last)
+    } else {
+        unpacked(rt, order, shelf, file, paths, &mut last)
+    };
+    let (outcome, path, end) = match (done, order.list) {
+        (Ok(end @ End::Done), false) => (UnpackOutcome::Complete, out, end),
+        (Ok(end @ End::Done), true) => (UnpackOutcome::Ready, out, end),
+        (Ok(end), false) => (UnpackOutcome::Awaits, stage, end),
+        (Ok(end), true) => (UnpackOutcome::Lacks, stage, end),
         // It existed before, or was created meanwhile.
-        Err(ToolFault::File(FileFault::Exists)) => {
-            tell(
-                rt,
-                file,
-                unpack_outcome_text(UnpackOutcome::Exists),
-                out,
-                End::Done,
-                report,
-            )
-        }
-        Err(OUT_OF_MEMORY) => Err(End::Faulted(OUT_OF_MEMORY)),
-        Err(fault) => tell_failed(rt, file, out, fault, report),
+        (Err(ToolFault::File(FileFault::Exists)), _) => (UnpackOutcome::Exists, out, End::Done),
+        (Err(OUT_OF_MEMORY), _) => return Err(End::Faulted(OUT_OF_MEMORY)),
+        (Err(fault), _) => return tell_failed(rt, file, out, fault, lines),
+    };
+    let end = tell(rt, file, outcome, after_word(last.text()), path, end, lines)?;
+    if order.salvage && outcome == UnpackOutcome::Awaits {
+        return salvage_file(rt, order, shelf, file, out, end, lines);
     }
+    Ok(end)
 }
 
 /// Recovers a file, unless something has its name, and removes the stage of a complete one, since
@@ -211,7 +215,7 @@ fn unpacked<R: Host>(
     if found(fs::symlink_metadata(rt, paths.out.as_str()))?.is_some() {
         return Err(ToolFault::File(FileFault::Exists));
     }
-    // A stage is never looked for through a link.
+    // A link is not followed to a stage.
     let is_staged = match found(fs::symlink_metadata(rt, stage))? {
         Some(there) if !there.is_file() => return Err(ToolFault::File(FileFault::NotOpened)),
         there => there.is_some(),
@@ -230,8 +234,8 @@ fn unpacked<R: Host>(
     }
 }
 
-/// Writes the readable records of an incomplete file, with a report of its gaps, and prints a line
-/// about them. The images are those that may have blocks of its set.
+/// Writes the readable records of an incomplete file and a report of its gaps, and prints a line
+/// about them. Reads the images that may have blocks of its set.
 fn salvage_file<R: Host, P: Write>(
     rt: &R,
     order: &Unpack<'_>,
@@ -239,7 +243,7 @@ fn salvage_file<R: Host, P: Write>(
     file: &SetFile,
     out: &str,
     end: End,
-    report: &mut P,
+    lines: &mut Lines<P>,
 ) -> Ended {
     let salvaged = match salvaged_at(rt, out) {
         Ok(salvaged) => salvaged,
@@ -260,23 +264,38 @@ fn salvage_file<R: Host, P: Write>(
     let mut last = LastLine::new();
     match salvaged.write(rt, &task, names.as_slice(), &mut last) {
         End::Faulted(ToolFault::File(FileFault::Exists)) => {
-            let exists = unpack_outcome_text(UnpackOutcome::Exists);
-            tell(rt, file, exists, salvaged.path(), end, report)
+            tell_more(
+                rt,
+                file,
+                UnpackOutcome::Exists,
+                b"",
+                salvaged.path(),
+                end,
+                lines,
+            )
         }
         End::Faulted(OUT_OF_MEMORY) => Err(End::Faulted(OUT_OF_MEMORY)),
-        End::Faulted(fault) => tell_failed(rt, file, salvaged.path(), fault, report),
-        _ => tell(rt, file, last.text(), salvaged.path(), end, report),
+        End::Faulted(fault) => tell_failed(rt, file, salvaged.path(), fault, lines),
+        _ => {
+            let outcome = if last.text().starts_with(b"COMPLETE") {
+                UnpackOutcome::Complete
+            } else {
+                UnpackOutcome::Salvaged
+            };
+            let details = after_word(last.text());
+            tell_more(rt, file, outcome, details, salvaged.path(), end, lines)
+        }
     }
 }
 
-/// Returns the paths of the salvaged records of the file with this path, and of their report.
+/// Returns the paths of the salvaged records of the file at `out`, and of their report.
 fn salvaged_at<R: Host>(rt: &R, out: &str) -> Result<Salvaged, ToolFault> {
     Salvaged::of(rt.alloc(), out).map_err(|_| OUT_OF_MEMORY)
 }
 
 /// Recovers a file. If all its sections are intact, reads the images that have them once. Any other
-/// file, or one that is still incomplete then, is recovered on its stage, in passes. The last line
-/// of both is remembered.
+/// file, or one that is still incomplete then, is recovered on its stage, in passes. `last`
+/// remembers the last line of either.
 fn gather<R: Host>(
     rt: &R,
     order: &Unpack<'_>,
@@ -296,13 +315,13 @@ fn gather<R: Host>(
         stage: None,
         again: false,
     };
-    if !file.lacks && !is_staged {
+    if file.lacks.is_none() && !is_staged {
         let images = &mut Images::new(rt, shelf.names);
         let locations = &shelf.met.locations;
         let end = extract_whole(rt, &at_once, images, &mut shelf.mounted, locations, last);
         if end != End::Incomplete {
             if end != End::Done {
-                // Nothing is proved about an image that a fault left open.
+                // Nothing is proved about an image at which a fault occurred.
                 shelf.mounted = None;
             }
             return end;
@@ -319,46 +338,4 @@ fn gather<R: Host>(
     };
     let images = &mut Images::new(rt, names.as_slice());
     extract_file(rt, &staged, images, Way::New, last, &mut site)
-}
-
-/// Prints the outcome of a file, and ends like this.
-fn tell<R: Host, P: Write>(
-    rt: &R,
-    file: &SetFile,
-    told: &[u8],
-    path: &str,
-    end: End,
-    report: &mut P,
-) -> Ended {
-    let Ok(line) = file_line(rt.alloc(), &file.set_id, file.file, told, path) else {
-        return Err(End::Faulted(OUT_OF_MEMORY));
-    };
-    match write_text(report, line.as_slice()) {
-        Ok(()) => Ok(end),
-        Err(WriteFailed) => Err(NOT_REPORTED),
-    }
-}
-
-/// Reports that a file failed, and with which fault.
-fn tell_failed<R: Host, P: Write>(
-    rt: &R,
-    file: &SetFile,
-    path: &str,
-    fault: ToolFault,
-    report: &mut P,
-) -> Ended {
-    let failed = unpack_outcome_text(UnpackOutcome::Failed);
-    let Ok(line) = format!(in rt.alloc(); "{}", FaultLine(fault)) else {
-        return Err(End::Faulted(OUT_OF_MEMORY));
-    };
-    // The fault's line without the program's name and the line feed.
-    let text = line.as_str();
-    let reason = text.strip_prefix("tape: ").unwrap_or(text).trim_end();
-    let Ok(mut told) = Vec::from_slice(rt.alloc(), failed) else {
-        return Err(End::Faulted(OUT_OF_MEMORY));
-    };
-    if told.push(b' ').is_err() || told.extend_from_slice(reason.as_bytes()).is_err() {
-        return Err(End::Faulted(OUT_OF_MEMORY));
-    }
-    tell(rt, file, told.as_slice(), path, End::Faulted(fault), report)
 }

@@ -1,6 +1,6 @@
 //! The two files that `unpack --salvage` writes for an incomplete file: its readable records, and
-//! the report of its gaps. The last line of the report has the sums of both, so that a later run
-//! replaces or removes them only if they are unchanged.
+//! the report of its gaps. The last line of the report contains the checksums of both, so that a
+//! later run replaces or removes them only if they are unchanged.
 
 ghost use Rattle.std.specs.Prelude.{None};
 
@@ -21,14 +21,14 @@ use std::{fs, io};
 use tape_run::{Place, SalvageTask, WriteFailed, flush, name_text, salvage_to, write_text};
 use tape_writer::system::found;
 
-/// The length of the last line of a report: `SUMS`, two sums of 64 digits, two spaces and a line
-/// feed.
+/// The length of the last line of a report: `SUMS`, two checksums of 64 digits, two spaces and a
+/// line feed.
 const SUMS: usize = 135;
 
-/// The number of bytes of one read.
+/// The maximum number of bytes read at once.
 const PIECE: usize = 4_096;
 
-/// The paths of the records and of the report of a file.
+/// The paths of the salvaged records and of their report.
 #[derive(Drop)]
 pub struct Salvaged {
     records: String,
@@ -39,12 +39,12 @@ pub struct Salvaged {
 #[derive(Clone, Copy)]
 enum Earlier {
     Nothing,
-    /// The files that an earlier run left there, unchanged.
+    /// The files are those that an earlier run wrote, unchanged.
     Own(FileId, FileId),
     Other,
 }
 
-/// A new file, with the sum of its bytes and with its last line.
+/// A new file, with the checksum of its bytes and with its last line.
 #[derive(Drop)]
 struct Summed {
     out: BufWriter<DraftFile>,
@@ -53,7 +53,7 @@ struct Summed {
 }
 
 impl Summed {
-    /// Buffers the bytes that are written to this file, and adds them to the sum.
+    /// Creates a buffered writer to `file`, which also computes the checksum of the bytes.
     fn new(alloc: Global, file: DraftFile) -> Result<Summed, End> {
         match BufWriter::with_capacity(alloc, HELD, file) {
             Ok(out) => Ok(Summed {
@@ -81,7 +81,7 @@ impl Write for Summed {
     }
 }
 
-/// A place that keeps a file without giving it a name.
+/// A slot that keeps a file without giving it a name.
 #[derive(Drop)]
 struct Kept(Option<Summed>);
 
@@ -95,7 +95,7 @@ impl Place<Summed> for Kept {
 }
 
 impl Salvaged {
-    /// Returns the paths for the file with this path.
+    /// Returns the paths for the file at `out`.
     pub fn of(alloc: Global, out: &str) -> Result<Salvaged, AllocError> {
         Ok(Salvaged {
             records: format!(in alloc; "{out}.salvaged")?,
@@ -108,9 +108,9 @@ impl Salvaged {
         self.records.as_str()
     }
 
-    /// Writes the readable records of a file on the images with these names, and remembers the last
-    /// line of `salvage`. Ends with `Exists` if a file at one of the paths was not left there by an
-    /// earlier run, unchanged.
+    /// Writes the readable records of a file on the images named `names`; `last` remembers the last
+    /// line of `salvage`. Ends with `Exists` if one of the paths has a file other than those that
+    /// an earlier run wrote, unchanged.
     pub fn write<R: Host>(
         &self,
         rt: &R,
@@ -148,7 +148,7 @@ impl Salvaged {
         name.ended(end)
     }
 
-    /// Removes the files that an earlier run left there, unless they have changed since then.
+    /// Removes the files that an earlier run wrote, unless they have changed since then.
     pub fn remove<R: Host>(&self, rt: &R) -> Result<(), ToolFault> {
         if let Earlier::Own(_, _) = self.earlier(rt)? {
             remove(rt, self.report.as_str());
@@ -157,7 +157,7 @@ impl Salvaged {
         Ok(())
     }
 
-    /// Returns which files have the two paths.
+    /// Returns the files that have the two paths.
     fn earlier<R: Host>(&self, rt: &R) -> Result<Earlier, ToolFault> {
         let records = found(fs::symlink_metadata(rt, self.records.as_str()))?;
         let report = found(fs::symlink_metadata(rt, self.report.as_str()))?;
@@ -173,7 +173,8 @@ impl Salvaged {
         Ok(Earlier::Other)
     }
 
-    /// Returns whether the last line of the report has the sums of both files, given their lengths.
+    /// Returns whether the last line of the report contains the checksums of both files, given
+    /// their lengths.
     fn is_own<R: Host>(&self, rt: &R, records: u64, report: u64) -> Result<bool, ToolFault> {
         let Some(lines) = report.checked_sub(SUMS as u64) else {
             return Ok(false);
@@ -190,7 +191,7 @@ impl Salvaged {
     }
 }
 
-/// Creates the draft of a file that is never written in place.
+/// Creates a draft of the file at `path`, which is never written in place.
 fn draft<'a, R: Host>(
     rt: &'a R,
     path: &'a str,
@@ -202,8 +203,8 @@ fn draft<'a, R: Host>(
     }
 }
 
-/// Writes the records and the report, which begins with the names of the images and ends with the
-/// sums, and returns both files. Neither has its name yet.
+/// Writes the records, and the report, which begins with the names of the images and ends with the
+/// checksums. Returns both files. Neither has its name yet.
 fn written<R: Host>(
     rt: &R,
     task: &SalvageTask,
@@ -243,11 +244,11 @@ fn written<R: Host>(
     Ok((records.out, out))
 }
 
-/// A file could not be written.
+/// The end of a run that could not write a file.
 const NOT_WRITTEN: End = End::Faulted(ToolFault::File(FileFault::WriteFailed));
 
-/// Returns how the unpacking of an incomplete file ends, given whether its records and their report
-/// got their names.
+/// Returns how unpacking an incomplete file ends, given whether its records and their report got
+/// their names.
 fn end_placed(placed: Result<(), WriteFailed>) -> End {
     match placed {
         Ok(()) => End::Incomplete,
@@ -264,7 +265,7 @@ fn image_line(alloc: Global, number: usize, name: &str) -> Result<Vec<u8>, Alloc
     Ok(line)
 }
 
-/// Returns the last line of a report: the sums of the records, and of the lines before it.
+/// Returns the last line of a report: the checksums of the records, and of the lines before it.
 fn sums_line(alloc: Global, records: &[u8; 32], lines: &[u8; 32]) -> Result<String, AllocError> {
     let records = encode(alloc, records.as_slice())?;
     let lines = encode(alloc, lines.as_slice())?;
@@ -279,7 +280,7 @@ fn opened<R: Host>(rt: &R, path: &str) -> Result<File, ToolFault> {
     }
 }
 
-/// Fills the buffer with the next bytes of a file.
+/// Fills `buffer` with the next bytes of `file`.
 fn read_all(file: &mut File, buffer: &mut [u8]) -> Result<(), ToolFault> {
     match file.read_exact(buffer) {
         Ok(()) => Ok(()),
@@ -287,7 +288,7 @@ fn read_all(file: &mut File, buffer: &mut [u8]) -> Result<(), ToolFault> {
     }
 }
 
-/// Returns the SHA-256 of the next `length` bytes of a file.
+/// Returns the SHA-256 checksum of the next `length` bytes of `file`.
 fn sum_of(file: &mut File, length: u64) -> Result<[u8; 32], ToolFault> {
     let mut sum = Sha256::new();
     let mut buffer = [0; PIECE];

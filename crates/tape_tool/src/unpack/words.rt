@@ -1,26 +1,33 @@
 //! The arguments of `unpack`.
 ghost use Rattle.std.specs.Prelude.{IfOk, IfErr};
 ghost use Rattle.clap.specs.Words.{found_of, rows_of};
-ghost use Rattle.tape_tool.specs.Words.{AsksToUnpack, IsNoUnpack, RefusedFor};
+ghost use Rattle.tape_tool.specs.Words.{AsksToUnpack, IsNoUnpack, RefusedFor, IsSetNamed, NamesNoSet};
 
-use crate::command_spec::{CommandSpec, Kind, Word, mistake};
+use crate::command_spec::{CommandSpec, Kind, Word, mistake, wrong_value};
+use crate::extract::words::set_id_of;
 use crate::help;
 use crate::images::Named;
-use crate::words::{FORMS, flag_of, form_of, named, text_of};
+use crate::words::{FORMS, flag_of, form_of, named, option_of, text_of};
 use clap::{ArgMatches, Error};
 use std::alloc::Global;
 use tape_blocks::Form;
 
-/// What `unpack` recovers, and from what: every file, into a directory.
+/// The request to `unpack`: the images, and the directory for their files.
 #[derive(Drop)]
 pub struct Unpack<'a> {
     pub folder: &'a str,
     pub images: Named<'a>,
     pub form: Form,
+    /// Only files of this set.
+    pub set: Option<&'a str>,
+    /// Only files that one of these numbers and names means, if there are any.
+    pub files: Vec<&'a str>,
+    /// Whether nothing is recovered, and what would be is printed.
+    pub list: bool,
     pub salvage: bool,
 }
 
-/// `unpack`.
+/// The `unpack` command and its arguments.
 pub const UNPACK: CommandSpec = CommandSpec {
     name: "unpack",
     called: "tape unpack",
@@ -37,12 +44,15 @@ pub const UNPACK: CommandSpec = CommandSpec {
             Kind::NameOption("FORM", FORMS, &["lines"]),
             help::FORM_OF_FILES,
         ),
+        Word("set", Kind::TextOption("SET"), help::SET_TO_UNPACK),
+        Word("file", Kind::TextOptions("N|NAME"), help::FILES_TO_UNPACK),
+        Word("list", Kind::Flag, help::LIST_ONLY),
         Word("salvage", Kind::Flag, help::SALVAGE_FILES),
     ],
 };
 
-/// Returns what the arguments of `unpack` ask for. The parser has checked that all required ones
-/// are present.
+/// Returns the request in `matches`, the arguments of `unpack`. The parser has checked that all
+/// required ones are present.
 pub fn unpack_order<'a>(alloc: Global, matches: &ArgMatches<'a>) -> Result<Unpack<'a>, Error>
     ensures ok { IfOk result (AsksToUnpack (rows_of (found_of matches.now))) }
     ensures err { IfErr result (RefusedFor (IsNoUnpack (rows_of (found_of matches.now)))) }
@@ -52,10 +62,33 @@ pub fn unpack_order<'a>(alloc: Global, matches: &ArgMatches<'a>) -> Result<Unpac
     if folder.is_empty() {
         return Err(mistake(alloc, command_spec, help::NO_FOLDER));
     }
+    let images = named(alloc, matches, command_spec, help::TOO_MANY_TO_UNPACK)?;
+    let files = Vec::from_slice(alloc, matches.get_strs("file").unwrap_or(&[]))?;
     Ok(Unpack {
         folder,
-        images: named(alloc, matches, command_spec, help::TOO_MANY_TO_UNPACK)?,
+        images,
         form: form_of(matches),
+        set: set_named(alloc, matches, command_spec)?,
+        files,
+        list: flag_of(matches, "list"),
         salvage: flag_of(matches, "salvage"),
     })
+}
+
+/// Returns the set that the arguments name, if they do.
+fn set_named<'a>(
+    alloc: Global,
+    matches: &ArgMatches<'a>,
+    command_spec: &CommandSpec,
+) -> Result<Option<&'a str>, Error>
+    ensures ok { IfOk result (IsSetNamed (rows_of (found_of matches.now))) }
+    ensures err { IfErr result (RefusedFor (NamesNoSet (rows_of (found_of matches.now)))) }
+{
+    let Some(set) = option_of(matches, "set") else {
+        return Ok(None);
+    };
+    match set_id_of(set) {
+        Some(_) => Ok(Some(set)),
+        None => Err(wrong_value(alloc, command_spec, set, help::WRONG_SET)),
+    }
 }

@@ -1,4 +1,4 @@
-//! Checks of `write` before it writes: no input of a set is one of its images.
+//! Checks that `write` makes before it writes: no input of a set is one of its images.
 use crate::fault::{FileFault, OUT_OF_MEMORY};
 use crate::help;
 use crate::refusal::{Refusal, look, refused, same_file};
@@ -8,7 +8,7 @@ use std::fs::Metadata;
 use std::rt::Runtime;
 use tape_writer::system::{VOLUMES, image_path};
 
-/// Checks the files that the arguments name. None is opened, created or changed.
+/// Checks the files that the arguments name. None of them is opened, created or changed.
 ///
 /// # Errors
 ///
@@ -55,7 +55,7 @@ fn images_of<R: Runtime + AllocGlobal>(
     Ok(images)
 }
 
-/// Returns the file with the name of image `number`, if any.
+/// Returns the file that has the name of image `number`, if any.
 fn image_at<R: Runtime + AllocGlobal>(
     rt: &R,
     order: &WriteOrder<'_>,

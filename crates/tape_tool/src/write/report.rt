@@ -1,4 +1,4 @@
-//! What `write` prints.
+//! The report of `write`.
 ghost use Rattle.std.specs.Prelude.{◌≡◌, OnOk, OnErr};
 ghost use Rattle.std.specs.Io.KnownBytes.{Appends};
 ghost use Rattle.tape_image.specs.Written.{AppendsFront};
@@ -10,15 +10,15 @@ use tape_run::text::{put, put_decimal};
 use tape_run::{WriteFailed, flush, write_text};
 use tape_writer::system::Ended;
 
-/// The length of the longest line, which is the last one.
+/// A buffer for a line, of which the last one is the longest.
 type Line = ArrayVec<u8, 64>;
 
 /// Prints a line for each volume, and one with the numbers of files and volumes.
 ///
 /// # Errors
 ///
-/// Returns `WriteFailed` if the writer or its flush fails. The text printed so far is a prefix of
-/// the lines.
+/// Returns `WriteFailed` if a write or the flush fails. In each case the text printed so far is a
+/// prefix of the lines.
 pub fn say<W: Write>(writer: &mut W, files: u64, ended: &[Ended]) -> Result<(), WriteFailed>
     ensures ok { OnOk result
         (Appends (W.contents writer.old) (W.contents writer.new) (report files ended.now)) }

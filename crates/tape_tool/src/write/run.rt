@@ -18,7 +18,7 @@ use tape_label::{Field, Format, Head1};
 use tape_writer::system::{FolderPlan, InputFile, write_in_folder};
 use tape_writer::{Input, WriteFault};
 
-/// Writes files to volumes, unless a file would be lost by it. On error, the site says where it
+/// Writes files to volumes, unless that would destroy a file. On error, `site` says where it
 /// occurred.
 pub fn write<'a, R: Host>(rt: &R, order: &WriteOrder<'a>, site: &mut FaultSite<'a>) -> End {
     *site = FaultSite::Images(order.folder);
@@ -31,8 +31,8 @@ pub fn write<'a, R: Host>(rt: &R, order: &WriteOrder<'a>, site: &mut FaultSite<'
 /// Writes the files to volumes, and reports the volumes. One input and one image are open at a
 /// time.
 ///
-/// Errors are checked in this order: the shape, the files' identifiers, their inputs, and then
-/// those that the writer finds.
+/// Errors are checked in this order: the shape, the identifiers of the files, their inputs, and
+/// then those that the writer finds.
 fn write_set<'a, R: Host>(
     rt: &R,
     order: &WriteOrder<'a>,
@@ -55,7 +55,7 @@ fn write_files<R: Host>(
     Ok(say(&mut io::writer(rt), files.len() as u64, ended.as_slice())?)
 }
 
-/// Returns where and how the set is to be written.
+/// Returns the directory and the volumes to which the set is to be written.
 fn plan_of<'a>(order: &WriteOrder<'a>) -> Result<FolderPlan<'a>, ToolFault> {
     Ok(FolderPlan {
         folder: order.folder,
@@ -66,7 +66,7 @@ fn plan_of<'a>(order: &WriteOrder<'a>) -> Result<FolderPlan<'a>, ToolFault> {
     })
 }
 
-/// Returns the shape of all files. An impossible shape is reported as one that is not written.
+/// Returns the shape of all files. An impossible shape is reported as a fault of the writer.
 fn shape_of(order: &WriteOrder<'_>) -> Result<Shape, ToolFault>
     ensures format { IfOk result (λ shape. shape.format ≡ order.now.format) }
     ensures block_len { IfOk result (λ shape. shape.block_len ≡ order.now.block) }
@@ -95,7 +95,7 @@ fn shape_of(order: &WriteOrder<'_>) -> Result<Shape, ToolFault>
     }
 }
 
-/// Returns the record length: with D, if none is specified, the greatest that fits into a block.
+/// Returns the record length. If format D has none, it is the greatest that fits into a block.
 fn record_length(order: &WriteOrder<'_>) -> u32
     ensures { result ≡ record_length order.now.format order.now.record order.now.block
         order.now.offset }
@@ -110,7 +110,7 @@ fn record_length(order: &WriteOrder<'_>) -> u32
     }
 }
 
-/// Checks the identifiers of all files. None of them is kept, since there may be thousands.
+/// Checks the identifiers of all files. None of them is stored, since there may be thousands.
 fn check_ids<'a>(order: &WriteOrder<'a>, site: &mut FaultSite<'a>) -> Result<(), ToolFault> {
     for word in order.files.as_slice() {
         *site = FaultSite::Input(*word);
@@ -155,7 +155,7 @@ fn head_of(file_id: Field<17>) -> Head1
     }
 }
 
-/// Looks for the inputs, in their order. None is read.
+/// Looks up the inputs, in their order. None of them is read.
 fn find_inputs<'r, 'a: 'r, R: Runtime + AllocGlobal>(
     rt: &'r R,
     order: &WriteOrder<'a>,

@@ -39,7 +39,7 @@ pub struct WriteOrder<'a> {
     pub form: Form,
 }
 
-/// `write`.
+/// The `write` command and its arguments.
 pub const WRITE: CommandSpec = CommandSpec {
     name: "write",
     called: "tape write",
@@ -68,8 +68,8 @@ pub const WRITE: CommandSpec = CommandSpec {
     ],
 };
 
-/// Returns what the arguments of `write` ask for. The parser has checked that all required ones are
-/// present.
+/// Returns the request in `matches`, the arguments of `write`. The parser has checked that all
+/// required ones are present.
 pub fn write_order<'a>(alloc: Global, matches: &ArgMatches<'a>) -> Result<WriteOrder<'a>, Error>
     ensures ok { IfOk result (AsksToWrite (rows_of (found_of matches.now))) }
     ensures err { IfErr result (RefusedFor (IsNoWrite (rows_of (found_of matches.now)))) }
@@ -152,7 +152,7 @@ fn asked<'a>(
     }
 }
 
-/// Returns the arguments that name files, each of which must have a path.
+/// Returns the arguments that name files. Each must have a path.
 fn files_of<'a>(alloc: Global, matches: &ArgMatches<'a>) -> Result<Vec<&'a str>, Error>
     ensures ok { IfOk result (λ files. map (λ w. w.now) files.items
         ≡ texts_in (rows_of (found_of matches.now)) (codes "ID=PATH")) }
@@ -187,7 +187,7 @@ fn has_path(word: &str) -> bool
     word.contains('=')
 }
 
-/// Returns the error for options that exclude each other.
+/// Returns the error if the directory is empty or options exclude each other.
 fn wrong(order: &WriteOrder<'_>) -> Option<&'static str>
     ensures some { IfSome result (λ _. (order.now.folder.now ≡ []) ⊎ IsAtOdds order.now) }
     ensures folder { IfNone result (order.now.folder.now ≡ [] → ⊥) }

@@ -5,7 +5,7 @@ ghost use Rattle.tape_writer.specs.Records.{Adds, last_record};
 
 use memchr::memchr;
 
-/// How an input is cut into records.
+/// The way in which an input is cut into records.
 #[derive(Clone, Copy)]
 pub enum Cut {
     /// After each line feed, which belongs to no record.
@@ -16,7 +16,7 @@ pub enum Cut {
     Whole,
 }
 
-/// A prefix of some bytes, which continues a record.
+/// A prefix of the bytes that were read, which continues a record.
 #[derive(Clone, Copy)]
 pub struct Piece {
     /// The number of bytes that belong to the record.
@@ -29,7 +29,7 @@ pub struct Piece {
 }
 
 impl Cut {
-    /// Returns the first of `bytes` that continue a record of which `held` bytes were read.
+    /// Returns the prefix of `bytes` that continues a record of which `held` bytes were read.
     pub fn piece(self, held: usize, bytes: &[u8]) -> Piece
         ensures within { (result.content ≤ result.taken) × (result.taken ≤ count bytes.now) }
         ensures some { 0 < count bytes.now → 0 < result.taken }
@@ -69,7 +69,7 @@ impl Piece {
     }
 }
 
-/// Returns the bytes up to the line feed, or all bytes if there is none.
+/// Returns the bytes up to the line feed, or all bytes if none is a line feed.
 fn line_piece(bytes: &[u8]) -> Piece
     ensures within { (result.content ≤ result.taken) × (result.taken ≤ count bytes.now) }
     ensures some { 0 < count bytes.now → 0 < result.taken }

@@ -40,9 +40,9 @@ pub struct Input<R> {
 ///
 /// # Errors
 ///
-/// `Write` with the writer's fault, with `RecordLength` as soon as a record is longer than the
-/// shape allows, and with `OutOfMemory` if an allocation of this function fails; `ReadFailed` if an
-/// input fails.
+/// Returns `Write` with the writer's fault, with `RecordLength` as soon as a record is longer than
+/// the shape allows, and with `OutOfMemory` if an allocation of this function fails; `ReadFailed`
+/// if an input fails.
 pub fn write_files<T: TapeOut + Drop, R: Read>(
     alloc: Global,
     writer: &mut SetWriter<T>,

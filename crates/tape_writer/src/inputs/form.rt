@@ -1,4 +1,4 @@
-//! How an input of a form is cut into records, and the maximum length of a record.
+//! The cutting of an input into records by its form, and the maximum length of a record.
 ghost use Rattle.std.specs.Prelude.{◌≡◌};
 ghost use Rattle.tape_writer.specs.Records.{longest as longest_of};
 ghost use Rattle.tape_writer.specs.WriteSet.{cut_of as cut_by};

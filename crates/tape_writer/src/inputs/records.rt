@@ -10,7 +10,7 @@ use crate::inputs::cut::Cut;
 use std::alloc::{AllocError, Global};
 use std::io::Read;
 
-/// Why there is no next record.
+/// The reason why the next record could not be read.
 #[derive(Clone, Copy, Debug, PartialEq, Eq)]
 pub enum InputFault {
     /// The reader failed, or was interrupted.
@@ -62,14 +62,14 @@ impl<R: Read + Drop> Records<R> {
         self.record.as_slice()
     }
 
-    /// Reads the next record, and returns false if no record is left. After the end it does not
-    /// call the reader again.
+    /// Reads the next record, and returns false if no record is left. Does not call the reader
+    /// again after its end.
     ///
     /// # Errors
     ///
-    /// `ReadFailed` if the reader returns an error; `TooLong` as soon as the bytes read show that
-    /// the record is longer than the limit, whatever follows; `OutOfMemory`. After an error nothing
-    /// more can be read.
+    /// Returns `ReadFailed` if the reader returns an error; `TooLong` as soon as the bytes read
+    /// show that the record is longer than the limit, whatever follows; `OutOfMemory`. After an
+    /// error nothing more can be read.
     pub fn next(&mut self) -> Result<bool, InputFault>
         ensures given { IfOk result (λ more.
             IfKnown (left_of R.remaining self.old) (left_of R.remaining self.new) (λ xs ys.

@@ -31,8 +31,8 @@ use tape_blocks::{Form, Shape};
 use tape_image::ImageWriter;
 use tape_label::{Field, Vol1};
 
-/// How to write a set: its volumes, all of one capacity, the shape of all its files, and the form
-/// of their inputs.
+/// The plan of a set: its volumes, all of one capacity, the shape of all its files, and the form of
+/// their inputs.
 #[derive(Drop)]
 pub struct SetPlan {
     pub set_id: Field<6>,
@@ -51,8 +51,9 @@ pub struct WrittenSet<S> {
     pub images: S,
 }
 
-/// Why a set was not written completely. The store received the images of the volumes that ended;
-/// the image of the current volume, if there is one, ends at the fault.
+/// The fault because of which a set was not written completely, and the store, which received the
+/// images of the volumes that ended. The image of the current volume, if there is one, ends at the
+/// fault.
 #[derive(Drop)]
 pub struct RefusedSet<S: ImageStore + Drop> {
     pub fault: SetFault,
@@ -66,14 +67,14 @@ pub struct RefusedSet<S: ImageStore + Drop> {
 ///
 /// # Errors
 ///
-/// `Write` with the fault of the set writer (including `OutOfVolumes` if there is no volume, and
-/// `NoFile` if there is no file); with `BadShape` if raw inputs cannot be records of the format,
-/// and with `BadField` for any head, before anything is written; with `RecordLength` as soon as a
-/// record is longer than the shape allows, after which nothing is read; with `Device` also if the
-/// store has no device left. `ReadFailed` if an input fails. There are no other faults, and all
-/// except `Device`, `OutOfMemory` and `ReadFailed` have their cause in the plan or the inputs:
-/// `OutOfVolumes` is only returned if the next block of the inputs, or the end of a file, does not
-/// fit on the last volume.
+/// Returns `Write` with the fault of the set writer (including `OutOfVolumes` if there is no
+/// volume, and `NoFile` if there is no file); with `BadShape` if raw inputs cannot be records of
+/// the format, and with `BadField` for any head, before anything is written; with `RecordLength` as
+/// soon as a record is longer than the shape allows, after which nothing is read; with `Device`
+/// also if the store has no device left. `ReadFailed` if an input fails. There are no other faults,
+/// and all except `Device`, `OutOfMemory` and `ReadFailed` have their cause in the plan or the
+/// inputs: `OutOfVolumes` is only returned if the next block of the inputs, or the end of a file,
+/// does not fit on the last volume.
 pub fn write_set<R: Read, S: ImageStore + Drop>(
     alloc: Global,
     plan: SetPlan,
@@ -99,8 +100,9 @@ pub fn write_set<R: Read, S: ImageStore + Drop>(
         (map (λ f. (f.head, R.remaining f.reader)) files.old)) }
     // Whatever the fault: either nothing was written; or the images that the store received are
     // complete, and together with the current image they are a prefix of the images for the files
-    // so far, and all of that if an input failed or a record has a wrong length. `OutOfMemory` is
-    // only returned when a file begins, or for a record that is longer than those before it.
+    // so far, and all of these images if an input failed or a record has a wrong length.
+    // `OutOfMemory` is only returned when a file begins, or for a record that is longer than those
+    // before it.
     ensures front { S.holds images false [] → IfErr result (λ refused.
         ((refused.images ≡ images) × (refused.under_way ≡ None) × (IsOfInput refused.fault → ⊥))
         ⊎ IfSome (cut_by plan.form plan.shape) (λ cut. IsLeftSet (Holds S.holds)

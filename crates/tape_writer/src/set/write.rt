@@ -22,15 +22,15 @@ use crate::records::put_record;
 use crate::set::SetWriter;
 
 impl<T: TapeOut + Drop> SetWriter<T> {
-    /// Writes a record into the current file. Each block is written when it is full, after a change
-    /// of the volume if it does not fit.
+    /// Writes a record into the current file. Each block is written as soon as it is full, on the
+    /// next volume if it does not fit on the current one.
     ///
     /// # Errors
     ///
-    /// `Failed`, `Finished` or `NoFile` depending on the writer's state; `RecordLength` if the
-    /// file's shape does not allow a record of this length; after these the writer is unchanged.
-    /// Then, whichever happens first, `OutOfVolumes` if the volume must be changed and no volume is
-    /// left, `Device` or `OutOfMemory`.
+    /// Returns `Failed`, `Finished` or `NoFile` depending on the writer's state; `RecordLength` if
+    /// the file's shape does not allow a record of this length; after these the writer is
+    /// unchanged. Then, whichever happens first, `OutOfVolumes` if the volume must be changed and
+    /// no volume is left, `Device` or `OutOfMemory`.
     #[tactic(auto, using(crate::proofs::Last::lasting_self, crate::proofs::Calls::leaves_failed))]
     pub fn put(&mut self, bytes: &[u8]) -> Result<(), WriteFault>
         ensures same { SameSet self.old self.new }
@@ -61,7 +61,7 @@ impl<T: TapeOut + Drop> SetWriter<T> {
         ensures front { (told : List Told) → IsWriting (T.holds self.old.out) self.old told
             → IfErr result (λ fault. IsEnding fault
             → IsLeftInside (T.holds self.new.out) self.new (with_record told bytes.now)) }
-        // These hold for every result of the call.
+        // These clauses hold for every result of the call.
         ensures lasting { TapeLasts T.TapeOut (tape_of self.old) (tape_of self.new) }
         ensures asked { HasAsked T.TapeOut self.old → OnOk result (HasAsked T.TapeOut self.new) }
         ensures leaves { IfErr result (Leaves self.old self.new) }
@@ -90,15 +90,15 @@ impl<T: TapeOut + Drop> SetWriter<T> {
         }
     }
 
-    /// Ends the current file: writes its last block, if there is one, and its end, after changing
-    /// the volume if they do not fit. The volume then has room for the headers of another file and
-    /// the end of a volume.
+    /// Ends the current file: writes its last block, if there is one, and then its end, each on the
+    /// next volume if it does not fit on the current one. The volume then has room for the headers
+    /// of another file and the end of a volume.
     ///
     /// # Errors
     ///
-    /// `Failed`, `Finished` or `NoFile` depending on the writer's state, which is unchanged; then,
-    /// whichever happens first, `OutOfVolumes` if the volume must be changed and no volume is left,
-    /// `Device` or `OutOfMemory`.
+    /// Returns `Failed`, `Finished` or `NoFile` depending on the writer's state, which is
+    /// unchanged; then, whichever happens first, `OutOfVolumes` if the volume must be changed and
+    /// no volume is left, `Device` or `OutOfMemory`.
     #[tactic(auto, using(crate::proofs::Last::lasting_self, crate::proofs::Calls::leaves_failed))]
     pub fn end_file(&mut self) -> Result<(), WriteFault>
         ensures same { SameSet self.old self.new }
@@ -151,8 +151,9 @@ impl<T: TapeOut + Drop> SetWriter<T> {
     ///
     /// # Errors
     ///
-    /// `Failed` and `Finished`, `FileBegun` inside a file, `NoFile` before the first file; after
-    /// these the writer is unchanged. Then `Device` or `OutOfMemory`, whichever happens first.
+    /// Returns `Failed` or `Finished` depending on the writer's state; `FileBegun` inside a file;
+    /// `NoFile` before the first file; after these the writer is unchanged. Then `Device` or
+    /// `OutOfMemory`, whichever happens first.
     #[tactic(auto, using(crate::proofs::Last::lasting_self, crate::proofs::Calls::leaves_failed))]
     pub fn finish(&mut self) -> Result<(), WriteFault>
         ensures same { SameSet self.old self.new }
@@ -175,7 +176,7 @@ impl<T: TapeOut + Drop> SetWriter<T> {
             → T.holds self.old.out (UnderWay volumes items)
             → OnOk result (T.holds self.new.out
             (Ended (volumes ++ (items ++ mark_item ∷ []) ∷ []))) }
-        // The size of the mark and the end-of-medium marker.
+        // The mark and the end-of-medium marker have 8 bytes.
         ensures used { OnOk result (self.new.course.used ≡ self.old.course.used + 8) }
         ensures front { (told : List Told) → IsWriting (T.holds self.old.out) self.old told
             → IfErr result (λ fault. IsEnding fault

@@ -11,7 +11,7 @@ use std::io::ErrorKind;
 ///
 /// # Errors
 ///
-/// `NotOpened` if the lookup failed in any other way: a file may exist.
+/// Returns `NotOpened` if the lookup failed in any other way: a file may exist.
 pub fn found(look: io::Result<Metadata>) -> Result<Option<Metadata>, FileFault>
     ensures { result ≡ found_of look }
 {
@@ -22,7 +22,7 @@ pub fn found(look: io::Result<Metadata>) -> Result<Option<Metadata>, FileFault>
     }
 }
 
-/// Why a file is not locked.
+/// The reason why a file is not locked.
 #[derive(Clone, Copy, Debug, PartialEq, Eq)]
 pub enum LockFault {
     /// Another run holds the lock.
@@ -36,7 +36,7 @@ pub enum LockFault {
 ///
 /// # Errors
 ///
-/// `InUse` if another run holds the lock, `Failed` for every other error.
+/// Returns `InUse` if another run holds the lock, and `Failed` for every other error.
 pub fn locked(attempt: Result<(), TryLockError>) -> Result<(), LockFault>
     ensures { result ≡ locked_of attempt }
 {

@@ -10,7 +10,7 @@ use std::io::Write;
 ///
 /// # Errors
 ///
-/// `WriteFailed` if the writer returns an error, or accepts none of the remaining bytes. An
+/// Returns `WriteFailed` if the writer returns an error, or accepts none of the remaining bytes. An
 /// interruption is also a failure, whereas std's own function would try again.
 pub fn put_all<W: Write>(writer: &mut W, bytes: &[u8]) -> Result<(), FileFault>
     ensures ok { OnOk result (Appends (W.contents writer.old) (W.contents writer.new) bytes.now) }

@@ -1,7 +1,7 @@
-//! Why files were not written, or not read.
+//! The reasons why files were not written or read.
 use crate::fault::WriteFault;
 
-/// Why a file cannot be used.
+/// The reason why a file cannot be used.
 #[derive(Clone, Copy, Debug, PartialEq, Eq)]
 pub enum FileFault {
     /// The file already exists, and would be overwritten.
@@ -14,7 +14,7 @@ pub enum FileFault {
     WriteFailed,
 }
 
-/// Why a set was not written to image files.
+/// The reason why a set was not written to image files.
 #[derive(Clone, Copy, Debug, PartialEq, Eq)]
 pub enum SystemFault {
     /// A file failed.

@@ -4,11 +4,11 @@ use std::io;
 use std::io::ErrorKind;
 
 /// Syncs the directory of `path`. If the directory may not be read, or the file system cannot sync
-/// it (as with some network file systems), the system makes the names durable when it chooses.
+/// it (as with some network file systems), the names become durable when the system chooses.
 ///
 /// # Errors
 ///
-/// Every other error of opening and syncing the directory.
+/// Returns every other error of opening and syncing the directory.
 pub fn sync_folder_of<R: Files>(files: &R, path: &str) -> io::Result<()> {
     let folder = match File::open(files, folder_of(path)) {
         Ok(folder) => folder,

@@ -36,7 +36,7 @@ pub struct ImageFile<'a, R: Host> {
 }
 
 impl<'a, R: Host> ImageFile<'a, R> {
-    /// Creates the value for volume number `number`, from 1 to 999. Opens nothing.
+    /// Returns the image file of volume number `number`, from 1 to 999, without opening it.
     pub fn new(rt: &'a R, folder: &'a str, prefix: Prefix, number: u16) -> ImageFile<'a, R> {
         ImageFile {
             rt,

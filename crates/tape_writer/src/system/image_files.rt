@@ -32,7 +32,8 @@ pub struct ImageFiles<'a, R: Host> {
 }
 
 impl<'a, R: Host> ImageFiles<'a, R> {
-    /// Creates the value for volumes with the given prefix in a directory. Opens nothing.
+    /// Returns the image files of volumes with prefix `prefix` in directory `folder`. Opens
+    /// nothing.
     pub fn new(
         rt: &'a R,
         folder: &'a str,

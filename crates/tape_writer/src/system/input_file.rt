@@ -15,11 +15,11 @@ pub struct InputFile<'a, R: Files> {
 /// The state of an input.
 #[derive(Drop)]
 enum Turn<F> {
-    /// Not read yet.
+    /// The input was not read yet.
     Waits,
-    /// Being read.
+    /// The input is being read.
     Runs(F),
-    /// Read to its end.
+    /// The input was read to its end.
     Ended,
 }
 
@@ -29,7 +29,7 @@ impl<'a, R: Files> InputFile<'a, R> {
     ///
     /// # Errors
     ///
-    /// `NotOpened` if it is missing or may not be read, `ReadFailed` if it is a directory.
+    /// Returns `NotOpened` if it is missing or may not be read, `ReadFailed` if it is a directory.
     pub fn find(files: &'a R, path: &'a str) -> std::result::Result<Self, FileFault> {
         let Ok(found) = fs::metadata(files, path) else {
             return Err(FileFault::NotOpened);

@@ -46,7 +46,7 @@ fn lock(file: File) -> Result<File, FileFault> {
     }
 }
 
-/// Opens an existing file if it is a blank volume, and empties it. Two runs may both find a blank
+/// Opens an existing file if it is a blank volume, and truncates it. Two runs may both find a blank
 /// volume, so the run that holds the lock checks again.
 fn open_blank<R: Host>(rt: &R, path: &str, prefix: Prefix, number: u16) -> Result<File, FileFault> {
     let mut options = OpenOptions::new();
@@ -64,7 +64,7 @@ fn open_blank<R: Host>(rt: &R, path: &str, prefix: Prefix, number: u16) -> Resul
     Ok(there)
 }
 
-/// Refuses a file that is not a blank volume.
+/// Refuses `file` if it is not a blank volume.
 fn require_blank(file: &mut File, prefix: Prefix, number: u16) -> Result<(), FileFault> {
     if file.seek(SeekFrom::Start(0)).is_err() {
         return Err(FileFault::ReadFailed);
@@ -80,7 +80,7 @@ fn require_blank(file: &mut File, prefix: Prefix, number: u16) -> Result<(), Fil
 ///
 /// # Errors
 ///
-/// `ReadFailed` if a read fails.
+/// Returns `ReadFailed` if a read fails.
 fn is_blank<R: Read>(reader: &mut R, prefix: Prefix, number: u16) -> Result<bool, FileFault>
     ensures found { IfOk result (λ blank. IfSome (R.remaining reader.old) (λ bytes. IsTrue blank
         ↔ (bytes ≡ blank_image (blank_volume prefix.characters (min number 999))))) }
@@ -99,8 +99,8 @@ fn is_blank<R: Read>(reader: &mut R, prefix: Prefix, number: u16) -> Result<bool
 ///
 /// # Errors
 ///
-/// `Exists` if the path exists, `NotOpened` if the file cannot be created, `WriteFailed` if not all
-/// bytes could be written, or a sync fails.
+/// Returns `Exists` if the path exists, `NotOpened` if the file cannot be created, `WriteFailed` if
+/// not all bytes could be written, or a sync fails.
 pub fn make_image<R: Host>(
     rt: &R,
     path: &str,

@@ -3,7 +3,8 @@ use crate::blank::Prefix;
 use std::alloc::{AllocError, Global};
 use std::io::Write;
 
-/// Returns the path of a volume's image: its identifier followed by `.tap`, in the given directory.
+/// Returns the path of the image of volume `number` in directory `folder`: its identifier followed
+/// by `.tap`.
 pub fn image_path(
     alloc: Global,
     folder: &str,
@@ -15,7 +16,7 @@ pub fn image_path(
     Ok(path)
 }
 
-/// Appends the path of a volume's image to a text.
+/// Appends the path of the image of volume `number` in directory `folder` to `path`.
 pub fn put_image_path(
     path: &mut String,
     folder: &str,

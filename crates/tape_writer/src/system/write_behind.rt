@@ -75,7 +75,7 @@ impl<W: Write + Drop> WriteBehind<W> {
     ///
     /// # Errors
     ///
-    /// `WriteFailed` if the device failed before, or fails now.
+    /// Returns `WriteFailed` if the device failed before, or fails now.
     pub fn take(&mut self, bytes: &[u8]) -> Result<(), FileFault>
         ensures ok { OnOk result (TakesAll bytes.now self.old self.new) }
         ensures err { OnErr result (Stops bytes.now self.old self.new) }
@@ -93,7 +93,7 @@ impl<W: Write + Drop> WriteBehind<W> {
     ///
     /// # Errors
     ///
-    /// As for `take`.
+    /// The errors are those of `take`.
     pub fn pass_on(&mut self) -> Result<(), FileFault>
         ensures ok { OnOk result (PassesOn self.old self.new) }
         ensures err { OnErr result (Stops [] self.old self.new) }

@@ -15,8 +15,8 @@ use std::io::Read;
 use tape_blocks::{Form, Shape};
 use tape_label::{Field, Vol1};
 
-/// How to write a set in a directory: on up to 256 volumes whose identifiers begin with the prefix,
-/// all of one capacity, with one shape for all files and one form for their inputs.
+/// The plan of a set in a directory: up to 256 volumes whose identifiers begin with the prefix, all
+/// of one capacity, with one shape for all files and one form for their inputs.
 #[derive(Clone, Copy)]
 pub struct FolderPlan<'a> {
     pub folder: &'a str,
@@ -32,7 +32,8 @@ pub struct FolderPlan<'a> {
 ///
 /// # Errors
 ///
-/// As for `write_set`, but with the fault of a file instead of the fault of a device.
+/// The errors are those of `write_set`, but with the fault of a file instead of the fault of a
+/// device.
 pub fn write_in_folder<R: Host, I: Read>(
     rt: &R,
     plan: &FolderPlan<'_>,

@@ -21,7 +21,7 @@ here g c parts h = stands_here c.new-part-items.result c.into_iter-part-iterator
     c.loop-part.part-iterator c.loop-part.yielded parts _ (c.new-part-items.ensures parts h)
     c.into_iter-part-iterator.ensures.into_iter_gives c.loop-part.yielded_by c.in-Some.ensures.steps
 
--- a block does not have this many parts
+-- a block has fewer than 99,999 parts before this one
 few : (g : Over) (c : In-Some g) → c.loop-part.seen < 99999
 few g c =
     let parts = c.requires.checked.2 in

@@ -1,4 +1,4 @@
--- A wrong answer that the contract of how far items follow the order excludes.
+-- A wrong answer that the contract about the label order excludes.
 use Rattle.std.proofs.Common.{ℕ, List}
 use Rattle.tape_run.specs.declared.passing.Phase.TheVariants.{Next, Over}
 use Rattle.tape_run.specs.declared.survey.course.LabelOrder.TheVariants.{Ended}

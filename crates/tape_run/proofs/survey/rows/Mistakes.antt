@@ -1,5 +1,5 @@
 -- Rows of a survey that the contracts of their columns exclude: each would be returned by a wrong
--- body.
+-- function body.
 use Rattle.std.proofs.Common.{◌≡◌, [], ◌++◌, length, ap, ◌∙◌, sym, arith, codes}
 use Rattle.std.specs.Prelude.{None, slice_index}
 use Rattle.tape_run.specs.SurveyRows.{sight_cells, standing_cells}

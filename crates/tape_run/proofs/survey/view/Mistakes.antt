@@ -6,7 +6,7 @@ use Rattle.tape_run.specs.declared.section.ImageStop.{ImageStop}
 use Rattle.tape_run.specs.declared.section.ImageStop.TheVariants.{Fault}
 use Rattle.tape_run.specs.declared.survey.course.LabelOrder.{LabelOrder}
 use Rattle.tape_run.specs.declared.survey.course.LabelOrder.TheVariants.{Ended}
-use Rattle.tape_run.specs.SurveyRead.{is_end, is_ended, is_none}
+use Rattle.tape_run.specs.SurveyTally.{is_end, is_ended, is_none}
 use Rattle.tape_run.proofs.survey.view.ImageSurvey.is_whole.Reads as is_whole
 
 abbrev whole : LabelOrder → Option ℕ → ImageStop → Bool

@@ -9,15 +9,18 @@ use Rattle.tape_blocks.specs.declared.parts.Form.TheVariants.{Lines}
 use Rattle.tape_set.specs.Position.{want_at}
 use Rattle.tape_run.specs.RecordText.{output_of}
 use Rattle.tape_stage.specs.Staged.{Staged}
-use Rattle.tape_stage.specs.declared.stage.StageFault.TheVariants.{BadFrame, NoPoint}
+use Rattle.tape_stage.specs.declared.stage.StageFault.TheVariants.{BadFrame, Device, NoPoint}
+use Rattle.tape_run.specs.declared.fault.EngineFault.TheVariants as engine
+use Rattle.tape_writer.specs.declared.system.fault.FileFault.TheVariants.{WriteFailed}
 use Rattle.tape_tool.specs.StageReport.{StopsSalvaging, StopsShowing, ending_of, stage_line}
-use Rattle.tape_tool.specs.declared.fault.ToolFault.TheVariants.{Stage}
+use Rattle.tape_tool.specs.declared.fault.ToolFault.TheVariants.{File, Stage}
 use Rattle.tape_tool.specs.declared.stage.ending.StageEnding.TheVariants.{Whole}
 use Rattle.tape_tool.proofs.ExamplesOfShowing.{bad_frame, no_frame, none_told}
 use Rattle.tape_tool.proofs.stage.show.show_damaged.Reads as show_damaged
 use Rattle.tape_tool.proofs.stage.show.show_stage.Reads as show_stage
 use Rattle.tape_tool.proofs.stage.show.show_parts.Reads as show_parts
 use Rattle.tape_tool.proofs.stage.show.show_opened.Reads as show_opened
+use Rattle.tape_tool.proofs.stage.show.as_read.Reads as as_read
 use Rattle.tape_tool.proofs.stage.show.put_stage.Reads as put_stage
 use Rattle.tape_tool.proofs.stage.show.show_rest.Reads as show_rest
 
@@ -98,3 +101,9 @@ records_told_as_the_file : (κs : _) (a : _) (z : _) (s : _) → put_stage.Learn
 records_told_as_the_file κs a z s l e is w =
     absurd (let n : 50 ≡ 49 = ap (λ v. slice_index v 13)
     (sym w ∙ l.items ∙ ap (λ v. v ++ stage_line a.1.0.now a.1.1.0) e ∙ is) in omega arith)
+
+-- full_output_told_as_stage: OUT could not be written, and the stage is reported as failing
+full_output_told_as_stage : (κs : _) (a : _) (s : _) → as_read.Learnt-named κs a (Stage Device) s
+    → a.0 ≡ engine.WriteFailed → ⊥
+full_output_told_as_stage κs a s l full =
+    absurd (let e : Stage Device ≡ File WriteFailed = l.written full in cc)

@@ -4,7 +4,7 @@ use Rattle.std.specs.List.{flat_map}
 use Rattle.tape_run.specs.Quoting.{name_text}
 use Rattle.tape_run.proofs.merge.log.log_head.Given as goal
 
--- with the names that follow, these are all
+-- these and the names that follow are all names
 abbrev pub invariant-loop-name : goal.invariant-loop-name
 invariant-loop-name l = l.head.items
     ++ flat_map (λ n. codes "\t" ++ name_text n.now) (drop l.name-index l.names)

@@ -1,0 +1,37 @@
+-- Which of the files that were found `unpack` is to recover.
+use Rattle.std.specs.Prelude.{◌≡◌, ◌≢◌, ◌⊎◌, ℕ, List, [], ◌∷◌, ◌++◌, length, decimal, Option, IfSome}
+use Rattle.std.specs.Borrow.{Bor}
+use Rattle.std.specs.List.{Any}
+use Rattle.tape_run.specs.declared.unpack.SetFile.{SetFile}
+use Rattle.tape_run.specs.declared.unpack.choice.FileChoice.{FileChoice}
+use Rattle.tape_run.specs.SurveyLine.{trimmed_text}
+
+-- a piece of a word that a character of a pattern represents: any piece for `*` (42), and otherwise
+-- the character itself
+abbrev pub Represents : ℕ → List ℕ → Type 0
+Represents p piece = p ≢ 42 → piece ≡ p ∷ []
+
+-- The word consists of pieces that the characters of the pattern represent, in their order.
+abbrev pub Fits : List ℕ → List ℕ → Type 0
+Fits [] word = word ≡ []
+Fits (p ∷ ps) word = (piece rest : List ℕ) × (word ≡ piece ++ rest) × Represents p piece
+    × Fits ps rest
+
+-- A word of the user means this file: it is the file's number in decimals, or a pattern that fits
+-- its name, which is its identifier as `survey` prints it.
+abbrev pub Means : List ℕ → SetFile → Type 0
+Means word file = (word ≡ decimal file.file) ⊎ Fits word (trimmed_text file.file_id)
+
+-- The file is of this set, if one is named.
+abbrev pub IsOfSet : Option (List ℕ) → SetFile → Type 0
+IsOfSet set_id file = IfSome set_id (λ s. file.set_id ≡ s)
+
+-- One of the words means the file, or there are none.
+abbrev pub IsMeant : List (Bor (List ℕ)) → SetFile → Type 0
+IsMeant words file = (length words ≡ 0) ⊎ Any (λ w. Means w.now file) words
+
+-- The file is of the set that was named, if one was, and one of the words means it, if there are
+-- any.
+pub record Chosen (choice : FileChoice) (file : SetFile) : Type 0 where
+  pub set : IsOfSet choice.set_id file
+  pub meant : IsMeant choice.words.now file

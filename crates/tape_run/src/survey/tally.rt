@@ -1,0 +1,135 @@
+//! How many images of a survey are in each state.
+ghost use Rattle.std.specs.Prelude.{◌≡◌, Some};
+ghost use Rattle.tape_run.specs.SurveyTally.{with_state, count_text, not_tapes_text};
+ghost use Rattle.tape_run.specs.SurveyTally.{images_text, counts_text, tally_line};
+
+use super::line::ImageState;
+use std::fmt;
+
+/// How many images are in each state.
+#[derive(Clone, Copy)]
+pub(crate) struct Tally {
+    pub(crate) images: u32,
+    pub(crate) ok: u32,
+    pub(crate) blank: u32,
+    pub(crate) damaged: u32,
+    pub(crate) unsupported: u32,
+    pub(crate) empty: u32,
+    pub(crate) not_tapes: u32,
+    pub(crate) not_opened: u32,
+}
+
+/// No images.
+pub(crate) const NO_IMAGES: Tally = Tally {
+    images: 0,
+    ok: 0,
+    blank: 0,
+    damaged: 0,
+    unsupported: 0,
+    empty: 0,
+    not_tapes: 0,
+    not_opened: 0,
+};
+
+/// Returns the numbers after one more image, in this state if it was opened.
+pub(crate) fn with_state(tally: Tally, state: Option<ImageState>) -> Tally
+    ensures { result ≡ with_state tally state }
+{
+    let mut next = tally;
+    next.images = next.images.saturating_add(1);
+    match state {
+        Some(ImageState::Ok) => next.ok = next.ok.saturating_add(1),
+        Some(ImageState::Blank) => next.blank = next.blank.saturating_add(1),
+        Some(ImageState::Damaged) => next.damaged = next.damaged.saturating_add(1),
+        Some(ImageState::Unsupported) => next.unsupported = next.unsupported.saturating_add(1),
+        Some(ImageState::Empty) => next.empty = next.empty.saturating_add(1),
+        Some(ImageState::NotTape) => next.not_tapes = next.not_tapes.saturating_add(1),
+        None => next.not_opened = next.not_opened.saturating_add(1),
+    }
+    next
+}
+
+/// A number of images in a state, if there are any.
+#[derive(Clone, Copy)]
+struct CountText(u32, &'static str);
+
+impl fmt::Display for CountText {
+    ghost output = { λ text. Some (count_text text.0 text.1.now) };
+
+    fn fmt<W: fmt::Write>(&self, f: &mut fmt::Formatter<W>) -> fmt::Result {
+        let (number, word) = (self.0, self.1);
+        if number == 0 {
+            return Ok(());
+        }
+        write!(f, ", {number} {word}")
+    }
+}
+
+/// The number of images that are no tapes, if there are any.
+#[derive(Clone, Copy)]
+struct NotTapesText(u32);
+
+impl fmt::Display for NotTapesText {
+    ghost output = { λ text. Some (not_tapes_text text.0) };
+
+    fn fmt<W: fmt::Write>(&self, f: &mut fmt::Formatter<W>) -> fmt::Result {
+        let number = self.0;
+        match number {
+            0 => Ok(()),
+            1 => write!(f, ", 1 not a tape"),
+            _ => write!(f, ", {number} not tapes"),
+        }
+    }
+}
+
+/// The number of images.
+#[derive(Clone, Copy)]
+struct ImagesText(u32);
+
+impl fmt::Display for ImagesText {
+    ghost output = { λ text. Some (images_text text.0) };
+
+    fn fmt<W: fmt::Write>(&self, f: &mut fmt::Formatter<W>) -> fmt::Result {
+        let number = self.0;
+        match number {
+            1 => write!(f, "1 image"),
+            _ => write!(f, "{number} images"),
+        }
+    }
+}
+
+/// The numbers of images that are not volumes without damage.
+#[derive(Clone, Copy)]
+struct CountsText(Tally);
+
+impl fmt::Display for CountsText {
+    ghost output = { λ text. Some (counts_text text.0) };
+
+    fn fmt<W: fmt::Write>(&self, f: &mut fmt::Formatter<W>) -> fmt::Result {
+        let blank = CountText(self.0.blank, "blank");
+        let damaged = CountText(self.0.damaged, "damaged");
+        let unsupported = CountText(self.0.unsupported, "unsupported");
+        let empty = CountText(self.0.empty, "empty");
+        let not_tapes = NotTapesText(self.0.not_tapes);
+        let unopened = CountText(self.0.not_opened, "not opened");
+        write!(
+            f,
+            "{blank}{damaged}{unsupported}{empty}{not_tapes}{unopened}"
+        )
+    }
+}
+
+/// The line of all images.
+#[derive(Clone, Copy)]
+pub(crate) struct TallyLine(pub(crate) Tally);
+
+impl fmt::Display for TallyLine {
+    ghost output = { λ line. Some (tally_line line.0) };
+
+    fn fmt<W: fmt::Write>(&self, f: &mut fmt::Formatter<W>) -> fmt::Result {
+        let ok = self.0.ok;
+        let images = ImagesText(self.0.images);
+        let counts = CountsText(self.0);
+        write!(f, "{images}: {ok} ok{counts}\n")
+    }
+}
