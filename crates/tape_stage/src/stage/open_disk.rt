@@ -128,8 +128,8 @@ fn recover<D: Disk>(alloc: Global, disk: &mut D) -> Result<(Found, Vec<u8>), Sta
     Ok((found, buffer))
 }
 
-/// Returns the slots of a new stage before its first gate is opened: the first slot has generation 1
-/// and the checkpoint, and both gates are closed.
+/// Returns the slots of a new stage before its first gate is opened: the first slot has generation
+/// 1 and the checkpoint, and both gates are closed.
 pub fn new_slots(point: &Checkpoint) -> [u8; 256]
     ensures text { result ≡ new_slots point.now }
     ensures fit { FitBody 1 point.now }
