@@ -36,7 +36,7 @@ pub(crate) const EOV2: &[u8; 80] =
 pub(crate) const EOF1: &[u8; 80] =
     b"EOF1PAYROLL          ABC00100010001000100 00000 00000 000003                    ";
 
-/// EOF1 after no blocks.
+/// EOF1 of the first file, after no blocks.
 pub(crate) const EOF1_EMPTY: &[u8; 80] =
     b"EOF1PAYROLL          ABC00100010001000100 00000 00000 000000                    ";
 
