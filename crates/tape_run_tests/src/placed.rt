@@ -1,4 +1,4 @@
-//! Listings with offsets.
+//! Tests of listings with offsets.
 use crate::devices::Narrow;
 use crate::image::{Image, front};
 use std::alloc::{AllocError, Global};
@@ -43,7 +43,8 @@ const LISTED: &[(usize, Result<(), ListFault>, &str)] = &[
     (43, CUT_OFF, "4 4 000001 MARK\n8 20 000002 BAD\n"),
 ];
 
-/// A writer that accepts `room` bytes contains a prefix of the lines.
+/// Fails unless the listing has the result `answer`, and a writer that accepts `room` bytes has
+/// accepted a prefix of `lines`.
 fn is_listed<H: Abort + AllocGlobal>(
     rt: &H,
     bytes: &[u8],

@@ -1,4 +1,4 @@
-//! The files on images, by their names.
+//! Tests of the files on images, and of their names.
 use crate::image::{HDR1, Image, payroll};
 use crate::sections::{first_of_two, one_section, second_of_two};
 use crate::volumes::EOF_ONE;
@@ -9,7 +9,7 @@ use tape_run::{
     Heading, SetFile, UnpackOutcome, file_line, file_name, find_files, unpack_outcome_text,
 };
 
-/// The line of a file: its name, or the text in its place.
+/// Returns the line about a file: its name, or the text in place of the name.
 fn line_of(alloc: Global, file: &SetFile) -> Result<Vec<u8>, AllocError> {
     let (set_id, number) = (&file.set_id, file.file);
     match file.heading {
@@ -24,7 +24,8 @@ fn line_of(alloc: Global, file: &SetFile) -> Result<Vec<u8>, AllocError> {
     }
 }
 
-/// Fails unless these files are on the images, which were all read completely, or were not.
+/// Fails unless the files on `images` have the lines `lines`; `whole` says whether all images were
+/// read completely.
 fn found<H: Abort + AllocGlobal>(
     rt: &H,
     images: &[Option<&[u8]>],
