@@ -50,7 +50,7 @@ const FIRST: Reel<'_> = Reel::Section(
     "EOV1PAYROLL          ABC00100010001000100 00000 00000 000001",
 );
 
-/// How the example image ends if it is truncated inside its last data block.
+/// The end of the example image if it is truncated inside its last data block.
 const CUT_OFF: ImageStop = ImageStop::Fault(ImageFault {
     place: 1884,
     cause: ImageCause::Truncated,

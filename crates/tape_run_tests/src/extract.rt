@@ -279,8 +279,8 @@ fn extract_worked(alloc: Global, out: &mut Narrow, report: &mut Narrow) -> Resul
 /// The report if nothing fails.
 const SAID: &[u8] = b"REEL 1 COMPLETE\nCOMPLETE 25\n";
 
-/// The number of bytes that the writer of the file accepts and whether it can be flushed, the same
-/// for the writer of the report, and the numbers of bytes that are then reported and written.
+/// Two writers, of the file and of the report, each with the number of bytes that it accepts and
+/// whether it can be flushed; then the numbers of bytes written to the report and to the file.
 const NARROW: &[(usize, bool, usize, bool, usize, usize)] = &[
     (100, true, 100, true, 16, 100),
     (2025, false, 100, true, 16, 2025),

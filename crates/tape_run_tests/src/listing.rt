@@ -55,7 +55,7 @@ fn one_byte_a_call(rt: HostRuntime) -> Result<(), Fail> {
     check(&rt, &mut reader, WORKED)
 }
 
-/// Images of one item or none: no bytes; an end-of-medium marker, a mark and a gap, each alone.
+/// Images of at most one word, and their listings.
 const LITTLE: &[(&[u8], &str)] = &[
     (&[], "END PHYSICAL\n"),
     (&[0xFF; 4], "END MARKED\n"),

@@ -1,4 +1,4 @@
-//! Tests of files of one volume, for which its image is opened once.
+//! Tests of recovering the files of one volume, whose image is opened only once.
 use crate::devices::Narrow;
 use crate::image::{HDR1, HDR2, Image, VOL1, set_id};
 use crate::now::Name;

@@ -7,8 +7,8 @@ use std::test::Fail;
 use tape_image::{ImageCause, ImageFault};
 use tape_run::{ListFault, list_places_to};
 
-/// Returns a mark, a bad block of 7 bytes, a block of 3, a mark and the end-of-medium marker, with
-/// a gap before each.
+/// Returns a mark, a bad block of 7 bytes, a block of 3 bytes, a mark and the end-of-medium marker,
+/// with a gap before each.
 fn little(alloc: Global) -> Result<Image, AllocError> {
     let mut image = Image::with_gaps(alloc);
     image.mark()?;

@@ -58,7 +58,7 @@ impl Model for MemoryTapes {
 impl MemoryTapes {
     ghost use Rattle.tape_writer.specs.Kept.{volume_of};
 
-    /// Creates a value without volumes.
+    /// Creates tapes without volumes.
     pub fn new(alloc: Global) -> Self
         ensures { result ≡ record { tapes = Ended []; misused = 0; refused = 0 } }
     {

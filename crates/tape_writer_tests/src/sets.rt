@@ -36,7 +36,7 @@ pub(crate) fn spanned(block_len: u32) -> Shape {
     }
 }
 
-/// Returns the label of a volume.
+/// Returns the label of the volume with identifier `id`.
 pub(crate) fn volume(id: [u8; 6]) -> Vol1 {
     Vol1 {
         volume: Field::of_bytes(id),

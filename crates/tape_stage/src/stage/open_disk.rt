@@ -121,7 +121,8 @@ fn recover<D: Disk>(alloc: Global, disk: &mut D) -> Result<(Found, Vec<u8>), Sta
         → D.length_of disk.new ≡ D.length_of disk.old) }
     ensures ends { EndsFinding D.Disk disk.old result disk.new }
 {
-    // The buffer is allocated before the cut, so a failed allocation leaves the disk unchanged.
+    // The buffer is allocated before the disk is truncated, so a failed allocation leaves the disk
+    // unchanged.
     let found = look(disk)?;
     let buffer = buffer_of(alloc)?;
     cut_kept(disk, 256 + found.staged())?;

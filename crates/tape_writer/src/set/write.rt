@@ -47,7 +47,7 @@ impl<T: TapeOut + Drop> SetWriter<T> {
         ensures due { IfFiling self.old.phase (λ o. IfErr result (IsPutFault o bytes.now)) }
         ensures stays { (file : Opened) → IsInFile file self.old.phase
             → OnOk result (IsInFile file self.new.phase) }
-        // Each record takes room, so only finitely many records are accepted.
+        // Each record needs room, so only finitely many records are accepted.
         ensures room { OnOk result (room_left self.new < room_left self.old) }
         ensures files { self.new.files ≡ self.old.files }
         // The last file has one more record, and the other files are unchanged.
