@@ -1,4 +1,4 @@
-//! Tests of surveys of images: the lines about each.
+//! Tests of surveys of images: the lines about each image.
 use crate::image::{HDR1, HDR2, Image, VOL1, blank, five_blocks, payroll};
 use crate::sections::{first_of_two, numbered, one_section, second_of_two};
 use crate::volumes::{EOF_FOUR, EOF_ONE, cut, with_items_behind};

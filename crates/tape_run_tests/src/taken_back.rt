@@ -82,8 +82,8 @@ fn what_a_reel_gave_that_lost_a_block(rt: HostRuntime) -> Result<(), Fail> {
     )
 }
 
-/// After a reel with a wrong count, the data of the reels before it remain, but none of its own:
-/// the last reel has no first block.
+/// After a reel with a wrong count, the data of the reels before it remain, but none of the reel's
+/// own data: the last reel has no first block.
 #[test]
 fn what_stood_before_such_a_reel(rt: HostRuntime) -> Result<(), Fail> {
     let all = records(rt.alloc(), b"\n")?;

@@ -1,5 +1,5 @@
 //! Tests of the definitions as plain programs: the contents of a volume, the parts before a
-//! position, and the position to which a reading moves a position.
+//! position, and the effect of a reading on a position.
 
 use crate::contents::{EntryLayout, entries};
 use crate::delivered::before;

@@ -143,8 +143,8 @@ pub fn save<D: Disk>(stage: &mut Stage<D>, point: &Checkpoint) -> bool {
     point.staged == stage.weight() && stage.save(point).is_ok()
 }
 
-/// Returns whether the stage returns exactly the records of 80 bytes of which each consists of one
-/// of the characters `records`.
+/// Returns whether the stage returns exactly one record for each of `records`: 80 bytes with this
+/// value.
 pub fn holds<D: Disk>(stage: &mut Stage<D>, records: &[u8]) -> bool {
     let mut parts = stage.parts();
     for record in records {

@@ -233,8 +233,8 @@ fn open_or_make<D: Disk + Drop>(
 }
 
 /// Returns whether the disk has at most 256 bytes, each of them zero or equal to the byte at the
-/// same offset of a new stage of the file whose first gate is not yet open. A file contains zeros
-/// where its system lost written bytes. The disk is only read.
+/// same offset of a new stage of the file, as it is before its first gate is opened. A file
+/// contains zeros where its system lost written bytes. The disk is only read.
 fn is_unmade<D: Disk>(disk: &mut D, set_id: Field<6>, file: u16) -> bool
     ensures unmade { D.is_honest disk.old
         → OnTrue result (IsUnmade set_id file (D.seen disk.old)) }
@@ -283,7 +283,7 @@ type FileSession = Session<Stage<BufferedFile<File>>>;
 /// Opens a session over the stage in the file at `path`. If the file does not exist or is empty,
 /// creates a stage.
 ///
-/// The file is locked before anything is read from it, and as long as it is open.
+/// The file is locked before anything is read from it, and stays locked until it is closed.
 ///
 /// # Errors
 ///

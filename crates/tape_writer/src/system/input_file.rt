@@ -29,7 +29,8 @@ impl<'a, R: Files> InputFile<'a, R> {
     ///
     /// # Errors
     ///
-    /// Returns `NotOpened` if it is missing or may not be read, `ReadFailed` if it is a directory.
+    /// Returns `NotOpened` if the input is missing or may not be read, and `ReadFailed` if it is a
+    /// directory.
     pub fn find(files: &'a R, path: &'a str) -> std::result::Result<Self, FileFault> {
         let Ok(found) = fs::metadata(files, path) else {
             return Err(FileFault::NotOpened);
