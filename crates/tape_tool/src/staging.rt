@@ -82,7 +82,8 @@ pub fn open_session<D: Disk + Drop>(
     // What is staged is unchanged; at most, the bytes after it were removed.
     ensures kept { D.is_honest disk → (D.length_of disk ≡ 0 → ⊥)
         → IfErr result (λ refused. KeepsStaged (D.seen disk) (D.seen refused.disk)) }
-    // Even a dishonest disk that is not empty keeps its length if the stage could not be opened.
+    // Even a dishonest disk that is not empty keeps its length if no stage was opened and the disk
+    // did not fail.
     ensures same_length { (D.length_of disk ≡ 0 → ⊥) → IfErr result (λ refused.
         IsUnopened refused.fault → D.length_of refused.disk ≡ D.length_of disk) }
     // Opening or creating a stage never fails because a stage is full or has failed before.
