@@ -157,8 +157,8 @@ pub const HDR1: &str = "HDR1PAYROLL          ABC00100010001000100 00000 00000 00
 /// HDR2 of format F, with records of 80 characters.
 pub const HDR2: &str = "HDR2F0080000080                                   00";
 
-/// Returns the example volume: 25 records in blocks of 10, 10 and 5, in 2,484 bytes. The data
-/// blocks begin at 268, 1,076 and 1,884, and the closing mark is at 2,292.
+/// Returns the example volume, of 2,484 bytes: 25 records in blocks of 10, 10 and 5 records. The
+/// data blocks begin at 268, 1,076 and 1,884, and the closing mark is at 2,292.
 pub fn payroll(alloc: Global) -> Result<Image, AllocError> {
     payroll_on(Image::new(alloc), TRAILERS)
 }

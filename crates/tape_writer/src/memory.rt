@@ -30,8 +30,8 @@ fn nth<T>(elements: &[T], n: usize) -> Option<&T>
 
 /// A `TapeOut` that keeps the volumes in memory.
 ///
-/// `count`, `length` and `item` return the contents. A call without a current volume returns
-/// `Device`.
+/// `count`, `length` and `item` return the contents. Writing an item returns `Device` if no volume
+/// is current.
 #[derive(Drop)]
 pub struct MemoryTapes {
     alloc: Global,

@@ -76,8 +76,8 @@ pub fn way_of<R: Runtime + AllocGlobal>(
 /// The path by which standard input is found as a file.
 const STANDARD_INPUT: &str = "/dev/stdin";
 
-/// Returns how the output `out` of `stage` and `images` is to be written. Nothing is created or
-/// changed.
+/// Returns how the output `out`, recovered from `stage` and `images`, is to be written. Nothing is
+/// created or changed.
 ///
 /// # Errors
 ///

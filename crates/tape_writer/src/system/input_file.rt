@@ -48,7 +48,7 @@ impl<'a, R: Files> InputFile<'a, R> {
         })
     }
 
-    /// Takes the open file, after opening it if it was not read yet.
+    /// Takes the open file. If the input was not read yet, opens the file first.
     fn take(&mut self) -> Result<Option<R::File>> {
         match mem::replace(&mut self.turn, Turn::Ended) {
             Turn::Waits => Ok(Some(File::open(self.files, self.path)?)),
