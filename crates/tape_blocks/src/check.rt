@@ -21,8 +21,8 @@ pub enum BlockCause {
     /// The block is shorter than its buffer offset.
     #[error("the block is shorter than its offset")]
     ShortOffset,
-    /// In format F the bytes after the last whole record are fewer than a record, and not all of
-    /// them are circumflexes.
+    /// In format F the bytes after the last complete record are too few for a record, and not all
+    /// of them are circumflexes.
     #[error("the block is not a multiple of the record length")]
     NotMultiple,
     /// A count has fewer than four characters, contains a character that is not a digit, or is less

@@ -29,8 +29,8 @@ use tape_label::Format;
 #[derive(Drop)]
 pub struct Packer {
     shape: Shape,
-    // As many bytes as the longest block, without spare capacity. The first `len` of them are the
-    // current block; the rest has no meaning.
+    // The buffer has as many bytes as the longest block, without spare capacity. The first `len` of
+    // them are the current block; the rest has no meaning.
     block: Vec<u8>,
     len: usize,
     begun: bool,

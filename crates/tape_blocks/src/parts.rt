@@ -14,8 +14,8 @@ pub enum Form {
     /// Each line is a record, without its line feed. In the output each record is followed by a
     /// line feed.
     Lines,
-    /// Only the contents of the records. On input, format F divides the bytes into records of the
-    /// record length, and format S makes them a single record; in the output the records are
+    /// The bytes are those of the records alone. On input, format F divides the bytes into records
+    /// of the record length, and format S makes them a single record; in the output the records are
     /// joined.
     Raw,
 }

@@ -1,4 +1,4 @@
-//! Blocks that are refused: the place and the cause.
+//! Tests of blocks that are refused: the offset and the cause of the fault.
 
 use crate::worked::{refuses, shape};
 use std::process::Abort;
@@ -6,7 +6,7 @@ use std::test::*;
 use tape_blocks::{BlockCause, BlockFault, PackFault, Shape};
 use tape_label::Format;
 
-/// A name, whether a record is unfinished before the block, the block, and the place and cause of
+/// A name, whether a record is unfinished before the block, the block, and the offset and cause of
 /// the fault.
 type Refused<'a> = (&'a str, bool, &'a [u8], usize, BlockCause);
 
@@ -22,7 +22,7 @@ const OF_FORMAT_D: &[Refused<'_>] = &[
     ),
     ("short count", false, b"0006AB000", 6, BlockCause::BadCount),
     ("past the end", false, b"0009AB", 0, BlockCause::PastEnd),
-    // No whole record may follow an unfinished record, but its count is checked first.
+    // No complete record may follow an unfinished record, but its count is checked first.
     ("begun", true, b"0006AB", 0, BlockCause::SpanBroken),
     (
         "begun, past the end",
@@ -89,7 +89,7 @@ const OF_FORMAT_S: &[Refused<'_>] = &[
     ),
 ];
 
-/// Checks that each block is refused in the given shape.
+/// Checks that each block is refused in the shape `shape`.
 fn each_is_refused(rt: &impl Abort, shape: &Shape, rows: &[Refused<'_>]) {
     for (name, begun, block, place, cause) in rows {
         assert!(rt; refuses(shape, *begun, block, *place, *cause), "{name}");
@@ -124,7 +124,7 @@ fn shorter_than_the_offset(rt: HostRuntime) {
     );
 }
 
-// Returns true if the cause, and a fault with this cause, has the given number.
+// Returns true if `cause`, and a fault with this cause, has the number `number`.
 fn has_number(cause: BlockCause, number: u8) -> bool {
     cause.number() == number && BlockFault { place: 8, cause }.number() == number
 }

@@ -1,4 +1,4 @@
-//! Tests of blocks: worked blocks of the three formats, read, refused and packed; and plain
+//! Tests of blocks: example blocks of the three formats, read, refused and packed; and plain
 //! programs that pack whole lists of records and read them back.
 #![tactic(auto)]
 

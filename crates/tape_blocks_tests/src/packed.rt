@@ -1,4 +1,4 @@
-//! Whole lists of records in blocks.
+//! Tests of whole lists of records in blocks.
 
 use crate::reading::packed_again;
 use crate::worked::{copies, is_judged, pack_fault, packs, padded, shape};
@@ -40,7 +40,7 @@ fn of_format_f(rt: HostRuntime) {
     }
 }
 
-/// A name, records, and the blocks of 18 bytes that they are packed into.
+/// A name, records, and the blocks of 18 bytes into which they are packed.
 type Packed<'a> = (&'a str, &'a [&'a [u8]], &'a [&'a [u8]]);
 
 const OF_FORMAT_S: &[Packed<'_>] = &[
@@ -121,8 +121,8 @@ fn refused(rt: HostRuntime) {
     }
 }
 
-/// A format, a block length, a record length, an offset, and whether such a shape can be written:
-/// the offset has at most 99 bytes, and in format S at least six bytes follow it.
+/// A format, a block length, a record length, an offset, and whether blocks of this shape can be
+/// written: the offset is at most 99, and in format S at least six bytes follow it.
 const SHAPES: &[(Format, u32, u32, u8, bool)] = &[
     (Format::Fixed, 17, 17, 0, false),
     (Format::Fixed, 80, 17, 0, false),
@@ -155,7 +155,7 @@ fn shapes_that_are_written(rt: HostRuntime) {
     }
 }
 
-/// Full padding in formats in which blocks are not padded in full.
+/// Full padding is refused in formats in which blocks are not padded in full.
 #[test]
 fn shapes_padded_in_full_that_are_not_written(rt: HostRuntime) {
     for (format, block_len, rec_len) in [(Format::Fixed, 80, 80), (Format::Spanned, 20, 0)] {
@@ -164,8 +164,7 @@ fn shapes_padded_in_full_that_are_not_written(rt: HostRuntime) {
     }
 }
 
-// Returns true if records that are packed into blocks of the given shape can be read back from
-// them.
+// Returns true if records that are packed into blocks of shape `shape` can be read back from them.
 fn are_read_again(alloc: Global, shape: Shape) -> bool {
     let texts: [&[u8]; 6] = [
         b"",

@@ -1,4 +1,4 @@
-//! A packer, call by call.
+//! Tests of a packer, call by call.
 
 use crate::worked::{reads, shape};
 use std::alloc::{AllocError, Global};
@@ -6,7 +6,7 @@ use std::test::*;
 use tape_blocks::{Offer, PackFault, Packer, Shape, Span};
 use tape_label::Format;
 
-// A call of a packer, with its result.
+// A call to a packer, with its result.
 #[derive(Clone, Copy)]
 enum Call<'a> {
     Offer(&'a [u8], Result<Offer, PackFault>),
@@ -126,7 +126,7 @@ fn long_record(alloc: Global, len: u32) -> Result<Vec<u8>, AllocError> {
     Ok(record)
 }
 
-// A record of 3,000,000 bytes, offered piece by piece: 300 segments of 9,994 bytes and one of
+// A record of 3,000,000 bytes is offered piece by piece: 300 segments of 9,994 bytes and one of
 // 1,800.
 #[test]
 fn cuts_a_long_record(rt: HostRuntime) -> Result<(), Fail> {

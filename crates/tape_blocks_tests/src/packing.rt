@@ -55,13 +55,13 @@ fn put_record(
 /// Packs `records` and returns the blocks, in order: one at each `BlockReady`, and the last one at
 /// the end.
 ///
-/// The parts of the blocks join to the records, and no block was closed that had room for the next
-/// part.
+/// The parts of the blocks join into the records, and no block was closed that had room for the
+/// next part.
 ///
 /// # Errors
 ///
-/// `ShapeRange` if [`Packer::new`] returns it, `RecordLength` if a record has a length that the
-/// shape does not allow, and `OutOfMemory` if an allocation fails.
+/// Returns `ShapeRange` if [`Packer::new`] returns it, `RecordLength` if a record has a length that
+/// the shape does not allow, and `OutOfMemory` if an allocation fails.
 pub fn pack_all(alloc: Global, shape: Shape, records: &[Vec<u8>]) -> Result<Vec<Vec<u8>>, PackFault>
     ensures writable { IfOk result (λ _. IsWritable shape) }
     ensures packed { IfOk result (λ blocks.

@@ -1,4 +1,4 @@
-//! Blocks that pass, and their parts.
+//! Tests of blocks that pass, and of their parts.
 
 use crate::reading::spans_of;
 use crate::worked::{reads, refuses, shape};

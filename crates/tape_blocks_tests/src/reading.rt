@@ -10,12 +10,12 @@ use crate::packing::pack_all;
 use std::alloc::{AllocError, Global};
 use tape_blocks::{PackFault, Parts, Shape, Span};
 
-/// Returns the spans of a checked block's parts, in order: a `for` over the parts yields exactly
-/// the parts of the block.
+/// Returns the spans of the parts of a checked block, in order: a `for` over the parts yields
+/// exactly the parts of the block.
 ///
 /// # Errors
 ///
-/// Only if an allocation fails.
+/// Returns an error only if an allocation fails.
 pub fn spans_of(alloc: Global, shape: &Shape, block: &[u8]) -> Result<Vec<Span>, AllocError>
     requires { IsChecked shape.now block.now }
     ensures { IfOk result (λ spans. (parts : List Portion)
@@ -29,12 +29,12 @@ pub fn spans_of(alloc: Global, shape: &Shape, block: &[u8]) -> Result<Vec<Span>,
     Ok(spans)
 }
 
-/// Returns the records in the blocks: each block's parts are joined to those before. Blocks into
+/// Returns the records in `blocks`: the parts of each block are joined to those before. Blocks into
 /// which records were packed contain those records (`laws::packed_blocks_hold`).
 ///
 /// # Errors
 ///
-/// Only if an allocation fails.
+/// Returns an error only if an allocation fails.
 pub fn records_in_blocks(
     alloc: Global,
     shape: &Shape,
@@ -62,7 +62,7 @@ pub fn records_in_blocks(
 ///
 /// # Errors
 ///
-/// As for [`pack_all`].
+/// The errors are those of [`pack_all`].
 pub fn packed_again(
     alloc: Global,
     shape: Shape,

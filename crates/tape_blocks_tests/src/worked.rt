@@ -1,4 +1,4 @@
-//! Shapes for worked blocks, and comparisons.
+//! Shapes for example blocks, and comparisons.
 
 use crate::packing::pack_all;
 use std::alloc::{AllocError, Global};
@@ -31,7 +31,7 @@ pub fn padded(format: Format, block_len: u32, rec_len: u32, offset: u8) -> Shape
     shape
 }
 
-/// Returns true if the block passes, with `end` as the result, and has exactly the given parts.
+/// Returns true if the block passes, with `end` as the result, and has exactly the parts `wanted`.
 pub fn reads(
     shape: &Shape,
     begun: bool,
@@ -79,7 +79,7 @@ pub fn packs(alloc: Global, shape: Shape, records: &[&[u8]], wanted: &[&[u8]]) -
     }
 }
 
-/// Returns why `records` are not packed, or `None` if they are.
+/// Returns the reason why `records` are not packed, or `None` if they are.
 pub fn pack_fault(alloc: Global, shape: Shape, records: &[&[u8]]) -> Option<PackFault> {
     match copies(alloc, records) {
         Ok(records) => pack_all(alloc, shape, &records).err(),
@@ -87,8 +87,8 @@ pub fn pack_fault(alloc: Global, shape: Shape, records: &[&[u8]]) -> Option<Pack
     }
 }
 
-/// Returns true if the shape and a packer agree with `written` on whether blocks of this shape can
-/// be written.
+/// Returns true if `Shape::is_writable` and a packer agree with `written` on whether blocks of this
+/// shape can be written.
 pub fn is_judged(alloc: Global, shape: Shape, written: bool) -> bool {
     let refused = if written {
         None

@@ -8,8 +8,8 @@ use crate::checkpoint::Checkpoint;
 use crate::sink::{PartSink, SinkFault};
 use tape_blocks::Part;
 
-/// Passes each call on to another sink, except one, which it refuses: `put` and `keep` with
-/// `Device`, `cut_to` with `Failed`. A refused call does not reach the inner sink.
+/// A sink that passes each call on to another sink, except one, which it refuses: `put` and `keep`
+/// with `Device`, `cut_to` with `Failed`. A refused call does not reach the inner sink.
 #[derive(Drop)]
 pub struct Refusing<S> {
     /// The inner sink.

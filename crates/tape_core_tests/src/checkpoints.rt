@@ -1,4 +1,4 @@
-//! Valid and invalid values of checkpoints, and restarts at them.
+//! Tests of valid and invalid values of checkpoints, and of restarts at them.
 
 use crate::readers::{front, go_on, go_to, known, read_section, reader, set_id, wanted, wants};
 use crate::reels::{HDR1, HDR2, HDR2_S};
@@ -12,10 +12,10 @@ use tape_set::{Position, Want};
 
 const MOST: u64 = 999_999_999_999_999;
 
-/// The position of a checkpoint, whether a record is unfinished there, and the form.
+/// The position of a checkpoint, whether a record is unfinished there, and the form of the file.
 type Told = (Position, bool, Option<Known>);
 
-/// Returns whether the checkpoint has the given values.
+/// Returns whether `point` has these values.
 fn tells(point: &Checkpoint, (position, begun, known): Told) -> bool {
     point.set_id == set_id()
         && point.position() == position
@@ -23,7 +23,7 @@ fn tells(point: &Checkpoint, (position, begun, known): Told) -> bool {
         && point.known == known
 }
 
-/// Checks that a checkpoint with the given values can be created, and returns them.
+/// Checks that a checkpoint with these values can be created, and returns them.
 fn is_one(rt: &impl Abort, name: &str, file: u16, told: Told, staged: u64) {
     let (position, begun, known) = told;
     let point = Checkpoint::from_parts(set_id(), file, position, begun, known, staged);
@@ -32,7 +32,7 @@ fn is_one(rt: &impl Abort, name: &str, file: u16, told: Told, staged: u64) {
     assert!(rt; same, "{name}");
 }
 
-/// Checks that no checkpoint with the given values can be created.
+/// Checks that no checkpoint with these values can be created.
 fn is_none(rt: &impl Abort, name: &str, file: u16, told: Told, staged: u64) {
     let (position, begun, known) = told;
     let point = Checkpoint::from_parts(set_id(), file, position, begun, known, staged);
@@ -68,13 +68,13 @@ fn checkpoints_at_the_start_of_a_file(rt: HostRuntime) {
     is_none(&rt, "file 10,000", 10_000, (at_start(0), false, None), 0);
 }
 
-/// Returns the values at a part of a block of a file of format F.
+/// Returns the values of a checkpoint before part `part` of a block in a format F file.
 fn at_part(rt: &impl Abort, part: u32, begun: bool) -> Told {
     (inside(part), begun, fixed(rt))
 }
 
-/// Returns the values at the first part of a block of a file of format S, with an unfinished
-/// record.
+/// Returns the values of a checkpoint before the first part of a block in a format S file, with a
+/// record unfinished.
 fn in_spanned(rt: &impl Abort) -> Told {
     (inside(0), true, spanned(rt))
 }
@@ -89,7 +89,7 @@ fn checkpoints_inside_a_file(rt: HostRuntime) {
     is_none(&rt, "too heavy", 1, at_part(&rt, 0, false), MOST + 1);
 }
 
-/// Returns the values at a block of section `sect` of a file of format F.
+/// Returns the values of a checkpoint before block `block` of section `sect` in a format F file.
 fn in_section(rt: &impl Abort, sect: u16, block: u32) -> Told {
     (Position::awaiting(sect, block), false, fixed(rt))
 }
@@ -126,7 +126,7 @@ fn checkpoints_at_the_end_of_a_file(rt: HostRuntime) {
     );
 }
 
-/// Checks that a form with the given values can be created, and returns them.
+/// Checks that a form with these values can be created, and returns them.
 fn is_form(rt: &impl Abort, format: Format, rec_len: u32, offset: u8) {
     let file_id = Field::of_bytes(*b"PAYROLL          ");
     let form = Known::from_parts(format, rec_len, offset, file_id);
@@ -138,7 +138,7 @@ fn is_form(rt: &impl Abort, format: Format, rec_len: u32, offset: u8) {
     assert!(rt; same, "{format:?}, {rec_len}, {offset}");
 }
 
-/// Checks that no form with the given values can be created.
+/// Checks that no form with these values can be created.
 fn is_no_form(rt: &impl Abort, format: Format, rec_len: u32, offset: u8) {
     let file_id = Field::of_bytes(*b"PAYROLL          ");
     let form = Known::from_parts(format, rec_len, offset, file_id);
@@ -211,7 +211,7 @@ fn a_checkpoint_of_another_file_changes_nothing(rt: HostRuntime) {
     wants(&rt, &core, "goes on", wanted(1, 2, 0));
 }
 
-/// Restarts the reader at the checkpoint, and compares its position.
+/// Restarts the reader at `point`, and checks that it then expects `want`.
 fn stands_at(rt: &impl Abort, core: &mut ReaderCore, point: &Checkpoint, want: Option<Want>) {
     go_to(rt, core, point);
     assert!(rt; core.save(point.staged) == *point);

@@ -1,4 +1,4 @@
-//! Reels with damage: bad blocks, a lost mark, wrong counts and reels that end early.
+//! Tests of damaged reels: bad blocks, a lost mark, wrong counts and reels that end early.
 
 use crate::readers::{go_on, go_to, play, read_section, reader, wanted, wants};
 use crate::reels::{EOF1, EOF2, HDR1, HDR2, HDR2_S, VOL1, counted, numbered};
@@ -12,8 +12,8 @@ use tape_core::{Answer, Event, ReaderCore, Reason};
 use tape_label::LabelFault;
 use tape_set::Want;
 
-/// Reads the items after the headers of the file's only section, and checks which part is then
-/// expected.
+/// Reads the items after the headers of the file's only section, and checks that the reader then
+/// expects `want`.
 fn read_data(
     rt: &impl Abort,
     core: &mut ReaderCore,
@@ -140,7 +140,8 @@ fn a_reel_that_ends_before_its_trailer_completes_nothing(rt: HostRuntime) {
     read_data(&rt, &mut core, "nothing comes twice", &again, None);
 }
 
-/// Checks that the trailer refuses a section of one block that leaves a record unfinished.
+/// Checks that the trailer label of a section is refused if its one block leaves a record
+/// unfinished.
 fn refused_trailer(rt: &impl Abort, name: &str, label: &[u8], answer: Reason) {
     let row = [
         (Block(b"10018abcdefghijklm".as_slice()), Deliver),

@@ -1,4 +1,4 @@
-//! Labels that are refused, and the order of the checks.
+//! Tests of labels that are refused, and of the order of the checks.
 
 use crate::readers::{go_to, known, point_at, reader, reader_at};
 use crate::reels::{HDR1, HDR2, HDR2_D, HDR2_S, VOL1, numbered};
@@ -28,8 +28,8 @@ fn at_head1(core: &mut ReaderCore, label: &[u8]) -> Answer {
     core.step(Block(label))
 }
 
-/// Checks that a reader of file 3 that expects section 2 refuses the HDR1, and that its position
-/// does not change.
+/// Checks that a reader of file 3 that expects section 2 refuses the HDR1 `label`, and that its
+/// position does not change.
 fn refused_head1(rt: &impl Abort, name: &str, label: &[u8; 80], answer: Reason) {
     let at = Position::awaiting(2, 0);
     let mut core = reader(rt, 3);
@@ -39,7 +39,7 @@ fn refused_head1(rt: &impl Abort, name: &str, label: &[u8; 80], answer: Reason) 
     assert!(rt; core.position() == at, "{name}");
 }
 
-/// The same check for an HDR1 with the given numbers.
+/// Makes the check of `refused_head1` for an HDR1 with these numbers.
 fn refused_numbers(
     rt: &impl Abort,
     name: &str,

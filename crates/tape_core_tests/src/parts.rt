@@ -1,4 +1,4 @@
-//! Blocks whose first parts were delivered.
+//! Tests of blocks whose first parts were delivered.
 
 use crate::readers::{front, go_on, go_to, known, read_section, reader, reader_at, wanted, wants};
 use crate::reels::{EOF1, HDR1, HDR2_D, HDR2_S, counted};
@@ -41,8 +41,8 @@ fn inside(rt: &impl Abort, core: &mut ReaderCore) -> Checkpoint {
     core.save(0).inside_block(before, 1, false, 7)
 }
 
-/// Processes a block as the first of the file, and checks the answer and which part is then
-/// expected.
+/// Processes `block` as the first block of the file, and checks that the reader answers `answer`
+/// and then expects `want`.
 fn take(
     rt: &impl Abort,
     core: &mut ReaderCore,
@@ -81,7 +81,7 @@ fn a_block_has_more_parts_than_were_delivered(rt: HostRuntime) {
     }
 }
 
-/// A block of format S whose second part does not continue the record.
+/// The answer to a block of format S whose second part does not continue the record.
 const BROKEN: Answer = Useless(BadBlock(BlockFault {
     place: 6,
     cause: BlockCause::SpanBroken,
@@ -89,12 +89,12 @@ const BROKEN: Answer = Useless(BadBlock(BlockFault {
 
 const DIFFERS: Answer = Useless(SectionDiffers);
 
-/// Blocks with one delivered part: the answers if a record is unfinished after that part, and if no
-/// record is.
+/// Blocks with one delivered part, each with two answers: if a record is unfinished after that
+/// part, and if none is.
 const SPANS: &[(&[u8], Answer, Answer)] = &[
     // The end of a record that began in an earlier block, and a whole record.
     (b"30006Z00006Y", DIFFERS, Deliver),
-    // The middle of such a record, and its end.
+    // The middle of a record that began in an earlier block, and its end.
     (b"20006Z30006Y", Deliver, DIFFERS),
     // A complete record, and the first piece of another.
     (b"00006Z10006Y", DIFFERS, Deliver),

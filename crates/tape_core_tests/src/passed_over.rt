@@ -1,4 +1,4 @@
-//! The reading table at skipped sections, row by row.
+//! Tests of the reading table at skipped sections, row by row.
 
 use crate::reels::{EOF1, EOF2, EOV1, HDR1, HDR2, HDR3, VOL1, counted, numbered};
 use crate::table::rows;

@@ -26,7 +26,7 @@ pub(crate) struct Planned {
 #[derive(Clone, Copy)]
 pub(crate) struct Style {
     pub(crate) format: Format,
-    /// Whether there are further labels, which a reader skips.
+    /// Whether the labels are followed by further labels, which a reader skips.
     pub(crate) further: bool,
 }
 

@@ -1,4 +1,4 @@
-//! Readers, and how events are passed to them.
+//! Readers, and functions that pass events to them.
 
 use crate::reels::VOL1;
 use std::process::Abort;
@@ -12,13 +12,13 @@ pub(crate) fn set_id() -> Field<6> {
     Field::of_bytes(*b"ABC001")
 }
 
-/// Returns the form in an HDR1 and a second label with the given format.
+/// Returns the form in HDR1 and in a second label with format `format`.
 pub(crate) fn known(rt: &impl Abort, format: Format, rec_len: u32) -> Known {
     let file_id = Field::of_bytes(*b"PAYROLL          ");
     Known::from_parts(format, rec_len, 0, file_id).expect(rt, "no form")
 }
 
-/// Returns a checkpoint at a position of the file, with the given form.
+/// Returns a checkpoint at `position` in file `file`, with the form `known`.
 pub(crate) fn point_at(
     rt: &impl Abort,
     file: u16,
@@ -40,7 +40,7 @@ pub(crate) fn go_to(rt: &impl Abort, core: &mut ReaderCore, point: &Checkpoint) 
     assert!(rt; went, "another file");
 }
 
-/// Returns a reader of file 1 that continues at the given position, with the form known.
+/// Returns a reader of file 1 that continues at `position`, with the form known.
 pub(crate) fn reader_at(
     rt: &impl Abort,
     position: Position,
@@ -56,7 +56,7 @@ pub(crate) fn reader_at(
     core
 }
 
-/// Returns the given part of file 1, as a `Want`.
+/// Returns part `part` of block `block` of section `sect` of file 1, as a `Want`.
 pub(crate) fn wanted(sect: u16, block: u32, part: u32) -> Option<Want> {
     Some(Want {
         file: 1,
@@ -66,12 +66,12 @@ pub(crate) fn wanted(sect: u16, block: u32, part: u32) -> Option<Want> {
     })
 }
 
-/// Checks the part that the reader expects next.
+/// Checks that the reader expects `want` next.
 pub(crate) fn wants(rt: &impl Abort, core: &ReaderCore, name: &str, want: Option<Want>) {
     assert_eq!(rt; core.want(), want, "{name}");
 }
 
-/// Processes the next event of the mounted reel.
+/// Processes the next events of the mounted reel, and checks the answers.
 pub(crate) fn go_on(
     rt: &impl Abort,
     core: &mut ReaderCore,
@@ -83,7 +83,7 @@ pub(crate) fn go_on(
     }
 }
 
-/// Mounts a reel, and processes its events.
+/// Mounts a reel, processes its events, and checks the answers.
 pub(crate) fn play(
     rt: &impl Abort,
     core: &mut ReaderCore,
@@ -115,7 +115,8 @@ pub(crate) fn front<'x>(
     );
 }
 
-/// Does the same, processes the items after the mark, and checks the part that is then expected.
+/// Reads the beginning of a section as `front` does, processes the items after the mark, and checks
+/// that the reader then expects `want`.
 pub(crate) fn read_section<'x>(
     rt: &impl Abort,
     core: &mut ReaderCore,

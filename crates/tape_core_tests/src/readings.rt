@@ -1,4 +1,5 @@
-//! Every reading of small volumes, compared with a simple program for the resulting position.
+//! Tests of every reading of small volumes, compared with a simple program for the resulting
+//! position.
 
 use crate::readers::{go_to, known, point_at, reader};
 use crate::reels::{EOF1, EOF2, EOV1, HDR1, HDR2, VOL1, counted, numbered};
@@ -11,7 +12,7 @@ use tape_set::Position;
 /// An item of a volume, as classified for one section.
 #[derive(Clone, Copy)]
 enum Kind {
-    /// A label or a mark before the section's data.
+    /// A label or a mark before the data of the section.
     Front,
     /// A data block of an earlier file.
     Passed,
@@ -23,8 +24,8 @@ enum Kind {
     Behind,
 }
 
-/// Returns the position after a section that was read up to block `block`: `closed` says whether
-/// all its blocks and its trailer were read, `last` whether it ends its file.
+/// Returns the position after reading section `sect` up to block `block`: `closed` says whether all
+/// its blocks and its trailer label were read, `last` whether it ends its file.
 fn behind((sect, block): (u16, u32), closed: bool, last: bool) -> Position {
     if !closed {
         Position::awaiting(sect, block)
@@ -66,7 +67,7 @@ fn far(
     }
 }
 
-/// Reads the beginning of a volume in one way, from the given position.
+/// Reads the beginning of a volume from a position, with the readable items that `good` says.
 fn read_so(
     rt: &impl Abort,
     core: &mut ReaderCore,
@@ -86,7 +87,8 @@ fn read_so(
     assert!(rt; core.position() == led, "{good:b} of {}", front.len());
 }
 
-/// Reads the volume in every way, and returns the number of ways.
+/// Reads every beginning of the volume with every combination of readable items, and returns the
+/// number of readings.
 fn each_reading(
     rt: &impl Abort,
     core: &mut ReaderCore,
@@ -106,7 +108,7 @@ fn each_reading(
     ways
 }
 
-/// Reads the volume of the first section in every way.
+/// Reads the volume of the first section as `each_reading` does.
 fn each_of_first(
     rt: &impl Abort,
     core: &mut ReaderCore,
@@ -134,7 +136,7 @@ fn each_of_first(
     )
 }
 
-/// Reads the volume of the second section in every way.
+/// Reads the volume of the second section as `each_reading` does.
 fn each_of_second(
     rt: &impl Abort,
     core: &mut ReaderCore,
@@ -165,7 +167,7 @@ fn each_of_second(
     )
 }
 
-/// Returns the checkpoint at a position of a file of format F.
+/// Returns the checkpoint at a position in a format F file.
 fn point_of(rt: &impl Abort, file: u16, (sect, block): (u16, u32)) -> Checkpoint {
     let position = Position::awaiting(sect, block);
     let known = if position.is_start() {
@@ -176,7 +178,7 @@ fn point_of(rt: &impl Abort, file: u16, (sect, block): (u16, u32)) -> Checkpoint
     point_at(rt, file, (position, false), known)
 }
 
-/// Reads both volumes from a position in every way.
+/// Reads both volumes from a position as `each_reading` does.
 fn each_from(rt: &impl Abort, at: (u16, u32)) {
     let mut core = reader(rt, 1);
     let point = point_of(rt, 1, at);
@@ -185,7 +187,7 @@ fn each_from(rt: &impl Abort, at: (u16, u32)) {
     let first = each_of_first(rt, &mut core, &point, at, ends);
     let ends = if sect == 2 { Some(true) } else { None };
     let second = each_of_second(rt, &mut core, &point, at, ends);
-    // Two to the power of the number of items, for 0 to 10 items, and for 0 to 11.
+    // The sum of the powers of two for 0 to 10 items, and for 0 to 11.
     assert!(rt; first == 2_047 && second == 4_095, "{first}, {second}");
 }
 
@@ -206,7 +208,7 @@ fn each_behind(rt: &impl Abort, block: u32) {
         (Block(HDR1), Kind::Front),
         (Block(HDR2), Kind::Front),
         (Mark, Kind::Front),
-        // A block of the earlier file that reads as its trailer.
+        // A block of the earlier file that resembles its trailer label.
         (Block(&counted(EOF1, b"000001")), Kind::Passed),
         (Mark, Kind::Front),
         (Block(&counted(EOF1, b"000001")), Kind::Front),

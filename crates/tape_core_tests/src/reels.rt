@@ -15,18 +15,18 @@ pub(crate) const EOF1: &[u8; 80] =
 pub(crate) const EOV1: &[u8; 80] =
     b"EOV1PAYROLL          ABC00100010001000100 00000 00000 000000                    ";
 
-/// Format F, record length 4.
+/// HDR2 of format F, with record length 4.
 pub(crate) const HDR2: &[u8; 80] =
     b"HDR2F0080000004                                   00                            ";
 
 pub(crate) const EOF2: &[u8; 80] =
     b"EOF2F0080000004                                   00                            ";
 
-/// Format D.
+/// HDR2 of format D.
 pub(crate) const HDR2_D: &[u8; 80] =
     b"HDR2D0001800014                                   00                            ";
 
-/// Format S.
+/// HDR2 of format S.
 pub(crate) const HDR2_S: &[u8; 80] =
     b"HDR2S0001800000                                   00                            ";
 
@@ -40,7 +40,7 @@ pub(crate) fn in_section(label: &[u8; 80], sect: &[u8; 4]) -> [u8; 80] {
     label
 }
 
-/// Returns the label with the given section and sequence numbers.
+/// Returns the label with section number `sect` and sequence number `sequence`.
 pub(crate) fn numbered(label: &[u8; 80], sect: &[u8; 4], sequence: &[u8; 4]) -> [u8; 80] {
     let mut label = in_section(label, sect);
     label[31..35].copy_from_slice(sequence);

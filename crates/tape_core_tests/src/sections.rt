@@ -1,4 +1,4 @@
-//! Whole sections and files, read in any order and repeated.
+//! Tests of whole sections and files, read in any order and repeatedly.
 
 use crate::readers::{
     front, go_on, go_to, known, play, read_section, reader, reader_at, wanted, wants,
@@ -17,10 +17,11 @@ use tape_core::{Answer, Event, ReaderCore};
 use tape_label::Format;
 use tape_set::{Position, Want};
 
-/// How many blocks the long section has.
+/// The number of blocks in the long section.
 const MANY: u32 = 1_000_003;
 
-/// Reads a section of `MANY` items, checks the answer to each, and reads the mark after them.
+/// Reads a section of `MANY` items, checks that the answer to each is `answer`, and reads the mark
+/// after them.
 fn read_many(rt: &impl Abort, core: &mut ReaderCore, event: Event<'_>, answer: Answer) {
     front(rt, core, "a long section", HDR1, HDR2);
     for n in 0..MANY {
@@ -58,7 +59,7 @@ fn a_long_section_is_counted_without_its_millions(rt: HostRuntime) {
     wants(&rt, &core, "a wrong count", wanted(1, MANY, 0));
 }
 
-/// Reads the second section of file 1, with the given blocks, which completes the file.
+/// Reads the second section of file 1, with the blocks `blocks`, which completes the file.
 fn complete_second(
     rt: &impl Abort,
     core: &mut ReaderCore,
@@ -114,8 +115,8 @@ fn a_first_section_without_blocks_tells_the_form(rt: HostRuntime) {
     complete_second(&rt, &mut core, "the same format", HDR2, &row, b"000001");
 }
 
-/// Checks a reader that expects section 9,999 and reads that section without blocks, with the given
-/// trailer.
+/// Checks that a reader that expects section 9,999 answers `answer` to the trailer label `trailer`
+/// of that section, which has no blocks, and then expects `want`.
 fn read_last_section(
     rt: &impl Abort,
     name: &str,
@@ -147,7 +148,8 @@ fn changed_volume(place: usize, byte: u8) -> [u8; 80] {
     label
 }
 
-/// Returns the HDR2 of a system that uses the reserved positions, with two spaces as buffer offset.
+/// Returns an HDR2 from a system that uses the reserved positions, with two spaces as buffer
+/// offset.
 fn odd_second_header() -> [u8; 80] {
     let mut odd = *HDR2;
     odd[15..52].copy_from_slice(b"whatever the system has put in here  ");
@@ -230,7 +232,8 @@ const fn span_broken() -> Answer {
     }))
 }
 
-/// Reads the items of the first section, of format S, and checks the part that is then expected.
+/// Reads the items of the first section, of format S, and checks that the reader then expects
+/// `want`.
 fn read_spanned(
     rt: &impl Abort,
     core: &mut ReaderCore,
@@ -282,7 +285,7 @@ fn read_first_volume(rt: &impl Abort, core: &mut ReaderCore) {
     read_section(rt, core, "volume 1", (HDR1, HDR2), &row, wanted(2, 0, 0));
 }
 
-/// Reads a volume whose section is not the expected one.
+/// Checks that a volume whose section is not the expected one gets the answer `answer`.
 fn refuse_volume(rt: &impl Abort, core: &mut ReaderCore, name: &str, head: &[u8], answer: Answer) {
     play(
         rt,

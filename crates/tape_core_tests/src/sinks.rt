@@ -1,4 +1,4 @@
-//! Sinks: the parts that they keep and return, and the calls that they refuse.
+//! Tests of sinks: the parts that they keep and return, and the calls that they refuse.
 
 use crate::readers::reader;
 use std::alloc::Global;
@@ -12,26 +12,26 @@ const SECOND: (Span, &[u8]) = (Span::First, b"");
 
 const THIRD: (Span, &[u8]) = (Span::Last, b"0123456789");
 
-/// Puts a part.
+/// Appends a part.
 fn put(rt: &impl Abort, sink: &mut MemorySink, (span, bytes): (Span, &[u8])) {
     assert!(rt; bytes.len() < 100);
     let kept = sink.put(Part { span, bytes }).is_ok();
     assert!(rt; kept, "{span:?}");
 }
 
-/// Puts the three parts, with the weights 5 + 2, 5 + 0 and 5 + 10.
+/// Appends the three parts, with the weights 5 + 2, 5 + 0 and 5 + 10.
 fn fill(rt: &impl Abort, sink: &mut MemorySink) {
     put(rt, sink, FIRST);
     put(rt, sink, SECOND);
     put(rt, sink, THIRD);
 }
 
-/// Returns the checkpoint after the first parts, with staged size `staged`.
+/// Returns the checkpoint after the first parts, with weight `staged`.
 fn front(rt: &impl Abort, staged: u32) -> Checkpoint {
     reader(rt, 1).save(u64::from(staged))
 }
 
-/// Cuts the sink to weight `staged`, which is at most its own.
+/// Cuts the sink back to weight `staged`, which is at most its own.
 fn cut(rt: &impl Abort, sink: &mut impl PartSink, staged: u32) -> Result<(), SinkFault> {
     let point = front(rt, staged);
     let (staged, weight) = (point.staged, sink.weight());
@@ -47,13 +47,13 @@ fn note(rt: &impl Abort, sink: &mut impl PartSink, staged: u32) -> Result<(), Si
     sink.keep(&point)
 }
 
-/// Checks that `part` is the given part.
+/// Checks that `part` has the span `span` and the bytes `bytes`.
 fn is_part(rt: &impl Abort, name: &str, part: Option<Part<'_>>, (span, bytes): (Span, &[u8])) {
     let part = part.expect(rt, "no part");
     assert!(rt; part.span == span && part.bytes == bytes, "{name}");
 }
 
-/// Checks that the sink contains `count` parts, with the given weight.
+/// Checks that the sink contains `count` parts, with weight `weight`.
 fn keeps(rt: &impl Abort, name: &str, sink: &MemorySink, count: usize, weight: u64) {
     assert!(rt; sink.count() == count && sink.weight() == weight, "{name}");
 }
@@ -68,7 +68,7 @@ fn parts_are_kept_and_weighed(rt: HostRuntime) {
     assert!(rt; sink.part(3).is_none());
 }
 
-/// Checks that a cut of three parts to weight `staged` keeps `count` parts.
+/// Checks that cutting three parts back to weight `staged` keeps `count` parts.
 fn is_cut(rt: &impl Abort, alloc: Global, staged: u32, count: usize) {
     let mut sink = MemorySink::new(alloc);
     fill(rt, &mut sink);
@@ -102,7 +102,7 @@ fn parts_go_behind_a_cut(rt: HostRuntime) {
     is_part(&rt, "part 4", sink.part(4), THIRD);
 }
 
-/// Checks that the next part is the given one.
+/// Checks that the next part is `wanted`.
 fn gives(rt: &impl Abort, name: &str, sink: &mut MemorySink, wanted: (Span, &[u8])) {
     is_part(rt, name, sink.next_part().expect(rt, "refused"), wanted);
 }
@@ -131,7 +131,8 @@ fn parts_are_given_back_in_order(rt: HostRuntime) {
     walks(&rt, &mut sink);
 }
 
-/// Checks the answer to a put of two bytes, and then the number of parts in the inner sink.
+/// Checks that appending two bytes gets the answer `answer`, and that the inner sink then has
+/// `count` parts of weight `weight`.
 fn puts(
     rt: &impl Abort,
     name: &str,

@@ -1,4 +1,5 @@
-//! Readings of some hundred small sets, compared with the simple programs for positions and parts.
+//! Tests of readings of some hundred small sets, compared with the simple programs for positions
+//! and parts.
 
 use crate::plans::{NO_MEMORY, Planned, Style, blocks_before, layout, on_volume};
 use crate::readers::{go_to, known, point_at, reader};
@@ -17,7 +18,8 @@ fn is_begun(style: Style, plan: &[Planned], file: u16, sect: u16, block: u32) ->
     style.format == Format::Spanned && before > 0 && before < count
 }
 
-/// Returns the checkpoint at a position of the file, with the form known there.
+/// Returns the checkpoint at a position in the file, with the form known if the position is not the
+/// start.
 fn point_in(
     rt: &impl Abort,
     set: &Set,
@@ -42,7 +44,7 @@ fn event_of(entry: &EntryLayout) -> Event<'_> {
 }
 
 /// Reads the beginning of a volume; `good` says which items are readable. Returns the number of
-/// blocks delivered.
+/// delivered blocks.
 fn read(core: &mut ReaderCore, volume: &[EntryLayout], good: &[bool]) -> u32 {
     core.mount();
     let mut delivered = 0u32;
@@ -55,14 +57,15 @@ fn read(core: &mut ReaderCore, volume: &[EntryLayout], good: &[bool]) -> u32 {
     delivered
 }
 
-/// Returns how many parts precede the position.
+/// Returns the number of parts before `position`.
 fn parts_before(rt: &impl Abort, alloc: Global, set: &Set, position: &Position) -> usize {
     before(alloc, &set.layout, set.file, position)
         .expect(rt, NO_MEMORY)
         .len()
 }
 
-/// Checks that a reading led from one position to the other, as the definition says.
+/// Checks that the definition also leads from `from` to `to`, by a reading of volume `number` with
+/// the readable items `good`.
 fn leads(
     rt: &impl Abort,
     alloc: Global,
@@ -78,7 +81,7 @@ fn leads(
     );
 }
 
-/// Compares the parts that the reading delivered.
+/// Checks that there are as many parts between `from` and `to` as in the `delivered` blocks.
 fn gives(
     rt: &impl Abort,
     alloc: Global,
@@ -92,8 +95,7 @@ fn gives(
     assert!(rt; new.saturating_sub(old) == parts_given(&set.style, from, delivered));
 }
 
-/// Makes one reading from the position, and compares the resulting position and the parts
-/// delivered.
+/// Makes one reading from `from`, and checks the resulting position and the delivered parts.
 fn compare(
     rt: &impl Abort,
     alloc: Global,
@@ -121,7 +123,7 @@ fn parts_given(style: &Style, from: &Position, blocks: u32) -> usize {
     parts.saturating_sub(first) as usize
 }
 
-/// A set, one of its files, and how its labels and blocks are written.
+/// A set, one of its files, and the style of its labels and blocks.
 #[derive(Drop)]
 struct Set {
     layout: Layout,
@@ -129,8 +131,8 @@ struct Set {
     style: Style,
 }
 
-/// Reads the beginning of a volume in every way: each item readable or not, but at most a given
-/// number unreadable. Returns the number of readings.
+/// Reads the first `met` items of a volume with every combination of at most `most_bad` unreadable
+/// items. Returns the number of readings.
 fn each_of_front(
     rt: &impl Abort,
     alloc: Global,
@@ -152,7 +154,7 @@ fn each_of_front(
     readings
 }
 
-/// Reads each prefix of a volume from the position, with at most two unreadable items if it is
+/// Reads each beginning of a volume from `from`, with at most two unreadable items if the volume is
 /// long. Returns the number of readings.
 fn each_reading(
     rt: &impl Abort,
@@ -172,7 +174,7 @@ fn each_reading(
     readings
 }
 
-/// Returns the bits as flags: false if a bit is set.
+/// Returns `bits` as flags, each false if the bit is set.
 fn flags(bits: u32) -> [bool; 20] {
     let mut good = [true; 20];
     let mut left = bits;
@@ -220,7 +222,7 @@ fn each_position(rt: &impl Abort, alloc: Global, set: &Set, plan: &[Planned]) ->
     readings
 }
 
-/// Reads each file of the set.
+/// Reads each file of the set from every position.
 fn each_file(rt: &impl Abort, alloc: Global, style: Style, plan: &[Planned]) -> u32 {
     let mut readings = 0u32;
     for file in 1..3 {

@@ -1,4 +1,4 @@
-//! The reading table, row by row.
+//! Tests of the reading table, row by row.
 
 use crate::readers::{go_on, known, play, read_section, reader, reader_at, wanted, wants};
 use crate::reels::{EOF1, EOF2, EOV1, HDR1, HDR2, HDR2_S, HDR3, UVL1, VOL1, counted, numbered};
@@ -24,7 +24,8 @@ fn is_over(rt: &impl Abort, core: &mut ReaderCore, number: usize, stood: Positio
     assert!(rt; is_over, "row {number}");
 }
 
-/// Checks one row: the answer to an event after items that are all passed.
+/// Checks one row: that the answer to `event`, after the items `before`, which are all passed, is
+/// `answer`.
 fn row(
     rt: &impl Abort,
     core: &mut ReaderCore,
@@ -41,7 +42,7 @@ fn row(
     }
 }
 
-/// Does the same for each event, with a new reader of file number `file`.
+/// Checks a row for each of `events`, each with a new reader of file `file`.
 pub(crate) fn rows(
     rt: &impl Abort,
     file: u16,
@@ -184,7 +185,8 @@ fn behind_two_blocks(rt: &impl Abort) -> ReaderCore {
     )
 }
 
-/// Checks the answer to an event that replaces the first block, if block 2 is expected.
+/// Checks that the answer to `event` in place of the first block is `answer`, if block 2 is
+/// expected.
 fn instead_of_first(rt: &impl Abort, number: usize, event: Event<'_>, answer: Answer) {
     let before = [Block(VOL1), Block(HDR1), Block(HDR2), Mark];
     row(

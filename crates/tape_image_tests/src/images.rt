@@ -23,16 +23,16 @@ const EOF1: &[u8; 80] =
 const EOF2: &[u8; 80] =
     b"EOF2F0080000080                                   00                            ";
 
-/// An item of the worked image.
+/// An item of the example image.
 #[derive(Clone, Copy)]
 pub(super) enum WorkedItem {
     Label(&'static [u8; 80]),
-    /// The number of the first record, and how many records there are.
+    /// Records: the number of the first one, and how many there are.
     Records(u8, u8),
     Mark,
 }
 
-/// The items of the worked image: the volume ABC001 with the file PAYROLL of 25 records of 80
+/// The items of the example image: the volume ABC001 with the file PAYROLL of 25 records of 80
 /// characters in blocks of 800.
 pub(super) const ITEMS: [WorkedItem; 12] = [
     WorkedItem::Label(VOL1),
@@ -49,12 +49,12 @@ pub(super) const ITEMS: [WorkedItem; 12] = [
     WorkedItem::Mark,
 ];
 
-/// The offsets of the items of the worked image, and of its end-of-medium marker.
+/// The offsets of the items of the example image, and of its end-of-medium marker.
 const STARTS: [usize; 13] = [
     0, 88, 176, 264, 268, 1_076, 1_884, 2_292, 2_296, 2_384, 2_472, 2_476, 2_480,
 ];
 
-/// Returns how many items end within the first `size` bytes of the worked image, and the offset of
+/// Returns how many items end within the first `size` bytes of the example image, and the offset of
 /// the next item.
 pub(super) fn whole_items(size: usize) -> (usize, usize) {
     let mut whole = (0, 0);
@@ -66,17 +66,17 @@ pub(super) fn whole_items(size: usize) -> (usize, usize) {
     whole
 }
 
-/// Returns the first `count` bytes, or all bytes if there are fewer.
+/// Returns the first `count` bytes of `bytes`, or all of them if there are fewer.
 pub(super) fn front(bytes: &[u8], count: usize) -> &[u8] {
     &bytes[..count.min(bytes.len())]
 }
 
-/// Returns the bytes after the first `count`.
+/// Returns the bytes of `bytes` after the first `count`.
 pub(super) fn behind(bytes: &[u8], count: usize) -> &[u8] {
     &bytes[count.min(bytes.len())..]
 }
 
-/// Returns record `number`: its four digits, and spaces up to 80 characters.
+/// Returns record `number`: four digits, and spaces up to 80 characters.
 fn record(number: u8) -> [u8; 80] {
     let mut line = [b' '; 80];
     line[..4].copy_from_slice(&[b'0', b'0', b'0' + number / 10 % 10, b'0' + number % 10]);
@@ -134,7 +134,7 @@ impl Image<'_> {
     }
 }
 
-/// Returns the worked image, with `before` before each item and before its end-of-medium marker.
+/// Returns the example image, with `before` before each item and before its end-of-medium marker.
 pub(super) fn worked(alloc: Global, before: &[u8]) -> Result<Vec<u8>, AllocError> {
     let mut image = Image {
         bytes: Vec::new(alloc),

@@ -1,4 +1,4 @@
-//! Short images of a few items.
+//! Tests of short images of a few items.
 
 use super::readers::reads;
 use std::test::Fail;

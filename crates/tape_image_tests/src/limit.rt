@@ -1,4 +1,4 @@
-//! Images that are written up to the limit of 4,294,967,295 bytes.
+//! Tests of images that are written up to the limit of 4,294,967,295 bytes.
 
 use super::checks::same_count;
 use super::images::front;
@@ -14,11 +14,11 @@ use tape_image::ImageWriter;
 fn filled(alloc: Global, size: u64) -> Result<ImageWriter<Counting>, Fail> {
     let bytes = Vec::from_elem(alloc, 0u8, 99_999)?;
     let mut writer = ImageWriter::new(Counting { taken: 0, calls: 0 });
-    // Each block takes 100,008 bytes, and fewer than 150,000 are left after the last one.
+    // Each block occupies 100,008 bytes, and fewer than 150,000 are left after the last one.
     for _ in 0..(size.saturating_sub(150_000) / 100_008).saturating_add(1) {
         writer.block(bytes.as_slice())?;
     }
-    // 49,992 bytes or more are left: one block takes half of them, and another the rest.
+    // At least 49,992 bytes are left: one block occupies half of them, and another the rest.
     let half = size.saturating_sub(writer.size()) / 4 * 2;
     writer.block(front(bytes.as_slice(), half.saturating_sub(8) as usize))?;
     let rest = size.saturating_sub(writer.size());
@@ -30,7 +30,7 @@ fn filled(alloc: Global, size: u64) -> Result<ImageWriter<Counting>, Fail> {
 fn blocks_end_within_the_limit(rt: HostRuntime) -> Result<(), Fail> {
     let mut writer = filled(rt.alloc(), 4_294_967_280)?;
     same_count(&rt, 0, writer.size(), 4_294_967_280);
-    // 15 bytes are left: a block of 8 bytes takes 16, and one of 6 bytes takes 14.
+    // 15 bytes are left: a block of 8 bytes needs 16, and one of 6 bytes needs 14.
     let rows = [
         (Call::Block(&[1; 8]), Some(TooLong), 4_294_967_280),
         (Call::Block(&[1; 7]), Some(TooLong), 4_294_967_280),
@@ -43,7 +43,7 @@ fn blocks_end_within_the_limit(rt: HostRuntime) -> Result<(), Fail> {
 #[test]
 fn marks_end_within_the_limit(rt: HostRuntime) -> Result<(), Fail> {
     let mut writer = filled(rt.alloc(), 4_294_967_280)?;
-    // After three marks 3 bytes are left, and a word takes 4.
+    // After three marks 3 bytes are left, and a word needs 4.
     let rows = [
         (Call::Mark, None, 4_294_967_284),
         (Call::Mark, None, 4_294_967_288),

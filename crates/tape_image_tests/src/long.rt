@@ -1,4 +1,4 @@
-//! Blocks of the greatest lengths.
+//! Tests of blocks of the greatest lengths.
 
 use super::checks::same_count;
 use super::devices::{Endless, LONGEST_EXTENT};
@@ -16,7 +16,8 @@ fn digits(alloc: Global, count: u32) -> Result<Vec<u8>, AllocError> {
     Ok(digits)
 }
 
-/// Returns a block of the given 99,999 digits, one of 100,000 digits, and a mark.
+/// Returns the encodings of a block with the 99,999 bytes `longest`, of a block of 100,000 digits,
+/// and of a mark.
 fn two_blocks(alloc: Global, longest: &[u8]) -> Result<Vec<u8>, AllocError> {
     let longer = digits(alloc, 100_000)?;
     let pieces: [&[u8]; 5] = [

@@ -1,4 +1,4 @@
-//! The results of a reader, call by call.
+//! Checks of a reader, call by call.
 
 use super::checks::{is_so, same_count, same_ending, same_fault};
 use std::alloc::Global;
@@ -60,8 +60,8 @@ pub(super) fn fails<R: Read>(
     }
 }
 
-/// Checks that a reader of `bytes` returns the given items, each of which ends at its offset, and
-/// that the bytes then end.
+/// Checks that a reader of `bytes` returns these items, each of which ends at its offset, and that
+/// the medium then ends.
 pub(super) fn reads(
     rt: &impl Abort,
     alloc: Global,
@@ -78,7 +78,7 @@ pub(super) fn reads(
     Ok(())
 }
 
-/// Checks that a reader of the device returns `count` items, and then fails for good.
+/// Checks that a reader of the device returns `count` items, and then fails in every call.
 pub(super) fn fails_behind<R: Read>(
     rt: &impl Abort,
     alloc: Global,

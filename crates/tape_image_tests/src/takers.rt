@@ -3,15 +3,16 @@
 use std::io;
 use std::io::{Error, ErrorKind, Write};
 
-/// Accepts one byte at each call; after a number of bytes, it fails or accepts nothing.
+/// A writer that accepts one byte at each call. After a number of bytes, it fails or accepts
+/// nothing.
 #[derive(Drop)]
 pub(super) struct Narrow {
     pub(super) taken: Vec<u8>,
-    /// How many bytes this writer will still accept.
+    /// The number of bytes that this writer will still accept.
     pub(super) left: usize,
     /// The error with which this writer then fails, or `None` if it then accepts nothing.
     pub(super) kind: Option<ErrorKind>,
-    /// How often this writer accepted nothing or failed.
+    /// The number of calls in which this writer accepted nothing or failed.
     pub(super) failures: u32,
 }
 
@@ -39,12 +40,12 @@ impl Write for Narrow {
     }
 }
 
-/// Fails at one call, and accepts all bytes at every other call.
+/// A writer that fails at one call, and accepts all bytes at every other call.
 #[derive(Drop)]
 pub(super) struct FailsOnce {
     /// The number, from 0, of the call that fails.
     pub(super) fails_at: u32,
-    /// How often this writer was called.
+    /// The number of calls to this writer.
     pub(super) calls: u32,
 }
 
@@ -63,12 +64,12 @@ impl Write for FailsOnce {
     }
 }
 
-/// Accepts all bytes, keeps none, and counts them.
+/// A writer that accepts all bytes, keeps none, and counts them.
 #[derive(Drop)]
 pub(super) struct Counting {
-    /// How many bytes this writer accepted.
+    /// The number of bytes that this writer accepted.
     pub(super) taken: u64,
-    /// How often this writer was called.
+    /// The number of calls to this writer.
     pub(super) calls: u64,
 }
 

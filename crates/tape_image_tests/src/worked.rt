@@ -1,4 +1,4 @@
-//! The worked image, item by item, and parts of it.
+//! Tests of the example image, item by item, and of parts of it.
 
 use super::checks::{is_so, same_count, same_ending};
 use super::devices::Dribble;
@@ -10,7 +10,7 @@ use std::process::Abort;
 use std::test::Fail;
 use tape_image::{Ending, ImageCause, ImageFault, ImageReader, Item};
 
-/// Checks that the reader returns `item`.
+/// Checks that the reader returns the item with the contents `content`.
 fn gives_item<R: Read>(
     rt: &impl Abort,
     row: usize,
@@ -25,7 +25,7 @@ fn gives_item<R: Read>(
     is_so(rt, row, reader.next() == Ok(Some(item)));
 }
 
-/// Reads the worked image's items one after another, and then its end at offset `end`.
+/// Reads the items of the example image one after another, and then its end at offset `end`.
 fn reads_each_item<R: Read>(
     rt: &impl Abort,
     alloc: Global,
@@ -86,7 +86,7 @@ fn the_device_is_given_back(rt: HostRuntime) -> Result<(), Fail> {
     Ok(())
 }
 
-/// Reads the complete items in `front`, a prefix of the worked image, and then its end.
+/// Reads the complete items in `front`, a prefix of the example image, and then its end.
 fn reads_a_front(rt: &impl Abort, alloc: Global, front: &[u8]) -> Result<(), Fail> {
     let size = front.len();
     let (items, start) = whole_items(size);

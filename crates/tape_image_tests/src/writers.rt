@@ -1,11 +1,11 @@
-//! The results of a writer, call by call.
+//! Checks of a writer, call by call.
 
 use super::checks::{same_count, same_write_fault};
 use std::io::Write;
 use std::process::Abort;
 use tape_image::{ImageWriteFault, ImageWriter};
 
-/// A call of a writer.
+/// A call to a writer.
 #[derive(Clone, Copy)]
 pub(super) enum Call<'a> {
     Block(&'a [u8]),
@@ -31,7 +31,7 @@ impl Call<'_> {
 /// A call, its fault if it is refused, and the size of the image after it.
 pub(super) type Row<'a> = (Call<'a>, Option<ImageWriteFault>, u64);
 
-/// Checks the results of calls of the writer, one after another.
+/// Makes the calls of the rows one after another, and checks their results.
 pub(super) fn answers<W: Write + Drop>(
     rt: &impl Abort,
     writer: &mut ImageWriter<W>,

@@ -1,4 +1,4 @@
-//! The writer: its bytes, its refusals, and devices that accept few bytes or fail.
+//! Tests of the writer: its bytes, its refusals, and devices that accept few bytes or fail.
 
 use super::checks::{is_so, same_count, same_write_fault};
 use super::images::front;
@@ -98,7 +98,7 @@ fn nothing_is_written_behind_the_end_word(rt: HostRuntime) -> Result<(), Fail> {
 }
 
 /// Writes the items of `IMAGE` and its end-of-medium marker to a device, continues after a refusal,
-/// and returns the first fault and the size.
+/// and returns the first fault and the size of the image.
 fn writes_the_image(device: &mut Narrow) -> (Option<ImageWriteFault>, u64) {
     let mut writer = ImageWriter::new(device);
     let mut fault = None;
@@ -120,7 +120,7 @@ fn whole_items(left: usize) -> u64 {
 }
 
 /// Checks that a device that accepts `left` bytes, and then fails or accepts nothing, contains a
-/// prefix.
+/// prefix of `IMAGE`.
 fn holds_a_front(rt: &impl Abort, alloc: Global, left: usize, kind: Option<ErrorKind>) {
     let mut device = Narrow {
         taken: Vec::new(alloc),
@@ -165,7 +165,7 @@ fn is_left_alone(rt: &impl Abort, content: &[u8], fails_at: u32) {
     );
 }
 
-// A short block takes one call, a longer block three.
+// Writing a short block makes one call, a longer block three.
 #[test]
 fn a_device_that_failed_is_not_called_again(rt: HostRuntime) -> Result<(), Fail> {
     is_left_alone(&rt, &[7, 8], 0);

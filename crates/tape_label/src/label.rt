@@ -85,7 +85,7 @@ pub fn kind(block: &[u8]) -> Option<Kind>
 #[tactic(auto, unfolding(crate::specs::VolumeLabels::is_volume_label))]
 pub fn is_volume_label(block: &[u8]) -> bool
     ensures found { IsTrue result ↔ IsOfVolume block.now }
-    // The only label of a volume that can be read is VOL1.
+    // Of these labels, only VOL1 can be read.
     ensures other { (kind : Kind) → HasKind block.now kind → kind ≢ Kind.Vol1 → result ≡ false }
     // The result is this function of the block.
     ensures exact { result ≡ is_volume_label block.now }

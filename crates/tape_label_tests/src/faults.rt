@@ -1,12 +1,12 @@
-//! Blocks that are refused, and the first fault of each.
+//! Tests of blocks that are refused, and of the first fault of each.
 
 use crate::samples::{EOF1, EOF2, HDR1, HDR2, VOL1};
 use std::process::Abort;
 use std::test::*;
 use tape_label::*;
 
-/// Returns the faults of the four reading functions for the block, in the order volume label, first
-/// header, second label, first trailer.
+/// Returns the faults of the four reading functions for the block, in this order: volume label,
+/// first header label, second label, first trailer label.
 fn faults(block: &[u8]) -> [Option<LabelFault>; 4] {
     [
         read_vol1(block).err(),

@@ -1,4 +1,4 @@
-//! Characters, fields, digits, and the names of kinds, formats and faults.
+//! Tests of characters, fields, digits, and the names of kinds, formats and faults.
 
 use crate::samples::{head, volume};
 use std::test::*;

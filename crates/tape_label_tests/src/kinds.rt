@@ -1,4 +1,4 @@
-//! The kind of label that a block is.
+//! Tests of the kind of label that a block is.
 
 use crate::samples::{EOF1, EOF2, EOV1, EOV2, HDR1, HDR2, VOL1};
 use std::test::*;
@@ -26,8 +26,8 @@ fn kinds_of_a_written_volume(rt: HostRuntime) {
     }
 }
 
-/// The characters after the identifier do not matter, and a user label or a third header label has
-/// no kind.
+/// The characters after the identifier do not matter, and a user label or a third header label is
+/// not of any kind.
 #[test]
 fn kinds_by_identifier_alone(rt: HostRuntime) {
     for (identifier, want) in [

@@ -1,4 +1,4 @@
-//! Labels of another producer.
+//! Tests of labels of another producer.
 
 use std::test::*;
 use tape_label::*;
@@ -17,8 +17,8 @@ fn volume_labels_of_another_producer(rt: HostRuntime) {
     assert_eq!(rt; read_vol1(vol1), Ok(expected));
 }
 
-/// The identifier has small letters, and a header has no digits at the positions of a trailer's
-/// block count.
+/// The identifier has lower-case letters, and a header has no digits at the positions of a
+/// trailer's block count.
 #[test]
 fn first_headers_of_another_producer(rt: HostRuntime) {
     let hdr1 = b"HDR1payroll.1985#    ABC00100120345000100085001099365XAB 9 7VENDOR       !!!!!!!";

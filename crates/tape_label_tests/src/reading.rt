@@ -1,4 +1,4 @@
-//! Labels that are read.
+//! Tests of labels that are read.
 
 use crate::samples::{EOF1, EOF2, EOV1, EOV2, HDR1, HDR2, VOL1, head, second, trailer, volume};
 use std::test::*;

@@ -1,4 +1,4 @@
-//! Labels written byte by byte, and read again.
+//! Tests of labels that are written byte by byte, and read again.
 
 ghost use Rattle.tape_label.specs.Kinds.{IsSecond};
 

@@ -1,4 +1,4 @@
-//! Answers to reels that contradict themselves.
+//! Tests of the answers to reels that contradict themselves.
 use crate::image::{EOF_FIVE, HDR1, HDR2, Image, VOL1};
 use crate::scripts::{Do, Reel, Script, each_goes};
 use crate::volumes::EOF_FOUR;
@@ -10,14 +10,14 @@ use tape_image::{ImageCause, ImageFault};
 use tape_label::LabelFault;
 use tape_run::{ReelAnswer, RunFault, Step};
 
-/// The worked file in five good blocks, and with another count of them.
+/// The example file in five good blocks, and with another count of them.
 const GOOD: Reel<'_> = Reel::Five(5, EOF_FIVE);
 
 const COUNTED: Reel<'_> = Reel::Five(5, EOF_FOUR);
 
 const IDENTIFIER: Reason = Reason::BadLabel(LabelFault::Identifier);
 
-/// A reserved word where the first data block begins.
+/// The answer to a reserved word where the first data block begins.
 const RESERVED: ReelAnswer = ReelAnswer {
     answer: Useless(Reason::ReelEnded),
     fault: Some(ImageFault {
@@ -70,7 +70,7 @@ const SCRIPTS: &[Script<'_>] = &[
         1,
         &[Do::Reads(Reel::Defaced(2), Useless(IDENTIFIER), 0, Some((1, 0)))],
     ),
-    // The block after the data was delivered, and its trailer is expected.
+    // The block after the data was delivered, and its trailer label is expected.
     (
         "no trailer label",
         1,
@@ -99,7 +99,8 @@ pub fn with_reserved_word(alloc: Global) -> Result<Image, AllocError> {
     Ok(image)
 }
 
-/// Returns a volume of one block, with one of its labels (0 to 3) replaced by 80 bytes 0xFF.
+/// Returns a volume of one block, in which label number `which`, from 0 to 3, is replaced by 80
+/// bytes 0xFF.
 pub fn defaced(alloc: Global, which: usize) -> Result<Image, AllocError> {
     let mut image = Image::new(alloc);
     for (number, label) in [VOL1, HDR1, HDR2].iter().enumerate() {

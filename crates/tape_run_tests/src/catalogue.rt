@@ -1,4 +1,4 @@
-//! Catalogues over images that are written out from their format.
+//! Tests of catalogues over images that are written out from their format.
 use crate::image::{EOF_FIVE, EOF_THREE};
 use crate::scripts::{Reel, image_of};
 use crate::sections::numbered;
@@ -13,17 +13,18 @@ use tape_run::{
     Catalogue, ImageLine, ImageStop, Lack, RunFault, SectionLine, SectionState, check_set,
 };
 
-/// A section that was found: the set, the file, the section, the volume, its blocks, and its state.
+/// A section that was found: the set, the file, the section, the volume, its number of blocks, and
+/// its state.
 type Found<'a> = (&'a [u8; 6], u16, u16, &'a [u8; 6], u32, SectionState);
 
 /// A missing section: the set, the file and the section.
 type Missing<'a> = (&'a [u8; 6], u16, u16);
 
-/// The set, and its first volume.
+/// The identifier of the set, and of its first volume.
 const ABC: &[u8; 6] = b"ABC001";
 
-/// The worked file in five blocks: with a bad one, cut after the first, complete, and with another
-/// count.
+/// The example file in five blocks: with a bad one, truncated after the first, complete, and with
+/// another count.
 const ONE_BAD: Reel<'_> = Reel::Five(3, EOF_FIVE);
 
 const CUT_SHORT: Reel<'_> = Reel::FiveCut(268 + 408);
@@ -32,7 +33,8 @@ const WHOLE: Reel<'_> = Reel::Five(5, EOF_FIVE);
 
 const COUNTED: Reel<'_> = Reel::Five(5, EOF_FOUR);
 
-/// Sections of a block: of set XYZ001 file 2; of ABC001 section 3, and section 1.
+/// Sections of one block: of file 2 of set XYZ001, and of file 1 of set ABC001, section 3 and
+/// section 1.
 const STOCK: Reel<'_> = Reel::Section(
     "HDR1STOCK            XYZ00100010002000100 00000 00000 000000",
     "EOF1STOCK            XYZ00100010002000100 00000 00000 000001",
@@ -48,14 +50,14 @@ const FIRST: Reel<'_> = Reel::Section(
     "EOV1PAYROLL          ABC00100010001000100 00000 00000 000001",
 );
 
-/// The worked image, truncated inside its last data block.
+/// The end of the example image if it is truncated inside its last data block.
 const CUT_OFF: ImageStop = ImageStop::Fault(ImageFault {
     place: 1884,
     cause: ImageCause::Truncated,
 });
 
-/// A name; images, the number of items of each, and how it ends; the lines of the catalogue; and
-/// the missing sections.
+/// A test case: a name; images, each with its number of items and how it ends; the lines of the
+/// catalogue; and the missing sections.
 type Row<'a> = (
     &'a str,
     &'a [(Reel<'a>, u32, ImageStop)],
@@ -149,7 +151,7 @@ fn adds(
     Ok(catalogue.add(&mut image.bytes.as_slice())? == line)
 }
 
-/// Returns whether the lines found are the expected ones.
+/// Returns whether the lines `found` are the expected ones.
 fn are_lines(found: &[SectionLine], lines: &[Found<'_>]) -> bool {
     for (found, (set_id, file, sect, volume, blocks, state)) in found.iter().zip(lines) {
         let line = SectionLine {
@@ -167,7 +169,7 @@ fn are_lines(found: &[SectionLine], lines: &[Found<'_>]) -> bool {
     found.len() == lines.len()
 }
 
-/// Returns whether the missing sections found are the expected ones.
+/// Returns whether the missing sections `found` are the expected ones.
 fn are_lacking(found: &[Lack], lacks: &[Missing<'_>]) -> bool {
     for (found, (set_id, file, sect)) in found.iter().zip(lacks) {
         let lack = Lack {
@@ -182,7 +184,7 @@ fn are_lacking(found: &[Lack], lacks: &[Missing<'_>]) -> bool {
     found.len() == lacks.len()
 }
 
-/// Returns whether the catalogue has these lines and these missing sections.
+/// Returns whether the catalogue has the lines `lines` and the missing sections `lacks`.
 fn reports(
     alloc: Global,
     catalogue: &Catalogue,
@@ -194,7 +196,7 @@ fn reports(
     Ok(are_lines(report.lines.as_slice(), lines) && lacks)
 }
 
-/// Returns whether the images of a row are reported as the row says.
+/// Returns whether the images of `row` are reported as `row` says.
 fn is_told(alloc: Global, row: &Row<'_>) -> Result<bool, Fail> {
     let (_, images, lines, lacks) = row;
     let mut catalogue = Catalogue::new(alloc);
@@ -217,8 +219,8 @@ fn images_and_sections_are_told(rt: HostRuntime) -> Result<(), Fail> {
     Ok(())
 }
 
-/// Adds all sections that a file can have, each of which continues. Returns how many sections there
-/// are, and whether only the one after them is missing.
+/// Adds all sections that a file can have, each of which continues. Returns the number of sections,
+/// and whether only the one after them is missing.
 fn of_all_sections(alloc: Global) -> Result<(usize, bool), Fail> {
     let mut catalogue = Catalogue::new(alloc);
     for number in 1..10000u16 {

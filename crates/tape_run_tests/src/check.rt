@@ -1,4 +1,4 @@
-//! Reports on reels.
+//! Tests of reports on reels.
 use crate::devices::{Dribble, Tail};
 use crate::extract::shelf_of;
 use crate::image::{EOF_FIVE, EOF_THREE, HDR1, Image, blank, five_blocks, front, payroll};
@@ -10,7 +10,7 @@ use std::process::Abort;
 use std::test::Fail;
 use tape_run::check_to;
 
-/// Fails unless the report on the images has these lines and this result.
+/// Fails unless the report on `images` consists of `lines` and has the result `found`.
 fn check<H: Abort + AllocGlobal, R: Read + Drop>(
     rt: &H,
     images: &mut [Option<R>],
@@ -25,7 +25,7 @@ fn check<H: Abort + AllocGlobal, R: Read + Drop>(
     Ok(())
 }
 
-/// The report of one image.
+/// Checks the report on one image.
 fn check_one<H: Abort + AllocGlobal>(
     rt: &H,
     image: Image,
@@ -35,7 +35,7 @@ fn check_one<H: Abort + AllocGlobal>(
     check(rt, &mut [Some(image.bytes.as_slice())], found, lines)
 }
 
-/// The report of two images.
+/// Checks the report on two images.
 fn check_two<H: Abort + AllocGlobal>(
     rt: &H,
     first: Image,
@@ -47,12 +47,12 @@ fn check_two<H: Abort + AllocGlobal>(
     check(rt, &mut [Some(first), Some(second)], found, lines)
 }
 
-/// Three images.
+/// Returns three images that can be opened.
 fn three<'a>(first: &'a [u8], second: &'a [u8], third: &'a [u8]) -> [Option<&'a [u8]>; 3] {
     [Some(first), Some(second), Some(third)]
 }
 
-/// Fails unless the image has this length.
+/// Fails unless the image has length `length`.
 fn is_long<A: Abort>(rt: &A, image: &Image, length: usize) {
     assert_eq!(rt; image.bytes.len(), length);
 }
@@ -96,7 +96,7 @@ LACKS ABC001 1 2
     check_one(&rt, first_of_two(rt.alloc())?, false, lines)
 }
 
-/// Which of five blocks is bad: the fourth, or none.
+/// The number of a bad block among five blocks, counted from 0: the fourth, or none.
 const FOURTH: u8 = 3;
 
 const NONE: u8 = 5;
@@ -159,28 +159,28 @@ IMAGE 2 3 MARKED
     check(&rt, none, false, "")
 }
 
-/// File 2 of the set XYZ001.
+/// Returns a volume with file 2 of set XYZ001.
 fn other_set(alloc: Global) -> Result<Image, AllocError> {
     let header = "HDR1STOCK            XYZ00100010002000100 00000 00000 000000";
     let trailer = "EOF1STOCK            XYZ00100010002000100 00000 00000 000001";
     one_section(alloc, header, trailer)
 }
 
-/// Section 1 of file 1 of the set ABC001, which continues.
+/// Returns a volume with section 1 of file 1 of set ABC001, which continues.
 fn first_section(alloc: Global) -> Result<Image, AllocError> {
     let trailer = "EOV1PAYROLL          ABC00100010001000100 00000 00000 000001";
     one_section(alloc, HDR1, trailer)
 }
 
-/// Section 3 of the same file, and its end.
+/// Returns a volume with section 3 of file 1 of set ABC001, which ends the file.
 fn third_section(alloc: Global) -> Result<Image, AllocError> {
     let header = "HDR1PAYROLL          ABC00100030001000100 00000 00000 000000";
     let trailer = "EOF1PAYROLL          ABC00100030001000100 00000 00000 000001";
     one_section(alloc, header, trailer)
 }
 
-/// File 2 of set XYZ001 was found, and file 1 was not; the section in the middle of file 1 of
-/// ABC001 is missing.
+/// File 2 of set XYZ001 is found, and file 1 is not. The section in the middle of file 1 of ABC001
+/// is missing.
 #[test]
 fn two_sets(rt: HostRuntime) -> Result<(), Fail> {
     let other = other_set(rt.alloc())?;
@@ -230,7 +230,7 @@ ALL SECTIONS FOUND
     )
 }
 
-/// A truncated image, and one that could not be opened.
+/// A truncated image, and one that could not be opened, are reported.
 #[test]
 fn faults_are_told(rt: HostRuntime) -> Result<(), Fail> {
     let cut = cut(rt.alloc(), 1885)?;
@@ -242,12 +242,12 @@ LACKS ABC001 1 1
     check(&rt, &mut [Some(cut.bytes.as_slice()), None], false, lines)
 }
 
-/// Returns three images: one that could not be opened, and the two given.
+/// Returns three images: one that could not be opened, `first` and `second`.
 fn behind_unopened<'a>(first: &'a [u8], second: &'a [u8]) -> [Option<&'a [u8]>; 3] {
     [None, Some(first), Some(second)]
 }
 
-/// A complete image after such images.
+/// A complete image is found after images with faults.
 #[test]
 fn faults_are_told_and_passed(rt: HostRuntime) -> Result<(), Fail> {
     let image = payroll(rt.alloc())?;
@@ -290,7 +290,7 @@ fn dribble(bytes: &[u8], left: usize) -> Dribble<'_> {
     }
 }
 
-/// A reader that returns one byte per call, and fails in the first data block.
+/// A reader that returns one byte per call, and fails in the first data block, is reported.
 #[test]
 fn a_reader_that_fails(rt: HostRuntime) -> Result<(), Fail> {
     let image = payroll(rt.alloc())?;

@@ -1,4 +1,4 @@
-//! Reports of `check` that could not be written.
+//! Tests of reports of `check` that could not be written.
 use crate::devices::{FailsOnce, Narrow};
 use crate::extract::shelf_of;
 use crate::image::payroll;
@@ -9,7 +9,7 @@ use std::process::Abort;
 use std::test::Fail;
 use tape_run::{EngineFault, Wording, check_to, survey_to};
 
-/// The report of the worked image.
+/// The report on the example image.
 const REPORT: &[u8] = b"IMAGE 1 12 MARKED
 SECTION ABC001 1 1 ABC001 3 GOOD
 ALL SECTIONS FOUND
@@ -17,7 +17,7 @@ ALL SECTIONS FOUND
 
 const WRITE_FAILED: Result<bool, EngineFault> = Err(EngineFault::WriteFailed);
 
-/// Returns the result of a check of the worked image with the given writer.
+/// Returns the result of a check of the example image whose report is written to `writer`.
 fn check_worked<W: Write>(
     alloc: Global,
     writer: &mut W,
@@ -27,7 +27,8 @@ fn check_worked<W: Write>(
     Ok(check_to(alloc, &mut images, writer))
 }
 
-/// If the writer accepts `left` bytes and fails, these are a prefix of the report.
+/// Fails unless a writer that accepts `left` bytes and then fails has accepted a prefix of the
+/// report.
 fn stops_at<H: Abort + AllocGlobal>(rt: &H, left: usize) -> Result<(), Fail> {
     let mut narrow = Narrow::failing(rt.alloc(), left, Some(ErrorKind::Other), true);
     let answer = check_worked(rt.alloc(), &mut narrow)?;
@@ -37,7 +38,7 @@ fn stops_at<H: Abort + AllocGlobal>(rt: &H, left: usize) -> Result<(), Fail> {
     Ok(())
 }
 
-/// At whichever byte the writer fails, what it accepted is a prefix of the report.
+/// At whichever byte the writer fails, it has accepted a prefix of the report.
 #[test]
 fn a_writer_that_fails(rt: HostRuntime) -> Result<(), Fail> {
     for left in 0..REPORT.len() {
@@ -46,7 +47,7 @@ fn a_writer_that_fails(rt: HostRuntime) -> Result<(), Fail> {
     Ok(())
 }
 
-/// A failed flush is a failed write, and the line about the image has been written.
+/// A failed flush is a failed write. The line about the image has been written by then.
 #[test]
 fn a_flush_that_fails(rt: HostRuntime) -> Result<(), Fail> {
     for (flushes, wanted, length) in [(true, Ok(true), REPORT.len()), (false, WRITE_FAILED, 18)] {
@@ -58,7 +59,7 @@ fn a_flush_that_fails(rt: HostRuntime) -> Result<(), Fail> {
     Ok(())
 }
 
-/// Counts what it accepts, and records the count at each flush.
+/// A writer that counts the bytes that it accepts, and records the count at each flush.
 #[derive(Drop)]
 struct Flushed {
     taken: usize,

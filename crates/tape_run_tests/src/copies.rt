@@ -1,4 +1,4 @@
-//! Damaged copies, completed by others.
+//! Tests of damaged copies, completed by others.
 use crate::image::{EOF_FIVE, HDR1, HDR2, Image, VOL1};
 use crate::scripts::{Do, Reel, Script, each_goes};
 use std::alloc::{AllocError, Global};
@@ -11,12 +11,12 @@ use tape_run::{ReelAnswer, Step};
 
 const ONE: &[Step] = &[Step::Reel];
 
-/// The worked file in five blocks, the fourth or the second of which is bad.
+/// The example file in five blocks, the fourth or the second of which is bad.
 const FOURTH_BAD: Reel<'_> = Reel::Five(3, EOF_FIVE);
 
 const SECOND_BAD: Reel<'_> = Reel::Five(1, EOF_FIVE);
 
-/// The worked volume cut inside its last data block.
+/// The answer for the example volume truncated inside its last data block.
 const CUT_OFF: ReelAnswer = ReelAnswer {
     answer: Useless(Reason::ReelEnded),
     fault: Some(ImageFault {
@@ -89,7 +89,7 @@ const SCRIPTS: &[Script<'_>] = &[
             Do::Holds(25, None),
         ],
     ),
-    // An image that is cut between two items has a physical end, which is not a fault.
+    // An image that is truncated between two items has a physical end, which is not a fault.
     (
         "a cut is told with its place",
         1,
@@ -105,7 +105,8 @@ fn damaged_copies(rt: HostRuntime) -> Result<(), Fail> {
     each_goes(&rt, SCRIPTS)
 }
 
-/// Two files; an unreadable block replaces the mark that closes the first one.
+/// Returns a volume with two files, where an unreadable block replaces the mark that closes the
+/// first file.
 pub fn without_a_mark(alloc: Global) -> Result<Image, AllocError> {
     let mut image = Image::new(alloc);
     image.headers(&[VOL1, HDR1, HDR2])?;

@@ -1,4 +1,4 @@
-//! One volume, cut at each length.
+//! Tests of one volume, truncated at each length.
 use crate::devices::Dribble;
 use crate::image::{front, holds_long, long_first};
 use crate::readers::Failing;
@@ -10,7 +10,7 @@ use tape_core::MemorySink;
 use tape_run::{Session, Step, run};
 use tape_set::Want;
 
-/// Returns how many of the blocks end at the cut or before it.
+/// Returns the number of blocks that end at offset `cut` or before it.
 fn blocks_before(cut: usize) -> u16 {
     match cut {
         0..268 => 0,
@@ -19,8 +19,8 @@ fn blocks_before(cut: usize) -> u16 {
     }
 }
 
-/// Returns what is expected after the first `cut` bytes of the volume: the next block, or, once the
-/// trailer label that ends at 932 was read, the next section.
+/// Returns the part that is expected after the first `cut` bytes of the volume: the next block or,
+/// once the trailer label that ends at 932 was read, the next section.
 fn awaited(cut: usize) -> Option<Want> {
     if cut >= 932 {
         return wanted(2, 0);
@@ -77,7 +77,8 @@ fn at_each_length(rt: HostRuntime) -> Result<(), Fail> {
     Ok(())
 }
 
-/// Returns a reader of the first `left` bytes, or all if there are fewer, which then fails.
+/// Returns a reader of the first `left` bytes of `whole`, or of all if there are fewer, which then
+/// fails.
 fn failing_behind(whole: &[u8], left: usize) -> Dribble<'_> {
     Dribble {
         bytes: whole,
@@ -86,8 +87,8 @@ fn failing_behind(whole: &[u8], left: usize) -> Dribble<'_> {
     }
 }
 
-/// Returns which of three readers failed: the first ends inside a block, the last inside the
-/// labels.
+/// Reports in `failed` which of three readers failed: the first ends inside a block, the last
+/// inside the labels.
 fn tell_three(alloc: Global, whole: &[u8], failed: &mut [bool]) -> Result<(), Fail> {
     let mut session = begun(alloc, 1)?;
     let mut reels = [
@@ -103,7 +104,7 @@ fn tell_three(alloc: Global, whole: &[u8], failed: &mut [bool]) -> Result<(), Fa
 fn the_readers_that_failed(rt: HostRuntime) -> Result<(), Fail> {
     let image = long_first(rt.alloc())?;
     let whole = image.bytes.as_slice();
-    // As far as the slice reaches; the rest of it is unchanged.
+    // The slice is filled as far as it reaches.
     let mut two = [false; 2];
     tell_three(rt.alloc(), whole, &mut two)?;
     assert!(rt; two == [true, false]);

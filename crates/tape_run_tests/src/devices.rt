@@ -3,7 +3,7 @@ use std::alloc::Global;
 use std::io::{Error, ErrorKind, Read, Result, Write};
 use std::mem;
 
-/// Returns one byte per call, and fails once it has returned as many as `left` says.
+/// A reader that returns one byte per call, and fails after `left` bytes.
 #[derive(Drop)]
 pub struct Dribble<'a> {
     pub bytes: &'a [u8],
@@ -28,7 +28,7 @@ impl Read for Dribble<'_> {
     }
 }
 
-/// Returns `left` zero bytes, which are tape marks.
+/// A reader that returns `left` zero bytes, which are tape marks.
 #[derive(Drop)]
 pub struct Zeros {
     pub left: usize,
@@ -43,8 +43,8 @@ impl Read for Zeros {
     }
 }
 
-/// Accepts one byte per call, and after `left` of them accepts none, or fails. A flush fails if
-/// configured to.
+/// A writer that accepts one byte per call, and after `left` of them accepts none, or fails. A
+/// flush fails if configured to.
 #[derive(Drop)]
 pub struct Narrow {
     pub taken: Vec<u8>,
@@ -96,7 +96,7 @@ impl Write for Narrow {
     }
 }
 
-/// Fails once, at call `at`, and accepts everything else. It counts the calls.
+/// A writer that fails once, at call `at`, and accepts everything else. It counts the calls.
 #[derive(Drop)]
 pub struct FailsOnce {
     pub taken: Vec<u8>,
@@ -134,7 +134,7 @@ impl Write for FailsOnce {
     }
 }
 
-/// Stores the last two texts written to it.
+/// A writer that stores the last two texts written to it.
 #[derive(Drop)]
 pub struct Tail {
     pub line: Vec<u8>,

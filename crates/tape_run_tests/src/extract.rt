@@ -1,4 +1,4 @@
-//! Files recovered from images: the lines reported, and the bytes written.
+//! Tests of files recovered from images: the lines reported, and the bytes written.
 use crate::devices::{Dribble, Narrow};
 use crate::image::{
     HDR1, HDR2, Image, blank, long_byte, long_first, long_second, payroll, payroll_with, set_id,
@@ -16,10 +16,10 @@ use tape_core::MemorySink;
 use tape_run::{EngineFault, Session, extract_to, last_line};
 use tape_set::Want;
 
-/// What `extract` answers.
+/// The result of `extract`.
 type Answer = Result<Option<Want>, EngineFault>;
 
-/// Returns the images, in a list.
+/// Returns `images` in a list.
 pub fn shelf_of<R: Read + Drop>(
     alloc: Global,
     images: &mut [Option<R>],
@@ -31,7 +31,7 @@ pub fn shelf_of<R: Read + Drop>(
     Ok(shelf)
 }
 
-/// Recovers a file of the set ABC001 from the given images.
+/// Recovers file `file` of set ABC001 from `images`.
 fn run<R: Read + Drop, W: Write, P: Write>(
     alloc: Global,
     file: u16,
@@ -45,7 +45,7 @@ fn run<R: Read + Drop, W: Write, P: Write>(
     Ok(extract_to(&mut session, &mut shelf, form, out, report))
 }
 
-/// Fails unless the images yield these lines, and these bytes of the file.
+/// Fails unless file 1 is complete, and `images` yield the lines `lines` and the bytes `written`.
 fn gives<H: Abort + AllocGlobal, R: Read + Drop>(
     rt: &H,
     form: Form,
@@ -61,7 +61,7 @@ fn gives<H: Abort + AllocGlobal, R: Read + Drop>(
     Ok(())
 }
 
-/// Fails unless the images yield these lines, and do not complete the file.
+/// Fails unless `images` yield the lines `lines`, and do not complete the file.
 fn wants<H: Abort + AllocGlobal, R: Read + Drop>(
     rt: &H,
     file: u16,
@@ -76,12 +76,12 @@ fn wants<H: Abort + AllocGlobal, R: Read + Drop>(
     Ok(())
 }
 
-/// The report for images none of which completes file 1.
+/// Fails unless the image, which does not complete file 1, yields the lines `lines`.
 fn reports<H: Abort + AllocGlobal>(rt: &H, image: Image, lines: &str) -> Result<(), Fail> {
     wants(rt, 1, &mut [Some(image.bytes.as_slice())], lines)
 }
 
-/// Fails unless two images, which do not complete the file, yield these lines.
+/// Fails unless both images, which do not complete the file, yield the lines `lines`.
 fn reports_both<H: Abort + AllocGlobal>(
     rt: &H,
     first: Image,
@@ -92,7 +92,7 @@ fn reports_both<H: Abort + AllocGlobal>(
     wants(rt, 1, &mut [Some(first), Some(second)], lines)
 }
 
-/// Fails unless the worked file is complete from the given image and the worked one after it.
+/// Fails unless `first` and the example image after it complete the example file.
 fn completes<H: Abort + AllocGlobal>(rt: &H, first: Image, lines: &str) -> Result<(), Fail> {
     let second = payroll(rt.alloc())?;
     let records = worked_records(rt.alloc(), b"\n")?;
@@ -125,7 +125,7 @@ fn an_empty_file(rt: HostRuntime) -> Result<(), Fail> {
     )
 }
 
-/// The long record is complete from its first volume, between two copies of the second one.
+/// The long record is completed by its first volume between two copies of the second one.
 #[test]
 fn sections_in_any_order(rt: HostRuntime) -> Result<(), Fail> {
     let first = long_first(rt.alloc())?;
@@ -150,7 +150,7 @@ fn sections_that_lack_others(rt: HostRuntime) -> Result<(), Fail> {
     reports_both(&rt, long_first(rt.alloc())?, long_first(rt.alloc())?, lines)
 }
 
-/// How much of the worked image there is, and the report on it.
+/// The number of bytes of the example image, and the report on them.
 const CUTS: &[(usize, &str)] = &[
     (2288, "REEL 1 REEL ENDED IMAGE 1 1884\nAWAITS 1 1 2\n"),
     (1885, "REEL 1 REEL ENDED IMAGE 1 1884\nAWAITS 1 1 2\n"),
@@ -167,7 +167,7 @@ fn reels_that_are_cut_off(rt: HostRuntime) -> Result<(), Fail> {
     completes(&rt, cut(rt.alloc(), 2292)?, lines)
 }
 
-/// Volumes of one block: the labels and the block, and the report on them.
+/// Volumes of one block: their labels, the block, and the report on them.
 const GIVE_NOTHING: &[(&str, &str, &[u8], &str)] = &[
     (
         "HDR1PAYROLL          XYZ00100010001000100 00000 00000 000000",
@@ -234,7 +234,7 @@ fn damaged_copies(rt: HostRuntime) -> Result<(), Fail> {
     )
 }
 
-/// A section that differs from the one that was begun.
+/// A section that differs from the section that was begun yields nothing.
 #[test]
 fn a_section_that_differs(rt: HostRuntime) -> Result<(), Fail> {
     let cut = cut(rt.alloc(), 1884)?;
@@ -244,8 +244,8 @@ fn a_section_that_differs(rt: HostRuntime) -> Result<(), Fail> {
     reports_both(&rt, cut, other, lines)
 }
 
-/// An image that was not opened keeps its number, and none is read after the one that completes the
-/// file.
+/// An image that was not opened keeps its number, and no image is read after the one that completes
+/// the file.
 #[test]
 fn images_that_are_not_read(rt: HostRuntime) -> Result<(), Fail> {
     let image = payroll(rt.alloc())?;
@@ -256,7 +256,7 @@ fn images_that_are_not_read(rt: HostRuntime) -> Result<(), Fail> {
     gives(&rt, Form::Lines, images, lines, records.as_slice())
 }
 
-/// A reader that fails is reported on its line, with the offset of the item that it was in.
+/// A reader that fails is reported on its line, with the offset of the item that was being read.
 #[test]
 fn a_reader_that_fails(rt: HostRuntime) -> Result<(), Fail> {
     let image = payroll(rt.alloc())?;
@@ -269,7 +269,7 @@ fn a_reader_that_fails(rt: HostRuntime) -> Result<(), Fail> {
     wants(&rt, 1, &mut [Some(dribble)], lines)
 }
 
-/// Returns the result of `extract` for the worked file with the given writers.
+/// Returns the result of `extract` for the example file with the writers `out` and `report`.
 fn extract_worked(alloc: Global, out: &mut Narrow, report: &mut Narrow) -> Result<Answer, Fail> {
     let image = payroll(alloc)?;
     let images = &mut [Some(image.bytes.as_slice())];
@@ -279,8 +279,8 @@ fn extract_worked(alloc: Global, out: &mut Narrow, report: &mut Narrow) -> Resul
 /// The report if nothing fails.
 const SAID: &[u8] = b"REEL 1 COMPLETE\nCOMPLETE 25\n";
 
-/// How many bytes the writers of the file and of the report accept, and whether they can be
-/// flushed; and how much is then reported and written.
+/// Two writers, of the file and of the report, each with the number of bytes that it accepts and
+/// whether it can be flushed; then the numbers of bytes written to the report and to the file.
 const NARROW: &[(usize, bool, usize, bool, usize, usize)] = &[
     (100, true, 100, true, 16, 100),
     (2025, false, 100, true, 16, 2025),
@@ -289,7 +289,7 @@ const NARROW: &[(usize, bool, usize, bool, usize, usize)] = &[
     (2025, true, 100, false, 28, 2025),
 ];
 
-/// Writers that fail: the fault, and the bytes written.
+/// If a writer fails, the fault and the bytes written are as expected.
 #[test]
 fn writers_that_fail(rt: HostRuntime) -> Result<(), Fail> {
     for (row, (out_left, out_flushes, left, flushes, told, written)) in NARROW.iter().enumerate() {
@@ -306,7 +306,7 @@ fn writers_that_fail(rt: HostRuntime) -> Result<(), Fail> {
     Ok(())
 }
 
-/// Returns the last block of the last file, from part `part` on.
+/// Returns the last block of the last file, from part `part`.
 fn last_block(part: u32) -> Want {
     Want {
         file: 9999,

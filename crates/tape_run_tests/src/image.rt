@@ -1,9 +1,9 @@
-//! Images, written word by word and label by label.
+//! Images, written item by item and label by label.
 use std::alloc::{AllocError, Global};
 use tape_core::MemorySink;
 use tape_label::Field;
 
-/// An erase gap.
+/// The word of an erase gap.
 pub const GAP: [u8; 4] = [0xFE, 0xFF, 0xFF, 0xFF];
 
 /// The items of a tape, as the bytes of its image.
@@ -24,7 +24,7 @@ pub fn front(bytes: &[u8], count: usize) -> &[u8] {
     }
 }
 
-/// Returns the set of all worked images but the foreign one.
+/// Returns the identifier of the set of all example images but the foreign one.
 pub fn set_id() -> Field<6> {
     Field::of_bytes(*b"ABC001")
 }
@@ -47,13 +47,13 @@ impl Image {
         }
     }
 
-    /// Keeps the first `length` bytes.
+    /// Returns the image truncated to its first `length` bytes.
     pub fn cut(mut self, length: usize) -> Image {
         self.bytes.truncate(length);
         self
     }
 
-    /// A word, least byte first.
+    /// Appends a word, least significant byte first.
     pub fn word(&mut self, word: [u8; 4]) -> Result<(), AllocError> {
         if self.gaps {
             self.bytes.extend_from_slice(&GAP)?;
@@ -65,14 +65,14 @@ impl Image {
         self.word([0, 0, 0, 0])
     }
 
-    /// The second mark of a volume, and the end-of-medium marker.
+    /// Appends the second mark of a volume, and the end-of-medium marker.
     pub fn end(&mut self) -> Result<(), AllocError> {
         self.mark()?;
         self.word([0xFF, 0xFF, 0xFF, 0xFF])
     }
 
-    /// Appends the content between two words with high byte `high`, and a pad byte if its length is
-    /// odd.
+    /// Appends `content` between two words with the high byte `high`, and a pad byte if its length
+    /// is odd.
     fn framed(&mut self, content: &[u8], high: u8) -> Result<(), AllocError> {
         let count = content.len();
         let word = [
@@ -93,17 +93,17 @@ impl Image {
         self.framed(content, 0)
     }
 
-    /// A block that was recorded with an error.
+    /// Appends a block that was recorded with an error.
     pub fn bad(&mut self, content: &[u8]) -> Result<(), AllocError> {
         self.framed(content, 0x80)
     }
 
-    /// A block of 80 characters: the text, padded with spaces.
+    /// Appends a block of 80 characters: `text`, padded with spaces.
     pub fn label(&mut self, text: &str) -> Result<(), AllocError> {
         self.label_of(text.as_bytes(), b' ')
     }
 
-    /// A block of 80 bytes: its beginning, followed by copies of another byte.
+    /// Appends a block of 80 bytes: `front`, followed by copies of `filler`.
     pub fn label_of(&mut self, front: &[u8], filler: u8) -> Result<(), AllocError> {
         let mut label = [filler; 80];
         for (slot, byte) in label.iter_mut().zip(front) {
@@ -112,7 +112,7 @@ impl Image {
         self.block(&label)
     }
 
-    /// Labels up to the mark before the data.
+    /// Appends labels, and the mark before the data.
     pub fn headers(&mut self, labels: &[&str]) -> Result<(), AllocError> {
         for label in labels {
             self.label(label)?;
@@ -120,14 +120,14 @@ impl Image {
         self.mark()
     }
 
-    /// The mark after the data, and labels up to the mark after them.
+    /// Appends the mark after the data, labels, and the mark after them.
     pub fn trailers(&mut self, labels: &[&str]) -> Result<(), AllocError> {
         self.mark()?;
         self.headers(labels)
     }
 
-    /// Appends a block of records of 80 characters, with the numbers `from` to `to`; a bad block
-    /// has the same length as a good one.
+    /// Appends a block of records of 80 characters, numbered from `from` up to but not including
+    /// `to`. A bad block has the same length as a good one.
     pub fn records(&mut self, from: u8, to: u8, good: bool) -> Result<(), AllocError> {
         let mut block = Vec::new(self.alloc);
         for number in from..to {
@@ -154,32 +154,32 @@ pub const VOL1: &str =
 
 pub const HDR1: &str = "HDR1PAYROLL          ABC00100010001000100 00000 00000 000000";
 
-/// Format F, records of 80 characters.
+/// HDR2 of format F, with records of 80 characters.
 pub const HDR2: &str = "HDR2F0080000080                                   00";
 
-/// Returns the worked volume: 25 records in blocks of 10, 10 and 5, in 2,484 bytes. The first data
-/// block begins at 268, the others at 1,076 and 1,884; the closing mark at 2,292.
+/// Returns the example volume, of 2,484 bytes: 25 records in blocks of 10, 10 and 5 records. The
+/// data blocks begin at 268, 1,076 and 1,884, and the closing mark is at 2,292.
 pub fn payroll(alloc: Global) -> Result<Image, AllocError> {
     payroll_on(Image::new(alloc), TRAILERS)
 }
 
-/// Returns the worked volume with an erase gap before each of its words.
+/// Returns the example volume with an erase gap before each of its words.
 pub fn payroll_with_gaps(alloc: Global) -> Result<Image, AllocError> {
     payroll_on(Image::with_gaps(alloc), TRAILERS)
 }
 
-/// The trailer labels of the worked volume.
+/// The trailer labels of the example volume.
 const TRAILERS: &[&str] = &[
     EOF_THREE,
     "EOF2F0080000080                                   00",
 ];
 
-/// Returns the worked volume with the given trailer labels.
+/// Returns the example volume with the trailer labels `trailers`.
 pub fn payroll_with(alloc: Global, trailers: &[&str]) -> Result<Image, AllocError> {
     payroll_on(Image::new(alloc), trailers)
 }
 
-/// Appends the worked volume with the given trailer labels to an empty image.
+/// Appends the example volume with the trailer labels `trailers` to an empty image.
 fn payroll_on(mut image: Image, trailers: &[&str]) -> Result<Image, AllocError> {
     image.headers(&[VOL1, HDR1, HDR2])?;
     image.records(0, 10, true)?;
@@ -190,8 +190,8 @@ fn payroll_on(mut image: Image, trailers: &[&str]) -> Result<Image, AllocError> 
     Ok(image)
 }
 
-/// Returns 25 records in five blocks of 5, with block `bad` unreadable (5 means none) and the given
-/// trailer.
+/// Returns 25 records in five blocks of 5 records, with block `bad` unreadable (5 means none) and
+/// the trailer label `trailer`.
 pub fn five_blocks(alloc: Global, bad: u8, trailer: &str) -> Result<Image, AllocError> {
     let mut image = Image::new(alloc);
     image.headers(&[VOL1, HDR1, HDR2])?;
@@ -214,17 +214,19 @@ pub fn blank(alloc: Global) -> Result<Image, AllocError> {
     Ok(image)
 }
 
-/// The trailers of three and of five blocks.
+/// The trailer labels of three and of five blocks.
 pub const EOF_THREE: &str = "EOF1PAYROLL          ABC00100010001000100 00000 00000 000003";
 
 pub const EOF_FIVE: &str = "EOF1PAYROLL          ABC00100010001000100 00000 00000 000005";
 
-/// Returns the record of 290 bytes in blocks of 18: byte i is `a` and the rest of i by 26.
+/// Returns byte number `place` of the long record, which has 290 bytes in blocks of 18: the letter
+/// with the number `place` modulo 26, where `a` is 0.
 pub fn long_byte(place: usize) -> u8 {
     b'a' + (place % 26) as u8
 }
 
-/// Returns a block of 18 bytes with 13 bytes of the long record, from an offset on.
+/// Returns a block of 18 bytes with 13 bytes of the long record, which begin at offset `from` of
+/// the record.
 fn segment(indicator: u8, from: usize) -> [u8; 18] {
     let mut block = *b"?0018^^^^^^^^^^^^^";
     block[0] = indicator;
@@ -234,8 +236,8 @@ fn segment(indicator: u8, from: usize) -> [u8; 18] {
     block
 }
 
-/// Returns the first volume of the long record: 22 blocks with 286 of its bytes, and an end of
-/// volume; 1,032 bytes. Its first data block begins at 268, each takes 26 bytes, and the closing
+/// Returns the first volume of the long record: 22 blocks with 286 of its bytes, and end-of-volume
+/// labels; 1,032 bytes. Its first data block begins at 268, each occupies 26 bytes, and the closing
 /// mark is at 840.
 pub fn long_first(alloc: Global) -> Result<Image, AllocError> {
     let mut image = Image::new(alloc);
@@ -256,7 +258,7 @@ pub fn long_first(alloc: Global) -> Result<Image, AllocError> {
     Ok(image)
 }
 
-/// Returns the second volume: one block with the last 4 bytes, and the end of the file; 486 bytes.
+/// Returns the second volume: one block with the last 4 bytes, and end-of-file labels; 486 bytes.
 pub fn long_second(alloc: Global) -> Result<Image, AllocError> {
     let mut image = Image::new(alloc);
     image.headers(&[

@@ -1,4 +1,4 @@
-//! Images are closed, each before the next one is opened.
+//! Tests that each image is closed before the next one is opened.
 ghost use Rattle.std.specs.Prelude.{⊤, length};
 
 use crate::image::set_id;
@@ -32,14 +32,14 @@ impl Read for Lent<'_> {
     }
 }
 
-/// Reels that count how many of them are in use.
+/// A source of reels that counts how many of them are in use.
 #[derive(Drop)]
 struct Lender<'a> {
     reels: &'a [&'a [u8]],
     out: &'a Cell<u8>,
-    /// How many were lent.
+    /// The number of reels that were lent.
     lent: u8,
-    /// How many of them were taken while another one was in use.
+    /// The number of reels that were lent while another one was in use.
     held: u8,
 }
 
@@ -68,7 +68,7 @@ impl<'a> ImageSource<Lent<'a>> for Lender<'a> {
     }
 }
 
-/// What reads images.
+/// A function that reads images.
 #[derive(Clone, Copy, Debug)]
 enum Engine {
     Check,
@@ -77,7 +77,7 @@ enum Engine {
     Extract,
 }
 
-/// Reads the two images of a list.
+/// Reads the images of `shelf`.
 fn read(alloc: Global, engine: Engine, shelf: &mut Lender<'_>) -> Result<(), Fail> {
     let mut report = Vec::new(alloc);
     match engine {

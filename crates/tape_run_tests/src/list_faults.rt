@@ -1,4 +1,4 @@
-//! Listings of images that cannot be read to the end, and of devices that fail.
+//! Tests of listings of images that cannot be read to the end, and of devices that fail.
 use crate::devices::{Dribble, FailsOnce, Narrow};
 use crate::image::{Image, payroll};
 use crate::listing::WORKED;
@@ -16,7 +16,8 @@ fn fault_at(place: u64, cause: ImageCause) -> ListFault {
     ListFault::Image(ImageFault { place, cause })
 }
 
-/// Fails unless listing the reader ends with the fault, after `lines` lines of the worked listing.
+/// Fails unless listing the reader ends with `fault`, after the first `lines` lines of the example
+/// listing.
 fn check<H: Abort + AllocGlobal, R: Read>(
     rt: &H,
     reader: &mut R,
@@ -30,7 +31,7 @@ fn check<H: Abort + AllocGlobal, R: Read>(
     assert!(rt; told && answer == Err(fault), "{case}: {answer:?}");
 }
 
-/// Returns the first `count` lines of the worked listing.
+/// Returns the first `count` lines of the example listing.
 fn first_lines(count: usize) -> &'static [u8] {
     let mut left = count;
     let mut length = 0;
@@ -43,7 +44,7 @@ fn first_lines(count: usize) -> &'static [u8] {
     WORKED.as_bytes().get(..length).unwrap_or(&[])
 }
 
-/// Returns the worked image with the given bytes at offset `place`.
+/// Returns the example image with `bytes` at offset `place`.
 fn worked_with(alloc: Global, place: usize, bytes: &[u8]) -> Result<Image, AllocError> {
     let mut image = payroll(alloc)?;
     for (slot, byte) in image.bytes.iter_mut().skip(place).zip(bytes) {
@@ -62,7 +63,7 @@ fn cut_images(rt: HostRuntime) -> Result<(), Fail> {
     Ok(())
 }
 
-/// Offsets, the bytes to put there, and the resulting fault. The first data block follows three
+/// Offsets, the bytes to write there, and the resulting fault. The first data block follows three
 /// labels and a mark.
 const DAMAGED: &[(usize, &[u8], ImageCause)] = &[
     (1072, &[0x21], ImageCause::LengthsDiffer),
@@ -88,7 +89,7 @@ fn damaged_words(rt: HostRuntime) -> Result<(), Fail> {
     Ok(())
 }
 
-/// Where the items of the worked image begin, and where it ends.
+/// The offsets at which the items of the example image begin, and at which it ends.
 const STARTS: [usize; 14] = [
     0, 88, 176, 264, 268, 1076, 1884, 2292, 2296, 2384, 2472, 2476, 2480, 2484,
 ];
@@ -104,8 +105,8 @@ fn under_way(given: usize) -> (u64, usize) {
     found
 }
 
-/// Fails unless a reader that returns `given` bytes of the image and then fails is listed
-/// correctly.
+/// Fails unless the listing of a reader that returns `given` bytes of the image and then fails is
+/// correct.
 fn fails_after<H: Abort + AllocGlobal>(rt: &H, image: &Image, given: usize, kind: ErrorKind) {
     let mut reader = Dribble {
         bytes: image.bytes.as_slice(),
@@ -130,7 +131,8 @@ fn a_reader_fails(rt: HostRuntime) -> Result<(), Fail> {
     Ok(())
 }
 
-/// If the writer accepts `left` bytes and fails, these are a prefix of the listing.
+/// Fails unless a writer that accepts `left` bytes and then fails has accepted a prefix of the
+/// listing.
 fn stops_at<H: Abort + AllocGlobal>(rt: &H, image: &Image, left: usize, kind: Option<ErrorKind>) {
     let mut out = Narrow::failing(rt.alloc(), left, kind, true);
     let answer = list_to(rt.alloc(), &mut image.bytes.as_slice(), &mut out);
@@ -152,7 +154,8 @@ fn a_writer_fails(rt: HostRuntime) -> Result<(), Fail> {
     Ok(())
 }
 
-/// The writer fails at line `good`.
+/// Fails unless a listing whose writer fails at line `good` consists of the lines before it, and
+/// does not call the writer again.
 fn fails_once<H: Abort + AllocGlobal>(rt: &H, image: &Image, good: usize, kind: Option<ErrorKind>) {
     let mut out = FailsOnce::new(rt.alloc(), good, kind);
     let answer = list_to(rt.alloc(), &mut image.bytes.as_slice(), &mut out);
@@ -172,7 +175,7 @@ fn a_writer_fails_once(rt: HostRuntime) -> Result<(), Fail> {
     Ok(())
 }
 
-/// If a write failed, nothing was read after the item whose line it was.
+/// If a write failed, nothing was read after the item on the line being written.
 #[test]
 fn what_was_read_when_a_write_failed(rt: HostRuntime) -> Result<(), Fail> {
     let worked = payroll(rt.alloc())?;
@@ -191,8 +194,8 @@ const CUT_OFF: Result<(), ListFault> = Err(ListFault::Image(ImageFault {
     cause: ImageCause::Truncated,
 }));
 
-/// How much of the worked image there is, how many lines that has, whether the writer can be
-/// flushed, and whether the result is a failed flush instead of the fault of the image.
+/// The number of bytes of the example image, the number of their lines, whether the writer can be
+/// flushed, and the result, which is either that of the image or a failed flush.
 const FLUSHES: &[(usize, usize, bool, Result<(), ListFault>)] = &[
     (2484, 13, true, Ok(())),
     (2484, 13, false, NOT_WRITTEN),
@@ -200,8 +203,8 @@ const FLUSHES: &[(usize, usize, bool, Result<(), ListFault>)] = &[
     (1885, 6, false, NOT_WRITTEN),
 ];
 
-/// The last flush fails, at the end of the medium and at a fault of the image, and is then reported
-/// instead of that fault.
+/// If the last flush fails, at the end of the medium or at a fault of the image, that is reported
+/// instead of the fault.
 #[test]
 fn the_last_flush(rt: HostRuntime) -> Result<(), Fail> {
     for (count, lines, flushes, wanted) in FLUSHES {
@@ -214,7 +217,7 @@ fn the_last_flush(rt: HostRuntime) -> Result<(), Fail> {
     Ok(())
 }
 
-/// A fault is located after the gaps before it.
+/// The offset of a fault is that after the gaps before it.
 #[test]
 fn a_fault_behind_gaps(rt: HostRuntime) -> Result<(), Fail> {
     let mut image = Image::with_gaps(rt.alloc());

@@ -1,11 +1,11 @@
-//! The line about each label.
+//! Tests of the line about each label.
 use crate::image::Image;
 use std::alloc::{AllocError, Global};
 use std::process::Abort;
 use std::test::Fail;
 use tape_run::list_to;
 
-/// Fails unless an image of one label has this line, after its number.
+/// Fails unless the listing of an image with one label has the line `line`, after its number.
 fn check<H: Abort + AllocGlobal>(rt: &H, image: &Image, line: &str) -> Result<(), Fail> {
     let mut out = Vec::new(rt.alloc());
     list_to(rt.alloc(), &mut image.bytes.as_slice(), &mut out)?;
@@ -14,14 +14,14 @@ fn check<H: Abort + AllocGlobal>(rt: &H, image: &Image, line: &str) -> Result<()
     Ok(())
 }
 
-/// Returns an image of one label: its beginning, followed by another byte.
+/// Returns an image of one label: `front`, followed by copies of `filler`.
 fn image_of(alloc: Global, front: &[u8], filler: u8) -> Result<Image, AllocError> {
     let mut image = Image::new(alloc);
     image.label_of(front, filler)?;
     Ok(image)
 }
 
-/// Fails unless a label with this beginning, filled with another byte, has this line.
+/// Fails unless a label that begins with `front` and is filled with `filler` has the line `line`.
 fn reads_as<H: Abort + AllocGlobal>(
     rt: &H,
     front: &[u8],

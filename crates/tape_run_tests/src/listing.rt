@@ -1,4 +1,4 @@
-//! Whole listings.
+//! Tests of whole listings.
 use crate::devices::{Dribble, Tail, Zeros};
 use crate::image::{GAP, Image, payroll, payroll_with_gaps};
 use std::alloc::{AllocError, Global};
@@ -7,7 +7,7 @@ use std::process::Abort;
 use std::test::Fail;
 use tape_run::list_to;
 
-/// The thirteen lines of the worked image.
+/// The thirteen lines of the example image.
 pub const WORKED: &str = "000001 VOL1 ABC001
 000002 HDR1 PAYROLL           ABC001 0001 0001
 000003 HDR2 F 00800 00080 00
@@ -23,7 +23,7 @@ pub const WORKED: &str = "000001 VOL1 ABC001
 END MARKED
 ";
 
-/// Fails unless listing the reader succeeds with these lines. The rest of the reader is unread.
+/// Fails unless listing `reader` succeeds with the lines `lines`.
 fn check<H: Abort + AllocGlobal, R: Read>(rt: &H, reader: &mut R, lines: &str) -> Result<(), Fail> {
     let mut out = Vec::new(rt.alloc());
     list_to(rt.alloc(), reader, &mut out)?;
@@ -55,7 +55,7 @@ fn one_byte_a_call(rt: HostRuntime) -> Result<(), Fail> {
     check(&rt, &mut reader, WORKED)
 }
 
-/// No bytes; an end-of-medium marker, a mark and a gap, each alone.
+/// Images of at most one word, and their listings.
 const LITTLE: &[(&[u8], &str)] = &[
     (&[], "END PHYSICAL\n"),
     (&[0xFF; 4], "END MARKED\n"),

@@ -1,4 +1,4 @@
-//! Files of one volume, for which its image is opened once.
+//! Tests of recovering the files of one volume, whose image is opened only once.
 use crate::devices::Narrow;
 use crate::image::{HDR1, HDR2, Image, VOL1, set_id};
 use crate::now::Name;
@@ -48,8 +48,8 @@ fn extracted<'a>(
     Ok((answer, first))
 }
 
-/// Fails unless the files of the volume, recovered in this order from a source that yields its
-/// image once, have these outcomes.
+/// Fails unless the files `files` of the volume, recovered in this order from a source that yields
+/// its image once, have the outcomes `records`.
 fn come_to<H: Abort + AllocGlobal>(
     rt: &H,
     files: &[u16],

@@ -1,4 +1,4 @@
-//! A record that is longer than any buffer, into a sink that stores no byte of it.
+//! Tests of a record longer than any buffer, read into a sink that stores none of its bytes.
 use crate::image::{HDR1, Image, VOL1, front, long_byte, set_id};
 use crate::readers::Counting;
 use std::alloc::{AllocError, Global};
@@ -6,7 +6,7 @@ use std::test::Fail;
 use tape_core::PartSink;
 use tape_run::{Session, Step, run};
 
-/// Returns a block with one segment: its control word, and bytes of the long record.
+/// Returns a block with one segment: `control`, and `count` bytes of the long record.
 fn segment(alloc: Global, control: &[u8; 5], count: usize) -> Result<Vec<u8>, AllocError> {
     let mut block = Vec::new(alloc);
     block.extend_from_slice(control)?;
@@ -16,7 +16,7 @@ fn segment(alloc: Global, control: &[u8; 5], count: usize) -> Result<Vec<u8>, Al
     Ok(block)
 }
 
-/// Adds a number of blocks with the same segment.
+/// Adds `times` blocks with the same segment.
 fn add_blocks(
     image: &mut Image,
     times: usize,
@@ -30,8 +30,8 @@ fn add_blocks(
     Ok(())
 }
 
-/// Returns one record of 3,000,000 bytes in format S: 301 blocks, of 9,999 bytes but the last,
-/// whose 1,800 bytes of the record complete the 300 times 9,994 before.
+/// Returns one record of 3,000,000 bytes in format S, in 301 blocks: 300 blocks of 9,999 bytes with
+/// 9,994 bytes of the record each, and a last block with the remaining 1,800 bytes.
 fn image(alloc: Global) -> Result<Image, AllocError> {
     let mut image = Image::new(alloc);
     image.headers(&[
@@ -56,7 +56,7 @@ fn three_million_bytes(rt: HostRuntime) -> Result<(), Fail> {
         refused: 0,
     };
     let mut session = Session::new(rt.alloc(), set_id(), 1, sink)?;
-    // Truncated in the middle of a block, followed by the complete volume.
+    // The first reel is truncated in the middle of a block; the second is the complete volume.
     let whole = image.bytes.as_slice();
     run(
         &mut session,

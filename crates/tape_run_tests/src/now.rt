@@ -1,4 +1,4 @@
-//! Files whose records are written as they come, to writers and names that fail.
+//! Tests of files whose records are written as they are read, to writers and names that fail.
 
 ghost use Rattle.std.specs.Prelude.{None};
 
@@ -32,9 +32,9 @@ impl Place<Narrow> for Name {
     }
 }
 
-/// How much of the worked image there is, how many bytes of its records are accepted, whether they
-/// can be flushed, and whether their name is free; and the result: what is returned and reported,
-/// and how many bytes have the name.
+/// The number of bytes of the example image, the number of bytes of its records that the output
+/// accepts, whether it can be flushed, and whether its name is free; then the result, the report,
+/// and the number of bytes of the file that has the name.
 type Row<'a> = (
     usize,
     usize,
@@ -45,7 +45,7 @@ type Row<'a> = (
     Option<usize>,
 );
 
-/// The third block is missing.
+/// The result if the third block is missing.
 const THIRD: Option<Want> = Some(Want {
     file: 1,
     sect: 1,
@@ -53,7 +53,7 @@ const THIRD: Option<Want> = Some(Want {
     part: 0,
 });
 
-/// A record could not be written when the parts of its block arrived.
+/// The result if a record could not be written when the parts of its block arrived.
 const REFUSED: Result<Option<Want>, EngineFault> = Err(EngineFault::Run(RunFault::Sink(
     SinkFault::Device,
 )));
@@ -85,7 +85,7 @@ const ROWS: &[Row<'_>] = &[
     (2484, 2025, true, false, FAILED, "REEL 1 COMPLETE\n", None),
 ];
 
-/// Returns whether the result is that of the row.
+/// Returns whether the result is that of `row`.
 fn comes_to(alloc: Global, row: &Row<'_>) -> Result<bool, Fail> {
     let (length, left, flushes, is_free, wanted, lines, there) = row;
     let image = cut(alloc, *length)?;

@@ -1,4 +1,4 @@
-//! Reels in order, in any order, and reels that yield nothing.
+//! Tests of reels in order, in any order, and of reels that yield nothing.
 use crate::image::{HDR2, Image, VOL1};
 use crate::scripts::{Do, Reel, Script, each_goes};
 use std::alloc::{AllocError, Global};
@@ -34,7 +34,7 @@ const SCRIPTS: &[Script<'_>] = &[
             Do::HoldsLong(23, None),
         ],
     ),
-    // Reading the first volume again yields nothing again.
+    // Reading the first volume again yields nothing more.
     (
         "the second volume first",
         1,
@@ -101,7 +101,7 @@ fn reels_in_any_order(rt: HostRuntime) -> Result<(), Fail> {
     each_goes(&rt, SCRIPTS)
 }
 
-/// Returns a volume whose identifier is that of the worked volume, and whose set identifier is not.
+/// Returns a volume with the identifier of the example volume, but another set identifier.
 pub fn foreign(alloc: Global) -> Result<Image, AllocError> {
     let mut image = Image::new(alloc);
     image.headers(&[

@@ -1,4 +1,4 @@
-//! Listings with offsets.
+//! Tests of listings with offsets.
 use crate::devices::Narrow;
 use crate::image::{Image, front};
 use std::alloc::{AllocError, Global};
@@ -7,8 +7,8 @@ use std::test::Fail;
 use tape_image::{ImageCause, ImageFault};
 use tape_run::{ListFault, list_places_to};
 
-/// Returns a mark, a bad block of 7 bytes, a block of 3, a mark and the end-of-medium marker, with
-/// a gap before each.
+/// Returns a mark, a bad block of 7 bytes, a block of 3 bytes, a mark and the end-of-medium marker,
+/// with a gap before each.
 fn little(alloc: Global) -> Result<Image, AllocError> {
     let mut image = Image::with_gaps(alloc);
     image.mark()?;
@@ -43,7 +43,8 @@ const LISTED: &[(usize, Result<(), ListFault>, &str)] = &[
     (43, CUT_OFF, "4 4 000001 MARK\n8 20 000002 BAD\n"),
 ];
 
-/// A writer that accepts `room` bytes contains a prefix of the lines.
+/// Fails unless the listing has the result `answer`, and a writer that accepts `room` bytes has
+/// accepted a prefix of `lines`.
 fn is_listed<H: Abort + AllocGlobal>(
     rt: &H,
     bytes: &[u8],

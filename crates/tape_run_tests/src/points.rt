@@ -1,4 +1,4 @@
-//! Checkpoints, rollbacks and resumed sessions.
+//! Tests of checkpoints, rollbacks and resumed sessions.
 use crate::image::{front, holds_long, long_first, long_second, set_id};
 use crate::scripts::{Do, Reel, Script, each_goes};
 use crate::sessions::begun;
@@ -10,19 +10,19 @@ use tape_set::Position;
 
 const TWO: &[Step] = &[Step::Reel, Step::Reel];
 
-/// Step 1 rolls back to a checkpoint that was dropped.
+/// The result if step 1 rolls back to a checkpoint that was dropped.
 const NO_NOTE: Stopped = Stopped {
     step: 1,
     fault: RunFault::NoSuchPoint,
 };
 
-/// A third reel is requested in step 2, and there are two readers.
+/// The result if a third reel is requested in step 2, and there are two readers.
 const NO_THIRD_REEL: Stopped = Stopped {
     step: 2,
     fault: RunFault::TooFewReels,
 };
 
-/// The same test for a second reel.
+/// The result if a second reel is requested in step 1, and there is one reader.
 const NO_SECOND_REEL: Stopped = Stopped {
     step: 1,
     fault: RunFault::TooFewReels,
@@ -73,7 +73,7 @@ fn notes_and_restarts(rt: HostRuntime) -> Result<(), Fail> {
     each_goes(&rt, SCRIPTS)
 }
 
-/// Reads the given bytes of the reel, and saves a checkpoint of the position.
+/// Reads `bytes` of the reel, and returns a checkpoint of the position, with the sink.
 fn stopped(alloc: Global, bytes: &[u8]) -> Result<(Checkpoint, MemorySink), Fail> {
     let mut session = begun(alloc, 1)?;
     run(&mut session, &[Step::Reel], &mut [bytes], &mut [])?;
@@ -88,7 +88,7 @@ const STOPPED: Position = Position::Awaits {
     part: 0,
 };
 
-/// Returns whether a session that was stopped there continues to the end of both volumes.
+/// Returns whether a session that was stopped at `STOPPED` continues to the end of both volumes.
 fn goes_on(alloc: Global, first: &[u8], second: &[u8]) -> Result<bool, Fail> {
     let (point, sink) = stopped(alloc, front(first, 500))?;
     let stood = (point.position, point.begun, point.staged) == (STOPPED, true, 8 * 18);
@@ -112,7 +112,7 @@ fn is_whole(alloc: Global, first: &[u8], second: &[u8]) -> Result<bool, CoreFaul
     Ok(made == Ok(()) && session.want().is_none() && holds_long(session.sink(), 23))
 }
 
-/// Returns whether the error is a missing reel, and something of the file is missing.
+/// Returns whether the error is a missing second reel, and something of the file is missing.
 fn lacks_a_reel(alloc: Global, first: &[u8]) -> Result<bool, CoreFault> {
     let (session, made) = read_file(alloc, set_id(), 1, TWO, &mut [first])?;
     Ok(made == Err(NO_SECOND_REEL) && session.want().is_some())

@@ -9,7 +9,7 @@ use std::io::{Error, ErrorKind, Read};
 use tape_blocks::Part;
 use tape_core::{Checkpoint, PartSink, SinkFault};
 
-/// Returns its bytes, and then fails.
+/// A reader that returns its bytes, and then fails.
 #[derive(Drop)]
 pub struct Failing<'a>(pub &'a [u8]);
 
@@ -22,7 +22,7 @@ impl Read for Failing<'_> {
     }
 }
 
-/// Counts parts and their weight, and stores none: it contains no list of parts.
+/// A sink that counts parts and their weight, and stores none: it contains no list of parts.
 #[derive(Drop)]
 pub struct Counting {
     pub parts: u64,

@@ -1,4 +1,4 @@
-//! Sinks that refuse a call.
+//! Tests of sinks that refuse a call.
 use crate::image::{
     HDR1, Image, VOL1, front, holds_long, holds_records, long_first, long_second, payroll, set_id,
 };
@@ -8,13 +8,13 @@ use tape_core::{CoreFault, MemorySink, PartSink, Refusing, SinkFault};
 use tape_run::{RunFault, Session, Step, Stopped, run};
 use tape_set::Want;
 
-/// Returns a session over a sink in memory that refuses call `call`, counted from 0.
+/// Returns a session over an in-memory sink that refuses call `call`, counted from 0.
 fn refusing(alloc: Global, call: usize) -> Result<Session<Refusing<MemorySink>>, CoreFault> {
     let sink = Refusing::new(MemorySink::new(alloc), call);
     Session::new(alloc, set_id(), 1, sink)
 }
 
-/// Returns a part of a block of section 1 of file 1.
+/// Returns part `part` of block `block` of section 1 of file 1.
 fn part_of(block: u32, part: u32) -> Option<Want> {
     Some(Want {
         file: 1,
@@ -24,10 +24,10 @@ fn part_of(block: u32, part: u32) -> Option<Want> {
     })
 }
 
-/// The device of the sink failed.
+/// The fault if the device of the sink failed.
 const FAILED: RunFault = RunFault::Sink(SinkFault::Device);
 
-/// The device of the sink failed in step `step`, counted from 0.
+/// Returns the result if the device of the sink failed in step `step`, counted from 0.
 fn failed_at(step: usize) -> Result<(), Stopped> {
     Err(Stopped {
         step,
@@ -37,13 +37,13 @@ fn failed_at(step: usize) -> Result<(), Stopped> {
 
 const ONE: &[Step] = &[Step::Reel];
 
-/// Returns whether the sink contains `count` of the worked records, and the session expects `want`
+/// Returns whether the sink contains `count` of the example records, and the session expects `want`
 /// next.
 fn has(session: &Session<Refusing<MemorySink>>, count: u8, want: Option<Want>) -> bool {
     session.want() == want && holds_records(session.sink().inner(), count)
 }
 
-/// Returns whether the reel stops at the put that is refused, and completes the file when it is
+/// Returns whether the reel stops when part `refused` is refused, and completes the file when it is
 /// read again.
 fn completes(alloc: Global, whole: &[u8], refused: u8) -> Result<bool, Fail> {
     let mut session = refusing(alloc, refused as usize)?;
@@ -67,7 +67,7 @@ fn each_put_refused_in_turn(rt: HostRuntime) -> Result<(), Fail> {
     Ok(())
 }
 
-/// Does the same for both volumes of the long record, the first of which has 22 parts.
+/// Does what `completes` does for both volumes of the long record, the first of which has 22 parts.
 fn completes_long(alloc: Global, volumes: [&[u8]; 2], refused: usize) -> Result<bool, Fail> {
     let mut session = refusing(alloc, refused)?;
     let steps = [Step::Reel, Step::Reel];
@@ -88,8 +88,8 @@ fn each_put_of_a_long_record_refused_in_turn(rt: HostRuntime) -> Result<(), Fail
     Ok(())
 }
 
-/// Two readings of the worked volume, the first of them cut, with a checkpoint before each, and a
-/// third reading after a rollback.
+/// Two readings of the example volume, of which the first is truncated, with a checkpoint before
+/// each, and a third reading after a rollback.
 const SCRIPT: &[Step] = &[
     Step::Save,
     Step::Reel,
@@ -99,12 +99,12 @@ const SCRIPT: &[Step] = &[
     Step::Reel,
 ];
 
-/// How many calls of the sink the script makes: 1 for each save and the rollback, 20 puts, 5 puts,
-/// and 25 again.
+/// The number of calls to the sink in the script: 1 for each save and the rollback, and 20, 5 and
+/// again 25 for parts.
 const CALLS: usize = 53;
 
-/// Returns how the script ends if call `call` is refused: in the step that makes it. In a rollback
-/// the sink returns Failed.
+/// Returns how the script ends if call `call` is refused: in the step that makes it. A refused
+/// rollback returns `Failed`.
 fn end_at(call: usize) -> Result<(), Stopped> {
     match call {
         0 => failed_at(0),
@@ -121,8 +121,7 @@ fn end_at(call: usize) -> Result<(), Stopped> {
 }
 
 /// Returns whether the script stops in the step of the refused call, and one more reel completes
-/// the file: the sink contains the parts before the position, and nothing is put twice. After the
-/// last call the file is complete.
+/// the file, with each part stored once. If no call is refused, the script completes the file.
 fn completes_script(alloc: Global, whole: &[u8], refused: usize) -> Result<bool, Fail> {
     let mut session = refusing(alloc, refused)?;
     let mut reels = [front(whole, 1884), whole, whole];
@@ -145,7 +144,7 @@ fn each_call_of_a_script_refused_in_turn(rt: HostRuntime) -> Result<(), Fail> {
     Ok(())
 }
 
-/// Saves, without returning the checkpoint.
+/// Saves, and discards the checkpoint.
 fn save(session: &mut Session<Refusing<MemorySink>>) -> Result<(), RunFault> {
     session.save()?;
     Ok(())
@@ -164,7 +163,7 @@ fn is_refused(session: &mut Session<Refusing<MemorySink>>) -> bool {
 fn stands_still(alloc: Global, whole: &[u8]) -> Result<bool, Fail> {
     let mut session = refusing(alloc, 20)?;
     run(&mut session, ONE, &mut [front(whole, 1884)], &mut [])?;
-    // The 21st call is the save's.
+    // The save makes the 21st call.
     let refused = is_refused(&mut session);
     save(&mut session)?;
     session.restart(0)?;
@@ -178,7 +177,7 @@ fn refused_saves_and_restarts_leave_the_session(rt: HostRuntime) -> Result<(), F
     Ok(())
 }
 
-/// Format D: the records `AB` and the empty one in one block.
+/// Returns a volume of format D with the record `AB` and an empty one in one block.
 fn two_records(alloc: Global) -> Result<Image, AllocError> {
     let mut image = Image::new(alloc);
     image.headers(&[
@@ -192,8 +191,8 @@ fn two_records(alloc: Global) -> Result<Image, AllocError> {
     Ok(image)
 }
 
-/// Returns whether the session expects `want`, and the sink contains `parts` parts with this
-/// weight.
+/// Returns whether the session expects `want`, and the sink contains `parts` parts of weight
+/// `weight`.
 fn weighs(
     session: &Session<Refusing<MemorySink>>,
     want: Option<Want>,
@@ -204,8 +203,8 @@ fn weighs(
     (session.want(), sink.inner().count(), sink.weight()) == (want, parts, weight)
 }
 
-/// Returns whether a refused second part of a block is put when the reel is read again, and the
-/// first part is not.
+/// Returns whether a second part that was refused is stored when the reel is read again, and the
+/// first part is not stored again.
 fn goes_on_inside(alloc: Global, whole: &[u8]) -> Result<bool, Fail> {
     let mut session = refusing(alloc, 1)?;
     let failed = run(&mut session, ONE, &mut [whole], &mut []) == failed_at(0);

@@ -1,4 +1,4 @@
-//! Files recovered in several passes over the images.
+//! Tests of files recovered in several passes over the images.
 ghost use Rattle.std.specs.Prelude.{⊤, length};
 
 use crate::extract::shelf_of;
@@ -11,7 +11,7 @@ use tape_blocks::Form;
 use tape_core::MemorySink;
 use tape_run::{ImageSource, Session, extract_in_passes};
 
-/// Reels, each of which is returned as often as it is mounted.
+/// A source of reels, each of which is returned as often as it is mounted.
 #[derive(Drop)]
 struct Kept<'a> {
     reels: &'a [&'a [u8]],
@@ -34,7 +34,7 @@ impl<'a> ImageSource<&'a [u8]> for Kept<'a> {
     }
 }
 
-/// Returns the worked volume, with its first or its second block unreadable.
+/// Returns the example volume, with its first or its second block unreadable.
 fn bad_at(alloc: Global, bad: u8) -> Result<Image, AllocError> {
     volume(
         alloc,
@@ -42,7 +42,7 @@ fn bad_at(alloc: Global, bad: u8) -> Result<Image, AllocError> {
     )
 }
 
-/// Fails unless a session with a checkpoint reports these lines over the reels, and writes `length`
+/// Fails unless a session with a checkpoint reports `lines` over `reels`, and writes `length`
 /// bytes.
 fn gives<H: Abort + AllocGlobal>(
     rt: &H,
@@ -66,7 +66,7 @@ const VOLUMES: &str = "REEL 1 LATER SECTION\nREEL 2 SECTION DONE\nREEL 3 COMPLET
 
 const ALONE: &str = "REEL 1 BAD ITEM\nREEL 2 BAD ITEM\nAWAITS 1 1 1\n";
 
-/// The second reel has one block less, and the session rolls back in each pass.
+/// The report if the second reel has one block less: the session rolls back in each pass.
 const DOUBT: &str = "REEL 1 BAD ITEM\nREEL 2 BLOCK COUNT 3 2\nREEL 3 BAD ITEM
 REEL 4 BLOCK COUNT 3 2\nAWAITS 1 1 1\n";
 

@@ -1,4 +1,4 @@
-//! `salvage` on images without HDR1, and on images whose second reading fails.
+//! Tests of `salvage` on images without HDR1, and on images whose second reading fails.
 ghost use Rattle.std.specs.Prelude.{⊤};
 
 use crate::devices::Narrow;
@@ -11,8 +11,8 @@ use std::test::Fail;
 use tape_blocks::Form;
 use tape_run::{Content, ImageSource, SalvageTask, salvage_to};
 
-/// One image, whose reader returns one text the first time and another one from then on, and then
-/// fails.
+/// A source of one image. Its reader returns `first` the first time and `again` from then on, and
+/// then fails.
 #[derive(Drop)]
 struct Twice<'a> {
     first: &'a [u8],
@@ -36,9 +36,9 @@ impl<'a> ImageSource<Failing<'a>> for Twice<'a> {
     }
 }
 
-/// How many bytes of the worked image are read again before its reader fails; and then: whether
-/// nothing is missing, the report, and how many bytes are written. Its three blocks begin at 268,
-/// 1076 and 1884, and end at 2292.
+/// The number of bytes of the example image that are read again before its reader fails; whether
+/// nothing is missing, the report, and the number of bytes written. The three blocks of the image
+/// begin at 268, 1076 and 1884, and end at 2292.
 const ROWS: &[(usize, bool, &str, usize)] = &[
     (0, false, "SECTION 1 1 3\nGAP 1 0 - 0\nSALVAGED 0\n", 0),
     (268, false, "SECTION 1 1 3\nGAP 1 0 - 0\nSALVAGED 0\n", 0),
@@ -58,9 +58,9 @@ const ROWS: &[(usize, bool, &str, usize)] = &[
     (2484, true, "SECTION 1 1 3\nCOMPLETE 25\n", 2025),
 ];
 
-/// Which bytes of the worked image are changed, and to what; and then: whether nothing is missing,
-/// the report, and how many bytes are written. HDR1 is at 88, HDR2 at 176, EOF1 at 2296, EOF2 at
-/// 2384; a block whose length words end with 0x80 cannot be read.
+/// The bytes of the example image that are changed; whether nothing is missing, the report, and the
+/// number of bytes written. HDR1 is at 88, HDR2 at 176, EOF1 at 2296, EOF2 at 2384. A block whose
+/// length words end with 0x80 cannot be read.
 const CHANGED: &[(&[(usize, u8)], bool, &str, usize)] = &[
     // Without HDR1 the section is found by its EOF1.
     (
@@ -69,7 +69,7 @@ const CHANGED: &[(&[(usize, u8)], bool, &str, usize)] = &[
         "SECTION 1 1 3\nCOMPLETE 25\n",
         2025,
     ),
-    // Neither HDR1 nor HDR2: the form is that of EOF2.
+    // Without HDR1 and HDR2, the form is that of EOF2.
     (
         &[(91, 128), (175, 128), (179, 128), (263, 128)],
         true,
@@ -83,14 +83,14 @@ const CHANGED: &[(&[(usize, u8)], bool, &str, usize)] = &[
         "SECTION 1 1 3\nGAP 1 0 0 0\nSALVAGED 15\n",
         1215,
     ),
-    // Nor block 1.
+    // Block 1 cannot be read either.
     (
         &[(91, 128), (175, 128), (1079, 128), (1883, 128)],
         false,
         "SECTION 1 1 3\nGAP 1 1 1 10\nSALVAGED 15\n",
         1215,
     ),
-    // No label that has the form can be read.
+    // No label that contains the form can be read.
     (
         &[
             (91, 128),
@@ -104,21 +104,21 @@ const CHANGED: &[(&[(usize, u8)], bool, &str, usize)] = &[
         "NO FORM 1 0\nSALVAGED 0\n",
         0,
     ),
-    // Nor EOF1.
+    // EOF1 cannot be read either.
     (
         &[(91, 128), (175, 128), (2299, 128), (2383, 128)],
         false,
         "GAP 1 - - 0\nSALVAGED 0\n",
         0,
     ),
-    // EOF1 counts four blocks, not three: with HDR1 that is reported.
+    // EOF1 counts four blocks, not three. With HDR1 that is reported.
     (
         &[(2359, b'4')],
         false,
         "SECTION 1 1 3\nCOUNT 1 4 3\nSALVAGED 25\n",
         2025,
     ),
-    // Without HDR1 the items are not accepted then.
+    // Without HDR1, the items are not accepted if EOF1 counts four blocks.
     (
         &[(91, 128), (175, 128), (2359, b'4')],
         false,
@@ -127,7 +127,7 @@ const CHANGED: &[(&[(usize, u8)], bool, &str, usize)] = &[
     ),
 ];
 
-/// Returns the worked image with the given bytes changed.
+/// Returns the example image with the bytes of `changes` changed.
 fn changed(alloc: Global, changes: &[(usize, u8)]) -> Result<Image, AllocError> {
     let mut image = cut(alloc, 2484)?;
     for (place, value) in changes {
@@ -138,7 +138,8 @@ fn changed(alloc: Global, changes: &[(usize, u8)]) -> Result<Image, AllocError> 
     Ok(image)
 }
 
-/// Returns whether `salvage`, reading `first` and then `again`, has the given result.
+/// Returns whether `salvage`, reading `first` and then `again`, has the result `complete`, the
+/// report `lines` and an output of `length` bytes.
 fn comes_to(
     alloc: Global,
     first: &[u8],

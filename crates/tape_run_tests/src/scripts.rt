@@ -1,4 +1,4 @@
-//! Sessions, step by step: what is read from which image, the answer, and the state afterwards.
+//! Tests of sessions, step by step: the image that is read, the answer, and the state afterwards.
 use crate::answers::{defaced, with_reserved_word};
 use crate::copies::without_a_mark;
 use crate::image::{
@@ -18,27 +18,28 @@ use tape_set::{Position, Want};
 /// An image that is read.
 #[derive(Clone, Copy)]
 pub enum Reel<'a> {
-    /// The worked volume.
+    /// The example volume.
     Worked,
-    /// The given number of its first bytes.
+    /// The first bytes of the example volume, as many as the number says.
     Cut(usize),
-    /// The worked file in five blocks, one of which is bad (5 means none), with a given trailer.
+    /// The example file in five blocks, one of which is bad (5 means none), with this trailer
+    /// label.
     Five(u8, &'a str),
-    /// The first bytes of the worked file in five good blocks, with the right count.
+    /// The first bytes of the example file in five good blocks, with the right count.
     FiveCut(usize),
-    /// A volume with a number of blocks of one byte, and a trailer.
+    /// A volume with this number of blocks of one byte, and this trailer label.
     Blocks(u32, &'a str),
-    /// A volume with a section of one block of a byte: its header and its trailer.
+    /// A volume with a section of one block of one byte: its header label and its trailer label.
     Section(&'a str, &'a str),
-    /// The worked file on two volumes.
+    /// The example file on two volumes: the first one.
     FirstOfTwo,
     SecondOfTwo,
-    /// The first volume of the long record, and the second.
+    /// The long record on two volumes: the first one.
     LongFirst,
     LongSecond,
     /// A volume with no file.
     Blank,
-    /// No byte.
+    /// An image without bytes.
     Empty,
     /// A volume of another set.
     Foreign,
@@ -50,33 +51,35 @@ pub enum Reel<'a> {
     Reserved,
 }
 
-/// The section's block that is missing, from its first part on, or nothing.
+/// The section and the block that is missing from its first part, or `None` if nothing is missing.
 pub type Wanted = Option<(u16, u32)>;
 
 /// A step of a session, and its expected result.
 #[derive(Clone, Copy)]
 pub enum Do<'a> {
-    /// A reel is read without a fault: the answer, the number of blocks delivered, and what is
+    /// Reads a reel without a fault: the answer, the number of blocks delivered, and the block
     /// expected afterwards.
     Reads(Reel<'a>, Answer, u32, Wanted),
-    /// A reel is read up to a fault of the image: the answer, the blocks delivered, the fault, and
-    /// what is expected afterwards.
+    /// Reads a reel up to a fault of the image: the answer, which contains the blocks delivered and
+    /// the fault, and the block expected afterwards.
     Breaks(Reel<'a>, ReelAnswer, Wanted),
-    /// Steps are made over some reels: the result.
+    /// Makes steps over some reels: the result.
     Runs(&'a [Step], &'a [Reel<'a>], Result<(), Stopped>),
-    /// The first two reels were read by such steps: how many bytes of each are left.
+    /// Makes steps over two reels: the number of bytes of each that are left.
     Leaves(&'a [Step], &'a [Reel<'a>], [usize; 2]),
-    /// A checkpoint is saved: its position, and the weight staged.
+    /// Saves a checkpoint: its position, and the staged weight.
     Saves(Position, u64),
-    /// The session rolls back to a checkpoint: its number, and the result.
+    /// Rolls back to a checkpoint: its number, and the result.
     Restarts(usize, Result<(), RunFault>),
-    /// The sink contains a number of the worked records, and a block is expected next.
+    /// Checks that the sink contains a number of the example records, and which block is expected
+    /// next.
     Holds(u8, Wanted),
-    /// The sink contains a number of parts of the long record, and a block is expected next.
+    /// Checks that the sink contains a number of parts of the long record, and which block is
+    /// expected next.
     HoldsLong(usize, Wanted),
-    /// The weight of the sink's contents, and the number of readers that failed.
+    /// Checks the weight of the sink's contents, and the number of readers that failed.
     Weighs(u64, u64),
-    /// The number of bytes in the image of a reel.
+    /// Checks the number of bytes in the image of a reel.
     IsLong(Reel<'a>, usize),
 }
 
@@ -91,7 +94,7 @@ pub fn each_goes<H: Abort + AllocGlobal>(rt: &H, scripts: &[Script<'_>]) -> Resu
     Ok(())
 }
 
-/// Follows a script: each step has its expected result.
+/// Follows a script, and fails unless each step has its expected result.
 fn goes<H: Abort + AllocGlobal>(
     rt: &H,
     name: &str,
@@ -108,7 +111,7 @@ fn goes<H: Abort + AllocGlobal>(
     Ok(())
 }
 
-/// Takes a step, and returns whether it had its expected result.
+/// Makes a step, and returns whether it had its expected result.
 fn takes(
     alloc: Global,
     session: &mut Session<MemorySink>,
@@ -132,7 +135,7 @@ fn takes(
     }
 }
 
-/// Returns whether the session is in the state of the step.
+/// Returns whether the session is in the state that `step` describes.
 fn stands_so(session: &Session<MemorySink>, file: u16, step: Do<'_>) -> bool {
     let sink = session.sink();
     match step {
@@ -154,7 +157,7 @@ fn of_no_fault(answer: Answer, blocks: u32) -> ReelAnswer {
     }
 }
 
-/// Returns whether a checkpoint is saved at this position, with weight `staged`.
+/// Returns whether saving yields a checkpoint with position `position` and weight `staged`.
 fn saves(
     session: &mut Session<MemorySink>,
     position: Position,
@@ -178,7 +181,7 @@ fn wants(session: &Session<MemorySink>, file: u16, wanted: Wanted) -> bool {
     session.want() == want
 }
 
-/// Returns the reel's answer.
+/// Returns the answer to the reel.
 fn answers(
     alloc: Global,
     session: &mut Session<MemorySink>,

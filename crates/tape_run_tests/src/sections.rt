@@ -2,8 +2,8 @@
 use crate::image::{HDR1, HDR2, Image, VOL1, payroll_with};
 use std::alloc::{AllocError, Global};
 
-/// Returns the worked file on a volume that is too small for its end: three blocks, and an end of
-/// volume.
+/// Returns the example file on a volume that has no room for the end-of-file labels: three blocks,
+/// and end-of-volume labels.
 pub fn first_of_two(alloc: Global) -> Result<Image, AllocError> {
     payroll_with(
         alloc,
@@ -14,7 +14,7 @@ pub fn first_of_two(alloc: Global) -> Result<Image, AllocError> {
     )
 }
 
-/// Its second volume: an empty section, and the end of the file.
+/// Returns the second volume of the example file: an empty section, and end-of-file labels.
 pub fn second_of_two(alloc: Global) -> Result<Image, AllocError> {
     let mut image = Image::new(alloc);
     image.headers(&[
@@ -30,8 +30,8 @@ pub fn second_of_two(alloc: Global) -> Result<Image, AllocError> {
     Ok(image)
 }
 
-/// Returns a volume with the given header and trailer labels, and one block of one byte between
-/// them.
+/// Returns a volume with the header label `header`, one block of one byte, and the trailer label
+/// `trailer`.
 pub fn one_section(alloc: Global, header: &str, trailer: &str) -> Result<Image, AllocError> {
     let mut image = Image::new(alloc);
     image.headers(&[VOL1, header, HDR2])?;
@@ -54,7 +54,7 @@ pub fn numbered(alloc: Global, number: u16) -> Result<Image, AllocError> {
     one_section(alloc, text(&header), text(&trailer))
 }
 
-/// Returns the label with another section number.
+/// Returns the label with section number `number`.
 pub fn with_number(label: &[u8; 60], number: u16) -> [u8; 60] {
     let mut label = *label;
     for (place, unit) in [(27usize, 1000u16), (28, 100), (29, 10), (30, 1)] {
@@ -63,12 +63,13 @@ pub fn with_number(label: &[u8; 60], number: u16) -> [u8; 60] {
     label
 }
 
-/// Returns the characters as text.
+/// Returns `bytes` as text.
 pub fn text(bytes: &[u8]) -> &str {
     std::str::from_utf8(bytes).unwrap_or("")
 }
 
-/// Returns a section with `count` blocks of one byte, and the given trailer label.
+/// Returns a volume with one section, which has `count` blocks of one byte, and the trailer label
+/// `trailer`.
 pub fn of_blocks(alloc: Global, count: u32, trailer: &str) -> Result<Image, AllocError> {
     let mut image = Image::new(alloc);
     image.headers(&[VOL1, HDR1, HDR2])?;

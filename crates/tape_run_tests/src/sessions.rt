@@ -1,11 +1,11 @@
-//! Sessions in memory, and what they need next.
+//! In-memory sessions, and the parts that they need next.
 use crate::image::set_id;
 use std::alloc::Global;
 use tape_core::{CoreFault, MemorySink};
 use tape_run::Session;
 use tape_set::Want;
 
-/// Returns a session at the start of file `file` of the worked set, over a sink in memory.
+/// Returns a session at the start of file `file` of the example set, over an in-memory sink.
 pub fn begun(alloc: Global, file: u16) -> Result<Session<MemorySink>, CoreFault> {
     Session::new(alloc, set_id(), file, MemorySink::new(alloc))
 }

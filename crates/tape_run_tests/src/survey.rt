@@ -1,4 +1,4 @@
-//! Surveys of images: the lines for each.
+//! Tests of surveys of images: the lines about each image.
 use crate::image::{HDR1, HDR2, Image, VOL1, blank, five_blocks, payroll};
 use crate::sections::{first_of_two, numbered, one_section, second_of_two};
 use crate::volumes::{EOF_FOUR, EOF_ONE, cut, with_items_behind};
@@ -7,7 +7,7 @@ use std::process::Abort;
 use std::test::Fail;
 use tape_run::{Wording, survey_to};
 
-/// Fails unless the survey of the images has these lines and this result.
+/// Fails unless the survey of `images` has the lines `lines` and the result `all`.
 pub fn told<H: Abort + AllocGlobal>(
     rt: &H,
     images: &[Option<&[u8]>],
@@ -24,7 +24,7 @@ pub fn told<H: Abort + AllocGlobal>(
     Ok(())
 }
 
-/// The survey in words.
+/// Checks a survey in words, as `told` does.
 pub fn survey<H: Abort + AllocGlobal>(
     rt: &H,
     images: &[Option<&[u8]>],
@@ -35,7 +35,7 @@ pub fn survey<H: Abort + AllocGlobal>(
     told(rt, images, names, Wording::Words, all, lines)
 }
 
-/// The survey of one image, from which something is missing.
+/// Checks the survey of one image, from which something is missing.
 fn one<H: Abort + AllocGlobal>(rt: &H, image: &Image, lines: &str) -> Result<(), Fail> {
     survey(
         rt,
@@ -54,7 +54,7 @@ fn begun(alloc: Global, block: &[u8]) -> Result<Image, AllocError> {
     Ok(image)
 }
 
-/// Returns the labels of the worked volume without its `HDR2`, as some systems wrote them.
+/// Returns the labels of the example volume without its `HDR2`, as some systems wrote them.
 fn without_second(alloc: Global) -> Result<Image, AllocError> {
     let mut image = Image::new(alloc);
     image.headers(&[VOL1, HDR1])?;
@@ -64,7 +64,7 @@ fn without_second(alloc: Global) -> Result<Image, AllocError> {
     Ok(image)
 }
 
-/// Returns a block that could not be read before the volume label.
+/// Returns a volume with an unreadable block before its volume label.
 fn behind_noise(alloc: Global) -> Result<Image, AllocError> {
     let mut image = Image::new(alloc);
     image.bad(b"x")?;
@@ -73,7 +73,7 @@ fn behind_noise(alloc: Global) -> Result<Image, AllocError> {
     Ok(image)
 }
 
-/// Returns a file followed by an unreadable block where the next one would begin.
+/// Returns a volume with one file, and an unreadable block where the next file would begin.
 fn second_unread(alloc: Global) -> Result<Image, AllocError> {
     let mut image = Image::new(alloc);
     image.headers(&[VOL1, HDR1, HDR2])?;
@@ -84,7 +84,7 @@ fn second_unread(alloc: Global) -> Result<Image, AllocError> {
     Ok(image)
 }
 
-/// Returns a file in an unsupported format.
+/// Returns a volume with a file in an unsupported format.
 fn undefined(alloc: Global) -> Result<Image, AllocError> {
     let mut image = Image::new(alloc);
     image.headers(&[
@@ -255,7 +255,7 @@ ABC001 file 1 section 1: CONFLICT, one.tap and two.tap differ ('tape compare' sh
 2 images: 2 ok
 ";
 
-/// The header of another file, with the numbers of the worked one.
+/// HDR1 of another file, with the numbers of the example file.
 const LEDGER: &str = "HDR1LEDGER           ABC00100010001000100 00000 00000 000000";
 
 #[test]
@@ -288,7 +288,7 @@ Set ABC001: 0 of 1 files complete
 2 images: 1 ok, 1 damaged
 ";
 
-/// The second section of the worked file.
+/// HDR1 of the second section of the example file.
 const SECOND_OF_IT: &str = "HDR1PAYROLL          ABC00100020001000100 00000 00000 000000";
 
 #[test]

@@ -1,4 +1,4 @@
-//! Surveys of images with several complete copies of a section.
+//! Tests of surveys of images with several complete copies of a section.
 use crate::image::{HDR1, Image, payroll};
 use crate::sections::one_section;
 use crate::survey::{survey, told};
@@ -36,7 +36,7 @@ FILE\tABC001\t1\tPAYROLL\t 00000\tCOMPLETE\t\t\tCONFLICT\t
 COPIES\tABC001\t1\t1\t2\t1.tap\t2.tap\tCONFLICT
 ";
 
-/// Returns the worked volume with another byte in its first block.
+/// Returns the example volume with another byte in its first block.
 fn changed(alloc: Global) -> Result<Image, AllocError> {
     let mut image = payroll(alloc)?;
     for (place, byte) in image.bytes.as_mut_slice().iter_mut().enumerate() {

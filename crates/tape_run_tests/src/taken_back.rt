@@ -1,5 +1,5 @@
-//! Reels whose trailers have another count, read by sessions that have a checkpoint and roll back
-//! to it.
+//! Tests of reels whose trailer labels have another count, read by sessions that have a checkpoint
+//! and roll back to it.
 use crate::extract::shelf_of;
 use crate::image::{EOF_THREE, HDR1, HDR2, Image, VOL1, payroll, set_id};
 use crate::volumes::{cut, records};
@@ -11,8 +11,8 @@ use tape_core::MemorySink;
 use tape_run::{Session, extract_to};
 use tape_set::Want;
 
-/// Returns the worked volume's labels around the given blocks: each with the numbers of its
-/// records, and whether it can be read.
+/// Returns a volume with the labels of the example volume around `blocks`: each with the numbers of
+/// its records, and whether it can be read.
 pub fn volume(alloc: Global, blocks: &[(u8, u8, bool)]) -> Result<Image, AllocError> {
     let mut image = Image::new(alloc);
     image.headers(&[VOL1, HDR1, HDR2])?;
@@ -24,8 +24,8 @@ pub fn volume(alloc: Global, blocks: &[(u8, u8, bool)]) -> Result<Image, AllocEr
     Ok(image)
 }
 
-/// Fails unless a session of the worked file with a checkpoint at its start, over the images,
-/// yields these lines, this missing part and these bytes.
+/// Fails unless a session for the example file, with a checkpoint at its start, reads `images` and
+/// yields the report `lines`, the missing part `want` and the bytes `written`.
 fn gives<H: Abort + AllocGlobal>(
     rt: &H,
     images: &mut [Option<&[u8]>],
@@ -44,7 +44,7 @@ fn gives<H: Abort + AllocGlobal>(
     Ok(())
 }
 
-/// Returns the first block of section 1 that is missing from the worked file.
+/// Returns the missing part at the start of block `block` of section 1 of the example file.
 fn from_block(block: u32) -> Option<Want> {
     Some(Want {
         file: 1,
@@ -54,7 +54,7 @@ fn from_block(block: u32) -> Option<Want> {
     })
 }
 
-/// Returns a volume whose second block was lost, which its trailer shows.
+/// Returns a volume whose second block was lost, as its trailer label shows.
 pub fn lost(alloc: Global) -> Result<Image, AllocError> {
     volume(alloc, &[(0, 10, true), (20, 25, true)])
 }
@@ -82,7 +82,8 @@ fn what_a_reel_gave_that_lost_a_block(rt: HostRuntime) -> Result<(), Fail> {
     )
 }
 
-/// The data of the reels before it remains, but none of its own: the last reel has no first block.
+/// After a reel with a wrong count, the data of the reels before it remain, but none of the reel's
+/// own data: the last reel has no first block.
 #[test]
 fn what_stood_before_such_a_reel(rt: HostRuntime) -> Result<(), Fail> {
     let all = records(rt.alloc(), b"\n")?;

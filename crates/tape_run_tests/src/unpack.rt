@@ -1,4 +1,4 @@
-//! The files on images, by their names.
+//! Tests of the files on images, and of their names.
 use crate::image::{HDR1, Image, payroll};
 use crate::sections::{first_of_two, one_section, second_of_two};
 use crate::volumes::EOF_ONE;
@@ -8,7 +8,7 @@ use std::test::Fail;
 use tape_label::Field;
 use tape_run::{FileChoice, SetFile, UnpackOutcome, file_line, file_name, find_files, means};
 
-/// The line of a file: its name, or the text in its place.
+/// Returns the line about a file: its name, or the text in place of the name.
 fn line_of(alloc: Global, file: &SetFile) -> Result<Vec<u8>, AllocError> {
     if file.differs {
         return file_line(alloc, file, UnpackOutcome::Conflict, b"", "");
@@ -17,7 +17,8 @@ fn line_of(alloc: Global, file: &SetFile) -> Result<Vec<u8>, AllocError> {
     file_line(alloc, file, UnpackOutcome::Ready, &name, "out/a\n")
 }
 
-/// Fails unless these files are on the images, which were all read completely, or were not.
+/// Fails unless the files on `images` have the lines `lines`; `whole` says whether all images were
+/// read completely.
 fn found<H: Abort + AllocGlobal>(
     rt: &H,
     images: &[Option<&[u8]>],

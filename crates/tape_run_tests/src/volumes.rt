@@ -3,7 +3,7 @@ use crate::image::{HDR1, HDR2, Image, VOL1, payroll, record};
 use crate::sections::{text, with_number};
 use std::alloc::{AllocError, Global};
 
-/// Format S, in blocks of 18 characters.
+/// HDR2 of format S, with blocks of 18 characters.
 pub const SPANNED: &str = "HDR2S0001800000                                   00";
 
 pub const EOF_NONE: &str = "EOF1PAYROLL          ABC00100010001000100 00000 00000 000000";
@@ -12,14 +12,14 @@ pub const EOF_ONE: &str = "EOF1PAYROLL          ABC00100010001000100 00000 00000
 
 pub const EOF_FOUR: &str = "EOF1PAYROLL          ABC00100010001000100 00000 00000 000004";
 
-/// Returns the first `length` bytes of the worked volume.
+/// Returns the first `length` bytes of the example volume.
 pub fn cut(alloc: Global, length: usize) -> Result<Image, AllocError> {
     let mut image = payroll(alloc)?;
     image.bytes.truncate(length);
     Ok(image)
 }
 
-/// Returns the 25 records of the worked volume, each followed by the bytes `behind`.
+/// Returns the 25 records of the example volume, each followed by the bytes `behind`.
 pub fn records(alloc: Global, behind: &[u8]) -> Result<Vec<u8>, AllocError> {
     let mut bytes = Vec::new(alloc);
     for number in 0..25u8 {
@@ -29,11 +29,11 @@ pub fn records(alloc: Global, behind: &[u8]) -> Result<Vec<u8>, AllocError> {
     Ok(bytes)
 }
 
-/// Returns the worked volume with its second block marked as recorded with an error.
+/// Returns the example volume with its second block marked as recorded with an error.
 pub fn damaged(alloc: Global) -> Result<Image, AllocError> {
     let mut image = payroll(alloc)?;
     for (place, byte) in image.bytes.as_mut_slice().iter_mut().enumerate() {
-        // The last bytes of the words before and after the block: 268 + 808 + 3, and 804 later.
+        // The last bytes of the words before and after the block: at 268 + 808 + 3, and 804 later.
         if place == 1079 || place == 1883 {
             *byte = 0x80;
         }
@@ -41,7 +41,7 @@ pub fn damaged(alloc: Global) -> Result<Image, AllocError> {
     Ok(image)
 }
 
-/// Returns a volume of one section with the given labels, and one block between them.
+/// Returns a volume of one section with these labels, and one block between them.
 pub fn one_block(
     alloc: Global,
     head: &str,
@@ -66,7 +66,7 @@ fn empty_section(image: &mut Image, number: u16) -> Result<(), AllocError> {
     image.trailers(&[text(&with_number(trailer, number))])
 }
 
-/// Sections 1 to 9,999 of a file on one reel; even the last one says that it continues.
+/// Returns a volume with sections 1 to 9,999 of a file; even the last section continues.
 pub fn all_sections(alloc: Global) -> Result<Image, AllocError> {
     let mut image = Image::new(alloc);
     image.label(VOL1)?;
@@ -95,7 +95,7 @@ pub fn unprinted(alloc: Global) -> Result<Image, AllocError> {
     Ok(image)
 }
 
-/// Returns the worked volume, with two items after its second mark.
+/// Returns the example volume with two items after its second mark.
 pub fn with_items_behind(alloc: Global) -> Result<Image, AllocError> {
     let mut image = cut(alloc, 2480)?;
     image.block(HDR1.as_bytes())?;

@@ -32,7 +32,7 @@ pub enum EntryLayout {
 ///
 /// # Errors
 ///
-/// `AllocError` if an allocation fails.
+/// Returns `AllocError` if an allocation fails.
 pub fn entries(
     alloc: Global,
     layout: &Layout,
@@ -50,11 +50,12 @@ pub fn entries(
     Ok(entries)
 }
 
-/// Returns the entries of the section's volume that precede the section's data; `own` is its file.
+/// Returns the entries of the section's volume that precede the section's data; `own` is the file
+/// of the section.
 ///
 /// # Errors
 ///
-/// `AllocError` if an allocation fails.
+/// Returns `AllocError` if an allocation fails.
 pub fn before_data(
     alloc: Global,
     layout: &Layout,
@@ -94,7 +95,7 @@ fn put_labels_of(
     }
 }
 
-/// Appends a volume with the given labels, in a set of the given files.
+/// Appends volume `volume`, with the labels `labels`, of a set with the files `files`.
 fn put_volume(
     alloc: Global,
     entries: &mut Vec<EntryLayout>,

@@ -10,13 +10,13 @@ use crate::list::{copied, first, nth};
 use std::alloc::{AllocError, Global};
 use tape_set::{BlockLayout, Layout, PartLayout, Position, SectionLayout};
 
-/// Returns the parts of a file before a position in it: those of the earlier sections, of the
-/// earlier blocks in its section, and the delivered parts of its block. Returns an empty list if
-/// the layout has no such file.
+/// Returns the parts of file `file` before `position`: those of the earlier sections, of the
+/// earlier blocks in the same section, and the delivered parts of the same block. Returns an empty
+/// list if the layout has no such file.
 ///
 /// # Errors
 ///
-/// `AllocError` if an allocation fails.
+/// Returns `AllocError` if an allocation fails.
 pub fn before(
     alloc: Global,
     layout: &Layout,
@@ -32,7 +32,7 @@ pub fn before(
     Ok(parts)
 }
 
-/// Appends the parts before a position in a file with the given sections.
+/// Appends the parts before `position` in a file with the sections `sections`.
 fn put_before(
     alloc: Global,
     parts: &mut Vec<PartLayout>,

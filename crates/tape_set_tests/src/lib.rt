@@ -1,4 +1,4 @@
-//! Tests of positions, lists, look-ups and readings, with values worked out by hand; and the
+//! Tests of positions, lists, look-ups and readings, with values calculated by hand; and the
 //! definitions of a set's contents and readings as plain programs, for testing faster programs.
 #![tactic(auto)]
 

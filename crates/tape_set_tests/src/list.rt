@@ -11,7 +11,7 @@ use tape_set::Sequence;
 ///
 /// # Errors
 ///
-/// `AllocError` if an allocation fails.
+/// Returns `AllocError` if an allocation fails.
 pub(crate) fn copied(alloc: Global, bytes: &[u8]) -> Result<Sequence<u8>, AllocError>
     ensures { IfOk result (λ copy. copy ≡ bytes.now) }
 {

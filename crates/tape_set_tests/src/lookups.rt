@@ -1,4 +1,4 @@
-//! Block counts in labels, lists, and the volumes of sections.
+//! Tests of block counts in labels, of lists, and of the volumes of sections.
 
 use crate::layouts::two_files;
 use std::test::Fail;

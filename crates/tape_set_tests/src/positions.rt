@@ -1,4 +1,4 @@
-//! Positions: their order, and the positions after them.
+//! Tests of positions: their order, and the positions after them.
 
 ghost use Rattle.std.specs.Prelude.{◌<◌};
 ghost use Rattle.tape_set.specs.Position.{block_of, sect_of};

@@ -1,5 +1,5 @@
-//! The definitions as plain programs: the contents of a volume, the parts before a position, and
-//! how far a reading moves a position.
+//! Tests of the definitions as plain programs: the contents of a volume, the parts before a
+//! position, and the effect of a reading on a position.
 
 use crate::contents::{EntryLayout, entries};
 use crate::delivered::before;
@@ -26,7 +26,7 @@ fn volumes_have_their_entries(rt: HostRuntime) -> Result<(), Fail> {
     Ok(())
 }
 
-// Returns the contents of a volume, as one text.
+// Returns the contents of volume `volume`, as one text.
 fn outline(alloc: Global, layout: &Layout, volume: usize) -> Result<String, AllocError> {
     let mut text = String::new(alloc);
     for entry in &entries(alloc, layout, volume)? {
@@ -88,7 +88,7 @@ fn all_parts_lie_before_the_end(rt: HostRuntime) -> Result<(), Fail> {
     Ok(())
 }
 
-// Checks that the given parts are before the position; each is followed by a bar.
+// Checks that the parts in `want`, each followed by a bar, are before `position`.
 fn lie_before(
     rt: &impl Abort,
     alloc: Global,
@@ -105,8 +105,8 @@ fn lie_before(
     Ok(())
 }
 
-/// Volume 1: VOL1, UVL1, HDR1, HDR2, mark, two blocks, mark, EOF1, two marks. `+` is a readable
-/// item, `-` a bad one.
+/// Volume 1 contains VOL1, UVL1, HDR1, HDR2, a mark, two blocks, a mark, EOF1 and two marks. In
+/// these texts `+` is a readable item, `-` a bad one.
 #[test]
 fn readings_take_positions_on(rt: HostRuntime) -> Result<(), Fail> {
     let layout = two_files(rt.alloc())?;
@@ -146,7 +146,7 @@ fn readings_finish_files(rt: HostRuntime) -> Result<(), Fail> {
     Ok(())
 }
 
-// Returns how far the reading moves the position.
+// Returns the position to which the reading moves `position`.
 fn far_over(
     alloc: Global,
     layout: &Layout,

@@ -1,5 +1,5 @@
-//! How far one reading moves a position: the definition as a plain program, for testing faster
-//! readers.
+//! The position to which one reading moves a position: the definition as a plain program, for
+//! testing faster readers.
 
 ghost use Rattle.std.specs.Prelude.{◌≡◌, ◌<◌, ◌≤◌, IfSome, IsSome, IfOk, length};
 ghost use Rattle.tape_set.specs.Layout.{is_data, ends_file};
@@ -13,15 +13,15 @@ use crate::list::{first, nth, rest};
 use std::alloc::{AllocError, Global};
 use tape_set::{Layout, Position, SectionLayout};
 
-/// Returns the position to which one reading of a volume moves a position in a file. `good` says
-/// for each item of the volume, from its start, whether it was readable.
+/// Returns the position to which one reading of volume `volume` moves `position` in file `file`.
+/// `good` says for each item of the volume, from its start, whether it was readable.
 ///
-/// Returns `None` if the numbers of that position are too great for a `Position`, which is
+/// Returns `None` if the numbers of the new position are too great for a `Position`, which is
 /// impossible in a valid set.
 ///
 /// # Errors
 ///
-/// `AllocError` if an allocation fails.
+/// Returns `AllocError` if an allocation fails.
 pub fn far(
     alloc: Global,
     layout: &Layout,
@@ -53,8 +53,8 @@ pub fn far(
     Ok(moved(position, sect, block, section, rest(good, past.len())))
 }
 
-/// Returns true if the reading includes all entries of `past`, and only data blocks among them were
-/// not readable.
+/// Returns true if the reading includes all entries of `past`, and all of them but data blocks were
+/// readable.
 fn passes(good: &[bool], past: &[EntryLayout]) -> bool
     ensures { result ≡ passes good.now (entries_told past.now) }
 {
@@ -68,7 +68,7 @@ fn passes(good: &[bool], past: &[EntryLayout]) -> bool
     true
 }
 
-/// Returns true for a data block.
+/// Returns true if `entry` is a data block.
 fn is_data(entry: &EntryLayout) -> bool
     ensures { result ≡ is_data (entry_told entry.now) }
 {
@@ -142,7 +142,7 @@ fn first_unread(good: &[bool], block: usize, blocks: usize) -> usize
     block + good_run(first(rest(good, block), blocks - block))
 }
 
-/// Returns the number of readable items before the first that was not readable.
+/// Returns the number of readable items before the first one that was not readable.
 fn good_run(good: &[bool]) -> usize
     ensures { result ≡ good_run good.now }
 {

@@ -26,7 +26,7 @@ pub fn points_have_texts_of_their_own()
     ensures { IsTextOfOne }
 {}
 
-/// Each checkpoint has at most one text in a version, of 80 characters.
+/// Each checkpoint has at most one text in each version, and the text has 80 characters.
 pub fn points_are_spelled_once()
     ensures { IsTextOnce }
 {}

@@ -22,9 +22,10 @@ use tape_set::Position;
 /// The versions of the text.
 #[derive(Clone, Copy)]
 pub enum Version {
-    /// With a block number of six digits, and without a part. It is read, but no longer written.
+    /// A text with a block number of six digits, and without a part. It is read, but no longer
+    /// written.
     One,
-    /// With a block number of ten digits, and a part number.
+    /// A text with a block number of ten digits, and a part number.
     Two,
 }
 

@@ -1,22 +1,23 @@
-//! A disk in memory: the effect of its calls, stops, and the contents that a crash leaves.
+//! Tests of an in-memory disk: the effects of its calls, stops, and the contents that a crash
+//! leaves.
 
 use crate::fixtures::disk_of;
 use std::alloc::{AllocError, Global};
 use std::test::*;
 use tape_stage::{Disk, DiskFault, MemoryDisk};
 
-/// Reads, if there are enough bytes.
+/// Reads if there are enough bytes. Returns whether the read succeeds.
 fn read(disk: &mut MemoryDisk, place: usize, buf: &mut [u8]) -> bool {
     let len = disk.bytes().len();
     place <= len && buf.len() <= len - place && disk.read(place as u64, buf).is_ok()
 }
 
-/// Writes, if the offset is not past the end.
+/// Writes if the offset is not past the end. Returns whether the write succeeds.
 fn write(disk: &mut MemoryDisk, place: usize, bytes: &[u8]) -> bool {
     place <= disk.bytes().len() && disk.write_at(place as u64, bytes).is_ok()
 }
 
-/// Cuts, if there are enough bytes.
+/// Truncates the disk if there are enough bytes. Returns whether that succeeds.
 fn cut(disk: &mut MemoryDisk, len: usize) -> bool {
     len <= disk.bytes().len() && disk.cut(len as u64).is_ok()
 }
@@ -48,12 +49,12 @@ fn takes_all(disk: &mut MemoryDisk, steps: &[Step]) -> bool {
     true
 }
 
-/// Returns whether the call succeeds, after which the disk contains `seen`.
+/// Returns whether the call succeeds and the disk then contains `seen`.
 fn becomes(disk: &mut MemoryDisk, step: Step, seen: &[u8]) -> bool {
     takes(disk, step) && disk.bytes() == seen && disk.len() == Ok(seen.len() as u64)
 }
 
-/// Consecutive calls, and the contents after each.
+/// Consecutive calls, and the contents after each call.
 const CALLS: &[(Step, &[u8])] = &[
     (Step::Write(0, b"abcdef"), b"abcdef"),
     (Step::Write(4, b"XYZ"), b"abcdXYZ"),
@@ -79,7 +80,7 @@ fn a_read_fills_its_buffer(rt: HostRuntime) -> Result<(), AllocError> {
     Ok(())
 }
 
-/// Returns whether a disk that contained `abcdef` contains `seen` after the calls, and a crash
+/// Returns whether a disk that contained `abcdef` contains `seen` after the calls, and a crash then
 /// leaves `left`.
 fn leaves(alloc: Global, steps: &[Step], seen: &[u8], left: &[u8]) -> Result<bool, AllocError> {
     let mut disk = disk_of(alloc, b"abcdef")?;
@@ -116,7 +117,7 @@ fn a_crash_leaves_writes_and_cuts_open_until_a_sync(rt: HostRuntime) -> Result<(
     Ok(())
 }
 
-/// Returns whether each call of the disk fails, and leaves the disk and the buffer of a read
+/// Returns whether each call to the disk fails, and leaves the disk and the buffer of a read
 /// unchanged.
 fn stands_still(disk: &mut MemoryDisk) -> bool {
     let mut two = *b"..";
@@ -134,7 +135,7 @@ fn stops(disk: &mut MemoryDisk) -> bool {
     disk.len() == Ok(6) && write(disk, 0, b"X") && stands_still(disk)
 }
 
-/// Returns whether the disk that a crash left is running, and can be stopped.
+/// Returns whether the disk that a crash left accepts calls, and can be stopped.
 fn goes_on(mut disk: MemoryDisk) -> bool {
     let stands = disk.bytes() == b"\xffbcdef".as_slice() && disk.len() == Ok(6);
     disk.stop_after(0);

@@ -1,4 +1,4 @@
-//! Files as disks.
+//! Tests of files used as disks.
 
 use crate::fixtures::*;
 use std::fs::{File, Metadata, OpenFile, OpenOptions};
@@ -8,7 +8,7 @@ use std::{fs, io};
 use tape_core::Checkpoint;
 use tape_stage::{BufferedFile, Disk, DiskFault, FileDisk, Stage, buffered_file};
 
-/// Opens a file for reading and writing, creating it if necessary.
+/// Opens the file at `path` for reading and writing, and creates it if it does not exist.
 fn open(rt: &HostRuntime, path: &str) -> io::Result<File> {
     let mut options = OpenOptions::new();
     options.read(true).write(true).create(true);
@@ -26,7 +26,7 @@ fn made_in(rt: &HostRuntime, path: &str) -> Option<Stage<BufferedFile<File>>> {
     }
 }
 
-/// Opens the stage in a file that was created earlier.
+/// Opens the stage in an existing file.
 fn opened_in(rt: &HostRuntime, path: &str) -> Option<(Stage<BufferedFile<File>>, Checkpoint)> {
     let Ok(disk) = buffered_file(rt.alloc(), open(rt, path).ok()?) else {
         return None;
@@ -39,8 +39,8 @@ fn size_of(rt: &HostRuntime, path: &str) -> io::Result<usize> {
     Ok(fs::read(rt, path)?.len())
 }
 
-/// Leaves a file with one acknowledged part, followed by one that is not acknowledged. Returns its
-/// length while the second part is buffered, and after the parts were read.
+/// Leaves a file with one acknowledged part, followed by one that is not acknowledged. Returns the
+/// length of the file while the second part is buffered, and after the parts were read.
 fn leave_two_parts(
     rt: &HostRuntime,
     path: &str,
@@ -57,7 +57,7 @@ fn leave_two_parts(
     Ok(if done && read { Some(sizes) } else { None })
 }
 
-/// Returns whether the file opens with the checkpoint `one`, and returns the one part that it
+/// Returns whether the file opens with the checkpoint `one`, and returns the one part that `one`
 /// counts.
 fn opens_with_one_part(rt: &HostRuntime, path: &str, one: &Checkpoint) -> bool {
     match opened_in(rt, path) {
@@ -86,8 +86,8 @@ fn a_stage_in_a_file(rt: HostRuntime) -> Result<(), Fail> {
     Ok(())
 }
 
-/// Four bytes beginning at offset `from`, of which each call moves one until no move is left; every
-/// later call is interrupted.
+/// A file whose four bytes begin at offset `from`. Each call moves one byte until no move is left;
+/// every later call is interrupted.
 #[derive(Drop)]
 struct Slow {
     from: u64,
@@ -97,7 +97,7 @@ struct Slow {
 }
 
 impl Slow {
-    /// The offset of the next byte, if a call is left.
+    /// Returns the offset of the next byte, if a call is left.
     fn step(&mut self) -> io::Result<usize> {
         if self.left == 0 {
             return Err(io::Error::from(ErrorKind::Interrupted));
@@ -181,7 +181,7 @@ fn four_bytes(from: u64, left: u8) -> Slow {
     }
 }
 
-/// Reads the first bytes of such a file, with `left` moves left. Returns whether the read succeeds.
+/// Reads the first bytes of a slow file with `left` moves left. Returns whether the read succeeds.
 fn read_slowly(left: u8, buf: &mut [u8]) -> bool {
     match FileDisk::new(four_bytes(0, left)) {
         Ok(mut disk) => read(&mut disk, 0, buf),
@@ -189,7 +189,7 @@ fn read_slowly(left: u8, buf: &mut [u8]) -> bool {
     }
 }
 
-/// Returns the file after a write to its second byte and a sync, with `left` moves left.
+/// Returns a slow file after writing `bytes` at its second byte and a sync, with `left` moves left.
 fn write_slowly(left: u8, bytes: &[u8]) -> Option<[u8; 4]> {
     let Ok(mut disk) = FileDisk::new(four_bytes(0, left)) else {
         return None;
@@ -236,13 +236,13 @@ fn the_length_is_counted(rt: HostRuntime) {
         return;
     };
     assert!(rt; disk.len() == Ok(4));
-    // This file can only be cut to length 0.
+    // This file can only be truncated to length 0.
     assert!(rt; !cut(&mut disk, 3) && disk.len() == Ok(4));
     assert!(rt; cut(&mut disk, 0) && disk.len() == Ok(0));
     assert!(rt; write(&mut disk, 0, b"ab") && disk.len() == Ok(2));
 }
 
-/// An offset that 32 bits cannot express.
+/// An offset that does not fit in 32 bits.
 const FAR: u64 = 5_000_000_000;
 
 #[test]

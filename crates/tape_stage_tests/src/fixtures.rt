@@ -1,4 +1,4 @@
-//! Checkpoints, their texts and stages that several tests use.
+//! Checkpoints, their texts, and stages that several tests use.
 
 ghost use Rattle.std.specs.Prelude.{◌≡◌};
 
@@ -25,7 +25,7 @@ pub const START_1: &[u8; 80] =
 pub const START_2: &[u8; 80] =
     b"TPCK2ABC00100010001000000000000000R00 0000000                 000000000000000   ";
 
-/// The checkpoint of the complete file of 25 records, all of them staged.
+/// The text of the checkpoint of the complete file of 25 records, all of them staged.
 pub const WHOLE_2: &[u8; 80] =
     b"TPCK2ABC00100010000000000000000000D01F0008000PAYROLL          000000000002125   ";
 
@@ -105,13 +105,13 @@ pub fn made(alloc: Global) -> Option<Stage<MemoryDisk>> {
     Stage::create(alloc, MemoryDisk::new(alloc), &start()).ok()
 }
 
-/// Returns a disk with the given bytes.
+/// Returns a disk with the bytes `bytes`.
 pub fn disk_of(alloc: Global, bytes: &[u8]) -> Result<MemoryDisk, AllocError> {
     Ok(MemoryDisk::from_bytes(alloc, bytes.to_vec(alloc)?))
 }
 
-/// Returns a stage file whose first slot has the given gate and checkpoint and generation 1, and
-/// whose second slot was never valid.
+/// Returns a stage file whose first slot has the gate `gate`, the checkpoint `point` and generation
+/// 1, and whose second slot was never valid.
 pub fn first_slot(
     alloc: Global,
     gate: u8,
@@ -143,8 +143,8 @@ pub fn save<D: Disk>(stage: &mut Stage<D>, point: &Checkpoint) -> bool {
     point.staged == stage.weight() && stage.save(point).is_ok()
 }
 
-/// Returns whether the stage returns the given records of 80 bytes, each of one character, and no
-/// others.
+/// Returns whether the stage returns exactly one record for each of `records`: 80 bytes with this
+/// value.
 pub fn holds<D: Disk>(stage: &mut Stage<D>, records: &[u8]) -> bool {
     let mut parts = stage.parts();
     for record in records {
@@ -168,7 +168,7 @@ pub fn stand(rt: &impl Abort, bytes: &[u8], rows: &[(usize, &[u8])]) {
     }
 }
 
-/// Reads, if there are enough bytes.
+/// Reads if there are enough bytes. Returns whether the read succeeds.
 pub fn read<D: Disk>(disk: &mut D, place: u64, buf: &mut [u8]) -> bool {
     match disk.len() {
         Ok(len) => {
@@ -178,7 +178,7 @@ pub fn read<D: Disk>(disk: &mut D, place: u64, buf: &mut [u8]) -> bool {
     }
 }
 
-/// Writes, if the offset is not past the end.
+/// Writes if the offset is not past the end. Returns whether the write succeeds.
 pub fn write<D: Disk>(disk: &mut D, place: u64, bytes: &[u8]) -> bool {
     match disk.len() {
         Ok(len) => place <= len && disk.write_at(place, bytes).is_ok(),
@@ -186,7 +186,7 @@ pub fn write<D: Disk>(disk: &mut D, place: u64, bytes: &[u8]) -> bool {
     }
 }
 
-/// Cuts, if there are enough bytes.
+/// Truncates the disk if there are enough bytes. Returns whether that succeeds.
 pub fn cut<D: Disk>(disk: &mut D, to: u64) -> bool {
     match disk.len() {
         Ok(len) => to <= len && disk.cut(to).is_ok(),
@@ -194,7 +194,7 @@ pub fn cut<D: Disk>(disk: &mut D, to: u64) -> bool {
     }
 }
 
-/// Returns whether the disk returns the given bytes, at most 12, at offset `place`.
+/// Returns whether the disk returns `bytes`, at most 12, at offset `place`.
 pub fn gives<D: Disk>(disk: &mut D, place: u64, bytes: &[u8]) -> bool {
     let mut buf = [0; 12];
     let size = bytes.len().min(12);

@@ -1,4 +1,5 @@
-//! A disk whose system forgets: it silently drops the bytes that a failed sync should have written.
+//! Tests of a disk whose system forgets: it silently drops the bytes that a failed sync should have
+//! written.
 
 ghost use Rattle.std.specs.Prelude.{◌≡◌, false};
 ghost use Rattle.tape_core.specs.Weight.{Rose};
@@ -111,7 +112,7 @@ impl<D: Disk> Disk for Forgetful<D> {
 /// Saves a record on a disk that fails in the last sync of the save, and opens the stage again.
 /// Returns the checkpoint acknowledged then, and the disk.
 fn saved_and_forgotten(alloc: Global) -> Option<(Checkpoint, MemoryDisk)> {
-    // Opening makes two syncs, and saving three.
+    // Opening makes two syncs, and saving makes three.
     let disk = Forgetful::new(made(alloc)?.into_disk(), 4);
     let (mut stage, _) = Stage::open_disk(alloc, disk).ok()?;
     if !put(&mut stage, b'a') || save(&mut stage, &in_front(1, 85)?) {

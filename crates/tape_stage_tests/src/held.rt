@@ -1,4 +1,4 @@
-//! Disks over files: write buffers and read-ahead.
+//! Tests of buffered disks over files: write buffers and read-ahead.
 
 use crate::fixtures::{cut, gives, read, write};
 use std::alloc::{AllocError, Global};
@@ -10,10 +10,10 @@ use tape_stage::{
     BufferedFile, Disk, DiskFault, FileDisk, MemoryDisk, ReadAhead, WriteBehind, buffered_file,
 };
 
-/// The maximum number of bytes that such a file returns or accepts in one call.
+/// The maximum number of bytes that a `Counting` returns or accepts in one call.
 const AT_ONCE: usize = 5_000;
 
-/// A file of a fixed length, in memory. It counts reads and writes, and can be made to fail one
+/// An in-memory file of a fixed length, which counts reads and writes. It can be made to fail one
 /// write or every sync.
 #[derive(Drop)]
 struct Counting {
@@ -105,20 +105,20 @@ impl OpenFile for Counting {
     }
 }
 
-/// Returns a disk over such a file.
+/// Returns a buffered disk over a `Counting` of `size` bytes.
 fn disk_counting(alloc: Global, size: usize, failing: u32) -> Option<BufferedFile<Counting>> {
     buffered_file(alloc, Counting::new(alloc, size, failing).ok()?).ok()
 }
 
-/// Returns the file of a disk with buffers.
+/// Returns the file underneath a buffered disk.
 fn file_of(disk: BufferedFile<Counting>) -> Counting {
     disk.into_disk().into_disk().into_file()
 }
 
-/// The size of a small buffer: fewer bytes than some calls move.
+/// The size of a small buffer, which is less than some calls move.
 const SMALL: usize = 1_000;
 
-/// Returns a disk over a new file, with small buffers.
+/// Returns a disk over a new file at `path`, with small buffers.
 fn made_in(rt: &HostRuntime, path: &str) -> Option<BufferedFile<File>> {
     let _ = fs::remove_file(rt, path);
     let mut options = OpenOptions::new();
@@ -129,7 +129,7 @@ fn made_in(rt: &HostRuntime, path: &str) -> Option<BufferedFile<File>> {
     Some(ReadAhead::over(WriteBehind::over(disk, behind), ahead))
 }
 
-/// Returns a record of 85 bytes, all of them the last byte of its number.
+/// Returns record number `number`: 85 bytes, each of which is the last byte of the number.
 fn record_of(number: u64) -> [u8; 85] {
     [number.to_be_bytes()[7]; 85]
 }
@@ -156,8 +156,8 @@ fn small_calls_are_put_together(rt: HostRuntime) {
     for record in 0..1_200u64 {
         assert!(rt; gives_record(&mut disk, record), "{record}");
     }
-    // 32,768 bytes contain 385 records of 85 bytes: three times that many take seven calls of the
-    // file each; the rest follows.
+    // 32,768 bytes contain 385 records of 85 bytes. Three times as many need seven calls to the
+    // file each; then come the remaining records.
     let file = file_of(disk);
     assert_eq!(rt; (file.writes, file.reads), (22, 22));
 }
@@ -179,7 +179,7 @@ fn frames_that_cross_the_buffer_are_read_once(rt: HostRuntime) {
     for number in 0..5u64 {
         assert!(rt; has_frame(&mut disk, number), "{number}");
     }
-    // Three times 32,768 bytes, which take seven calls of the file each, and the rest.
+    // Three times 32,768 bytes need seven calls to the file each; then come the remaining bytes.
     assert_eq!(rt; file_of(disk).reads, 22);
 }
 
@@ -196,7 +196,7 @@ fn a_write_elsewhere_comes_behind_what_is_held(rt: HostRuntime) {
     assert!(rt; write(&mut disk, 5, b"fg") && gives(&mut disk, 0, b"aBCdefg.XY.."));
     assert!(rt; write(&mut disk, 11, b"Z"));
     let file = file_of(disk);
-    // The last write did not reach the file: no sync promised to keep it.
+    // The last write did not reach the file, since no sync promised to keep it.
     assert!(rt; file.bytes.as_slice() == b"aBCdefg.XY..".as_slice() && file.writes == 4);
 }
 
@@ -227,7 +227,7 @@ fn behind_a_failed_sync_nothing_is_kept(rt: HostRuntime) -> Result<(), Fail> {
     Ok(())
 }
 
-/// Returns whether a cut makes the disk, which was empty, drop the bytes read ahead.
+/// Returns whether truncating the disk, which was empty, makes it drop the bytes read ahead.
 fn forgets<D: Disk>(disk: &mut D) -> bool {
     let ahead = write(disk, 0, b"abcdef") && gives(disk, 0, b"ab");
     ahead && cut(disk, 3) && write(disk, 3, b"XYZ") && gives(disk, 0, b"abcXYZ")
@@ -240,14 +240,15 @@ fn a_cut_forgets_what_was_read_ahead(rt: HostRuntime) {
         return;
     };
     assert!(rt; forgets(&mut disk));
-    // The buffer is written before the cut, which then removes its end.
+    // The buffer is written before the disk is truncated, which then removes the end of what was
+    // written.
     assert!(rt; write(&mut disk, 6, b"gh") && cut(&mut disk, 7));
     let mut two = [0; 2];
     assert!(rt; !read(&mut disk, 6, &mut two));
     assert!(rt; gives(&mut disk, 5, b"Zg"));
 }
 
-/// Returns whether a read of both disks has equal results.
+/// Returns whether reading has equal results on both disks.
 fn reads_agree<A: Disk, B: Disk>(one: &mut A, two: &mut B, place: u64, size: usize) -> bool {
     let (mut left, mut right) = ([1; 9_000], [1; 9_000]);
     let size = size.min(9_000);
@@ -255,7 +256,7 @@ fn reads_agree<A: Disk, B: Disk>(one: &mut A, two: &mut B, place: u64, size: usi
     first == read(two, place, &mut right[..size]) && left == right
 }
 
-/// Returns whether a write to both disks has equal results.
+/// Returns whether writing has equal results on both disks.
 fn writes_agree<A: Disk, B: Disk>(
     one: &mut A,
     two: &mut B,
@@ -270,7 +271,7 @@ fn writes_agree<A: Disk, B: Disk>(
     write(one, place, bytes) == write(two, place, bytes)
 }
 
-/// Returns whether a call encoded by the given bytes has equal results on both disks.
+/// Returns whether the call that `told` encodes has equal results on both disks.
 fn calls_agree<A: Disk, B: Disk>(one: &mut A, two: &mut B, told: [u8; 8]) -> bool {
     let size = if told[0] < 12 {
         9_000

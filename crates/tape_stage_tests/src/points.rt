@@ -1,4 +1,4 @@
-//! Texts of checkpoints, in both versions.
+//! Tests of the texts of checkpoints, in both versions.
 
 use crate::fixtures::*;
 use std::process::Abort;
@@ -9,7 +9,7 @@ use tape_set::Position;
 use tape_stage::{PointFault, read_point, write_point};
 
 /// A text, a position in it (counted from 1), the characters written at that position, and the
-/// fault of the resulting text, if it is not that of a checkpoint.
+/// fault of the resulting text, unless it is that of a checkpoint.
 type Row<'r> = (&'r [u8; 80], usize, &'r str, Option<PointFault>);
 
 const RANGE: Option<PointFault> = Some(PointFault::Range);
@@ -18,7 +18,7 @@ const MARK: Option<PointFault> = Some(PointFault::Mark);
 
 const VERSION: Option<PointFault> = Some(PointFault::Version);
 
-/// Returns the text with other characters at a position, counted from 1.
+/// Returns `text` with `characters` at `position`, counted from 1.
 fn with(text: &[u8; 80], position: usize, characters: &str) -> [u8; 80] {
     let mut other = *text;
     let old = other.iter_mut().skip(position.saturating_sub(1));
@@ -36,12 +36,12 @@ fn answers(rt: &impl Abort, name: &str, rows: &[Row<'_>]) {
     }
 }
 
-/// Returns whether the checkpoint has the given text in version 2, and is read back from it.
+/// Returns whether `point` has the text `text` in version 2, and is read back from it.
 fn is_text(point: &Checkpoint, text: &[u8; 80]) -> bool {
     write_point(point) == *text && read_point(text) == Ok(*point)
 }
 
-/// The checkpoint of the complete file, in version 1.
+/// The text of the checkpoint of the complete file, in version 1.
 const WHOLE_1: &[u8; 80] =
     b"TPCK1ABC00100010000000000D01F0008000PAYROLL          000000000002125            ";
 
@@ -256,7 +256,7 @@ const GOES_ON: &[(&[u8; 80], usize, &str, Option<(u16, u32, u32)>)] = &[
     (WHOLE_2, 38, "S00000", None),
 ];
 
-/// Returns whether the text has the expected position.
+/// Returns whether the resulting text has the position `at`.
 fn goes_on(
     text: &[u8; 80],
     position: usize,

@@ -1,4 +1,4 @@
-//! The remains of damaged stages.
+//! Tests of the remains of damaged stages.
 
 use crate::fixtures::*;
 use std::alloc::{AllocError, Global};
@@ -11,8 +11,8 @@ use tape_stage::{MemoryDisk, Salvage, StageFault};
 const FOURTEEN_2: &[u8; 80] =
     b"TPCK2ABC00100010001000000000000002R01D0000000PAYROLL          000000000000014   ";
 
-/// Returns whether the walk returns the given parts, each a complete record, and no others, and
-/// whether a second walk does the same.
+/// Returns whether the walk returns exactly `parts`, each a complete record, and a second walk does
+/// the same.
 fn gives_parts(salvage: &mut Salvage<MemoryDisk>, parts: &[&[u8]]) -> bool {
     for _ in 0..2 {
         salvage.rewind();
@@ -33,7 +33,7 @@ fn gives_parts(salvage: &mut Salvage<MemoryDisk>, parts: &[&[u8]]) -> bool {
     true
 }
 
-/// Frames, the offset of the damage, and the parts before it.
+/// A test case: frames, the offset of the damage, and the parts before it.
 struct Row {
     name: &'static str,
     frames: &'static [u8],
@@ -98,8 +98,8 @@ const ROWS: &[Row] = &[
     },
 ];
 
-/// Returns whether the expected parts remain of a stage with the frames of the row, and its bytes
-/// are unchanged.
+/// Returns whether the expected parts remain of a stage with the frames of `row`, and the bytes of
+/// the stage are unchanged.
 fn remains(alloc: Global, row: &Row) -> Result<bool, AllocError> {
     let bytes = first_slot(alloc, b'O', FOURTEEN_2, row.frames)?;
     let Ok((mut salvage, point)) = Salvage::open_disk(alloc, disk_of(alloc, &bytes)?) else {

@@ -1,4 +1,4 @@
-//! A stage as the sink of a session.
+//! Tests of a stage as the sink of a session.
 
 use crate::fixtures::*;
 use std::alloc::Global;
@@ -7,12 +7,12 @@ use tape_blocks::{Part, Span};
 use tape_core::{Checkpoint, PartSink, PartWalk};
 use tape_stage::{MemoryDisk, Stage};
 
-/// Makes the sink keep the checkpoint, if it has the weight of the staged parts.
+/// Makes the sink keep the checkpoint `point`, if its weight is that of the staged parts.
 fn keep(stage: &mut Stage<MemoryDisk>, point: &Checkpoint) -> bool {
     point.staged == stage.weight() && stage.keep(point).is_ok()
 }
 
-/// Cuts the sink to the checkpoint, if its weight is at most the sink's own.
+/// Cuts the sink back to `point`, if its weight is at most the sink's own.
 fn cut_to(stage: &mut Stage<MemoryDisk>, point: &Checkpoint) -> bool {
     point.staged <= stage.weight() && stage.cut_to(point).is_ok()
 }
@@ -25,7 +25,7 @@ fn with_three(alloc: Global, two: &Checkpoint) -> Option<Stage<MemoryDisk>> {
     if done { Some(stage) } else { None }
 }
 
-/// Returns whether no part is staged, and the slots have the generations 3 and 2.
+/// Returns whether the stage has no parts, and its slots have the generations 3 and 2.
 fn has_generations(bytes: &[u8]) -> bool {
     bytes.len() == 256
         && bytes.starts_with(b"O000000000000003")
@@ -40,8 +40,8 @@ fn is_cut(stage: &mut Stage<MemoryDisk>, two: &Checkpoint) -> bool {
         && stage.acknowledged() == *two
 }
 
-/// Returns whether a cut below the saved weight first saves the earlier checkpoint as a new
-/// generation.
+/// Returns whether cutting the sink back below the saved weight first saves the earlier checkpoint
+/// as a new generation.
 fn is_cut_to_its_start(stage: &mut Stage<MemoryDisk>) -> bool {
     cut_to(stage, &start()) && holds(stage, b"") && stage.acknowledged() == start()
 }

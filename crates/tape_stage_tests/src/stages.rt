@@ -1,4 +1,4 @@
-//! The bytes of stages, and the results of opening other bytes.
+//! Tests of the bytes of stages, and of opening other bytes.
 
 use crate::fixtures::*;
 use std::alloc::{AllocError, Global};
@@ -8,7 +8,7 @@ use tape_blocks::{Part, Span};
 use tape_core::{Checkpoint, PartSink};
 use tape_stage::{MemoryDisk, Stage, StageFault};
 
-/// Returns the stage of `records` records, saved under a checkpoint.
+/// Returns the stage of `records` records, saved with checkpoint `point`.
 fn saved(alloc: Global, records: u32, point: &Checkpoint) -> Option<Stage<MemoryDisk>> {
     let mut stage = made(alloc)?;
     for _ in 0..records {
@@ -33,7 +33,7 @@ const SLOTS: &[(usize, &[u8])] = &[
     (224, &[b' '; 32]),
 ];
 
-/// The span and the length of a part of 80 bytes.
+/// The header of a frame with a part of 80 bytes: its span and its length.
 const FRAME: &[u8] = b"0\x00\x00\x00\x50";
 
 /// Checks that the bytes are those of a stage of 25 records.
@@ -134,8 +134,8 @@ fn bytes_that_are_no_stage(rt: HostRuntime) -> Result<(), AllocError> {
     Ok(())
 }
 
-/// Returns the fault with which opening a stage of seven bytes of parts fails, with the given gate
-/// and frames.
+/// Returns the fault with which opening a stage with gate `gate` and frames `frames` fails, whose
+/// checkpoint counts seven bytes of parts.
 fn fault_of_seven(
     alloc: Global,
     gate: u8,
@@ -145,7 +145,8 @@ fn fault_of_seven(
     fault_of(alloc, &bytes)
 }
 
-/// A name, the gate and the frames of such a stage, and the fault of opening it, if there is one.
+/// A name, the gate and the frames of a stage for `fault_of_seven`, and the fault of opening it, if
+/// there is one.
 const SEVENS: &[(&str, u8, &[u8], Option<StageFault>)] = &[
     ("an open gate", b'O', b"0\x00\x00\x00\x02AB", None),
     (
@@ -186,7 +187,7 @@ fn gates_and_frames_of_a_stage(rt: HostRuntime) -> Result<(), AllocError> {
     Ok(())
 }
 
-/// The contents of such a stage after a save.
+/// The contents of a stage of version 1 after a save.
 const SAVED_AGAIN: &[(usize, &[u8])] = &[(16, START_1), (128, b"O000000000000002"), (144, START_2)];
 
 #[test]
@@ -204,8 +205,8 @@ fn a_stage_of_version_1_is_saved_in_version_2(rt: HostRuntime) -> Result<(), All
     Ok(())
 }
 
-/// Returns the weight of the stage that opens, from a file with two valid slots: the first with
-/// generation 2 and no parts, the second with the given generation and seven bytes of parts.
+/// Opens a file with two slots: the first with generation 2 and no parts, the second with the gate
+/// and generation `second` and seven bytes of parts. Returns the weight of the stage.
 fn opened_of_two(alloc: Global, second: &[u8; 16]) -> Result<Option<u64>, AllocError> {
     let mut bytes = b"O000000000000002".to_vec(alloc)?;
     bytes.extend_from_slice(START_2)?;
@@ -220,7 +221,7 @@ fn opened_of_two(alloc: Global, second: &[u8; 16]) -> Result<Option<u64>, AllocE
     }
 }
 
-/// The gate and the generation of the second slot, and the weight of the stage that opens.
+/// The gate and the generation of the second slot, and the weight of the stage that is opened.
 const SECONDS: &[(&[u8; 16], u64)] = &[
     (b"O000000000000001", 0),
     (b"O000000000000002", 0),

@@ -1,4 +1,4 @@
-//! Disks that stop at each of their calls, and the stages opened afterwards.
+//! Tests of disks that stop at each of their calls, and of the stages opened afterwards.
 
 use crate::fixtures::*;
 use std::alloc::{AllocError, Global};
@@ -53,7 +53,7 @@ fn what_was_being_saved_when_the_disk_stopped(rt: HostRuntime) {
     assert!(rt; is_pending(&mut stage, &point));
 }
 
-/// Returns the parts of total weight `staged` in the run of `day`.
+/// Returns the records of `day` whose parts have the total weight `staged`.
 fn records_of(staged: u64) -> &'static [u8] {
     match staged {
         0 => b"",
@@ -63,12 +63,12 @@ fn records_of(staged: u64) -> &'static [u8] {
     }
 }
 
-/// Rolls back to the checkpoint, if its weight is at most that of the staged parts.
+/// Rolls back to `point`, if its weight is at most that of the staged parts.
 fn restart(stage: &mut Stage<MemoryDisk>, point: &Checkpoint) -> bool {
     point.staged <= stage.weight() && stage.restart(point).is_ok()
 }
 
-/// Makes a run with three saves, and a roll-back after the second. The run ends at the first
+/// Makes a run with three saves, and a rollback after the second. The run ends at the first
 /// refusal.
 fn day(stage: &mut Stage<MemoryDisk>) -> bool {
     let (Some(two), Some(three), Some(four)) = (
@@ -100,7 +100,7 @@ impl Saved {
 }
 
 /// Makes the run on a disk that stops after `calls` calls. Returns the disk, and the checkpoints
-/// that may be left on it.
+/// that a crash may leave on it.
 fn stopped_after(alloc: Global, calls: u64) -> Option<(MemoryDisk, Saved)> {
     let mut disk = made(alloc)?.into_disk();
     disk.stop_after(calls);
@@ -132,7 +132,8 @@ fn comes_back(alloc: Global, disk: MemoryDisk, saved: &Saved) -> bool {
     saved.has(point) && holds(&mut stage, records_of(point.staged))
 }
 
-/// Returns the disk with the given bytes after an opening that stopped after `calls` calls.
+/// Returns a disk with the bytes `bytes` after an attempt to open it that stopped after `calls`
+/// calls.
 fn opened_until(alloc: Global, bytes: &[u8], calls: u64) -> Result<MemoryDisk, AllocError> {
     let mut disk = disk_of(alloc, bytes)?;
     disk.stop_after(calls);
@@ -142,8 +143,8 @@ fn opened_until(alloc: Global, bytes: &[u8], calls: u64) -> Result<MemoryDisk, A
     })
 }
 
-/// Returns the number of stops of an opening after which a crash leaves a disk that can be opened;
-/// the disk has the bytes that a crash left at a stop of the run.
+/// Returns the number of stops while opening after which a crash leaves a disk that can be opened.
+/// The disk has the bytes that a crash left at a stop of the run.
 fn openings(alloc: Global, left: &[u8], saved: &Saved) -> Result<u64, AllocError> {
     let mut count = 0u64;
     for calls in 0..11 {
@@ -191,9 +192,10 @@ fn acknowledged_after(alloc: Global, calls: u64) -> Option<u64> {
 
 /// The number of calls after which the disk stops, and the weight acknowledged then.
 ///
-/// Opening makes 6 calls: a sync, the length, both slots, the length, a cut and its sync. Putting a
-/// part makes 2 calls. The first save makes 5 calls, of which 3 are syncs; each later save makes 6,
-/// since it closes a gate first. Rolling back makes 7 calls, including its cut.
+/// Opening makes 6 calls: a sync, the length, both slots, the length, a truncation and its sync.
+/// Appending a part makes 2 calls. The first save makes 5 calls, of which 3 are syncs; each later
+/// save makes 6, since it closes a gate first. Rolling back makes 7 calls, including its
+/// truncation.
 const WEIGHTS: &[(u64, u64)] = &[
     (14, 0),
     (15, 170),

@@ -18,7 +18,7 @@ use tape_image::{ImageCause, ImageFault};
 use tape_run::RunFault;
 use tape_writer::Prefix;
 
-/// What the program was working on when a fault occurred, as far as it is known.
+/// The file or stream that the program was working on when a fault occurred, as far as it is known.
 #[derive(Clone, Copy, PartialEq, Eq)]
 pub enum FaultSite<'a> {
     /// The site is unknown.

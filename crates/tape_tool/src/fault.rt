@@ -63,7 +63,7 @@ pub enum ToolFault {
     StageInUse,
 }
 
-/// Out of memory, which includes the arguments of the command line.
+/// The fault if memory runs out, also for the arguments of the command line.
 pub const OUT_OF_MEMORY: ToolFault = ToolFault::Run(RunFault::OutOfMemory);
 
 impl From<ImageFault> for ToolFault {

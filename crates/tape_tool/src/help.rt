@@ -38,7 +38,7 @@ pub use volumes::{
 /// The error if no command is named. The parser reports this itself.
 pub const NO_COMMAND: &str = "name a command, for example 'tape list'";
 
-/// What the program does.
+/// The description of the program.
 pub const ABOUT: &str = "Read and write ANSI-labelled tape volumes (ECMA-13) as SIMH .tap images";
 
 /// The description of `--explain`.

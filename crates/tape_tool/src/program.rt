@@ -34,7 +34,7 @@ use std::{env, io};
 use tape_run::EngineFault;
 use tape_set::Want;
 
-/// How a run of the program ends.
+/// The end of a run of the program.
 #[derive(Clone, Copy, Debug, PartialEq, Eq)]
 pub enum End {
     /// The program did what was asked, or printed help.

@@ -81,12 +81,12 @@ impl FileId {
     }
 }
 
-/// How a new file takes a name.
+/// The way in which a new file takes a name.
 #[derive(Clone, Copy, PartialEq, Eq)]
 pub enum Taking {
-    /// Only if no file has the name.
+    /// The file takes the name only if no other file has it.
     New,
-    /// By replacing the file that has the name.
+    /// The file takes the name by replacing the file that has it.
     Over,
 }
 

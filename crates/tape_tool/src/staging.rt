@@ -82,7 +82,8 @@ pub fn open_session<D: Disk + Drop>(
     // What is staged is unchanged; at most, the bytes after it were removed.
     ensures kept { D.is_honest disk → (D.length_of disk ≡ 0 → ⊥)
         → IfErr result (λ refused. KeepsStaged (D.seen disk) (D.seen refused.disk)) }
-    // Even a dishonest disk that is not empty keeps its length if the stage could not be opened.
+    // Even a dishonest disk that is not empty keeps its length if no stage was opened and the disk
+    // did not fail.
     ensures same_length { (D.length_of disk ≡ 0 → ⊥) → IfErr result (λ refused.
         IsUnopened refused.fault → D.length_of refused.disk ≡ D.length_of disk) }
     // Opening or creating a stage never fails because a stage is full or has failed before.
@@ -233,8 +234,8 @@ fn open_or_make<D: Disk + Drop>(
 }
 
 /// Returns whether the disk has at most 256 bytes, each of them zero or equal to the byte at the
-/// same offset of a new stage of the file whose first gate is not yet open. A file contains zeros
-/// where its system lost written bytes. The disk is only read.
+/// same offset of a new stage of the file, as it is before its first gate is opened. A file
+/// contains zeros where its system lost written bytes. The disk is only read.
 pub fn is_unmade<D: Disk>(disk: &mut D, set_id: Field<6>, file: u16) -> bool
     ensures unmade { D.is_honest disk.old
         → OnTrue result (IsUnmade set_id file (D.seen disk.old)) }
@@ -283,7 +284,7 @@ type FileSession = Session<Stage<BufferedFile<File>>>;
 /// Opens a session over the stage in the file at `path`. If the file does not exist or is empty,
 /// creates a stage.
 ///
-/// The file is locked before anything is read from it, and as long as it is open.
+/// The file is locked before anything is read from it, and stays locked until it is closed.
 ///
 /// # Errors
 ///

@@ -30,8 +30,8 @@ fn nth<T>(elements: &[T], n: usize) -> Option<&T>
 
 /// A `TapeOut` that keeps the volumes in memory.
 ///
-/// `count`, `length` and `item` return the contents. A call that needs a current volume returns
-/// `Device` if there is none.
+/// `count`, `length` and `item` return the contents. Writing an item returns `Device` if no volume
+/// is current.
 #[derive(Drop)]
 pub struct MemoryTapes {
     alloc: Global,
@@ -58,7 +58,7 @@ impl Model for MemoryTapes {
 impl MemoryTapes {
     ghost use Rattle.tape_writer.specs.Kept.{volume_of};
 
-    /// Creates a value without volumes.
+    /// Creates tapes without volumes.
     pub fn new(alloc: Global) -> Self
         ensures { result ≡ record { tapes = Ended []; misused = 0; refused = 0 } }
     {

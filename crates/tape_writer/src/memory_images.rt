@@ -36,7 +36,7 @@ pub struct MemoryImages {
 }
 
 impl MemoryImages {
-    /// Creates a value without images, and with `count` devices.
+    /// Creates a store without images, and with `count` devices.
     ///
     /// # Errors
     ///

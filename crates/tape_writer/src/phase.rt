@@ -15,9 +15,9 @@ pub struct OpenFile {
 /// The state of a set writer.
 #[derive(Drop)]
 pub enum Phase {
-    /// Before the first file, or between two files.
+    /// The writer is before the first file, or between two files.
     Between,
-    /// Inside a file.
+    /// The writer is inside a file.
     Filing(OpenFile),
     /// A call failed, and every further call is refused.
     Failed,

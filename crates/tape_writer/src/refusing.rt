@@ -8,7 +8,7 @@ use crate::fault::OutFault;
 use crate::out::TapeOut;
 use tape_label::Vol1;
 
-/// Forwards all calls except one, which it refuses as if a device had failed.
+/// Tapes that forward all calls except one, which they refuse as if a device had failed.
 #[derive(Drop)]
 pub struct Refusing<T> {
     inner: T,

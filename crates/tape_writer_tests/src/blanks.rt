@@ -1,4 +1,4 @@
-//! Prefixes, and blank volumes.
+//! Tests of prefixes and of blank volumes.
 
 use crate::images::Piece::{Block, End, Mark};
 use crate::images::image_of;

@@ -1,13 +1,13 @@
-//! Sequences of calls of a writer, and the result of each.
+//! Sequences of calls to a writer, and the result of each.
 
 use crate::sets::{COUNTED, FIXED, head, spanned};
 use std::process::Abort;
 use tape_writer::{SetWriter, TapeOut, WriteFault};
 
-/// Bytes of records.
+/// The bytes of the records.
 const SEVENS: [u8; 290] = [b'7'; 290];
 
-/// A call of a writer, or several of one kind.
+/// A call to a writer, or several of one kind.
 #[derive(Clone, Copy)]
 pub(crate) enum Call {
     /// Begins the next file, with records of 80 bytes and blocks of 800 bytes.
@@ -15,11 +15,11 @@ pub(crate) enum Call {
     /// Begins the next file, with records of up to 16 bytes (after their four digits), and blocks
     /// of at most 100 bytes.
     BeginCounted,
-    /// Begins the next file, with records of any length, and the given maximum block length.
+    /// Begins the next file, with records of any length, and blocks of at most this length.
     BeginSpanned(u32),
-    /// Writes a record of the given number of bytes `7`, at most 290.
+    /// Writes a record of this number of bytes `7`, at most 290.
     Put(usize),
-    /// Writes the given number of records of 80 bytes, one after another.
+    /// Writes this number of records of 80 bytes, one after another.
     Records(u32),
     /// Ends the file.
     EndFile,

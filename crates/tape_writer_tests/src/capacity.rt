@@ -1,4 +1,4 @@
-//! Volumes that are full, and the change to the next volume.
+//! Tests of full volumes, and of the change to the next volume.
 
 use crate::calls::Call::{Begin, BeginCounted, BeginSpanned, EndFile, Finish, Put, Records};
 use crate::calls::{Row, follow};
@@ -11,7 +11,7 @@ use tape_image::Item;
 use tape_writer::MemoryTapes;
 use tape_writer::WriteFault::{CapacityTooSmall, Failed, OutOfVolumes, RecordLength};
 
-/// A file whose end does not fit on the only volume.
+/// A file whose end-of-file labels do not fit on the only volume.
 const NO_ROOM: &[Row] = &[
     (Begin, Ok(()), 268),
     (Records(25), Ok(()), 1_884),
@@ -120,7 +120,7 @@ const SETS: &[Set<'_>] = &[
     ),
 ];
 
-/// Checks that the set is written with the given image lengths.
+/// Checks that writing the set produces images of the expected lengths.
 fn is_written(rt: &impl Abort, alloc: Global, set: &Set<'_>) -> Result<(), Fail> {
     let (name, capacity, count, rows, lengths) = set;
     let images = written(rt, alloc, *capacity, *count, rows)?;

@@ -5,7 +5,7 @@ use std::io::{Error, ErrorKind, Read, Result, Write};
 use tape_label::Vol1;
 use tape_writer::ImageStore;
 
-/// Returns one byte for each call, and is interrupted after `left` bytes.
+/// A reader that returns one byte for each call, and is interrupted after `left` bytes.
 #[derive(Drop)]
 pub(crate) struct Dribble<'a> {
     pub(crate) bytes: &'a [u8],
@@ -29,7 +29,7 @@ impl Read for Dribble<'_> {
     }
 }
 
-/// Returns infinitely many bytes, and counts them.
+/// A reader that returns infinitely many bytes, and counts them.
 #[derive(Drop)]
 pub(crate) struct Endless {
     pub(crate) given: usize,
@@ -43,7 +43,7 @@ impl Read for Endless {
     }
 }
 
-/// Accepts one byte for each call, and no byte after the first `left`.
+/// A writer that accepts one byte for each call, and no byte after the first `left`.
 #[derive(Drop)]
 pub(crate) struct Narrow {
     pub(crate) taken: Vec<u8>,
@@ -77,7 +77,7 @@ impl Write for Narrow {
     }
 }
 
-/// A store with a number of such writers, all of which accept the same number of bytes.
+/// A store with `count` devices, each of which accepts `room` bytes.
 #[derive(Drop)]
 pub(crate) struct Narrows {
     pub(crate) alloc: Global,

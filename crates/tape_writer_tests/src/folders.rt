@@ -1,4 +1,4 @@
-//! Images and inputs that are files. Each test uses its own directory.
+//! Tests of images and inputs that are files. Each test uses its own directory.
 
 use crate::inputs::{one_file, payroll, plan};
 use crate::sets::{FIXED, head, spanned};
@@ -27,20 +27,20 @@ const ABC: Prefix = Prefix {
     characters: *b"ABC",
 };
 
-/// Creates a file with the given bytes.
+/// Creates a file with contents `bytes`.
 fn put<R: Runtime>(rt: &R, path: &str, bytes: &[u8]) -> Result<(), Fail> {
     let mut file = File::create(rt, path)?;
     Ok(file.write_all(bytes)?)
 }
 
-/// Checks that the file has the given bytes.
+/// Checks that the contents of the file are `bytes`.
 fn holds<R: Host + Abort>(rt: &R, path: &str, bytes: &[u8]) -> Result<(), Fail> {
     let found = fs::read(rt, path)?;
     assert!(rt; found.as_slice() == bytes, "{path}");
     Ok(())
 }
 
-/// Directories and numbers of volumes, the result of creating their images, and the path of each
+/// A directory, the number of a volume, the result of creating its image, and the path of the
 /// image. The second and the third image already exist.
 const MADE: &[(&str, u16, Option<FileFault>, &str)] = &[
     ("made", 1, None, "made/ABC001.tap"),
@@ -92,7 +92,8 @@ fn ended<R: Host>(
     write_in_folder(rt, &plan, &mut files)
 }
 
-/// Does the same, and returns the number of volumes and the size of the last one.
+/// Writes the bytes as `ended` does, and returns the number of volumes and the size of the last
+/// one.
 fn write<R: Host>(
     rt: &R,
     folder: &str,
@@ -141,7 +142,7 @@ fn images_that_are_there(rt: HostRuntime) -> Result<(), Fail> {
     Ok(())
 }
 
-/// Checks the result of writing the worked records.
+/// Checks that writing the example records has the result `wanted`.
 fn comes_to<R: Host + Abort>(
     rt: &R,
     folder: &str,
@@ -177,8 +178,9 @@ fn an_image_that_another_run_has(rt: HostRuntime) -> Result<(), Fail> {
     Ok(())
 }
 
-/// The worked volume; the same again, which is refused; on two volumes, the second of which already
-/// exists; with a directory instead of the first image; and in a missing directory.
+/// The example volume is written; it is refused when written again; then it is written on two
+/// volumes, the second of which already exists; with a directory in place of the first image; and
+/// in a directory that does not exist.
 #[test]
 fn a_set_in_a_folder(rt: HostRuntime) -> Result<(), Fail> {
     let exists = Err(SystemFault::File(FileFault::Exists));
@@ -200,14 +202,14 @@ fn a_set_in_a_folder(rt: HostRuntime) -> Result<(), Fail> {
 
 /// A directory, a capacity, a block length for format S, and the length of the one record. The
 /// cases are blocks longer than the buffer, blocks of which only one fits in the buffer, and short
-/// blocks; on one, two and three volumes.
+/// blocks, on one, two and three volumes.
 const AS_IN_MEMORY: &[(&str, u32, u32, usize)] = &[
     ("long", 150_000, 9_999, 120_000),
     ("middle", 100_000, 5_000, 120_000),
     ("short", 1_042, 18, 650),
 ];
 
-/// Returns `count` bytes, of which no two consecutive ones are equal.
+/// Returns `count` bytes of which no two consecutive ones are equal.
 fn counted_up(alloc: Global, count: usize) -> Result<Vec<u8>, AllocError> {
     let mut bytes = Vec::new(alloc);
     for number in 0..count as u64 {
@@ -216,7 +218,7 @@ fn counted_up(alloc: Global, count: usize) -> Result<Vec<u8>, AllocError> {
     Ok(bytes)
 }
 
-/// Returns true if the volume was returned, and its file has the bytes of the image.
+/// Returns true if `ended` is volume `number`, and its file has the bytes `image`.
 fn is_image<R: Host>(
     rt: &R,
     folder: &str,
@@ -250,7 +252,7 @@ fn files_are_as_in_memory(rt: HostRuntime) -> Result<(), Fail> {
     Ok(())
 }
 
-/// Checks that the bytes, as one record, are written to files with the same result as in memory.
+/// Checks that `bytes`, as one record, are written to files with the same result as in memory.
 fn are_as_in_memory<R: Host + Abort>(
     rt: &R,
     folder: &str,
@@ -276,8 +278,8 @@ fn are_as_in_memory<R: Host + Abort>(
     Ok(())
 }
 
-/// There are at most 256 volumes: each takes 22 blocks of 18 bytes, of which 13 bytes belong to the
-/// record.
+/// There are at most 256 volumes. Each has room for 22 blocks of 18 bytes, of which 13 bytes belong
+/// to the record.
 #[test]
 fn the_last_volume(rt: HostRuntime) -> Result<(), Fail> {
     fs::create_dir(&rt, "full")?;

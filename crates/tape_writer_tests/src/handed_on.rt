@@ -1,4 +1,4 @@
-//! Images that have ended when the next volume begins.
+//! Tests of images that have ended when the next volume begins.
 
 use crate::inputs::{payroll, plan};
 use crate::sets::{FIXED, head};
@@ -11,8 +11,8 @@ use tape_image::ImageWriter;
 use tape_label::Vol1;
 use tape_writer::{ImageStore, Input, RefusedSet, SetFault, WriteFault, WrittenSet, write_set};
 
-/// Keeps the bytes that it accepts, and their number at the last flush. A given number of flushes
-/// succeed.
+/// A device that keeps the bytes that it accepts, and their number at the last flush. A limited
+/// number of flushes succeed.
 #[derive(Drop)]
 struct Flushed {
     bytes: Vec<u8>,
@@ -44,8 +44,8 @@ impl Write for Flushed {
     }
 }
 
-/// Has two devices, and records how many devices it lent, and how many images it had received when
-/// it lent the last device. Each device can be flushed a given number of times.
+/// A store with two devices. Records how many devices it lent, and how many images it had received
+/// when it lent the last device. Each device can be flushed a limited number of times.
 #[derive(Drop)]
 struct Noting {
     alloc: Global,
@@ -83,7 +83,7 @@ impl ImageStore for Noting {
     }
 }
 
-/// Returns the result of writing the worked file to two such devices.
+/// Returns the result of writing the example file to a `Noting`.
 fn written(
     alloc: Global,
     records: &[u8],
@@ -119,7 +119,7 @@ fn are_handed_on(alloc: Global, records: &[u8], images: &Noting) -> Result<bool,
     })
 }
 
-/// When the second volume begins, the store has received the image of the first, complete and
+/// When the second volume begins, the store has received the image of the first one, complete and
 /// flushed.
 #[test]
 fn the_first_image_is_handed_on_before_the_second_begins(rt: HostRuntime) -> Result<(), Fail> {
@@ -145,7 +145,7 @@ fn is_refused(
     Ok(is_first && facts == (SetFault::Write(WriteFault::Device), 1, 0))
 }
 
-/// Returns true if there is an image, and its device has the given bytes.
+/// Returns true if there is an image, and its device has the bytes `bytes`.
 fn has_bytes(image: Option<ImageWriter<Flushed>>, bytes: &[u8]) -> bool {
     match image {
         Some(image) => image.into_device().bytes.as_slice() == bytes,
@@ -153,7 +153,7 @@ fn has_bytes(image: Option<ImageWriter<Flushed>>, bytes: &[u8]) -> bool {
     }
 }
 
-/// A device that cannot be flushed: no further volume begins.
+/// If a device cannot be flushed, no further volume begins.
 #[test]
 fn an_image_that_is_not_flushed(rt: HostRuntime) -> Result<(), Fail> {
     let records = payroll(rt.alloc(), b"")?;

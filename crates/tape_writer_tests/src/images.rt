@@ -53,7 +53,7 @@ pub(crate) fn image_of(alloc: Global, pieces: &[Piece]) -> Result<Vec<u8>, Alloc
     Ok(bytes)
 }
 
-/// Returns the images after the calls of the rows, on a given number of volumes.
+/// Returns the images after the calls of `rows`, on `count` volumes.
 pub(crate) fn written(
     rt: &impl Abort,
     alloc: Global,
@@ -88,7 +88,7 @@ pub(crate) fn ended(tapes: ImageTapes<MemoryImages>) -> (usize, Option<usize>) {
     (store.into_images().len(), length)
 }
 
-/// Returns true if the images have exactly the given lengths.
+/// Returns true if the images have exactly the lengths `lengths`.
 pub(crate) fn have_lengths(images: &[Vec<u8>], lengths: &[usize]) -> bool {
     for (image, length) in images.iter().zip(lengths) {
         if image.len() != *length {

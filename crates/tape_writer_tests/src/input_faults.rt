@@ -1,4 +1,5 @@
-//! Sets that are not written because of their inputs, and readers and writers that fail.
+//! Tests of sets that are not written because of their inputs, and of readers and writers that
+//! fail.
 
 use crate::devices::{Dribble, Endless, Narrow, Narrows};
 use crate::inputs::{COUNTED, one_file, payroll, plan};
@@ -11,7 +12,7 @@ use tape_image::ImageWriter;
 use tape_label::{Field, Format, Head1};
 use tape_writer::{ImageStore, Input, MemoryImages, SetFault, WriteFault, write_set};
 
-/// Blocks that are too short.
+/// A shape with blocks that are too short.
 const THIN: Shape = Shape {
     format: Format::Fixed,
     block_len: 17,
@@ -20,7 +21,7 @@ const THIN: Shape = Shape {
     pad_full: false,
 };
 
-/// The number of bytes of the worked records of 80 bytes, another shape or form, the number of
+/// The number of bytes of the example records of 80 bytes, a shape and a form, the number of
 /// volumes, their capacity, and the fault. The last piece of 1,999 bytes is too short.
 const REFUSED: [(usize, Shape, Form, usize, u32, WriteFault); 9] = [
     (2_000, COUNTED, Form::Raw, 1, 100_000, WriteFault::BadShape),
@@ -62,7 +63,7 @@ const REFUSED: [(usize, Shape, Form, usize, u32, WriteFault); 9] = [
     ),
 ];
 
-/// Returns the fault of writing the records.
+/// Returns the fault of writing the first `length` bytes of the example records.
 fn fault_of(
     alloc: Global,
     length: usize,
@@ -89,8 +90,8 @@ fn refusals(rt: HostRuntime) -> Result<(), Fail> {
     Ok(())
 }
 
-/// The result of writing a set: the number of files written; or the fault, whether the current
-/// image is returned, and the number of images left.
+/// The result of writing a set: the number of files written or, on error, the fault, whether the
+/// current image is returned, and the number of images left.
 type Became = Result<usize, (SetFault, bool, usize)>;
 
 /// Returns the result of writing the files on one volume.
@@ -121,7 +122,7 @@ fn no_files(rt: HostRuntime) -> Result<(), Fail> {
     Ok(())
 }
 
-/// The second of two files has a head that cannot be labelled: nothing is written, not even the
+/// If the head of the second of two files cannot be labelled, nothing is written, not even the
 /// first file.
 #[test]
 fn a_head_that_cannot_be_labelled(rt: HostRuntime) -> Result<(), Fail> {
@@ -154,7 +155,7 @@ fn of_dribble(alloc: Global, left: usize) -> Result<Became, Fail> {
     told(alloc, COUNTED, Form::Lines, &mut files, images)
 }
 
-/// A reader that fails, at each byte of an input that is read one byte at a time.
+/// A reader fails at each byte of an input that is read one byte at a time.
 #[test]
 fn an_input_that_fails(rt: HostRuntime) -> Result<(), Fail> {
     for left in 0..7 {
@@ -187,8 +188,8 @@ fn a_line_without_end(rt: HostRuntime) -> Result<(), Fail> {
 }
 
 /// Returns the result of writing one line to a device that accepts `left` bytes: the number of
-/// images left, and the number of files written; or the fault, and the number of bytes that the
-/// returned device accepted.
+/// images left and the number of files written or, on error, the fault and the number of bytes that
+/// the returned device accepted.
 fn on_narrow(
     alloc: Global,
     left: usize,
@@ -217,8 +218,8 @@ fn taken(image: Option<ImageWriter<Narrow>>) -> Option<usize> {
     }
 }
 
-/// A device that fails at each byte of an image, and is returned with the bytes written; and a
-/// device that accepts exactly the image.
+/// A device that fails at any byte of an image is returned with the bytes written to it; a device
+/// that accepts exactly the image does not fail.
 #[test]
 fn a_device_that_fails(rt: HostRuntime) -> Result<(), Fail> {
     for left in 0..487 {

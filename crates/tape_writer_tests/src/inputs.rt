@@ -1,4 +1,4 @@
-//! Sets written from inputs, compared with images written out from their formats.
+//! Tests of sets written from inputs, compared with images written out from their formats.
 
 use crate::sets::{FIXED, head, volumes};
 use crate::volumes::{first_of_two, one_volume, second_of_two};
@@ -8,7 +8,7 @@ use tape_blocks::{Form, Shape};
 use tape_label::{Field, Format};
 use tape_writer::{Input, MemoryImages, SetFault, SetPlan, write_set};
 
-/// Records of at most 14 bytes, in blocks of 18 bytes.
+/// A shape with records of at most 14 bytes, in blocks of 18 bytes.
 pub(crate) const COUNTED: Shape = Shape {
     format: Format::Counted,
     block_len: 18,
@@ -17,7 +17,7 @@ pub(crate) const COUNTED: Shape = Shape {
     pad_full: false,
 };
 
-/// Records of any length, in blocks of 18 bytes.
+/// A shape with records of any length, in blocks of 18 bytes.
 const SPANNED: Shape = Shape {
     format: Format::Spanned,
     block_len: 18,
@@ -43,8 +43,8 @@ pub(crate) fn plan(
     })
 }
 
-/// Returns the 25 records of the worked file, each followed by `behind`. Record i is i in four
-/// digits and 76 spaces.
+/// Returns the 25 records of the example file, each followed by `behind`. Record i consists of i in
+/// four digits and 76 spaces.
 pub(crate) fn payroll(alloc: Global, behind: &[u8]) -> Result<Vec<u8>, AllocError> {
     let mut bytes = Vec::new(alloc);
     for number in 1..26u8 {
@@ -54,7 +54,7 @@ pub(crate) fn payroll(alloc: Global, behind: &[u8]) -> Result<Vec<u8>, AllocErro
     Ok(bytes)
 }
 
-/// Returns record `number` of the worked file.
+/// Returns record `number` of the example file.
 fn record(number: u8) -> [u8; 80] {
     let mut record = [b' '; 80];
     record[..2].fill(b'0');
@@ -103,7 +103,7 @@ fn are(images: &[Vec<u8>], first: &[u8], second: &[u8]) -> bool {
 }
 
 /// Returns true if the first `length` bytes of the records, each followed by `behind`, are written
-/// as the worked image.
+/// as the example image.
 fn is_worked(alloc: Global, form: Form, behind: &[u8], length: usize) -> Result<bool, Fail> {
     let mut input = payroll(alloc, behind)?;
     input.truncate(length);
@@ -116,7 +116,7 @@ fn is_worked(alloc: Global, form: Form, behind: &[u8], length: usize) -> Result<
     Ok(are(images.as_slice(), wanted.as_slice(), &[]))
 }
 
-/// Lines with and without a last line feed, and raw bytes.
+/// Forms of the input: lines with and without a last line feed, and raw bytes.
 const INPUTS: &[(Form, &[u8], usize)] = &[
     (Form::Lines, b"\n", 2025),
     (Form::Lines, b"\n", 2024),
@@ -135,7 +135,7 @@ fn the_worked_volume(rt: HostRuntime) -> Result<(), Fail> {
 }
 
 /// Returns true if three volumes of 2,500 bytes contain the raw records as expected: the third
-/// block fits on the first volume but the end of the file does not, so section 2 is empty.
+/// block fits on the first volume but the end-of-file labels do not, so section 2 is empty.
 fn are_small(alloc: Global) -> Result<bool, Fail> {
     let records = payroll(alloc, b"")?;
     let plan = plan(alloc, 3, 2_500, FIXED, Form::Raw)?;
@@ -162,7 +162,7 @@ const SIZES: [(Shape, Form, u32, usize, usize, usize); 6] = [
     (SPANNED, Form::Lines, 1_042, 290, 1_032, 486),
 ];
 
-/// Returns the sizes of the two images for a record of the given length.
+/// Returns the sizes of the two images for a record of `length` bytes.
 fn sizes_of(
     alloc: Global,
     shape: Shape,
@@ -179,7 +179,7 @@ fn sizes_of(
     ))
 }
 
-/// Sizes with no record, and with a record on two volumes.
+/// The sizes are as expected without a record, and with a record on two volumes.
 #[test]
 fn sizes(rt: HostRuntime) -> Result<(), Fail> {
     for (row, (shape, form, capacity, length, first, second)) in SIZES.into_iter().enumerate() {
@@ -195,7 +195,7 @@ const LINES: &[(&[u8], &[u8])] = &[
     (b"A\r\n\nB", b"0006A\r00040005B^^^"),
 ];
 
-/// Returns true if the lines are written as a volume with the block `block`.
+/// Returns true if `lines` are written as a volume with the block `block`.
 fn have_block(alloc: Global, lines: &[u8], block: &[u8]) -> Result<bool, Fail> {
     let plan = plan(alloc, 1, 100_000, COUNTED, Form::Lines)?;
     let images = written(alloc, plan, lines)?;

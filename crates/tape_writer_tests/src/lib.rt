@@ -1,4 +1,4 @@
-//! Tests of `tape_writer`: sets written, with items and bytes worked out from the formats.
+//! Tests of `tape_writer`: sets written, with items and bytes calculated from the formats.
 #![tactic(auto)]
 
 #[cfg(test)]

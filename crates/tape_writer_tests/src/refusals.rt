@@ -1,4 +1,4 @@
-//! Refusals, their order, and the state after them.
+//! Tests of refusals, their order, and the state after them.
 
 use crate::calls::Call::{Begin, BeginSpanned, EndFile, Finish, Put, Records};
 use crate::calls::{Row, follow, perform};
@@ -58,7 +58,7 @@ fn files_that_are_not_begun(rt: HostRuntime) -> Result<(), Fail> {
     Ok(())
 }
 
-/// Returns the result of `new` for `count` volumes with the given identifier.
+/// Returns the fault of `new` for `count` volumes with the identifier `id`, if any.
 fn made(
     alloc: Global,
     set_id: [u8; 6],
@@ -73,7 +73,8 @@ fn made(
     }
 }
 
-/// The identifiers of a set and of its volumes, the number of volumes, and the result of `new`.
+/// The identifiers of a set and of its volumes, the number of volumes, and the fault of `new`, if
+/// any.
 const MADE: &[(&[u8; 6], &[u8; 6], usize, Option<WriteFault>)] = &[
     (b"abc001", b"ABC001", 0, Some(BadField)),
     (b"ABC001", b"abc001", 1, Some(BadField)),
@@ -99,12 +100,12 @@ fn write_all(writer: &mut SetWriter<Refusing<MemoryTapes>>) -> Result<(), WriteF
     Ok(())
 }
 
-/// The result, the result of the next call, the number of volumes, and the number of items on the
-/// first volume.
+/// The result of writing, the result of the next call, the number of volumes, and the number of
+/// items on the first volume.
 type Stands = (Result<(), WriteFault>, Result<(), WriteFault>, usize, usize);
 
-/// Returns the expected state after the refusal of the call that follows `left` calls. The volume
-/// changes at call 14 of the tapes.
+/// Returns the expected state after the refusal of the call that follows `left` calls. The 14th
+/// call to the tapes changes the volume.
 fn stands_behind(left: usize) -> Stands {
     match left {
         0 => (Err(Device), Err(Failed), 0, 0),
@@ -114,8 +115,8 @@ fn stands_behind(left: usize) -> Stands {
     }
 }
 
-/// Writes a set whose tapes refuse the call after the first `left`, and returns the state after the
-/// refusal.
+/// Writes a set to tapes that refuse the call after the first `left`, and returns the state after
+/// the refusal.
 fn refused_behind(alloc: Global, left: usize) -> Result<Stands, Fail> {
     let volumes = volumes(alloc, 2)?;
     let out = Refusing::new(MemoryTapes::new(alloc), left);

@@ -6,7 +6,7 @@ use tape_blocks::Shape;
 use tape_label::{Field, Format, Head1, Vol1};
 use tape_writer::{ImageTapes, MemoryImages, MemoryTapes, RefusedWriter, SetWriter, TapeOut};
 
-/// Records of 80 bytes, in blocks of 800 bytes.
+/// A shape with records of 80 bytes, in blocks of 800 bytes.
 pub(crate) const FIXED: Shape = Shape {
     format: Format::Fixed,
     block_len: 800,
@@ -15,7 +15,8 @@ pub(crate) const FIXED: Shape = Shape {
     pad_full: false,
 };
 
-/// Records of up to 16 bytes (after their four digits), in blocks of at most 100 bytes.
+/// A shape with records of up to 16 bytes (after their four digits), in blocks of at most 100
+/// bytes.
 pub(crate) const COUNTED: Shape = Shape {
     format: Format::Counted,
     block_len: 100,
@@ -35,7 +36,7 @@ pub(crate) fn spanned(block_len: u32) -> Shape {
     }
 }
 
-/// Returns the label of a volume.
+/// Returns the label of the volume with identifier `id`.
 pub(crate) fn volume(id: [u8; 6]) -> Vol1 {
     Vol1 {
         volume: Field::of_bytes(id),
@@ -68,7 +69,7 @@ pub(crate) fn volumes(alloc: Global, count: usize) -> Result<Vec<Vol1>, AllocErr
     Vec::from_slice(alloc, &all[..count.min(3)])
 }
 
-/// Returns a writer of items in memory, on the first of the three volumes.
+/// Returns a writer of in-memory items, positioned on the first of `count` volumes.
 pub(crate) fn in_memory(
     alloc: Global,
     capacity: u32,
@@ -79,7 +80,7 @@ pub(crate) fn in_memory(
     made(SetWriter::new(alloc, set_id, volumes, capacity, MemoryTapes::new(alloc)))
 }
 
-/// Returns a writer of images in memory, on the first of the three volumes.
+/// Returns a writer of in-memory images, positioned on the first of `count` volumes.
 pub(crate) fn on_images(
     alloc: Global,
     capacity: u32,
@@ -91,7 +92,7 @@ pub(crate) fn on_images(
     made(SetWriter::new(alloc, set_id, volumes, capacity, out))
 }
 
-/// Returns the writer, which must not be refused.
+/// Returns the writer, which must have been created.
 fn made<T: TapeOut + Drop>(
     writer: Result<SetWriter<T>, RefusedWriter<T>>,
 ) -> Result<SetWriter<T>, Fail> {

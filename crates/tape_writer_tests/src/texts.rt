@@ -36,11 +36,11 @@ pub(crate) const EOV2: &[u8; 80] =
 pub(crate) const EOF1: &[u8; 80] =
     b"EOF1PAYROLL          ABC00100010001000100 00000 00000 000003                    ";
 
-/// EOF1 after no blocks.
+/// EOF1 of the first file if it has no blocks.
 pub(crate) const EOF1_EMPTY: &[u8; 80] =
     b"EOF1PAYROLL          ABC00100010001000100 00000 00000 000000                    ";
 
-/// EOF1 of the second section, after no blocks.
+/// EOF1 of the second section if it has no blocks.
 pub(crate) const EOF1_SECOND_SECTION: &[u8; 80] =
     b"EOF1PAYROLL          ABC00100020001000100 00000 00000 000000                    ";
 

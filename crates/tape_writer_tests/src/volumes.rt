@@ -11,13 +11,14 @@ pub(crate) fn one_volume(alloc: Global, records: &[u8]) -> Result<Vec<u8>, Alloc
     of_records(alloc, records, &closing)
 }
 
-/// Returns the volume that the file fills, if the end of the file is on the next volume.
+/// Returns the volume with all records of the file, if the end-of-file labels are on the next
+/// volume.
 pub(crate) fn first_of_two(alloc: Global, records: &[u8]) -> Result<Vec<u8>, AllocError> {
     let closing = [Mark, Block(EOV1), Block(EOV2), Mark, Mark, End];
     of_records(alloc, records, &closing)
 }
 
-/// Returns the second volume, which contains only the end of the file.
+/// Returns the second volume, which contains only the end-of-file labels of the file.
 pub(crate) fn second_of_two(alloc: Global) -> Result<Vec<u8>, AllocError> {
     let pieces = [
         Block(VOL1_SECOND),

@@ -1,4 +1,4 @@
-//! Sets written completely, compared byte by byte and by length.
+//! Tests of sets that are written completely, compared byte by byte and by length.
 
 use crate::calls::Call::{Begin, BeginSpanned, EndFile, Finish, Put, Records};
 use crate::calls::{Row, follow, perform};
@@ -13,7 +13,7 @@ use std::test::Fail;
 use tape_image::Item;
 use tape_writer::MemoryTapes;
 
-/// 25 records of 80 bytes.
+/// The bytes of 25 records of 80 bytes.
 const SEVENS: [u8; 2_000] = [b'7'; 2_000];
 
 /// Sets on one volume: a name, the calls, an offset in the image, and the bytes from that offset to
@@ -92,7 +92,7 @@ const ON_ONE_VOLUME: &[(&str, &[Row], usize, &[Piece<'_>])] = &[
     ),
 ];
 
-/// Checks that the calls write one volume that ends with the given pieces.
+/// Checks that the calls of `rows` write one volume that ends with `pieces`.
 fn is_written(
     rt: &impl Abort,
     alloc: Global,
@@ -118,7 +118,7 @@ fn one_volume_byte_by_byte(rt: HostRuntime) -> Result<(), Fail> {
     Ok(())
 }
 
-/// 25 records on two volumes.
+/// The calls that write 25 records on two volumes.
 const TWO_VOLUMES: &[Row] = &[
     (Begin, Ok(()), 268),
     (Records(25), Ok(()), 1_884),
@@ -166,10 +166,10 @@ fn a_record_over_many_blocks(rt: HostRuntime) -> Result<(), Fail> {
     Ok(())
 }
 
-/// Volumes in memory, and the number of items on each.
+/// The numbers of in-memory volumes, and the number of items on each.
 const LENGTHS: &[(usize, usize)] = &[(0, 12), (1, 9), (2, 0)];
 
-/// Some of their items.
+/// Some of the items on these volumes.
 const ITEMS: &[(usize, usize, Option<Item<'_>>)] = &[
     (0, 8, Some(Item::Block(EOV1))),
     (0, 11, Some(Item::Mark)),
@@ -178,7 +178,7 @@ const ITEMS: &[(usize, usize, Option<Item<'_>>)] = &[
     (2, 0, None),
 ];
 
-/// Checks that the two volumes in memory are those written for 25 records.
+/// Checks that the two in-memory volumes are those written for 25 records.
 fn are_two(rt: &impl Abort, tapes: &MemoryTapes) {
     assert!(rt; tapes.count() == 2);
     for (volume, length) in LENGTHS {

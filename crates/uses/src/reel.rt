@@ -1,5 +1,5 @@
-//! The reel for these examples: a volume `ABC001` with a file of five records of four characters,
-//! written out from the standard as two readings return it.
+//! The reel for these examples: a volume `ABC001` with a file of five records of four characters.
+//! Two readings of it are written out from the standard.
 
 /// A reading with an error in the first block of the file.
 pub(super) const FIRST_BAD: &[u8] = b"\

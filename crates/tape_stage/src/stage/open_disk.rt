@@ -121,15 +121,16 @@ fn recover<D: Disk>(alloc: Global, disk: &mut D) -> Result<(Found, Vec<u8>), Sta
         → D.length_of disk.new ≡ D.length_of disk.old) }
     ensures ends { EndsFinding D.Disk disk.old result disk.new }
 {
-    // The buffer is allocated before the cut, so a failed allocation leaves the disk unchanged.
+    // The buffer is allocated before the disk is truncated, so a failed allocation leaves the disk
+    // unchanged.
     let found = look(disk)?;
     let buffer = buffer_of(alloc)?;
     cut_kept(disk, 256 + found.staged())?;
     Ok((found, buffer))
 }
 
-/// Returns the slots of a new stage before its first gate is opened: the first slot has generation 1
-/// and the checkpoint, and both gates are closed.
+/// Returns the slots of a new stage before its first gate is opened: the first slot has generation
+/// 1 and the checkpoint, and both gates are closed.
 pub fn new_slots(point: &Checkpoint) -> [u8; 256]
     ensures text { result ≡ new_slots point.now }
     ensures fit { FitBody 1 point.now }

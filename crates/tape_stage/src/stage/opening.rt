@@ -106,8 +106,8 @@ pub(crate) fn find_on<D: Disk>(disk: &mut D) -> Result<Found, StageFault>
     ensures reads { OnlyReads D.Disk disk.old disk.new }
     ensures ends { EndsFinding D.Disk disk.old result disk.new }
 {
-    // Synced before anything is read: reads then return the bytes that a crash leaves, and the cut
-    // afterwards relies on slots that do not change.
+    // The disk is synced before anything is read: reads then return the bytes that a crash leaves,
+    // and the truncation afterwards relies on slots that do not change.
     disk.sync()?;
     let len = disk.len()?;
     if len < 256 {

@@ -159,8 +159,8 @@ impl<D: Disk> Stage<D> {
         ensures ends { EndsCall self.old result self.new }
     {
         let staged = point.staged;
-        // The checkpoint is saved before the cut: cutting first could drop parts that the older
-        // checkpoint counts.
+        // The checkpoint is saved before the disk is truncated: truncating first could drop parts
+        // that the older checkpoint counts.
         match self.acknowledge(point) {
             Ok(()) => self.cut_parts(staged),
             Err(fault) => Err(fault),

@@ -29,14 +29,14 @@ const FRONTS: &[(usize, &[u8])] = &[
 /// The number of bytes that `FRONTS` cover.
 const FRONT: usize = 148;
 
-/// How an output is to be written, and the file found under its name before.
+/// The way in which an output is to be written, and the file found under its name before.
 #[derive(Clone, Copy)]
 pub enum Way {
-    /// To a new file, which gets the output's name when it is complete.
+    /// The output is written to a new file, which gets the output's name when it is complete.
     Renamed(Option<FileId>),
-    /// To a new file, with a name that does not exist yet; the output is never written in place.
+    /// The output has a name that does not exist yet: it is written to a new file, never in place.
     New,
-    /// In place, since the name is that of a pipe, a device or a link.
+    /// The output is written in place, since its name is that of a pipe, a device or a link.
     InPlace(Option<FileId>),
 }
 
@@ -76,8 +76,8 @@ pub fn way_of<R: Runtime + AllocGlobal>(
 /// The path by which standard input is found as a file.
 const STANDARD_INPUT: &str = "/dev/stdin";
 
-/// Returns how the output `out` of `stage` and `images` is to be written. Nothing is created or
-/// changed.
+/// Returns how the output `out`, recovered from `stage` and `images`, is to be written. Nothing is
+/// created or changed.
 ///
 /// # Errors
 ///

@@ -82,7 +82,7 @@ const SECOND: &[Step<'_>] = &[
     Step::Holds("SND002.tap", b"kept"),
 ];
 
-/// All inputs are looked up before anything is written. Here one is missing, and one is a
+/// All inputs are looked up before anything is written: first one is missing, then one is a
 /// directory.
 const LOOKED_FOR: &[Step<'_>] = &[
     Step::Put("here.txt", b"AB\n"),

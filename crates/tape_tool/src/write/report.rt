@@ -10,7 +10,7 @@ use tape_run::text::{put, put_decimal};
 use tape_run::{WriteFailed, flush, write_text};
 use tape_writer::system::Ended;
 
-/// A buffer for a line, of which the last one is the longest.
+/// A buffer for one line. The last line is the longest one.
 type Line = ArrayVec<u8, 64>;
 
 /// Prints a line for each volume, and one with the numbers of files and volumes.

@@ -8,11 +8,11 @@ use memchr::memchr;
 /// The way in which an input is cut into records.
 #[derive(Clone, Copy)]
 pub enum Cut {
-    /// After each line feed, which belongs to no record.
+    /// The input is cut after each line feed, which belongs to no record.
     Lines,
-    /// Into records of the given length.
+    /// The input is cut into records of this length.
     Length(u32),
-    /// Not at all: the whole input is one record.
+    /// The whole input is one record.
     Whole,
 }
 

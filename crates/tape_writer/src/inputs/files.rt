@@ -59,7 +59,7 @@ pub fn write_files<T: TapeOut + Drop, R: Read>(
     ensures due { writer.old.phase ≡ Between
         → IfErr result (IsFilesFault writer.old.capacity shape cut (length writer.old.files)
         (map (λ f. (f.head, R.remaining f.reader)) files.old)) }
-    // If no volume is left, the next block, or the end of a file, does not fit.
+    // If no volume is left, the next block, or the labels at the end of a file, do not fit.
     ensures stuck { IfErr result (λ fault. fault ≡ SetFault.Write WriteFault.OutOfVolumes
         → (told : List Told) → IsWriting (T.holds writer.old.out) writer.old told
         → GaveUpIn (T.holds writer.new.out) writer.new writer.old.set_id told shape cut

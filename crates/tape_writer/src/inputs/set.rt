@@ -91,8 +91,8 @@ pub fn write_set<R: Read, S: ImageStore + Drop>(
     // Each fault is returned only for its cause.
     ensures due { IfErr result (λ refused.
         IsSetFault plan (map (λ f. (f.head, R.remaining f.reader)) files.old) refused.fault) }
-    // If no volume is left, the next block of the inputs read so far, or the end of a file, does
-    // not fit.
+    // If no volume is left, the next block of the inputs read so far, or the labels at the end of a
+    // file, do not fit.
     ensures stuck { S.holds images false [] → IfErr result (λ refused.
         refused.fault ≡ SetFault.Write WriteFault.OutOfVolumes
         → HasNoVolume (Holds S.holds)
@@ -160,7 +160,7 @@ fn are_text_heads<R>(files: &[Input<R>]) -> bool
     true
 }
 
-/// Returns a refusal before anything was written.
+/// Returns a refusal with the store `images`, before anything was written.
 fn refused<S: ImageStore + Drop>(fault: WriteFault, images: S) -> RefusedSet<S>
     ensures fault { result.fault ≡ SetFault.Write fault }
     ensures images { result.images ≡ images }

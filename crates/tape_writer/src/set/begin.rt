@@ -42,8 +42,8 @@ impl<T: TapeOut + Drop> SetWriter<T> {
     /// `BadField` if a field of the head other than its set identifier contains a byte that is not
     /// an a-character; `BadShape` if blocks of this shape cannot be written; `CapacityTooSmall` if
     /// the capacity is less than the block length plus 1,024 bytes; `TooMany` for the 10,000th
-    /// file; after these the writer is unchanged. Then `OutOfMemory` or `Device`, whichever happens
-    /// first.
+    /// file; after these faults the writer is unchanged. Then `OutOfMemory` or `Device`, whichever
+    /// happens first.
     #[tactic(auto, using(crate::proofs::Last::lasting_self, crate::proofs::Calls::leaves_failed))]
     pub fn begin_file(&mut self, head: Head1, shape: Shape) -> Result<(), WriteFault>
         ensures same { SameSet self.old self.new }

@@ -28,7 +28,7 @@ impl<T: TapeOut + Drop> SetWriter<T> {
     /// # Errors
     ///
     /// Returns `Failed`, `Finished` or `NoFile` depending on the writer's state; `RecordLength` if
-    /// the file's shape does not allow a record of this length; after these the writer is
+    /// the file's shape does not allow a record of this length; after these faults the writer is
     /// unchanged. Then, whichever happens first, `OutOfVolumes` if the volume must be changed and
     /// no volume is left, `Device` or `OutOfMemory`.
     #[tactic(auto, using(crate::proofs::Last::lasting_self, crate::proofs::Calls::leaves_failed))]
@@ -47,7 +47,7 @@ impl<T: TapeOut + Drop> SetWriter<T> {
         ensures due { IfFiling self.old.phase (λ o. IfErr result (IsPutFault o bytes.now)) }
         ensures stays { (file : Opened) → IsInFile file self.old.phase
             → OnOk result (IsInFile file self.new.phase) }
-        // Each record takes room, so only finitely many records are accepted.
+        // Each record needs room, so only finitely many records are accepted.
         ensures room { OnOk result (room_left self.new < room_left self.old) }
         ensures files { self.new.files ≡ self.old.files }
         // The last file has one more record, and the other files are unchanged.
@@ -152,7 +152,7 @@ impl<T: TapeOut + Drop> SetWriter<T> {
     /// # Errors
     ///
     /// Returns `Failed` or `Finished` depending on the writer's state; `FileBegun` inside a file;
-    /// `NoFile` before the first file; after these the writer is unchanged. Then `Device` or
+    /// `NoFile` before the first file; after these faults the writer is unchanged. Then `Device` or
     /// `OutOfMemory`, whichever happens first.
     #[tactic(auto, using(crate::proofs::Last::lasting_self, crate::proofs::Calls::leaves_failed))]
     pub fn finish(&mut self) -> Result<(), WriteFault>

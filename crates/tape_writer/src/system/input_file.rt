@@ -29,7 +29,8 @@ impl<'a, R: Files> InputFile<'a, R> {
     ///
     /// # Errors
     ///
-    /// Returns `NotOpened` if it is missing or may not be read, `ReadFailed` if it is a directory.
+    /// Returns `NotOpened` if the input is missing or may not be read, and `ReadFailed` if it is a
+    /// directory.
     pub fn find(files: &'a R, path: &'a str) -> std::result::Result<Self, FileFault> {
         let Ok(found) = fs::metadata(files, path) else {
             return Err(FileFault::NotOpened);
@@ -47,7 +48,7 @@ impl<'a, R: Files> InputFile<'a, R> {
         })
     }
 
-    /// Takes the open file, after opening it if it was not read yet.
+    /// Takes the open file. If the input was not read yet, opens the file first.
     fn take(&mut self) -> Result<Option<R::File>> {
         match mem::replace(&mut self.turn, Turn::Ended) {
             Turn::Waits => Ok(Some(File::open(self.files, self.path)?)),

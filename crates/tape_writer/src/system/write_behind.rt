@@ -43,7 +43,8 @@ impl<W: Write + Drop> Model for WriteBehind<W> {
 }
 
 impl<W: Write + Drop> WriteBehind<W> {
-    /// Creates a value with an empty buffer. `room` is the memory of the buffer, and does not grow.
+    /// Creates a device with an empty write buffer. `room` is the memory of the buffer, and does
+    /// not grow.
     pub fn over(room: Vec<u8>, device: W) -> WriteBehind<W>
         requires none { room.items ≡ [] }
         requires room { 8192 ≤ vec_capacity room }
