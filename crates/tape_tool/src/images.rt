@@ -15,7 +15,7 @@ use std::io;
 use std::io::{BufReader, ErrorKind, Read};
 use std::rt::Runtime;
 use tape_label::Field;
-use tape_run::{FoundFiles, ImageSource, SectionKey, set_of};
+use tape_run::{FoundFiles, ImageSource};
 
 /// The source of the names of a run's images.
 #[derive(Drop)]
@@ -152,9 +152,8 @@ fn no_memory() -> Refusal {
     Refusal::Faulted(OUT_OF_MEMORY)
 }
 
-/// Returns the names in the order in which the images of file `key` are read: first those on which
-/// its sections begin, in the order of the sections, and then all others in the order of their
-/// names. Unless `all`, the others are only images of the set. No name is returned twice.
+/// Returns the names in the order in which the images of file `key` are read
+/// (`FoundFiles::reading_order`).
 pub fn in_reading_order<'n>(
     alloc: Global,
     names: &[&'n str],
@@ -163,43 +162,15 @@ pub fn in_reading_order<'n>(
     all: bool,
 ) -> Result<Vec<&'n str>, AllocError> {
     let (set_id, file) = key;
+    let numbers = met.reading_order(alloc, set_id, file, all)?;
     let mut order = Vec::new(alloc);
-    let mut taken = Vec::new(alloc);
-    for _ in names {
-        taken.push(false)?;
-    }
-    for sect in 1..=LAST_SECTION {
-        let Some(at) = met.locations.get(&SectionKey { set_id, file, sect }) else {
-            break;
-        };
-        take_name(&mut order, &mut taken, names, *at)?;
-    }
-    for (at, image) in met.images.as_slice().iter().enumerate() {
-        if all || set_of(image) == Some(set_id) {
-            take_name(&mut order, &mut taken, names, at)?;
+    for number in numbers.as_slice() {
+        if let Some(name) = names.get(*number) {
+            order.push(*name)?;
         }
     }
     Ok(order)
 }
-
-/// Appends name `at` to `order`, unless it was appended before.
-fn take_name<'n>(
-    order: &mut Vec<&'n str>,
-    taken: &mut Vec<bool>,
-    names: &[&'n str],
-    at: usize,
-) -> Result<(), AllocError> {
-    if let (Some(name), Some(taken)) = (names.get(at), taken.get_mut(at)) {
-        if !*taken {
-            *taken = true;
-            order.push(*name)?;
-        }
-    }
-    Ok(())
-}
-
-/// The highest number of a section.
-const LAST_SECTION: u16 = 9_999;
 
 /// The size in bytes of the read buffer of an image.
 pub const READ_AHEAD: usize = 32_768;
