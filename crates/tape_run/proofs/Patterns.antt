@@ -1,6 +1,8 @@
 -- The search that decides whether a word fits a pattern, step by step.
-use Rattle.std.proofs.Common.{◌≡◌, ◌≢◌, ◌⊎◌, inl, inr, ℕ, ◌+◌, ◌*◌, ◌-◌, ◌<◌, ◌≤◌, List, [], ◌∷◌, ◌++◌}
-use Rattle.std.proofs.Common.{length, drop, refl, sym, ap, subst, ◌∙◌, arith, append_assoc, length-append}
+use Rattle.std.proofs.Common.{◌≡◌, ◌≢◌, ◌⊎◌, inl, inr, ℕ, ◌+◌, ◌*◌, ◌-◌, ◌<◌, ◌≤◌, List, [], ◌∷◌}
+use Rattle.std.proofs.Common.{◌++◌}
+use Rattle.std.proofs.Common.{length, drop, refl, sym, ap, subst, ◌∙◌, arith, append_assoc}
+use Rattle.std.proofs.Common.{length-append}
 use Rattle.std.proofs.lemmas.List.{drop-append-le, length-drop}
 use Rattle.std.proofs.Math.Seq.{drop-append_seam}
 use Rattle.std.proofs.Common.{mul-le-mul_right, add-mul, one-mul, Bool, true, false}
@@ -63,7 +65,8 @@ plain_first (c ∷ cs) left word (n, ns) (piece, rest, e, r, f) =
 
 -- ---- a star
 
-first_or_later : (others rest : List ℕ) → Fits (42 ∷ others) rest → Fits others rest ⊎ Later others rest
+first_or_later : (others rest : List ℕ) → Fits (42 ∷ others) rest
+    → Fits others rest ⊎ Later others rest
 first_or_later others rest ([], more, e, r, f) = inl (subst (Fits others) (sym e) f)
 first_or_later others rest (c ∷ cs, more, e, r, f) =
     inr (c ∷ cs, more, e, omega arith, f)
@@ -92,7 +95,8 @@ still_later after from others rest (same, a, b, plain) (piece, more, e, some, f)
     ) in
     (x ++ p2, r3, cut ∙ sym (append_assoc x p2 r3), l, f3)
 
-either_later : (after from others rest : List ℕ) → (from ≡ []) ⊎ Passed after from (42 ∷ others) rest
+either_later : (after from others rest : List ℕ)
+    → (from ≡ []) ⊎ Passed after from (42 ∷ others) rest
     → Later after from → Later others rest
 either_later after from others rest (inl none) l = absurd (never_later after from none l)
 either_later after from others rest (inr passed) l = still_later after from others rest passed l
@@ -173,7 +177,8 @@ pub fits_not : (left rest : List ℕ) → ((others : List ℕ) → left ≢ 42 �
     → (left ≡ [] → rest ≢ []) → Fits left rest → ⊥
 fits_not [] rest star same some f = some refl f
 fits_not (c ∷ others) rest star same some (piece, more, e, r, f) =
-    same c others more refl (e ∙ ap (λ x. x ++ more) (r (λ is. star others (ap (λ x. x ∷ others) is))))
+    let piece_is : piece ≡ c ∷ [] = r (λ is. star others (ap (λ x. x ∷ others) is)) in
+    same c others more refl (e ∙ ap (λ x. x ++ more) piece_is)
 
 here_or_later : (after from bytes : List ℕ) (b : ℕ) → from ≡ b ∷ bytes → Later after from
     → Fits after bytes ⊎ Later after bytes
@@ -248,7 +253,8 @@ smaller_star pattern word after from left others rest is t =
     let l = lower (length others) (length after) ((length word + 1) * p + 1)
     (length rest * p + length others) (length from * p + length left) less few in l
 
-pub smaller_plain : (pattern word after from left others rest bytes : List ℕ) (c : ℕ) → left ≡ c ∷ others
+pub smaller_plain : (pattern word after from left others rest bytes : List ℕ) (c : ℕ)
+    → left ≡ c ∷ others
     → length after * ((length word + 1) * (length pattern + 1) + 1)
     + (length from * (length pattern + 1) + length others)
     < length after * ((length word + 1) * (length pattern + 1) + 1)

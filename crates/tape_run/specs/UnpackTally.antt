@@ -3,7 +3,8 @@ use Rattle.std.specs.Prelude.{◌≡◌, ℕ, ◌+◌, min, List, [], ◌∷◌,
 use Rattle.tape_run.specs.declared.unpack.line.UnpackOutcome.{UnpackOutcome}
 use Rattle.tape_run.specs.declared.unpack.line.UnpackOutcome.TheVariants.{Complete, Awaits, Ready}
 use Rattle.tape_run.specs.declared.unpack.line.UnpackOutcome.TheVariants.{Lacks, Exists, Conflict}
-use Rattle.tape_run.specs.declared.unpack.line.UnpackOutcome.TheVariants.{NotFound, Failed, Salvaged}
+use Rattle.tape_run.specs.declared.unpack.line.UnpackOutcome.TheVariants.{NotFound, Failed}
+use Rattle.tape_run.specs.declared.unpack.line.UnpackOutcome.TheVariants.{Salvaged}
 use Rattle.tape_run.specs.declared.unpack.tally.Tally.{Tally}
 
 -- nothing was reported

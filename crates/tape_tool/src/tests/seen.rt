@@ -228,7 +228,8 @@ const READERS: &[(&str, &str, &str)] = &[
     (
         "unpack many",
         "many.names ",
-        "INCOMPLETE IMAGE lost.tap\nTOTAL 0 complete 0 existing 0 incomplete 0 in conflict 0 not found 0 failed\n",
+        "INCOMPLETE IMAGE lost.tap\n\
+            TOTAL 0 complete 0 existing 0 incomplete 0 in conflict 0 not found 0 failed\n",
     ),
 ];
 

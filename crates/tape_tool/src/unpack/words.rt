@@ -1,7 +1,8 @@
 //! The arguments of `unpack`.
 ghost use Rattle.std.specs.Prelude.{IfOk, IfErr};
 ghost use Rattle.clap.specs.Words.{found_of, rows_of};
-ghost use Rattle.tape_tool.specs.Words.{AsksToUnpack, IsNoUnpack, RefusedFor, IsSetNamed, NamesNoSet};
+ghost use Rattle.tape_tool.specs.Words.{AsksToUnpack, IsNoUnpack, RefusedFor, IsSetNamed};
+ghost use Rattle.tape_tool.specs.Words.{NamesNoSet};
 
 use crate::command_spec::{CommandSpec, Kind, Word, mistake, wrong_value};
 use crate::extract::words::set_id_of;

@@ -1,8 +1,10 @@
 use Rattle.std.proofs.Common.{◌≡◌, ◌≢◌, []}
-use Rattle.tape_run.proofs.Patterns.{tried_none, tried_star, tried_plain, tried_later, fits_no_more, fits_not}
+use Rattle.tape_run.proofs.Patterns.{tried_none, tried_star, tried_plain, tried_later, fits_no_more}
+use Rattle.tape_run.proofs.Patterns.{fits_not}
 use Rattle.tape_run.proofs.Patterns.{smaller_star, smaller_plain, smaller_later, some_left}
 use Rattle.tape_run.proofs.unpack.choice.fits.Goals as goal
-use Rattle.tape_run.proofs.unpack.choice.fits.Goals.{else-is_empty-via-then-is_empty+else-is_empty-2, else-is_empty-via-else-is_empty}
+use Rattle.tape_run.proofs.unpack.choice.fits.Goals.{else-is_empty-via-then-is_empty+else-is_empty-2}
+use Rattle.tape_run.proofs.unpack.choice.fits.Goals.{else-is_empty-via-else-is_empty}
 
 pub characters-init : goal.characters-init
 characters-init c = tried_none c.args.pattern.now c.args.word.now
@@ -22,7 +24,8 @@ characters-preserved-in-Some-after_same c =
 
 pub characters-preserved : goal.characters-preserved
 characters-preserved c =
-    let some = elim c.else-is_empty.branch as (λ _. (c.characters.left.now ≡ [] → c.characters.rest.now ≢ [])) [
+    let some = elim c.else-is_empty.branch
+    as (λ _. (c.characters.left.now ≡ [] → c.characters.rest.now ≢ [])) [
       | else-is_empty-via-then-is_empty+else-is_empty-2 w ↦
           λ _. some_left _ _ w.is_empty-then-is_empty.ensures w.if-is_empty-2.false
       | else-is_empty-via-else-is_empty w ↦
@@ -33,7 +36,8 @@ characters-preserved c =
 
 pub returns-in_default-split_first : goal.returns-in_default-split_first
 returns-in_default-split_first c =
-    let some = elim c.else-is_empty.branch as (λ _. (c.characters.left.now ≡ [] → c.characters.rest.now ≢ [])) [
+    let some = elim c.else-is_empty.branch
+    as (λ _. (c.characters.left.now ≡ [] → c.characters.rest.now ≢ [])) [
       | else-is_empty-via-then-is_empty+else-is_empty-2 w ↦
           λ _. some_left _ _ w.is_empty-then-is_empty.ensures w.if-is_empty-2.false
       | else-is_empty-via-else-is_empty w ↦
