@@ -7,7 +7,7 @@ use Rattle.std.specs.List.{Contains}
 use Rattle.std.specs.Char.{digit_value}
 use Rattle.std.specs.Str.Parse.{IsNumeral, digits_value, without_leading_plus}
 use Rattle.std.proofs.lemmas.Fmt.{decimal_is_IsNumeral}
-use Rattle.std.specs.Prelude.{option_map, IfSome, decimal}
+use Rattle.std.specs.Prelude.{option_map, unwrap_or, IfSome, decimal}
 use Rattle.std.specs.Fmt.{digits}
 use Rattle.clap.specs.Words.{Row, kind_of}
 use Rattle.clap.specs.declared.error.Error.{Error}
@@ -27,7 +27,7 @@ use Rattle.tape_tool.specs.Words.{AsksToExtract, AsksToInit, AsksToSalvage, Asks
 use Rattle.tape_tool.specs.Words.{IsDashOrMore, IsFlag}
 use Rattle.tape_tool.proofs.Sizing.{letter_found, size_is}
 use Rattle.tape_tool.specs.Words.{IsNoExtract, IsNoInit, IsNoSet, IsNoUnpack, IsOrderIn}
-use Rattle.tape_tool.specs.Words.{NamesImages, NamesInput}
+use Rattle.tape_tool.specs.Words.{IsSetNamed, NamesImages, NamesInput, NamesNoSet}
 use Rattle.tape_tool.specs.Words.{RefusedFor, is_in_rows, texts_of_one}
 
 abbrev bit : Bool → ℕ
@@ -188,9 +188,19 @@ no_extract order rows asked (inl (inl none)) = asked.task.set none
 no_extract order rows asked (inl (inr dash)) = asked.task.named dash
 no_extract order rows asked (inr many) = absurd (omega (arith, asked.images.few, many))
 
+-- a set that is named, and of which there is none
+named_set : (rows : List Row) (named : Option (Bor (List ℕ))) → IsSetNamed rows named
+    → NamesNoSet rows → ⊥
+named_set rows None is (set, found, no) =
+    let e : None ≡ Some set = is.named ∙ found in absurd (cc)
+named_set rows (Some s) is (set, found, no) =
+    let e : s.now ≡ set = ap (λ o. unwrap_or o []) (is.named ∙ found) in
+    is.is_set (subst (λ text. IsNoSet text) (sym e) no)
+
 pub no_unpack : (order : Unpack) (rows : List Row) → AsksToUnpack rows order → IsNoUnpack rows → ⊥
 no_unpack order rows asked (inl none) = asked.named none
-no_unpack order rows asked (inr many) = absurd (omega (arith, asked.images.few, many))
+no_unpack order rows asked (inr (inl many)) = absurd (omega (arith, asked.images.few, many))
+no_unpack order rows asked (inr (inr set)) = named_set rows order.set asked.set set
 
 pub no_init : (order : Init) (rows : List Row) → AsksToInit rows order → IsNoInit rows → ⊥
 no_init order rows asked (inl none) = asked.named none

@@ -198,22 +198,20 @@ fn shown(alloc: Global, field: &Field<6>) -> Result<String, AllocError> {
         let is_printed = (b' '..=b'~').contains(byte);
         text.push(if is_printed { char::from(*byte) } else { '?' })?;
     }
-    let length = text.as_str().trim_end().len();
-    text.truncate(length);
-    Ok(text)
+    text.as_str().trim_end().to_string(alloc)
 }
 
 /// The first sets that were found, each once.
 fn sets_of(alloc: Global, files: &[SetFile]) -> Result<String, AllocError> {
     let mut text = String::new(alloc);
     let mut before: Option<Field<6>> = None;
-    let mut count = 0;
+    let mut count = 0usize;
     for file in files {
         if before == Some(file.set_id) {
             continue;
         }
         before = Some(file.set_id);
-        count += 1;
+        count = count.saturating_add(1);
         if count > MOST {
             text.push_str(", ..")?;
             return Ok(text);
@@ -229,12 +227,12 @@ fn sets_of(alloc: Global, files: &[SetFile]) -> Result<String, AllocError> {
 /// The numbers of the first files of a set that were found.
 fn numbers_of(alloc: Global, set_id: Field<6>, files: &[SetFile]) -> Result<String, AllocError> {
     let mut text = String::new(alloc);
-    let mut count = 0;
+    let mut count = 0usize;
     for file in files {
         if file.set_id != set_id {
             continue;
         }
-        count += 1;
+        count = count.saturating_add(1);
         if count > MOST {
             text.push_str(", ..")?;
             return Ok(text);

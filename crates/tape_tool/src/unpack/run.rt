@@ -85,9 +85,9 @@ fn is_folder<R: Host>(rt: &R, path: &str) -> Result<(), Refusal> {
 
 /// Unpacks the chosen files, and reports the images that were not read to their end, and counts. If
 /// a file fails, the others are still tried: the run ends with the first such fault.
-fn unpack_all<R: Host, P: Write>(
+fn unpack_all<'o, R: Host, P: Write>(
     rt: &R,
-    order: &Unpack<'_>,
+    order: &'o Unpack<'o>,
     names: &[&str],
     met: &FoundFiles,
     lines: &mut Lines<P>,

@@ -1,8 +1,8 @@
 //! The arguments of `unpack`.
-ghost use Rattle.std.specs.Prelude.{IfOk, IfErr};
+ghost use Rattle.std.specs.Prelude.{◌≡◌, codes, map, IfOk, IfErr};
 ghost use Rattle.clap.specs.Words.{found_of, rows_of};
 ghost use Rattle.tape_tool.specs.Words.{AsksToUnpack, IsNoUnpack, RefusedFor, IsSetNamed};
-ghost use Rattle.tape_tool.specs.Words.{NamesNoSet};
+ghost use Rattle.tape_tool.specs.Words.{NamesNoSet, texts_in};
 
 use crate::command_spec::{CommandSpec, Kind, Word, mistake, wrong_value};
 use crate::extract::words::set_id_of;
@@ -10,7 +10,7 @@ use crate::help;
 use crate::images::Named;
 use crate::words::{FORMS, flag_of, form_of, named, option_of, text_of};
 use clap::{ArgMatches, Error};
-use std::alloc::Global;
+use std::alloc::{AllocError, Global};
 use tape_blocks::Form;
 
 /// The request to `unpack`: the images, and the directory for their files.
@@ -64,7 +64,7 @@ pub fn unpack_order<'a>(alloc: Global, matches: &ArgMatches<'a>) -> Result<Unpac
         return Err(mistake(alloc, command_spec, help::NO_FOLDER));
     }
     let images = named(alloc, matches, command_spec, help::TOO_MANY_TO_UNPACK)?;
-    let files = Vec::from_slice(alloc, matches.get_strs("file").unwrap_or(&[]))?;
+    let files = files_named(alloc, matches)?;
     Ok(Unpack {
         folder,
         images,
@@ -74,6 +74,16 @@ pub fn unpack_order<'a>(alloc: Global, matches: &ArgMatches<'a>) -> Result<Unpac
         list: flag_of(matches, "list"),
         salvage: flag_of(matches, "salvage"),
     })
+}
+
+/// Returns the words of the arguments that mean files.
+fn files_named<'a>(alloc: Global, matches: &ArgMatches<'a>) -> Result<Vec<&'a str>, AllocError>
+    ensures { IfOk result (λ files. map (λ w. w.now) files.items
+        ≡ texts_in (rows_of (found_of matches.now)) (codes "file")) }
+{
+    let words = matches.get_strs("file").unwrap_or(&[]);
+    let files = Vec::from_slice(alloc, words)?;
+    Ok(files)
 }
 
 /// Returns the set that the arguments name, if they do.
