@@ -191,11 +191,11 @@ no_extract order rows asked (inr many) = absurd (omega (arith, asked.images.few,
 -- a set that is named, and of which there is none
 named_set : (rows : List Row) (named : Option (Bor (List ℕ))) → IsSetNamed rows named
     → NamesNoSet rows → ⊥
-named_set rows None is (set, found, no) =
+named_set rows None is (set, found, refused) =
     let e : None ≡ Some set = is.named ∙ found in absurd (cc)
-named_set rows (Some s) is (set, found, no) =
+named_set rows (Some s) is (set, found, refused) =
     let e : s.now ≡ set = ap (λ o. unwrap_or o []) (is.named ∙ found) in
-    is.is_set (subst (λ text. IsNoSet text) (sym e) no)
+    is.is_set (subst (λ text. IsNoSet text) (sym e) refused)
 
 pub no_unpack : (order : Unpack) (rows : List Row) → AsksToUnpack rows order → IsNoUnpack rows → ⊥
 no_unpack order rows asked (inl none) = asked.named none

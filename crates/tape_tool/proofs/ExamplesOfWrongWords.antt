@@ -138,7 +138,7 @@ extract (inr h) = absurd (let n : 256 < 0 = h in omega (arith, n))
 unpack : IsNoUnpack (word (codes "DIR") (codes "out" ∷ []) ∷ []) → ⊥
 unpack (inl e) = absurd (let n : 3 ≡ 0 = ap length e in omega (arith, n))
 unpack (inr (inl h)) = absurd (let n : 256 < 0 = h in omega (arith, n))
-unpack (inr (inr (set, found, no))) = let e : None ≡ Some set = found in absurd (cc)
+unpack (inr (inr (set, found, refused))) = let e : None ≡ Some set = found in absurd (cc)
 
 init : IsNoInit (word (codes "DIR") (codes "out" ∷ []) ∷ word (codes "PRE") (codes "ABC" ∷ [])
     ∷ []) → ⊥
