@@ -85,11 +85,11 @@ fn is_folder<R: Host>(rt: &R, path: &str) -> Result<(), Refusal> {
 
 /// Unpacks the chosen files, and reports the images that were not read to their end, and counts. If
 /// a file fails, the others are still tried: the run ends with the first such fault.
-fn unpack_all<'o, R: Host, P: Write>(
+fn unpack_all<'n, R: Host, P: Write>(
     rt: &R,
-    order: &'o Unpack<'o>,
-    names: &[&str],
-    met: &FoundFiles,
+    order: &'n Unpack<'n>,
+    names: &'n [&'n str],
+    met: &'n FoundFiles,
     lines: &mut Lines<P>,
 ) -> End {
     let files = met.files.as_slice();
