@@ -9,9 +9,10 @@ use crate::host::Host;
 use crate::program::End;
 use std::fs;
 use std::io::Write;
+use tape_label::Field;
 use tape_run::{
     FileChoice, FoundFiles, Notice, SetFile, Tally, UnpackOutcome, WriteFailed, file_line,
-    is_of_set, is_read, means, notice_line, report_file, total_line, write_text,
+    is_of_set, is_read, means, notice_line, report_file, report_numbers, total_line, write_text,
 };
 use tape_writer::system::found;
 
@@ -27,6 +28,34 @@ pub struct Lines<P> {
 
 /// How the unpacking of a file ends or, as an error, how the run ends with it.
 pub type Ended = Result<End, End>;
+
+/// Returns the number after that of the previous file, if both belong to the same set, otherwise 1.
+fn number_after(before: Option<(Field<6>, u16)>, set_id: &Field<6>) -> u16 {
+    match before {
+        Some((set, number)) if set == *set_id => number.saturating_add(1),
+        _ => 1,
+    }
+}
+
+/// Reports the numbers between the previous file and this one, for which no label was found, unless
+/// files are chosen by words: their names are unknown. Returns whether there are none.
+pub fn report_gap<P: Write>(
+    choice: &FileChoice<'_>,
+    before: Option<(Field<6>, u16)>,
+    file: &SetFile,
+    lines: &mut Lines<P>,
+) -> Result<bool, End> {
+    let first = number_after(before, &file.set_id);
+    let is_asked = choice.words.is_empty() && is_of_set(choice.set_id, file);
+    if !is_asked || first >= file.file {
+        return Ok(true);
+    }
+    let Lines { out, tally } = lines;
+    match report_numbers(out, tally, &file.set_id, first, file.file) {
+        Ok(()) => Ok(false),
+        Err(fault) => Err(End::Faulted(ToolFault::from(fault))),
+    }
+}
 
 /// Reports what was chosen and not found, the images that were not read completely, and the counts.
 /// Returns whether all that was chosen was found.

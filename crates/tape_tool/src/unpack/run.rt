@@ -3,7 +3,8 @@
 use super::last_line::LastLine;
 use super::paths::{Paths, paths_of};
 use super::report::{
-    Ended, Lines, NOT_REPORTED, after_word, end_report, listed, tell, tell_failed, tell_more,
+    Ended, Lines, NOT_REPORTED, after_word, end_report, listed, report_gap, tell, tell_failed,
+    tell_more,
 };
 use super::salvaged::Salvaged;
 use super::words::{UNPACK, Unpack};
@@ -19,10 +20,9 @@ use crate::program::{End, check_end, end_of, end_refused};
 use crate::refusal::{Refusal, refused};
 use std::io::{BufWriter, Write};
 use std::{fs, io};
-use tape_label::Field;
 use tape_run::{
     Content, FileChoice, FoundFiles, Mounted, SalvageTask, SetFile, Tally, UnpackOutcome,
-    WriteFailed, file_name, find_files, flush, is_of_set, report_numbers, set_of,
+    WriteFailed, file_name, find_files, flush, set_of,
 };
 use tape_writer::system::found;
 
@@ -106,27 +106,17 @@ fn unpack_all<'n, R: Host, P: Write>(
     let mut failed = None;
     let mut before = None;
     for file in files {
-        // Which names missing numbers have is unknown.
-        if choice.words.is_empty() && is_of_set(choice.set_id, file) {
-            let first = number_after(before, &file.set_id);
-            if first < file.file {
-                all = false;
-                let Lines { out, tally } = lines;
-                if let Err(fault) = report_numbers(out, tally, &file.set_id, first, file.file) {
-                    return End::Faulted(ToolFault::from(fault));
-                }
-            }
-            before = Some((file.set_id, file.file));
+        match report_gap(&choice, before, file, lines) {
+            Ok(none) => all = all && none,
+            Err(end) => return end,
         }
-        if !choice.chooses(file) {
-            continue;
-        }
-        match unpack_file(rt, order, shelf, file, lines) {
+        match unpack_file(rt, order, &choice, shelf, file, lines) {
             Ok(End::Done) => {}
             Ok(End::Incomplete) => all = false,
             Ok(end) => failed = failed.or(Some(end)),
             Err(end) => return end,
         }
+        before = Some((file.set_id, file.file));
     }
     match end_report(rt, order, &choice, names, met, lines) {
         Ok(found) => failed.unwrap_or(check_end(Ok(all && found))),
@@ -134,22 +124,18 @@ fn unpack_all<'n, R: Host, P: Write>(
     }
 }
 
-/// Returns the number after that of the previous file, if both belong to the same set, otherwise 1.
-fn number_after(before: Option<(Field<6>, u16)>, set_id: &Field<6>) -> u16 {
-    match before {
-        Some((set, number)) if set == *set_id => number.saturating_add(1),
-        _ => 1,
-    }
-}
-
-/// Unpacks `file`, and prints the outcome.
+/// Unpacks `file` if it is chosen, or only looks what would become of it, and prints the outcome.
 fn unpack_file<R: Host, P: Write>(
     rt: &R,
     order: &Unpack<'_>,
+    choice: &FileChoice<'_>,
     shelf: &mut Source<'_, Image<R>>,
     file: &SetFile,
     lines: &mut Lines<P>,
 ) -> Ended {
+    if !choice.chooses(file) {
+        return Ok(End::Done);
+    }
     if file.differs {
         return tell(
             rt,
