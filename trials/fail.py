@@ -174,10 +174,11 @@ CHECK_REPORTS = {
     "r": dict.fromkeys((0, 3), IMAGES + r"IMAGE \d+ \d+ FAULT 5 \d+\n" + IMAGES + SECTIONS),
 }
 SIGHTS = r"(\w+\.tap +.*\n(    .*\n)*)*"
-SETS = r"(Set .*\n(  .*\n)*)*(All files.*\n)?"
+SETS = r"(Set .*\n(  .*\n)*)*"
 SURVEY_REPORTS = {
-    "o": {3: SIGHTS + r"\w+\.tap +not opened\n" + SIGHTS + SETS},
-    "r": {3: SIGHTS + r"\w+\.tap +.*\n(    .*\n)*    image fault 5 at byte \d+.*\n" + SIGHTS + SETS},
+    "o": {3: SIGHTS + r"\w+\.tap +not opened\n" + SIGHTS + SETS + r"2 images: [01] ok, [12] not opened\n"},
+    "r": {3: SIGHTS + r"\w+\.tap +.*\n(    .*\n)*    image fault 5 at byte \d+.*\n(    .*\n)*" + SIGHTS
+        + SETS + r"2 images: [01] ok, [12] damaged\n"},
 }
 # memory, files and stages as above; a fault inside a file is also reported by the file's line
 UNPACK = {
