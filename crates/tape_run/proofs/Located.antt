@@ -93,7 +93,7 @@ held_more whole (t ∷ ss) s = held_more t.whole ss s
 
 -- ---- calls
 
--- Stretches were read so far, and this image is mounted then.
+-- The stretches of images that have been read so far, and the image that is now open, if any.
 pub record ReadSoFar {S L R : Type 0} (g : Ghosts S) (on : ℕ → Type 0) (gives : Mounting L R)
     (remaining : R → Option (List ℕ)) (session now : SessionState S) (shelf left : L)
     (opened : Bool) (whole : Option (List ℕ)) (after : Option (Mounted R)) : Type 0 where

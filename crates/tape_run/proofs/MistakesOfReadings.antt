@@ -124,8 +124,8 @@ failing_reader_gives_nothing R LR h d κs a session s k id file one known over n
     let n : 2 ≡ 0 = ap length two in absurd (omega (arith, n))
 
 -- stopped_run_told_as_done: the sink refused a part, but the run is reported as successful. The
--- sink's parts precede none of the positions that the readers' histories lead to: all of these are
--- at the start of a block, and the sink has some parts of one.
+-- sink's parts are not those before any position to which the readers' histories lead: all of these
+-- are at the start of a block, and the sink has some parts of a block.
 stopped_run_told_as_done : (S : _) (R : _) (LS : _) (LR : _) (g : _) (d : _) (h : _) (e : _)
     (κs : _) (a : _) (session : _) (s : _) (set : FileSet) (held now : List Portion)
     (bytes : List (List ℕ))
@@ -151,7 +151,7 @@ stopped_run_told_as_done S R LS LR g d h e κs a session s set held now bytes l 
     ∙ ap (λ (c : Course). before set a.1.0.now.file c.at) (sym at))
 
 -- gone_on_without_reading: no reader failed, but the session is returned as it was resumed. Its
--- parts precede none of the positions that the reels lead to.
+-- parts are not those before any position to which the reels lead.
 gone_on_without_reading : (S : _) (R : _) (LS : _) (LR : _) (g : _) (d : _) (h : _) (e : _)
     (κs : _) (a : _) (session : _) (s : _) (set : FileSet) (held : List Portion)
     (bytes : List (List ℕ)) (hs : List MountEvent)

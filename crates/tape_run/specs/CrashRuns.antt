@@ -95,9 +95,9 @@ StandsAcrossCrashes = (set : FileSet) (c : Point) (ps : List Portion) (lives : L
     → Stands set c.file c ps → Outlives c ps lives back there → AreHistories set lives hss
     → Stands set c.file back there
 
--- What such a session delivered after its steps: for every valid set in which the checkpoint is
--- valid, and every history that the returned bytes represent, the session is where this history
--- leads from the checkpoint, with the parts before that position.
+-- What a resumed session has after its steps: for every valid set in which the checkpoint is valid,
+-- and every history that the returned bytes represent, its position is the one to which this
+-- history leads from the checkpoint, and its parts are those before that position.
 abbrev pub ResumedGoesOn : Type 0
 ResumedGoesOn = (set : FileSet) (c : Point) (ps : List Portion) (began new : Seen)
     (steps : List Step) (bytes : List (List ℕ)) (left : List (Option (List ℕ)))

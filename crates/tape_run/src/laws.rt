@@ -58,9 +58,9 @@ pub fn given_is_history()
     ensures { GivenIsHistory }
 {}
 
-/// A worked history satisfies the premises of the headline. The law also states what follows from
-/// the headline for it, and for its set if a reader fails, if the sink refuses a part, and on
-/// another day.
+/// A worked history satisfies the premises of the headline. The law also states what the
+/// headline then says: about this history; about its set if a reader fails or the sink refuses a
+/// part; and about a session that is resumed on another day.
 pub fn worked_history()
     ensures history { HistoryIsWorked }
     ensures days { DaysAreWorked }

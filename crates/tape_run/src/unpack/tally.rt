@@ -93,8 +93,8 @@ pub fn report_file<P: Write>(
     Ok(())
 }
 
-/// Writes the line about the numbers from the first one to the one before a file, for which no
-/// label was found, and counts each.
+/// Writes the line for the file numbers from `first` up to, but not including, `file`, for which no
+/// label was found, and counts each of them as not found.
 ///
 /// # Errors
 ///

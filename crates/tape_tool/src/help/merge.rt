@@ -57,8 +57,8 @@ are not needed: any tape will do.
            OUT: its items, bad items, items that only one image has, and its
            end; CUT if all the longest images end with a fault
   MERGED 1283 0 0 MARKED COUNT 1
-           the trailer label of one section counts other blocks: one may have
-           been lost in every reading of that section
+           the trailer label of one section gives a different number of blocks:
+           one may have been lost in every reading of that section
 
 If two images have different readable items at the same place, one of them is
 wrong, and nothing says which. OUT is not created:
@@ -83,7 +83,7 @@ OUT appears only when it is complete. It contains no erase gaps, nothing after a
 end-of-medium marker, and no data of bad blocks, so keep the images.
 
 Exit status: 0 OUT is complete, 1 error, 2 usage error, 3 OUT has a bad item or
-a wrong count or is cut, or the images differ";
+a wrong count or is truncated, or the images differ";
 
 /// The help text after the arguments of `compare`.
 pub const AFTER_COMPARE: &str = "Examples:
@@ -100,4 +100,4 @@ IMAGE lines show how many items each has.
 
 Exit status: 0 the images agree and together make a complete image, 1 error,
 2 usage error, 3 they differ, or that image has a bad item or a wrong count or
-is cut";
+is truncated";
