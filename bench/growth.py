@@ -253,7 +253,9 @@ class Bench:
         run = Counted([*words, "blank.tap", "--stage", "stage"], folder)
         self.line(f"opening a stage, parts of {length:,}: times read", run.read / staged, 1.05, right and run.status == 3)
         run = Counted([self.program, "stage", "stage"], folder)
-        self.line(f"stage, parts of {length:,}: times read", run.read / staged, 2.05, run.status == 3)
+        self.line(f"stage, parts of {length:,}: times read", run.read / staged, 1.05, run.status == 3)
+        run = Counted([self.program, "stage", "stage", "part.txt"], folder)
+        self.line(f"stage with OUT, parts of {length:,}: times read", run.read / staged, 2.05, run.status == 3)
 
     def syncs(self, folder, *words):
         """The number of syncs in a run."""

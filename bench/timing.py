@@ -2,7 +2,6 @@
 
 import os
 import re
-import shutil
 import statistics
 import subprocess
 import sys
@@ -11,7 +10,6 @@ from dataclasses import dataclass, field
 from pathlib import Path
 
 HERE = Path(__file__).resolve().parent
-ROOT = HERE.parent
 # The columns of `print_rows`, after the table's own columns.
 COLUMNS = ("Program", "Best, s", "Median, s", "Processor, s", "Ratio, best", "Ratio, median", "Ratio, processor", "Memory, MB")
 # The same if instructions are also counted.
@@ -32,26 +30,6 @@ def build(folder, names):
     """Builds the C programs in a directory."""
     for name in names:
         subprocess.run(["cc", "-O2", "-Wall", "-o", folder / name, HERE / f"{name}.c"], check=True)
-
-
-def build_proved(folder, name, libraries):
-    """Builds NAME.rt.txt with some crates, in its own repository; returns the program's path."""
-    for library in libraries:
-        shutil.copytree(ROOT / "crates" / library, folder / "crates" / library)
-    crate = folder / "crates" / name
-    (crate / "src").mkdir(parents=True)
-    shutil.copy(HERE / f"{name}.rt.txt", crate / "src" / "main.rt")
-    shutil.copy(ROOT / "HANDLES", folder / "HANDLES")
-    lines = (ROOT / "crates.txt").read_text().splitlines()
-    lines = [line for line in lines if line.split(":")[0].strip() in libraries]
-    (folder / "crates.txt").write_text("\n".join([*lines, f"{name}: {' '.join(libraries)}"]) + "\n")
-    subprocess.run(["git", "init", "-q", "."], cwd=folder, check=True)
-    # Only its path is needed: its result without arguments does not matter.
-    subprocess.run(["rt", "run"], cwd=crate, capture_output=True, check=False)
-    program = crate / "out" / name
-    if not program.exists():
-        sys.exit(f"the program is not built: `rt run` in {crate} says why")
-    return program
 
 
 def run(build_folder, command, output, times):

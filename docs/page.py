@@ -139,7 +139,7 @@ def strip(items, states):
 def image(name, path, row, conflicts):
     """The part of an image: its name, what the survey says of it, and its strip."""
     state = row["state"]
-    sections = rows_of([path])["SECTION"] if state == "PARTIAL" else []
+    sections = rows_of([path])["SECTION"] if state not in ("WHOLE", "NOT OPENED") else []
     states = {key_of(section): section["state"] for section in sections}
     states |= {key: "CONFLICT" for key in conflicts if states.get(key, "GOOD") == "GOOD"}
     items = list(items_of(path)) if state != "NOT OPENED" else []

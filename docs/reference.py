@@ -23,6 +23,7 @@ KINDS = {"IMAGE": "image fault {} at P", "LABEL": "label fault {}", "WRITE": "wr
 
 # Single explanations: the error, and the file.
 SINGLE = {"NO_IMAGE": ("`image fault 1`, `2` or `3` `at 0`", ""),
+          "A_FOLDER": ("`image fault 5`", "a directory"),
           "MERGED_TOO_LONG": ("`image fault 4`", "`merge`, `compare`")}
 
 # The lists of explanations of file faults: the file.

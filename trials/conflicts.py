@@ -10,25 +10,19 @@ the count of the trailer label), or a block in two parts; or belongs to another 
 identifiers; or is damaged. One volume in the middle may be missing. The model compares
 the good copies byte by byte. The rows of `survey --tsv`, the lines of `survey`, the answers and the
 files of `unpack` must be those of the model: each conflict is reported with both images, nothing else
-is, and no file in conflict is recovered. Prints each wrong result, and counts; exit status 1 if there
-is one.
+is, each image with such a copy is in conflict and no other, and no file in conflict is recovered.
+Prints each wrong result, and counts; exit status 1 if there is one.
 """
 import random
-import struct
 import subprocess
 import sys
 import tempfile
 from pathlib import Path
 
+sys.dont_write_bytecode = True
+from make_worked_image import block, label, word
+
 RECORD, BLOCK = 80, 800
-
-
-def word(number):
-    return struct.pack("<I", number)
-
-
-def block(data):
-    return word(len(data)) + data + b"\0" * (len(data) % 2) + word(len(data))
 
 
 def bad(data):
@@ -36,18 +30,13 @@ def bad(data):
     return word(lead) + data + b"\0" * (len(data) % 2) + word(lead)
 
 
-def label(text):
-    assert len(text) == 80, text
-    return block(text.encode("ascii"))
-
-
 def first_label(name, case, file, sect, blocks):
-    return label(f"{name}{'FILE' + str(file):17}{case.set_id:6}{sect:04}{file:04}000100 00000 00000 "
-                 f"{blocks % 1000000:06}{'':13}{'':7}")
+    return label((f"{name}{'FILE' + str(file):17}{case.set_id:6}{sect:04}{file:04}000100 00000 00000 "
+                  f"{blocks % 1000000:06}", 80))
 
 
 def second_label(name):
-    return label(f"{name}F{BLOCK:05}{RECORD:05}{'':35}00{'':28}")
+    return label((f"{name}F{BLOCK:05}{RECORD:05}{'':35}00", 80))
 
 
 class Section:
@@ -225,11 +214,21 @@ class Case:
                 missing = True
         return words
 
+    def states(self):
+        """The state of each image: in conflict if it has a good copy of a section of which good copies differ."""
+        disputed = {number for copies in self.copies().values() for number, _ in copies
+                    if any(section.blocks != copies[0][1].blocks for _, section in copies)}
+        return ["conflict" if number in disputed
+                else "ok" if all(section.is_good() for section in sections) else "damaged"
+                for number, (_, sections) in enumerate(self.images)]
+
     def tally(self):
-        """How many images there are, and how many of them are damaged."""
-        ok = sum(all(section.is_good() for section in sections) for _, sections in self.images)
-        count, damaged = len(self.images), len(self.images) - ok
-        return f"{count} image{'s' * (count != 1)}: {ok} ok" + f", {damaged} damaged" * (damaged > 0)
+        """How many images there are, and how many of them are in each state."""
+        states = self.states()
+        count, ok = len(states), states.count("ok")
+        conflict, damaged = states.count("conflict"), states.count("damaged")
+        return (f"{count} image{'s' * (count != 1)}: {ok} ok" + f", {conflict} in conflict" * (conflict > 0)
+                + f", {damaged} damaged" * (damaged > 0))
 
     def text(self, file):
         """The records of a file, or None if a section has no good copy."""
@@ -281,6 +280,9 @@ def try_case(trial, case, folder, number):
     done = trial.run(folder, "survey", "--tsv", *names)
     told = [line.split("\t") for line in done.stdout.splitlines()]
     trial.is_so([row for row in told if row[0] == "COPIES"] == rows, f"{number}: rows {done.stdout}\nwanted {rows}")
+    states = [row[2] for row in told if row[0] == "IMAGE"]
+    wanted = [{"ok": "WHOLE", "damaged": "PARTIAL", "conflict": "CONFLICT"}[state] for state in case.states()]
+    trial.is_so(states == wanted, f"{number}: states {states}, wanted {wanted}")
     marked = {int(row[2]) for row in told if row[0] == "FILE" and row[8] == "CONFLICT"}
     trial.is_so(marked == {f for f in conflicts}, f"{number}: files in conflict {marked}, expected {conflicts}")
     told = {int(row[2]): row[9] for row in told if row[0] == "FILE" and "-" not in row[2]}
@@ -292,6 +294,10 @@ def try_case(trial, case, folder, number):
     lines = done.stdout.splitlines()
     copies = [line for line in lines if " section " in line and (": good, " in line or ": CONFLICT, " in line)]
     trial.is_so(copies == list(case.lines(rows)), f"{number}: lines {done.stdout}")
+    wanted = [f"{name:<24}  {state:<13}volume " for name, state in zip(names, case.states())]
+    images = [line for line in lines if ".tap  " in line]
+    right = len(images) == len(wanted) and all(map(str.startswith, images, wanted))
+    trial.is_so(right, f"{number}: images {images}, wanted {wanted}")
     trial.is_so(done.returncode == (0 if sound else 3), f"{number}: survey, status {done.returncode}")
     volumes = [line[11:] for line in lines if line.startswith("  Volumes: ")]
     trial.is_so(volumes == [", ".join(case.listed())], f"{number}: volumes {volumes}, wanted {case.listed()}")

@@ -1,5 +1,5 @@
 #!/usr/bin/env python3
-"""Tries mistakes in groups: trials/edits.py [CRATE...]; or lists them: trials/edits.py --lemmas
+"""Tries mistakes in groups: trials/edits.py [CRATE...]
 
 Each file of crates/CRATE/must-fail and by-hand puts one mistake into the code, which the prover must
 refuse. One check here contains one edit of each function: a function is judged by the contracts of
@@ -12,8 +12,7 @@ function is one of these:
     NOT REFUSED   no error; each of these is tried once more, alone
 
 It works on a copy of the repository and of out/, and removes the copy. Exit status 1 if an edit was not
-refused. With --lemmas nothing is tried: each edit is listed with the file of the lemma of the same
-name, or without one, and the status is 1 if an edit has no lemma and is not in must-fail.
+refused.
 """
 import os
 import re
@@ -171,29 +170,6 @@ def try_crate(crate):
     return words.count("NOT REFUSED")
 
 
-def lemmas_of(crate):
-    """The files of the lemmas about mistakes, by lemma name."""
-    found = {}
-    for at, _, files in os.walk(f"{crate}/proofs"):
-        for file in sorted(it for it in files if it.startswith("Mistakes")):
-            for name in re.findall(r"(?m)^ *(?:pub )?(\w+) :", text_of(f"{at}/{file}")):
-                found[name] = os.path.relpath(f"{at}/{file}", crate)
-    return found
-
-
-def list_lemmas(names):
-    """Prints the lemma that corresponds to each edit."""
-    lacking = 0
-    for crate in (f"{TOP}/crates/{it}" for it in names):
-        found = lemmas_of(crate)
-        for edit in edits_of(crate):
-            in_gate = os.path.exists(f"{crate}/must-fail/{edit.name}.edit")
-            lacking += edit.name not in found and not in_gate
-            told = [found.get(edit.name, "no lemma")] + ["must-fail"] * in_gate
-            print(f"{os.path.basename(crate)}/{edit.name}: {', '.join(told)}")
-    return 1 if lacking else 0
-
-
 def crates_below():
     """The crates, each with those on which it depends."""
     lines = text_of(f"{TOP}/crates.txt").splitlines()
@@ -220,8 +196,6 @@ def copy_tree(to, names):
 
 def main(names):
     all_names = list(crates_below())
-    if names == ["--lemmas"]:
-        return list_lemmas(all_names)
     with tempfile.TemporaryDirectory() as room:
         copy_tree(f"{room}/copy", names or all_names)
         crates = [f"{room}/copy/crates/{it}" for it in names or all_names]

@@ -386,7 +386,10 @@ def lines_one_by_one(t):
         run = t([*command, *names], dict.fromkeys(names, CUT))
         opened = [run.first(lambda name, at, rest, image=image: name == "openat" and at == image) for image in names]
         lines = [k for k, (name, at, rest) in enumerate(run.events) if name == "write" and rest.startswith("1<")]
-        yield all(any(one < line < next_one for line in lines) for one, next_one in zip(opened, opened[1:])), f"{command}: a line for each image, before the next is opened"
+        if command == ["check"]:
+            yield all(any(one < line < next_one for line in lines) for one, next_one in zip(opened, opened[1:])), "check: a line for each image, before the next is opened"
+        else:
+            yield lines and all(opened[-1] < line for line in lines), f"{command}: nothing before the last image is opened"
 
 
 @check

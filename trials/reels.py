@@ -2,24 +2,11 @@
 
 import gzip
 import random
-import struct
 from dataclasses import dataclass, field
 
+from make_worked_image import block, label, word
+
 NAMES = ["PAYROLL", "LEDGER", "A/B", "..", "NAME.TXT", "WITH SPACE", "STOCK_85", "X"]
-
-
-def word(number):
-    return struct.pack("<I", number)
-
-
-def block(data):
-    return word(len(data)) + data + b"\0" * (len(data) % 2) + word(len(data))
-
-
-def label(*pieces):
-    text = "".join(text.ljust(width) for text, width in pieces)
-    assert len(text) == 80, text
-    return block(text.encode("ascii"))
 
 
 @dataclass

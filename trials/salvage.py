@@ -5,7 +5,8 @@
 
 Each set is made here from docs/FORMATS.md alone: files in the three formats on one to four volumes, each volume on one
 or two images. Blocks, labels and tape marks are made unreadable, images are cut at any byte, left out, and shuffled;
-blocks are lost or doubled, so that the count of a trailer label is wrong; images of other sets are among them.
+blocks are lost or doubled, so that the count of a trailer label is wrong; one character of a block is changed, so that
+two complete copies differ; images of other sets are among them.
 
 A model in this file, written from the description of `salvage` in docs/REFERENCE.md, determines the expected files and
 lines. For each file the output must be equal byte for byte, and so must the lines and the exit status. The model has
@@ -13,8 +14,8 @@ two parts that do not depend on each other: the lines are made block by block, a
 the records that the set was made of, as those of which every block was read. If `tape extract --again` completes a file
 from the same images, and no volume has two of them, `salvage` must report COMPLETE with the same bytes.
 
---hand: images that `extract` does not read (formats U, V and VBS, no HDR2), written by hand, with --form blocks; and
-unreadable labels and tape marks, with lines written by hand.
+--hand: images that `extract` does not read (formats U, V and VBS, no HDR2), written by hand, with --form blocks;
+unreadable labels and tape marks, and copies that differ, with lines written by hand.
 --times: a reel of 200 MB, `salvage` against `extract`.
 
 Prints each wrong answer, and counts; the exit status is 1 if there is one.
@@ -30,6 +31,7 @@ import subprocess
 import sys
 import tempfile
 import time
+from dataclasses import replace
 from pathlib import Path
 
 sys.dont_write_bytecode = True
@@ -100,11 +102,14 @@ class Section:
         counted = self.closing and self.closing["count"] != len(self.data) % 1_000_000
         return self.closing["count"] if counted else None
 
+    def is_complete(self):
+        return bool(self.closing) and self.doubt is None and self.miscount() is None
+
     def rank(self):
         good = sum(is_block(item) for item in self.data)
         if not self.closing:
             return self.believed()
-        return good + (2**32 if self.doubt is None and self.miscount() is None else 0)
+        return good + (2**32 if self.is_complete() else 0)
 
 
 def next_mark(items, at):
@@ -272,14 +277,22 @@ def recovered(images, set_id, file, blocks):
             section.is_first = True
     known = next((it.form for it in sections if it.form), None)
     last, goes_on = max((it.head["section"] for it in sections), default=0), True
+    bests = {}
     for number in range(1, last + 1):
-        copies = [it for it in sections if it.head["section"] == number and hasattr(it, "is_first")]
+        copies = [it for it in sections if it.head["section"] == number]
+        firsts = [it for it in copies if hasattr(it, "is_first")]
+        bests[number] = max(firsts, key=lambda it: (it.rank(), -it.image), default=None)
+        for copy in copies:
+            if copy.is_complete() and bests[number].is_complete() and copy.data != bests[number].data:
+                made.lines.append(f"CONFLICT {number} {bests[number].image + 1} {copy.image + 1}")
+                made.missing = True
+    for number in range(1, last + 1):
+        copy = bests[number]
         goes_on = False
-        if not copies:
+        if not copy:
             made.tear(number, 0)
             made.lines.append(f"GAP {number} - - {len(made.records)}")
             continue
-        copy = max(copies, key=lambda it: (it.rank(), -it.image))
         form = None if blocks else copy.form or known
         if form is None and not blocks:
             made.tear(number, 0)
@@ -340,10 +353,19 @@ def records_with(file, places, made):
 # ---- damage
 
 def damaged_image(rng, reel, way):
-    """An image of a volume, damaged in a given way, and whether blocks are lost or doubled on it."""
+    """An image of a volume, damaged in a given way, and whether blocks are lost, doubled or changed on it."""
     items = list(reel.items)
     data = [at for at, item in enumerate(items) if item.kind == "data"]
     miscounts = False
+    if way == "changed" and data:
+        # A character of a record: not one of the digits before it, and not a circumflex after the last one.
+        at = rng.choice(data)
+        spelled = bytearray(items[at].spelling)
+        letters = [place for place in range(4, len(spelled) - 4) if chr(spelled[place]).isalpha()]
+        if letters:
+            spelled[rng.choice(letters)] ^= 1
+            items[at] = replace(items[at], spelling=bytes(spelled))
+            miscounts = True
     if way == "count" and data:
         at = rng.choice(data)
         items[at:at + 1] = [] if rng.random() < 0.5 else [items[at], items[at]]
@@ -371,7 +393,7 @@ def damaged_image(rng, reel, way):
     return copy.image(), miscounts
 
 
-WAYS = ["whole", "whole", "data", "data", "run", "any", "both", "cut", "count", "first", "first"]
+WAYS = ["whole", "whole", "data", "data", "run", "any", "both", "cut", "count", "changed", "first", "first"]
 
 
 class Trial:
@@ -453,8 +475,10 @@ def check_set(trial, rng, number):
             continue
         count = 2 if rng.random() < 0.3 else 1
         is_single = is_single and count == 1
+        differ = count == 2 and rng.random() < 0.3
         for copy in range(count):
-            image, is_wrong = damaged_image(rng, Reel("", set_id, items), rng.choice(WAYS))
+            way = ["changed", "whole"][copy] if differ else rng.choice(WAYS)
+            image, is_wrong = damaged_image(rng, Reel("", set_id, items), way)
             images.append(image)
             names.append(f"{at}{'ab'[copy]}.tap")
             miscounts = miscounts or is_wrong
@@ -484,7 +508,7 @@ def check_set(trial, rng, number):
             done = trial.run("extract", set_id, file.number, "again", *names, "--again")
             if done.returncode == 0:
                 trial.is_so(status == 0 and (trial.folder / "again").read_bytes() == got, f"{set_id} {file.number}: extract completes it")
-        if form == "lines" and status == 0:
+        if form == "lines" and status == 0 and not miscounts:
             trial.is_so(got == file.text, f"{set_id} {file.number}: COMPLETE, and not the file")
     if number % 3 == 0:
         check_unpacked(trial, set_id, images, names)
@@ -593,6 +617,38 @@ def traps(trial):
         trial.is_so((expected.lines, got) == (lines, text), f"{what}: the model has {expected.lines}, written are {got and len(got)} bytes")
 
 
+def conflicts(trial):
+    """Several copies of one section, with expected lines written by hand."""
+    file = File(1, "FIRST", ("F", 160, 80), " 85100")
+    vol, mark = label(("VOL1", 4), ("CONFL1", 6), ("", 69), ("4", 1)), word(0)
+    a, b, c = (bytes([letter]) * 160 for letter in b"abc")
+
+    def image(*data, count=None):
+        made = [vol, file.first("HDR1", "CONFL1", 1, 0), file.second("HDR2"), mark]
+        made += [UNREADABLE if it is None else block(it) for it in data]
+        count = len(data) if count is None else count
+        return b"".join([*made, mark, file.first("EOF1", "CONFL1", 1, count), file.second("EOF2"), mark, mark])
+
+    rows = [
+        ("the same twice", [image(a, b), image(a, b)], ["SECTION 1 1 2", "COMPLETE 4"], a + b),
+        ("a block differs", [image(a, b), image(a, c)], ["CONFLICT 1 1 2", "SECTION 1 1 2", "SALVAGED 4"], a + b),
+        ("the order of blocks differs", [image(a, b), image(b, a)], ["CONFLICT 1 1 2", "SECTION 1 1 2", "SALVAGED 4"], a + b),
+        ("two of four differ", [image(a, b), image(a, c), image(a, b), image(c, b)],
+            ["CONFLICT 1 1 2", "CONFLICT 1 1 4", "SECTION 1 1 2", "SALVAGED 4"], a + b),
+        ("one more block, with its count", [image(a, b), image(a, b, c)], ["CONFLICT 1 2 1", "SECTION 1 2 3", "SALVAGED 6"], a + b + c),
+        ("an unreadable block, and another one differs", [image(a, None), image(c, b)], ["SECTION 1 2 2", "COMPLETE 4"], c + b),
+        ("a wrong count, and a block differs", [image(a, b), image(a, c, count=1)], ["SECTION 1 1 2", "COMPLETE 4"], a + b),
+        ("none is complete", [image(a, None), image(c, None)],
+            ["SECTION 1 1 2", "GAP 1 1 1 2", "SALVAGED 2"], a),
+    ]
+    for what, images, lines, text in rows:
+        names = [f"{at}.tap" for at in range(len(images))]
+        for name, content in zip(names, images):
+            (trial.folder / name).write_bytes(content)
+        expected, got, status = check_file(trial, "CONFL1", 1, images, names, "raw")
+        trial.is_so((expected.lines, got) == (lines, text), f"{what}: the model has {expected.lines}, written are {got and len(got)} bytes")
+
+
 # ---- times
 
 def times(trial):
@@ -635,6 +691,7 @@ def main():
         if options.hand:
             by_hand(trial)
             traps(trial)
+            conflicts(trial)
         elif options.times:
             times(trial)
         else:

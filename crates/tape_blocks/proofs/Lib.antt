@@ -5,9 +5,6 @@ pub mod JoinLaws
 pub mod JudgedLaws
 pub mod LongerRuns
 pub mod LongestFronts
-mod Mistakes
-mod MistakesOfPacking
-mod MistakesOfParts
 pub mod PackLaws
 pub mod PackerSteps
 pub mod PaddingLaws

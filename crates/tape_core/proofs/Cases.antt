@@ -1,12 +1,9 @@
 -- Readers and labels for the mistakes, and proofs that they can exist.
-use Rattle.std.proofs.Common.{◌≡◌, ℕ, Bool, true, false, refl, sym, ap, codes, arith}
+use Rattle.std.proofs.Common.{◌≡◌, ℕ, false, refl, sym, ap, codes, arith}
 use Rattle.std.specs.Prelude.{Option, Some, None, Ok, not}
 use Rattle.tape_label.specs.declared.values.Format.TheVariants.{Fixed}
 use Rattle.tape_label.specs.declared.values.Head1.{Head1}
-use Rattle.tape_label.specs.declared.values.Trail1.{Trail1}
-use Rattle.tape_label.specs.declared.values.Kind.TheVariants as kinds
-use Rattle.tape_label.specs.Kinds.{kind_at}
-use Rattle.tape_label.specs.Reading.{end_at, head_at, head1_at, trail1_at}
+use Rattle.tape_label.specs.Reading.{head_at, head1_at}
 use Rattle.tape_set.specs.declared.position.Position.{Position}
 use Rattle.tape_set.specs.declared.position.Position.TheVariants.{Awaits}
 use Rattle.tape_set.specs.Position.{is_start}
@@ -61,10 +58,6 @@ head sect = record {
   implementation = codes "             ";
 }
 
--- a trailer label of the given section of file 1, with no blocks
-abbrev pub trailer : Bool → ℕ → Trail1
-trailer eof sect = record { eof = eof; head = head sect; blocks = 0 }
-
 -- ---- such readers exist
 
 -- the form of the file is in range
@@ -111,14 +104,6 @@ inside_can_be p phase fits inside = record {
 
 -- ---- such labels exist
 
--- a volume label with another identifier than the set's
-pub vol1_can_be :
-    kind_at
-    (codes "VOL1XYZ999                                                                     4")
-    ≡ Some kinds.Vol1
-unfolding kind_at
-vol1_can_be = refl
-
 -- the header of the first section of file 1
 pub hdr1_can_be :
     head1_at
@@ -126,27 +111,3 @@ pub hdr1_can_be :
     ≡ Ok (head 1)
 unfolding head1_at head_at
 hdr1_can_be = refl
-
--- the trailer of that section, if the file ends with it
-pub eof1_can_be :
-    trail1_at
-    (codes "EOF1PAYROLL          ABC00100010001000100 00000 00000 000000                    ")
-    ≡ Ok (trailer true 1)
-unfolding trail1_at end_at head_at
-eof1_can_be = refl
-
--- the trailer of that section, if the file continues
-pub eov1_can_be :
-    trail1_at
-    (codes "EOV1PAYROLL          ABC00100010001000100 00000 00000 000000                    ")
-    ≡ Ok (trailer false 1)
-unfolding trail1_at end_at head_at
-eov1_can_be = refl
-
--- the trailer of section 2, if the file ends there
-pub second_eof1_can_be :
-    trail1_at
-    (codes "EOF1PAYROLL          ABC00100020001000100 00000 00000 000000                    ")
-    ≡ Ok (trailer true 2)
-unfolding trail1_at end_at head_at
-second_eof1_can_be = refl

@@ -28,5 +28,3 @@ pub mod Crashes
 mod Cases
 mod Examples
 mod Mistakes
-mod MistakesOfPlaces
-mod MistakesOfSinks

@@ -159,6 +159,7 @@ impl MemorySink {
 impl PartSink for MemorySink {
     ghost use Rattle.tape_core.specs.Crash.{lost, AddsNothing};
     ghost use Rattle.tape_core.specs.Weight.{Rose};
+    ghost use Rattle.tape_core.specs.declared.sink.SinkFault.TheVariants.{Full, OutOfMemory};
     ghost use Rattle.std.specs.Prelude.{OnOk, OnErr, IfErr, Err, Ok, ◌⊎◌};
     ghost use Rattle.tape_core.specs.Memory.{portions};
 
@@ -167,6 +168,8 @@ impl PartSink for MemorySink {
     ghost weighs = { λ sink. weight_of (portions sink) };
 
     ghost refusals = { λ sink. sink.refused };
+
+    ghost refuses_change = { λ _ fault _. (fault ≡ Full) ⊎ (fault ≡ OutOfMemory) };
 
     ghost crashes = { λ sink. lost };
 
@@ -191,8 +194,8 @@ impl PartSink for MemorySink {
         ensures calm { OnOk result (self.new.refused ≡ self.old.refused) }
         ensures crash { (parts : List Portion) → parts ≡ portions self.old
             → AddsNothing lost lost }
-        ensures refused { IfErr result (λ f.
-            (f ≡ SinkFault.Full) ⊎ (f ≡ SinkFault.OutOfMemory)) }
+        ensures why { IfErr result (λ fault.
+            (fault ≡ SinkFault.Full) ⊎ (fault ≡ SinkFault.OutOfMemory)) }
         ensures rewinds { OnOk result (self.new.given ≡ 0) }
     {
         let heavy = 5 + part.bytes.len() as u64;

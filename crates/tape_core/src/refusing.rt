@@ -61,11 +61,17 @@ impl<S: PartSink> Refusing<S> {
 }
 
 impl<S: PartSink> PartSink for Refusing<S> {
+    ghost use Rattle.std.specs.Prelude.{◌⊎◌};
+    ghost use Rattle.tape_core.specs.declared.sink.SinkFault.TheVariants.{Device, Failed};
+
     ghost holds = { λ sink parts. S.holds sink.inner parts };
 
     ghost weighs = { λ sink. S.weighs sink.inner };
 
     ghost refusals = { λ sink. S.refusals sink.inner + sink.refused };
+
+    ghost refuses_change = { λ old fault new. S.refuses_change old.inner fault new.inner
+        ⊎ ((old.left ≡ 0) × ((fault ≡ Device) ⊎ (fault ≡ Failed))) };
 
     ghost crashes = { λ sink. S.crashes sink.inner };
 

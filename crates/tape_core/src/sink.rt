@@ -65,6 +65,10 @@ pub trait PartSink {
     /// The number of refused calls.
     ghost refusals: { Self → ℕ };
 
+    /// The condition under which a change (`put`, `cut_to` or `keep`) is refused with the given
+    /// fault, in terms of the sink before and after it.
+    ghost refuses_change: { Self → SinkFault → Self → Type 0 };
+
     /// The contents that may remain after a crash: now, and at each moment since a given one.
     ghost crashes: { Self → Crashes };
 
@@ -86,6 +90,7 @@ pub trait PartSink {
         ensures full { result ≡ Err SinkFault.Full
             → most_staged < weighs self.old + (5 + length part.entry.bytes.now) }
         ensures cause { OnErr result (Rose (refusals self.old) (refusals self.new)) }
+        ensures why { IfErr result (λ fault. refuses_change self.old fault self.new) }
         ensures calm { OnOk result (refusals self.new ≡ refusals self.old) }
         ensures crash { (parts : List Portion) → holds self.old parts
             → AddsNothing (crashes self.old) (crashes self.new) };
@@ -105,6 +110,7 @@ pub trait PartSink {
         ensures err { IfErr result (λ fault. fault ≢ SinkFault.Device → (parts : List Portion)
             → holds self.old parts → holds self.new parts) }
         ensures cause { OnErr result (Rose (refusals self.old) (refusals self.new)) }
+        ensures why { IfErr result (λ fault. refuses_change self.old fault self.new) }
         ensures calm { OnOk result (refusals self.new ≡ refusals self.old) }
         ensures crash { (front rest : List Portion) → holds self.old (front ++ rest)
             → weight_of front ≡ point.now.staged
@@ -120,6 +126,7 @@ pub trait PartSink {
         ensures same_weight { weighs self.new ≡ weighs self.old }
         ensures same { (parts : List Portion) → holds self.old parts → holds self.new parts }
         ensures cause { OnErr result (Rose (refusals self.old) (refusals self.new)) }
+        ensures why { IfErr result (λ fault. refuses_change self.old fault self.new) }
         ensures calm { OnOk result (refusals self.new ≡ refusals self.old) }
         ensures crash { (parts : List Portion) → holds self.old parts
             → AddsOnly (IsThis point.now parts) (crashes self.old) (crashes self.new) }
@@ -153,7 +160,7 @@ pub trait PartWalk: PartSink {
     /// An upper bound of the number of parts to come, for any sink.
     ghost left: { Self → ℕ };
 
-    /// The condition under which a call is refused with the given fault, in terms of the sink
+    /// The condition under which `next_part` is refused with the given fault, in terms of the sink
     /// before and after it.
     ghost refuses: { Self → SinkFault → Self → Type 0 };
 

@@ -14,6 +14,4 @@ pub mod Callers
 pub mod Pieces
 pub mod WrittenItems
 pub mod Pins
-mod Mistakes
 mod MistakesOfReading
-mod MistakesOfWriting

@@ -1,10 +1,10 @@
--- Results of `ImageReader::next`, and states of the reader after it, that its contract excludes:
--- each is the result of a wrong body for the given bytes.
-use Rattle.std.proofs.Common.{◌≡◌, ◌≢◌, ◌≤◌, ◌+◌, ℕ, List, [], ◌∷◌, ◌++◌, length, refl, sym, ap}
+-- Results of an `ImageReader`, and its states after them, that its contracts exclude: each is the
+-- result of a wrong body, for `next` with the given bytes.
+use Rattle.std.proofs.Common.{◌≡◌, ◌≤◌, ◌+◌, ℕ, List, [], ◌∷◌, ◌++◌, length, refl, ap}
 use Rattle.std.proofs.Common.{◌∙◌}
 use Rattle.std.proofs.Common.{subst, arith, length-append}
 use Rattle.std.specs.Prelude.{Option, Some, Result, Ok, Err}
-use Rattle.tape_image.specs.declared.item.Ending.TheVariants.{Marked, Physical}
+use Rattle.tape_image.specs.declared.item.Ending.TheVariants.{Physical}
 use Rattle.tape_image.specs.declared.item.Item.{Item}
 use Rattle.tape_image.specs.declared.item.ImageCause.{ImageCause}
 use Rattle.tape_image.specs.declared.item.ImageCause.TheVariants.{Truncated, LengthsDiffer}
@@ -13,13 +13,13 @@ use Rattle.tape_image.specs.declared.item.ImageFault.{ImageFault}
 use Rattle.tape_image.specs.Tape.{TapeItem, block, bad, mark}
 use Rattle.tape_image.specs.Spelling.{a_block, a_gap}
 use Rattle.tape_image.specs.Begins.{image_limit, Stop, ends, faults, Stops, Begins}
-use Rattle.tape_image.specs.Begins.{nothing, at_end_word, past_limit, in_block, words_differ}
-use Rattle.tape_image.specs.Reader.{Reader, going, ended, failed, seen}
+use Rattle.tape_image.specs.Begins.{nothing, in_block, words_differ}
+use Rattle.tape_image.specs.Reader.{Reader, going, seen}
 use Rattle.tape_image.specs.Step.{Meets, GivesItem, MeetsFault, TakesItem, TakesFault}
 use Rattle.tape_image.specs.Next.{HasMoved}
-use Rattle.tape_image.proofs.Uniqueness.{Begins-one}
-use Rattle.tape_image.proofs.Walks.{Walks-nil, Walks-item, TakesFault-begins, IfKnown-at}
-use Rattle.tape_image.proofs.Callers.{walked_front, from_going, stays_ended, same_some}
+use Rattle.tape_image.proofs.Walks.{Walks-nil, Walks-item, IfKnown-at}
+use Rattle.tape_image.proofs.Callers.{walked_front, from_going, same_some}
+use Rattle.tape_image.proofs.reader.ImageReader.new.Reads as new_reader
 use Rattle.tape_image.proofs.reader.ImageReader.next.Reads as next
 
 -- ---- readers and bytes
@@ -80,17 +80,6 @@ takes_fault p xs device room old new result f h e w =
     let met : MeetsFault here f new = subst (λ r. Meets here r new) w moved.answers in
     IfKnown-at (Some xs) new.left (TakesFault p [] f) xs refl met.takes
 
--- a fault other than the device's is the one stop of the bytes, with no item before it
-fails_so : (p : ℕ) (xs : List ℕ) (device room : ℕ) (old new : Reader)
-    (result : Result (Option Item) ImageFault) (q : ℕ) (cause : ImageCause)
-    (items : List TapeItem) (end : ℕ) (stop : Stop) → HasMoved old result new
-    → old ≡ at p xs device room → seen result ≡ Err (fault q cause) → cause ≢ Device
-    → Begins p xs items end stop → ([] ≡ items) × (q ≡ end) × (faults cause ≡ stop)
-fails_so p xs device room old new result q cause items end stop h e w other b =
-    let (ys, _, takes) = takes_fault p xs device room old new result (fault q cause) h e w in
-    Begins-one p xs [] items q end (faults cause) stop
-    (TakesFault-begins p [] (fault q cause) xs ys takes other) b
-
 -- the encoding of a block of one byte: its words, the byte and its pad byte
 abbrev one_byte : List ℕ
 one_byte = 1 ∷ 0 ∷ 0 ∷ 0 ∷ 7 ∷ 0 ∷ 1 ∷ 0 ∷ 0 ∷ 0 ∷ []
@@ -148,6 +137,11 @@ first_length (bad ∷ items) = 0
 first_length (mark ∷ items) = 0
 first_length [] = 0
 
+-- refused_buffer_told_as_device: a reader without memory reports that the device failed
+refused_buffer_told_as_device : (T : _) (L : _) (g : _) (d : _) (κs : _) (a : _) (s : _)
+    → new_reader.Learnt-named T L g d κs a (Err (record { place = 0; cause = Device })) s → ⊥
+refused_buffer_told_as_device T L g d κs a s l = absurd (cc l.err.1)
+
 -- ---- one call of `next`, for any reader of bytes
 
 module _ (T : _) (L : _) (g : _) (d : _) (κs : _) (a : _) (z : _) (s : _)
@@ -189,39 +183,6 @@ module _ (T : _) (L : _) (g : _) (d : _) (κs : _) (a : _) (z : _) (s : _)
       (at_once 0 xs (faults Truncated) (omega arith)
       (in_block (omega arith) 10 refl (omega arith) (omega arith) refl))
 
-  -- pad_byte_forgotten: a block of one byte is returned although no pad byte precedes its trailing
-  -- word
-  pad_byte_forgotten : a.0.now ≡ at 0 (1 ∷ 0 ∷ 0 ∷ 0 ∷ 7 ∷ 1 ∷ 0 ∷ 0 ∷ 0 ∷ []) device room
-      → seen z ≡ Ok (Some (block (7 ∷ []))) → ⊥
-  pad_byte_forgotten e w =
-      let xs : List ℕ = 1 ∷ 0 ∷ 0 ∷ 0 ∷ 7 ∷ 1 ∷ 0 ∷ 0 ∷ 0 ∷ [] in
-      gives_none 0 xs device room a.0.now new z (block (7 ∷ [])) 0 (faults Truncated)
-      h.0.holds-at-none e w
-      (at_once 0 xs (faults Truncated) (omega arith)
-      (in_block (omega arith) 10 refl (omega arith) (omega arith) refl))
-
-  -- pad_byte_forgotten_in_pieces: the same for a block whose content is skipped because it was
-  -- recorded with an error
-  pad_byte_forgotten_in_pieces :
-      a.0.now ≡ at 0 (1 ∷ 0 ∷ 0 ∷ 128 ∷ 7 ∷ 1 ∷ 0 ∷ 0 ∷ 128 ∷ []) device room
-      → seen z ≡ Ok (Some bad) → ⊥
-  pad_byte_forgotten_in_pieces e w =
-      let xs : List ℕ = 1 ∷ 0 ∷ 0 ∷ 128 ∷ 7 ∷ 1 ∷ 0 ∷ 0 ∷ 128 ∷ [] in
-      gives_none 0 xs device room a.0.now new z bad 0 (faults Truncated)
-      h.0.holds-at-none e w
-      (at_once 0 xs (faults Truncated) (omega arith)
-      (in_block (omega arith) 10 refl (omega arith) (omega arith) refl))
-
-  -- end_word_read_past: the mark after an end-of-medium marker is returned
-  end_word_read_past :
-      a.0.now ≡ at 0 (255 ∷ 255 ∷ 255 ∷ 255 ∷ 0 ∷ 0 ∷ 0 ∷ 0 ∷ []) device room
-      → seen z ≡ Ok (Some mark) → ⊥
-  end_word_read_past e w =
-      let xs : List ℕ = 255 ∷ 255 ∷ 255 ∷ 255 ∷ 0 ∷ 0 ∷ 0 ∷ 0 ∷ [] in
-      gives_none 0 xs device room a.0.now new z mark 0 (ends Marked) h.0.holds-at-none e w
-      (at_once 0 xs (ends Marked) (omega arith)
-      (at_end_word (omega arith) refl (omega arith) refl))
-
   -- gap_given_as_mark: an erase gap is returned as a mark
   gap_given_as_mark : a.0.now ≡ at 0 (254 ∷ 255 ∷ 255 ∷ 255 ∷ []) device room
       → seen z ≡ Ok (Some mark) → ⊥
@@ -235,26 +196,6 @@ module _ (T : _) (L : _) (g : _) (d : _) (κs : _) (a : _) (z : _) (s : _)
       let (more, same) = gives_first 0 one_byte device room a.0.now new z (block [])
       (block (7 ∷ []) ∷ []) 10 (ends Physical) h.0.holds-at-none e w one_byte_begins in
       absurd (let n : 1 ≡ 0 = ap first_length same in omega arith)
-
-  -- whole_bytes_told_as_truncated: a whole block is reported as cut off
-  whole_bytes_told_as_truncated : a.0.now ≡ at 0 one_byte device room
-      → seen z ≡ Err (fault 0 Truncated) → ⊥
-  whole_bytes_told_as_truncated e w =
-      let (none, _, _) = fails_so 0 one_byte device room a.0.now new z 0 Truncated
-      (block (7 ∷ []) ∷ []) 10 (ends Physical) h.0.holds-at-none e w (λ same. absurd (cc same))
-      one_byte_begins in
-      absurd (cc none)
-
-  -- too_long_told_as_truncated: a mark that would end past the limit is reported as cut off
-  too_long_told_as_truncated : a.0.now ≡ at 4294967292 (0 ∷ 0 ∷ 0 ∷ 0 ∷ []) device room
-      → seen z ≡ Err (fault 4294967292 Truncated) → ⊥
-  too_long_told_as_truncated e w =
-      let xs : List ℕ = 0 ∷ 0 ∷ 0 ∷ 0 ∷ [] in
-      let (_, _, same) = fails_so 4294967292 xs device room a.0.now new z 4294967292 Truncated []
-      4294967292 (faults TooLong) h.0.holds-at-none e w (λ same. absurd (cc same))
-      (at_once 4294967292 xs (faults TooLong) (omega arith)
-      (past_limit (omega arith) 4 refl (omega arith) refl)) in
-      absurd (cc same)
 
   -- too_long_after_the_data: a block that would end past the limit is read whole before the fault
   too_long_after_the_data : a.0.now ≡ at 4294967290 one_byte device room
@@ -275,20 +216,6 @@ module _ (T : _) (L : _) (g : _) (d : _) (κs : _) (a : _) (z : _) (s : _)
       let m : MeetsFault a.0.now (fault p (Reserved w)) new = subst (λ r. Meets a.0.now r new) e
       (from_going a.0.now z new h.0.holds-at-none on) in
       absurd (omega (arith, far, m.place))
-
-  -- fault_not_kept: after a reserved word the reader is still in the state `going`
-  fault_not_kept : (p w : ℕ) → a.0.now.status ≡ going → seen z ≡ Err (fault p (Reserved w))
-      → new.status ≡ going → ⊥
-  fault_not_kept p w on e goes_on =
-      let m : MeetsFault a.0.now (fault p (Reserved w)) new = subst (λ r. Meets a.0.now r new) e
-      (from_going a.0.now z new h.0.holds-at-none on) in
-      absurd (let d : going ≡ failed (fault p (Reserved w)) = sym goes_on ∙ m.failed in cc)
-
-  -- end_answered_once: after it returned the end, the reader is in the state `going` again
-  end_answered_once : a.0.now.status ≡ ended Marked → new.status ≡ going → ⊥
-  end_answered_once e goes_on =
-      let (_, same) = stays_ended a.0.now z new Marked h.0.holds-at-none e in
-      absurd (let d : going ≡ ended Marked = sym goes_on ∙ ap (λ r. r.status) same ∙ e in cc)
 
   -- memory_taken_at_each_call: a call doubles the buffer's capacity
   memory_taken_at_each_call : a.0.now.room ≡ 100000 → new.room ≡ 200000 → ⊥

@@ -8,5 +8,3 @@ pub mod Texts
 pub mod Apart
 pub mod VolumeLabels
 pub mod AnyLabel
-mod Mistakes
-mod MistakesOfWriting

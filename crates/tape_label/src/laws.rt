@@ -1,7 +1,6 @@
 //! Laws about labels, each as the contract of a function.
 
-ghost use Rattle.std.specs.Prelude.{◌≡◌, ◌<◌, ◌≤◌, ◌^◌, ◌↔◌, IsTrue, Ok, Some};
-ghost use Rattle.std.specs.Str.{bytes_eq};
+ghost use Rattle.std.specs.Prelude.{◌≡◌, ◌<◌, ◌≤◌, ◌^◌, Ok, Some};
 ghost use Rattle.tape_label.specs.Vol1.{IsVol1};
 ghost use Rattle.tape_label.specs.Head1.{IsHead1, HeadFits};
 ghost use Rattle.tape_label.specs.Head2.{Head2Fits};
@@ -12,7 +11,7 @@ ghost use Rattle.tape_label.specs.Laws.{HasOneKind, IsNotBoth, IsSecondLabel, re
 
 use crate::label::LabelFault;
 use crate::reading::{digits_of, digits_value, read_head1, read_head2, read_trail1, read_vol1};
-use crate::values::{Field, Head1, Head2, Kind, Trail1, Vol1};
+use crate::values::{Head1, Head2, Kind, Trail1, Vol1};
 use crate::writing::{write_head1, write_head2, write_trail1, write_vol1};
 
 /// A number that fits in `W` digits is read back from them.
@@ -74,15 +73,6 @@ pub fn readings(block: &[u8]) -> usize
         + usize::from(read_head1(block).is_ok())
         + usize::from(read_head2(block).is_ok())
         + usize::from(read_trail1(block).is_ok())
-}
-
-/// Compares two fields: they are equal if and only if their bytes are.
-pub fn same_field<const N: usize>(a: &Field<N>, b: &Field<N>) -> bool
-    ensures equal { IsTrue result ↔ (a.now ≡ b.now) }
-    // The result is this function of the fields.
-    ensures exact { result ≡ bytes_eq a.now b.now }
-{
-    a.bytes() == b.bytes()
 }
 
 /// The fields of a first header or trailer label are as wide as their positions.

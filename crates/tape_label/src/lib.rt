@@ -11,5 +11,7 @@ mod writing;
 
 pub use label::{Label, LabelFault, is_volume_label, kind, read_label};
 pub use reading::{digits_of, digits_value, read_head1, read_head2, read_trail1, read_vol1};
-pub use values::{Field, Format, Head1, Head2, Kind, Trail1, Vol1, first_other, is_a_character};
+pub use values::{
+    Field, Format, Head1, Head2, Kind, Trail1, Vol1, first_other, is_a_character, same_field,
+};
 pub use writing::{write_head1, write_head2, write_trail1, write_vol1};

@@ -2,6 +2,7 @@
 
 ghost use Rattle.std.specs.Prelude.{◌≡◌, ◌↔◌, IsTrue, ◌+◌, ◌-◌, ◌<◌, ◌≤◌, ◌++◌, List, ℕ, length};
 ghost use Rattle.std.specs.Prelude.{replicate, slice_range, IfSome, IfNone, Ok, Err};
+ghost use Rattle.std.specs.Str.{bytes_eq};
 ghost use Rattle.tape_label.specs.Characters.{first_other, is_a_character};
 
 use crate::label::LabelFault;
@@ -82,6 +83,15 @@ impl<const N: usize> Field<N> {
     {
         &self.characters
     }
+}
+
+/// Compares two fields: they are equal if and only if their bytes are.
+pub fn same_field<const N: usize>(a: &Field<N>, b: &Field<N>) -> bool
+    ensures equal { IsTrue result ↔ (a.now ≡ b.now) }
+    // The result is this function of the fields.
+    ensures exact { result ≡ bytes_eq a.now b.now }
+{
+    a.bytes() == b.bytes()
 }
 
 /// Returns the field that begins at position `first`, counted from 1.

@@ -41,7 +41,7 @@ fn fields_of_any_bytes(rt: HostRuntime) {
     assert_eq!(rt; field.bytes(), [0, 0xff, b'a'].as_slice());
     for (last, same) in [(b'a', true), (b'b', false)] {
         let other = Field::of_bytes([0, 0xff, last]);
-        assert_eq!(rt; laws::same_field(&field, &other), same, "last byte {last}");
+        assert_eq!(rt; same_field(&field, &other), same, "last byte {last}");
     }
     laws::widths(&head());
     laws::volume_widths(&volume());

@@ -128,7 +128,8 @@ stops_in_round {S} {L} {R} {W} gs size gives remaining old new
     }
 
 pub stops_at_end_again : {S L R W : Type 0} (gs : Ghosts S)
-    (size : L → ℕ) (gives : Mounting L R) (remaining : R → Option (List ℕ)) (old new end : SessionState S)
+    (size : L → ℕ) (gives : Mounting L R) (remaining : R → Option (List ℕ))
+    (old new end : SessionState S)
     (shelf left : L) (form : Form)
     (contents : W → Option (List ℕ)) (out written : W) (said between says : Option (List ℕ))
     (back : Bool) → back ≡ goes_back old.notes

@@ -1,10 +1,12 @@
 -- The causes for which records were not written: the cause of one call, if no call before it was
 -- refused.
 use Rattle.std.proofs.Common.{◌≡◌, ◌<◌, ℕ, suc, ◌+◌, List, [], ◌∷◌, ◌++◌, length, take}
+use Rattle.std.specs.Prelude.{◌≢◌, ◌⊎◌, is_some}
 use Rattle.std.proofs.Common.{Bool, true, false, Result, Ok, Err, OnOk, IfErr}
 use Rattle.std.proofs.Common.{refl, sym, ap, inl, inr, subst, ◌∙◌, arith}
 use Rattle.tape_blocks.specs.Block.{Portion}
 use Rattle.tape_core.specs.Weight.{Rose}
+use Rattle.tape_run.specs.declared.extract.out_sink.OutSink.{OutSink}
 use Rattle.tape_run.specs.declared.fault.RunFault.{RunFault}
 use Rattle.tape_run.specs.declared.fault.EngineFault.{EngineFault}
 use Rattle.tape_run.specs.declared.fault.EngineFault.TheVariants.{Run, WriteFailed}
@@ -14,27 +16,54 @@ use Rattle.tape_core.specs.Crash.{lost}
 use Rattle.tape_core.specs.Point.{Point}
 use Rattle.tape_core.specs.Weight.{IsFront}
 use Rattle.tape_core.specs.declared.sink.PartSink.{Ghosts}
+use Rattle.tape_core.specs.declared.sink.SinkFault.{SinkFault}
 use Rattle.tape_blocks.specs.declared.parts.Form.{Form}
-use Rattle.tape_run.specs.Causes.{WritingFails, EndingFails, ExtractFails, IsExtractFault, IsCalm}
+use Rattle.tape_run.specs.Causes.{WritingFails, EndingFails, ExtractFails, ReadingFails}
+use Rattle.tape_run.specs.Causes.{RefusesAny, IsCalm}
 use Rattle.tape_run.specs.Crash.{IsWalked}
 use Rattle.tape_run.specs.Seen.{seen, IsKept, IfSeen, IsSeen}
-use Rattle.tape_run.specs.Steps.{Refuses, RefusesRestart, Saved, WentBack}
+use Rattle.tape_run.specs.Steps.{IsRefused, Refuses, RefusesRestart, Saved, WentBack}
 use Rattle.tape_run.specs.SessionState.{SessionState}
+
+-- no call was refused before
+pub refused_then : {S : Type 0} (refusals : S → ℕ) (refuses : S → SinkFault → S → Type 0)
+    (old mid new : S) (fault : SinkFault) → refusals mid ≡ refusals old
+    → IsRefused refusals refuses mid fault new → IsRefused refusals refuses old fault new
+refused_then refusals refuses old mid new fault calm r = record {
+  mid = r.mid;
+  calm = r.calm ∙ calm;
+  why = r.why;
+  counted = subst (λ n. Rose n (refusals new)) calm r.counted;
+}
+
+-- a call was refused, and no call before it
+pub refused_at : {S : Type 0} (refusals : S → ℕ) (refuses : S → SinkFault → S → Type 0)
+    (old mid new : S) (fault : SinkFault) → refusals mid ≡ refusals old → refuses mid fault new
+    → Rose (refusals mid) (refusals new) → IsRefused refusals refuses old fault new
+refused_at refusals refuses old mid new fault calm why rose = record {
+  mid = mid;
+  calm = calm;
+  why = why;
+  counted = subst (λ n. Rose n (refusals new)) calm rose;
+}
 
 -- no call was refused before, and the contents are unchanged
 pub fails_behind : {S : Type 0} (holds mid_holds : S → List Portion → Type 0) (refusals : S → ℕ)
-    (fault : EngineFault) (old mid new : S) → refusals mid ≡ refusals old
+    (refuses : S → SinkFault → S → Type 0) (fault : EngineFault) (old mid new : S)
+    → refusals mid ≡ refusals old
     → ((parts : List Portion) → holds old parts → (rest : List Portion) × mid_holds mid rest)
-    → WritingFails mid_holds refusals mid new fault → WritingFails holds refusals old new fault
-fails_behind holds mid_holds refusals (Run (Sink cause)) old mid new calm has (inl rose) =
-    inl (subst (λ n. Rose n (refusals new)) calm rose)
-fails_behind holds mid_holds refusals (Run (Sink cause)) old mid new calm has (inr (is, none)) =
+    → WritingFails mid_holds refusals refuses mid new fault
+    → WritingFails holds refusals refuses old new fault
+fails_behind holds mid_holds refusals refuses (Run (Sink cause)) old mid new calm has (inl r) =
+    inl (refused_then refusals refuses old mid new cause calm r)
+fails_behind holds mid_holds refusals refuses (Run (Sink cause)) old mid new calm has
+    (inr (is, none)) =
     inr (is, λ parts was. let (rest, there) = has parts was in none rest there)
-fails_behind holds mid_holds refusals (Run NoSuchPoint) old mid new calm has h = h
-fails_behind holds mid_holds refusals (Run TooFewReels) old mid new calm has h = h
-fails_behind holds mid_holds refusals (Run OutOfMemory) old mid new calm has h = h
-fails_behind holds mid_holds refusals (Run OtherFile) old mid new calm has h = h
-fails_behind holds mid_holds refusals WriteFailed old mid new calm has h = h ∙ calm
+fails_behind holds mid_holds refusals refuses (Run NoSuchPoint) old mid new calm has h = h
+fails_behind holds mid_holds refusals refuses (Run TooFewReels) old mid new calm has h = h
+fails_behind holds mid_holds refusals refuses (Run OutOfMemory) old mid new calm has h = h
+fails_behind holds mid_holds refusals refuses (Run OtherFile) old mid new calm has h = h
+fails_behind holds mid_holds refusals refuses WriteFailed old mid new calm has h = h ∙ calm
 
 -- ---- images
 
@@ -66,22 +95,23 @@ calm_ended g old mid new (Ok value) a w calm = calm_then g old mid new a (record
 calm_ended g old mid new (Err fault) a w calm = tt
 
 -- a call after others none of which was refused
-pub then_fails : {S : Type 0} (g : Ghosts S) (back : Bool) (fault : EngineFault)
-    (old mid new : SessionState S) → IsCalm g old mid → ExtractFails g back fault mid new
-    → ExtractFails g back fault old new
-then_fails g back (Run (Sink cause)) old mid new a (inl rose) =
-    inl (subst (λ n. Rose n (g.refusals new.sink)) a.calm rose)
-then_fails g back (Run (Sink cause)) old mid new a (inr (is, none)) =
+pub then_fails : {S : Type 0} (g : Ghosts S) (refuses : S → SinkFault → S → Type 0) (back : Bool)
+    (fault : EngineFault) (old mid new : SessionState S) → IsCalm g old mid
+    → ExtractFails g refuses back fault mid new → ExtractFails g refuses back fault old new
+then_fails g refuses back (Run (Sink cause)) old mid new a (inl r) =
+    inl (refused_then g.refusals refuses old.sink mid.sink new.sink cause a.calm r)
+then_fails g refuses back (Run (Sink cause)) old mid new a (inr (is, none)) =
     inr (is, λ held was kept. let (now, has, still) = a.kept held was kept in none now has still)
-then_fails g back (Run NoSuchPoint) old mid new a (goes, none) = (goes, a.notes none)
-then_fails g back (Run TooFewReels) old mid new a h = h
-then_fails g back (Run OutOfMemory) old mid new a h = h ∙ a.calm
-then_fails g back (Run OtherFile) old mid new a h = h
-then_fails g back WriteFailed old mid new a h = h ∙ a.calm
+then_fails g refuses back (Run NoSuchPoint) old mid new a (goes, none) = (goes, a.notes none)
+then_fails g refuses back (Run TooFewReels) old mid new a h = h
+then_fails g refuses back (Run OutOfMemory) old mid new a h = h ∙ a.calm
+then_fails g refuses back (Run OtherFile) old mid new a h = h
+then_fails g refuses back WriteFailed old mid new a h = h ∙ a.calm
 
 -- a reel was not read to its end, or no checkpoint was made
-pub step_fails : {S : Type 0} (g : Ghosts S) (back : Bool) (fault : RunFault) (old new : SessionState S)
-    → Refuses g fault old new → ExtractFails g back (Run fault) old new
+pub step_fails : {S : Type 0} (g : Ghosts S) (back : Bool) (fault : RunFault)
+    (old new : SessionState S)
+    → Refuses g fault old new → ReadingFails g back (Run fault) old new
 step_fails g back (Sink cause) old new h = inl h.1
 step_fails g back NoSuchPoint old new h = absurd h
 step_fails g back TooFewReels old new h = absurd h
@@ -91,8 +121,8 @@ step_fails g back OtherFile old new h = absurd h
 -- the session did not roll back to its last checkpoint
 pub back_fails : {S : Type 0} (g : Ghosts S) (n : ℕ) (fault : RunFault) (old new : SessionState S)
     → length old.notes ≡ n + 1 → RefusesRestart g n fault old new
-    → ExtractFails g true (Run fault) old new
-back_fails g n (Sink cause) old new one (same, inl rose) = inl rose
+    → ReadingFails g true (Run fault) old new
+back_fails g n (Sink cause) old new one (same, inl r) = inl r
 back_fails g n (Sink cause) old new one (same, inr (is, calm, none)) = inr (is, none)
 back_fails g n NoSuchPoint old new one (few, same) = absurd (omega (arith, one, few))
 back_fails g n TooFewReels old new one h = absurd h
@@ -151,17 +181,23 @@ calm_reel g old new so calm notes ok = record {
 }
 
 -- the records were not written
-pub writing_fails : {S : Type 0} (g : Ghosts S) (back : Bool) (fault : EngineFault)
-    (old new : SessionState S) → WritingFails g.holds g.refusals old.sink new.sink fault
-    → ExtractFails g back fault old new
-writing_fails g back (Run (Sink cause)) old new (inl rose) = inl rose
-writing_fails g back (Run (Sink cause)) old new (inr (is, none)) =
+pub writing_fails : {S : Type 0} (g : Ghosts S) (walk : S → SinkFault → S → Type 0) (back : Bool)
+    (fault : EngineFault) (old new : SessionState S)
+    → WritingFails g.holds g.refusals walk old.sink new.sink fault
+    → ExtractFails g (RefusesAny g walk) back fault old new
+writing_fails g walk back (Run (Sink cause)) old new (inl r) = inl (record {
+  mid = r.mid;
+  calm = r.calm;
+  why = inr r.why;
+  counted = r.counted;
+})
+writing_fails g walk back (Run (Sink cause)) old new (inr (is, none)) =
     inr (is, λ held was kept. none held was)
-writing_fails g back (Run NoSuchPoint) old new h = absurd h
-writing_fails g back (Run TooFewReels) old new h = absurd h
-writing_fails g back (Run OutOfMemory) old new h = absurd h
-writing_fails g back (Run OtherFile) old new h = absurd h
-writing_fails g back WriteFailed old new h = h
+writing_fails g walk back (Run NoSuchPoint) old new h = absurd h
+writing_fails g walk back (Run TooFewReels) old new h = absurd h
+writing_fails g walk back (Run OutOfMemory) old new h = absurd h
+writing_fails g walk back (Run OtherFile) old new h = absurd h
+writing_fails g walk back WriteFailed old new h = h
 
 pub if_err_then : {A B : Type 0} (r : Result A B) (P Q : B → Type 0) → ((e : B) → P e → Q e)
     → IfErr r P → IfErr r Q
@@ -169,46 +205,57 @@ if_err_then (Ok x) P Q f h = tt
 if_err_then (Err e) P Q f h = f e h
 
 -- the file was not written after the images were read
-pub file_fails : {S A : Type 0} (g : Ghosts S) (back : Bool) (old mid new : SessionState S)
-    (r : Result A EngineFault) → IsCalm g old mid
-    → IfErr r (WritingFails g.holds g.refusals mid.sink new.sink)
-    → IfErr r (λ fault. ExtractFails g back fault old new)
-file_fails g back old mid new r calm h =
-    if_err_then r _ _ (λ fault w. then_fails g back fault old mid new calm
-    (writing_fails g back fault mid new w)) h
+pub file_fails : {S A : Type 0} (g : Ghosts S) (walk : S → SinkFault → S → Type 0) (back : Bool)
+    (old mid new : SessionState S) (r : Result A EngineFault) → IsCalm g old mid
+    → IfErr r (WritingFails g.holds g.refusals walk mid.sink new.sink)
+    → IfErr r (λ fault. ExtractFails g (RefusesAny g walk) back fault old new)
+file_fails g walk back old mid new r calm h =
+    if_err_then r _ _ (λ fault w. then_fails g (RefusesAny g walk) back fault old mid new calm
+    (writing_fails g walk back fault mid new w)) h
 
 -- the images were not read
-pub images_fail : {S : Type 0} (g : Ghosts S) (back goes : Bool) (fault : EngineFault)
-    (old new : SessionState S) → goes ≡ back → ExtractFails g goes fault old new
-    → ExtractFails g back fault old new
-images_fail g back goes fault old new same h =
-    subst (λ b. ExtractFails g b fault old new) same h
+pub images_fail : {S : Type 0} (g : Ghosts S) (walk : S → SinkFault → S → Type 0)
+    (back goes : Bool) (fault : EngineFault) (old new : SessionState S) → goes ≡ back
+    → ReadingFails g goes fault old new → ExtractFails g (RefusesAny g walk) back fault old new
+images_fail g walk back goes (Run (Sink cause)) old new same (inl r) = inl (record {
+  mid = r.mid;
+  calm = r.calm;
+  why = inl r.why;
+  counted = r.counted;
+})
+images_fail g walk back goes (Run (Sink cause)) old new same (inr h) = inr h
+images_fail g walk back goes (Run NoSuchPoint) old new same (goes_is, none) =
+    (sym same ∙ goes_is, none)
+images_fail g walk back goes (Run TooFewReels) old new same h = h
+images_fail g walk back goes (Run OutOfMemory) old new same h = h
+images_fail g walk back goes (Run OtherFile) old new same h = h
+images_fail g walk back goes WriteFailed old new same h = h
 
 -- a sink, as far as causes refer to it
-abbrev of_causes : {S : Type 0} → (S → List Portion → Type 0) → (S → ℕ) → Ghosts S
-of_causes holds refusals = record {
+abbrev of_causes : {S : Type 0} → (S → List Portion → Type 0) → (S → ℕ)
+    → (S → SinkFault → S → Type 0) → Ghosts S
+of_causes holds refusals refuses = record {
   holds = holds;
   weighs = λ s. 0;
   refusals = refusals;
+  refuses_change = refuses;
   crashes = λ s. lost;
 }
 
--- the same for a session that does not roll back
-pub images_fault : {S : Type 0} (holds : S → List Portion → Type 0) (refusals : S → ℕ)
-    (fault : EngineFault) (old new : SessionState S)
-    → ExtractFails (of_causes holds refusals) false fault old new → IsExtractFault fault
-images_fault holds refusals (Run (Sink cause)) old new h = tt
-images_fault holds refusals (Run NoSuchPoint) old new h = absurd (cc h.0)
-images_fault holds refusals (Run TooFewReels) old new h = h
-images_fault holds refusals (Run OutOfMemory) old new h = tt
-images_fault holds refusals (Run OtherFile) old new h = h
-images_fault holds refusals WriteFailed old new h = tt
-
-pub ending_fault : (failed begun : Bool) (form asked : Form) (fault : EngineFault)
-    → EndingFails failed begun form asked fault → IsExtractFault fault
-ending_fault failed begun form asked (Run fault) h =
-    subst (λ f. IsExtractFault (Run f)) (sym h.0) tt
-ending_fault failed begun form asked WriteFailed h = tt
+-- the output of a session was not ended after the images were read
+pub ended_for : {W : Type 0} (holds : OutSink W → List Portion → Type 0)
+    (refusals : OutSink W → ℕ) (refuses : OutSink W → SinkFault → OutSink W → Type 0)
+    (old mid new : SessionState (OutSink W)) (form : Form) (fault : EngineFault)
+    → refusals new.sink ≡ refusals old.sink
+    → (fault ≢ WriteFailed → (new ≡ mid)
+    × EndingFails (is_some mid.sink.out) mid.sink.begun mid.sink.form form fault)
+    → ReadingFails (of_causes holds refusals refuses) false fault old new
+    ⊎ EndingFails (is_some new.sink.out) new.sink.begun new.sink.form form fault
+ended_for holds refusals refuses old mid new form (Run fault) calm ends =
+    let (same, fails) = ends (λ is. absurd (cc is)) in
+    inr (subst (λ (s : SessionState (OutSink _)). EndingFails (is_some s.sink.out) s.sink.begun
+    s.sink.form form (Run fault)) (sym same) fails)
+ended_for holds refusals refuses old mid new form WriteFailed calm ends = inl calm
 
 pub on_pair : {B : Type 0} (r : Result (Unit {0}) B) (P Q : Type 0) → OnOk r P → OnOk r Q
     → OnOk r (P × Q)

@@ -18,7 +18,8 @@ use Rattle.tape_run.specs.Seen.{Seen, IsSession}
 use Rattle.tape_run.specs.History.{Course, course, course_of, IsHistory}
 use Rattle.tape_run.specs.Runs.{Runs}
 use Rattle.tape_run.specs.Crash.{IsOf, StoodAt}
-use Rattle.tape_run.specs.CrashRuns.{IsPlaceOf, ComesBack, CrashRun, IsResumed, Outlives, AreHistories}
+use Rattle.tape_run.specs.CrashRuns.{IsPlaceOf, ComesBack, CrashRun, IsResumed, Outlives}
+use Rattle.tape_run.specs.CrashRuns.{AreHistories}
 use Rattle.tape_run.specs.CrashRuns.{ResumedGoesOn, LivesOn}
 use Rattle.tape_run.proofs.Notes.{same_front, note_at}
 use Rattle.tape_core.specs.Crash.{OnlyThis, Returns}

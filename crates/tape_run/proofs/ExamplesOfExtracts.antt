@@ -8,7 +8,6 @@ use Rattle.tape_set.specs.Lawful.{IsLawful}
 use Rattle.tape_core.specs.Place.{IsPlaced}
 use Rattle.tape_run.specs.Given.{is_device, IsGiven}
 use Rattle.tape_run.specs.Mount.{IsMountOf, foreign_reel}
-use Rattle.tape_run.specs.OutSinks.{IsText}
 use Rattle.tape_run.specs.Reeling.{Opened, IsNoted, goes_back}
 use Rattle.tape_run.specs.Reeling.{IsKeptFor, counts_differ, Turn, IsTurn, Took}
 use Rattle.tape_run.specs.Reeling.{AreTurns, AreFirstTurns, answer_of}
@@ -29,7 +28,7 @@ use Rattle.tape_run.specs.CasesOfExtracts.{Readers, ExtractsListed, StopsListed,
 use Rattle.tape_run.specs.CasesOfExtracts.{CasesOfCauses, FailsEmpty, FailsUnknown}
 use Rattle.tape_core.specs.Weight.{Rose}
 use Rattle.tape_core.specs.declared.sink.SinkFault.{SinkFault}
-use Rattle.tape_core.specs.declared.sink.SinkFault.TheVariants.{Failed}
+use Rattle.tape_core.specs.declared.sink.SinkFault.TheVariants.{Device, Failed}
 use Rattle.tape_run.specs.declared.fault.EngineFault.TheVariants.{Run}
 use Rattle.tape_run.specs.declared.fault.RunFault.TheVariants.{Sink}
 use Rattle.tape_run.specs.Causes.{CannotEnd}
@@ -122,11 +121,6 @@ cases_of_turns = record {
   waits = λ back spares core last old new f. (f.0, f.1.0, f.1.1);
 }
 
-text : (known : List ℕ) → IsText false (7 ∷ []) (Some known) → known ≡ 7 ∷ []
-text known (more, is, none) =
-    let e : known ≡ 7 ∷ more = cc is in
-    e ∙ ap (λ m. 7 ∷ m) (none refl)
-
 -- a session without checkpoints keeps its own
 none_kept : (session : Listed) → session.notes ≡ []
     → IsKeptFor (goes_back session.notes)
@@ -188,7 +182,20 @@ last_line_of_now : (session : Listed) (shelf left : Readers) (form : Form)
     × ((now ≡ out) ⊎ (p.place.position ≡ Finished))
 last_line_of_now session shelf left form out now said says s =
     let (last, seen, follows, tells, wrote) = s.follows session.sink refl in
-    (seen, tells, elim wrote [ inl same ↦ inl same | inr more ↦ inr more.0 ])
+    (seen, tells, elim wrote [ inl same ↦ inl same.0 | inr more ↦ inr more.0 ])
+
+complete_is_named : (session : Listed) (shelf left : Readers) (form : Form)
+    (out now said says : Known) (s : StopsListedNow session shelf left form out now said says)
+    → s.want ≡ None → (AppendsFront said says
+    (reel_lines 1 (map answer_of s.turns ++ s.more)) → ⊥)
+    → (p : Seen) × (now ≡ Some (output_of form p.parts))
+complete_is_named session shelf left form out now said says s none more =
+    let (last, seen, follows, tells, wrote) = s.follows session.sink refl in elim wrote [
+      | inl (same, inl less) ↦ absurd (more less)
+      | inl (same, inr some) ↦ absurd (some none)
+      | inr (done, inl (same, less)) ↦ absurd (more less)
+      | inr (done, inr put) ↦ (seen, put tt)
+    ]
 
 output_stopped_now : (session : Listed) (shelf left : Readers) (form : Form)
     (out now said says : Known)
@@ -197,9 +204,9 @@ output_stopped_now : (session : Listed) (shelf left : Readers) (form : Form)
     ⊎ ((s : Seen) × (s.place.position ≡ Finished) × (now ≡ Some (output_of form s.parts)))
 output_stopped_now session shelf left form out now said says s =
     let (last, seen, follows, tells, wrote) = s.follows session.sink refl in elim wrote [
-      | inl same ↦ inl same
+      | inl same ↦ inl same.0
       | inr more ↦ elim more.1 [
-        | inl same ↦ inl same
+        | inl same ↦ inl same.0
         | inr put ↦ inr (seen, more.0, put tt)
       ]
     ]
@@ -212,6 +219,7 @@ cases_of_outputs = record {
   last_line_of_now = last_line_of_now;
   output_stopped = output_stopped;
   output_stopped_now = output_stopped_now;
+  complete_is_named = complete_is_named;
   written = λ records form out now parts w. w;
   put = λ records form stands parts p. (p.0, p.1 tt);
   ends = λ spares first old turns want records form out now e.
@@ -228,25 +236,31 @@ cases_of_outputs = record {
   one_line_more_now = λ session shelf left form out now said says s. (s.few, s.lines);
   stopped_turns = λ session behind shelf left form out now said says s. (s.most, s.are_turns);
   stopped_turns_now = λ session shelf left form out now said says s. (s.most, s.are_turns);
-  taken = λ form out weight records begun failed parts t. (t.weighs, t.counted);
-  taken_text = λ form out weight records begun failed parts t. (t.begins, t.text);
-  text = text;
+  taken = λ form out weight records begun parts t. (t.weighs, t.counted);
+  taken_text = λ form out weight records begun parts t. (t.begins, t.text);
+  text = λ known is. cc is;
+  no_writer = tt;
   tells = λ w. refl;
   tells_nothing = λ tells. absurd (let e = tells [] in cc e);
   ended = (refl, refl);
+  write_refused = λ works still weight r. r;
+  not_heavy = λ works still r. absurd (omega (arith, r));
+  heavy = λ works still. omega arith;
+  refused_later = λ works still weight. tt;
+  no_memory_taken = λ works still weight r. r;
 }
 
 refused_writing : (cause : SinkFault) (old new : ℕ) → FailsEmpty (Run (Sink cause)) old new
-    → Rose old new
-refused_writing cause old new (inl rose) = rose
+    → Rose old new × (cause ≡ Device)
+refused_writing cause old new (inl r) = (r.counted, r.why)
 refused_writing cause old new (inr (is, none)) = absurd (none [] refl)
 
 only_failed : (cause : SinkFault) (old new : ℕ) → FailsUnknown (Run (Sink cause)) old new
-    → Rose old new ⊎ (cause ≡ Failed)
-only_failed cause old new (inl rose) = inl rose
+    → (Rose old new × (cause ≡ Device)) ⊎ (cause ≡ Failed)
+only_failed cause old new (inl r) = inl (r.counted, r.why)
 only_failed cause old new (inr (is, none)) = inr is
 
-ends_but_for_it : (form : Form) → CannotEnd false false form form → ⊥
+ends_but_for_it : (form : Form) → CannotEnd true false form form → ⊥
 ends_but_for_it form (inl e) = cc e
 ends_but_for_it form (inr (inl e)) = cc e
 ends_but_for_it form (inr (inr other)) = other refl
@@ -254,15 +268,20 @@ ends_but_for_it form (inr (inr other)) = other refl
 pub cases_of_causes : CasesOfCauses
 cases_of_causes = record {
   refused_writing = refused_writing;
-  told_refusal = inl (inl (omega arith));
+  told_refusal = inl (record {
+    mid = 3;
+    calm = refl;
+    why = refl;
+    counted = inl (omega arith);
+  });
   only_failed = only_failed;
   fewer_given = inr (refl, λ parts none. none);
   no_other_fault = λ old new. (λ h. h, λ h. h, λ h. h, λ h. h);
   write_failed = λ old new h. h;
-  not_ended = λ failed begun form asked fault h. h;
-  three_reasons = λ failed begun form asked.
+  not_ended = λ works begun form asked fault h. h;
+  three_reasons = λ works begun form asked.
       ((refl, inl refl), (refl, inr (inl refl)), λ other. (refl, inr (inr other)));
-  writer_failed = λ failed begun form asked h.
+  writer_failed = λ works begun form asked h.
       (λ e. h (inl e), λ e. h (inr (inl e)), λ other. h (inr (inr other)));
   ends_but_for_it = ends_but_for_it;
 }

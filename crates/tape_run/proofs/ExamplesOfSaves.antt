@@ -126,7 +126,8 @@ alone_at_a_fault old new held ps now c had has came front weighs leaves =
       | inr here ↦ absurd here.0
     ]
 
-alone_up_to_a_fault : (old new : SessionState Point) (held ps : List Portion) (now : Seen) (c : Point)
+alone_up_to_a_fault : (old new : SessionState Point) (held ps : List Portion) (now : Seen)
+    (c : Point)
     (t : ℕ) → old.notes ≡ c ∷ [] → now.notes ≡ c ∷ [] → old.sink ≡ c → IsFront ps held
     → weight_of ps ≡ c.staged → t ≤ old.sink.file
     → LeavesSaved (holding_none (comes_since ps)) old held now new → new.sink ≡ c

@@ -1,6 +1,6 @@
 -- The examples for sessions with known parts, and for readers that know their bytes.
-use Rattle.std.proofs.Common.{◌≡◌, ℕ, List, [], ◌∷◌, length, Some, None, refl, sym, ap, arith}
-use Rattle.std.proofs.Common.{◌∙◌}
+use Rattle.std.proofs.Common.{◌≡◌, ◌⊎◌, ℕ, List, [], ◌∷◌, length, Bool, Some, None, refl, sym}
+use Rattle.std.proofs.Common.{ap, arith, inl, inr, ◌∙◌}
 use Rattle.tape_blocks.specs.Block.{Portion}
 use Rattle.tape_core.specs.Point.{Point}
 use Rattle.tape_core.proofs.Crashes.{or_nothing}
@@ -8,7 +8,14 @@ use Rattle.tape_run.specs.CasesOfSaves.{comes_now, weighing}
 use Rattle.tape_run.specs.CasesOfSeen.{CasesOfSeen, counting}
 use Rattle.tape_run.specs.Crash.{BringsNoMore}
 use Rattle.tape_run.specs.Given.{IfTold}
-use Rattle.tape_run.specs.Seen.{seen, IfSeen, IsSeen}
+use Rattle.tape_run.specs.Seen.{seen, IsKept, IfSeen, IsSeen}
+use Rattle.tape_run.specs.Steps.{RefusesRestart}
+use Rattle.tape_run.specs.Causes.{ExtractFails, ReadingFails, RefusesAny}
+use Rattle.tape_run.specs.declared.fault.EngineFault.TheVariants.{Run}
+use Rattle.tape_run.specs.declared.fault.RunFault.TheVariants.{Sink}
+use Rattle.tape_core.specs.Weight.{Rose}
+use Rattle.tape_core.specs.declared.sink.SinkFault.{SinkFault}
+use Rattle.tape_core.specs.declared.sink.SinkFault.TheVariants.{Device, Full, Failed}
 use Rattle.tape_run.specs.SessionState.{SessionState}
 
 each_part : (s : SessionState ℕ) (p : Portion) → s.sink ≡ 1
@@ -36,6 +43,29 @@ brings_no_more : (old new : Point) → old.staged ≡ 0
 brings_no_more old new none brings =
     (or_nothing ((brings [] none).now new [] (refl, refl))).0
 
+back_refused : (cause : SinkFault) (n : ℕ) (old new : SessionState ℕ)
+    → RefusesRestart counting n (Sink cause) old new → (new.failures ≡ old.failures)
+    × ((Rose old.sink new.sink × (cause ≡ Device)) ⊎ ((cause ≡ Failed) × (new.sink ≡ old.sink)
+    × ((held : List Portion) → length held ≡ old.sink → IsKept (seen counting old held) → ⊥)))
+back_refused cause n old new (same, inl r) = (same, inl (r.counted, r.why))
+back_refused cause n old new (same, inr h) = (same, inr h)
+
+not_extracted : (back : Bool) (cause : SinkFault) (old new : SessionState ℕ)
+    → ReadingFails counting back (Run (Sink cause)) old new
+    → (Rose old.sink new.sink × (cause ≡ Device)) ⊎ ((cause ≡ Failed)
+    × ((held : List Portion) → length held ≡ old.sink → IsKept (seen counting old held) → ⊥))
+not_extracted back cause old new (inl r) = inl (r.counted, r.why)
+not_extracted back cause old new (inr h) = inr h
+
+refused_either : (back : Bool) (cause : SinkFault) (old new : SessionState ℕ)
+    → ExtractFails counting (RefusesAny counting (λ mid fault after. fault ≡ Full)) back
+    (Run (Sink cause)) old new → (cause ≡ Device) ⊎ (cause ≡ Full) ⊎ (cause ≡ Failed)
+refused_either back cause old new (inl r) = elim (r.why) [
+  | inl device ↦ inl device
+  | inr full ↦ inr (inl full)
+]
+refused_either back cause old new (inr h) = inr (inr h.0)
+
 pub cases_of_seen : CasesOfSeen
 cases_of_seen = record {
   is_seen = λ s parts. refl;
@@ -56,23 +86,23 @@ cases_of_seen = record {
       (next, (seen (weighing (comes_now [])) new now, still, refl, last));
   not_kept = λ back old new never held was kept.
       absurd (never (seen (weighing (comes_now [])) old held) refl kept);
-  reel_refused = λ cause old new r. r;
+  reel_refused = λ cause old new (same, r). (same, r.counted, r.why);
+  refused_first = λ cause old new r. (sym r.calm ∙ r.why.0, r.why.1, r.counted);
   no_memory = λ old new r. r;
   no_other_fault = λ old new. (λ r. r, λ r. r, λ r. r);
-  back_refused = λ cause n old new r. r;
+  back_refused = back_refused;
   no_note = λ n old new r. r;
   no_other_way = λ n old new. (λ r. r, λ r. r, λ r. r);
   reel_not_made = λ fault old new r. r;
   save_not_made = λ fault old new r. r;
   back_not_made = λ n fault old new r. r;
   second_not_made = λ fault old new s. (let e = s.at in cc, s.calm.calm, s.refuses);
-  not_extracted = λ back cause old new r. r;
+  not_extracted = not_extracted;
+  refused_either = refused_either;
   no_memory_to_extract = λ back old new. (λ r. r, λ r. r);
   noted = λ back c old new one r. absurd (let e = sym one ∙ r.1 in cc);
   goes_on = λ old new r. absurd (let e = r.0 in cc);
   no_other_end = λ back old new. (λ r. r, λ r. r);
-  extract_faults = λ cause. (tt, tt, tt);
-  no_extract_faults = (λ r. r, λ r. r, λ r. r);
   none_refused = λ old new c. (c.calm, c.notes, λ held was kept. c.kept held was kept);
   walked = λ old new ps none w.
       let back = (w.crash [] none).now new.sink ps (refl, refl) in

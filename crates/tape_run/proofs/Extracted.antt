@@ -46,7 +46,8 @@ ended spares g mid core old turns form out written said says want now e has f =
     }
 
 pub extracted : {S L R : Type 0} (gs : Ghosts S)
-    (size : L → ℕ) (gives : Mounting L R) (remaining : R → Option (List ℕ)) (old mid new : SessionState S)
+    (size : L → ℕ) (gives : Mounting L R) (remaining : R → Option (List ℕ))
+    (old mid new : SessionState S)
     (shelf left : L) (form : Form)
     (out written said between says : Option (List ℕ)) (want : Option Want)
     (back : Bool) → back ≡ goes_back old.notes
@@ -101,18 +102,24 @@ stops_reading {S} {L} {R} {W} gs size gives remaining old new shelf
           (core, now, f, leaves, inl s.lines, inl refl);
     }
 
+-- after the lines of all images, nothing of the last line
+pub less_then : (said between says : Option (List ℕ)) (lines : List ℕ) → Appends said between lines
+    → AppendsFront between says [] → AppendsFront said says lines
+less_then said between says lines before none = subst (AppendsFront said says) (append-nil lines)
+    (front_behind said between says lines [] before none)
+
 -- after the lines of all images
 pub tells_then : (said between says : Option (List ℕ)) (lines : List ℕ) (want : Option Want)
     (records : ℕ) (now : Seen) → Appends said between lines
     → TellsEnd (AppendsFront between says []) want records now
     → TellsEnd (AppendsFront said says lines) want records now
 tells_then said between says lines want records now before (inl none) =
-    inl (subst (AppendsFront said says) (append-nil lines)
-    (front_behind said between says lines [] before none))
+    inl (less_then said between says lines before none)
 tells_then said between says lines want records now before (inr tells) = inr tells
 
 pub stops_at_end : {S L R W : Type 0} (gs : Ghosts S)
-    (size : L → ℕ) (gives : Mounting L R) (remaining : R → Option (List ℕ)) (old mid new : SessionState S)
+    (size : L → ℕ) (gives : Mounting L R) (remaining : R → Option (List ℕ))
+    (old mid new : SessionState S)
     (shelf left : L) (form : Form)
     (contents : W → Option (List ℕ)) (out written : W) (said between says : Option (List ℕ))
     (back : Bool) → back ≡ goes_back old.notes

@@ -72,7 +72,8 @@ end_one first later x (Useless why, s) p (inl on) = absurd (cc)
 end_one first later x (Useless why, s) p (inr on) = absurd (cc)
 
 -- the file of a reader that continues is incomplete
-pub still_waits : (core : State) (x : TapeItem) (q : Position) → q ≡ (step_of core (Some x)).1.position
+pub still_waits : (core : State) (x : TapeItem) (q : Position)
+    → q ≡ (step_of core (Some x)).1.position
     → GoesOn (step_of core (Some x)).0 → is_finished q ≡ false
 still_waits core x (Awaits sect b part) is on = refl
 still_waits core x Finished is (inl on) =

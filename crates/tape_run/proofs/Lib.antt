@@ -66,6 +66,7 @@ pub mod SurveyShown
 pub mod SurveyConflicts
 mod SurveyListed
 pub mod SurveySound
+pub mod SurveyDisputes
 mod SurveyJoins
 mod SurveyProblems
 mod SurveyCounts
@@ -112,7 +113,17 @@ mod SalvageShelf
 mod SalvageRest
 mod SalvageClosings
 mod SalvageText
+mod SalvageGaps
+mod SalvageFresh
+mod SalvageData
+mod SalvageConflicts
+mod SalvageLater
+mod SalvageClosed
+mod SalvagePlaces
+mod SalvageDamaged
+mod SalvageUnnamed
 mod SalvageFile
+mod SalvageReadings
 mod Examples
 mod ExamplesOfReels
 mod ExamplesOfCatalogues
@@ -152,9 +163,9 @@ mod MergeGiven
 mod MergeBytes
 mod MergeOpening
 mod MergeNow
+mod MergeTooLong
 mod MergeRows
 mod MergeReports
-mod MergedBetter
 mod MergedCopies
 mod MergedOrders
 mod MergedFar

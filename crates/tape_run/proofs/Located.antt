@@ -57,25 +57,26 @@ read_more on gives remaining opened whole shelf [] mid next s same part
         refl,
       ),
     )
-read_more {L} {R} on gives remaining opened whole shelf (t ∷ ss) mid next s (first, are) part more = (
-  first,
-  elim are [
-    | inl (is, of, behind) ↦ inl (
-      is,
-      of,
-      read_more on gives remaining true t.whole shelf ss mid next s behind part (later more),
+read_more {L} {R} on gives remaining opened whole shelf (t ∷ ss) mid next s (first, are) part
+    more = (
+      first,
+      elim are [
+        | inl (is, of, behind) ↦ inl (
+          is,
+          of,
+          read_more on gives remaining true t.whole shelf ss mid next s behind part (later more),
+        )
+        | inr (image, is, device, then, gave, of, behind) ↦ inr (
+          image,
+          is,
+          device,
+          then,
+          gave,
+          of,
+          read_more on gives remaining true t.whole then ss mid next s behind part (later more),
+        )
+      ],
     )
-    | inr (image, is, device, then, gave, of, behind) ↦ inr (
-      image,
-      is,
-      device,
-      then,
-      gave,
-      of,
-      read_more on gives remaining true t.whole then ss mid next s behind part (later more),
-    )
-  ],
-)
   where
     later : ((true ≡ true) × (s.whole ≡ held_behind t.whole ss) × (next ≡ mid))
         ⊎ ((image : ℕ) × on image × (device : R) × gives mid image (Some device) next
@@ -151,7 +152,8 @@ more_read {S} {L} {R} g on gives remaining session mid new shelf left next opene
         × (next ≡ left))
         ⊎ ((number : ℕ) × on number × (device : R) × gives left number (Some device) next
         × (image ≡ remaining device))
-        → ((open_behind opened s.stretches ≡ true) × (p.stretch.whole ≡ held_behind whole s.stretches)
+        → ((open_behind opened s.stretches ≡ true)
+        × (p.stretch.whole ≡ held_behind whole s.stretches)
         × (next ≡ left))
         ⊎ ((number : ℕ) × on number × (device : R) × gives left number (Some device) next
         × (p.stretch.whole ≡ remaining device))
@@ -175,14 +177,18 @@ pub section_read : {S L R : Type 0} (g : Ghosts S) (on : ℕ → Type 0) (gives 
     → ReadsLocated g gives remaining number mid new left next (open_behind opened s.stretches)
     (held_behind whole s.stretches) after
     → after ≢ None → ReadSoFar g on gives remaining session new shelf next opened whole after
-section_read g on gives remaining session mid new shelf left next opened whole held after s number is
+section_read g on gives remaining session mid new shelf left next opened whole held after s number
+    is
     (inl (is_open, same, p)) some = more_read g on gives remaining session mid new shelf left next
     opened whole (held_behind whole s.stretches) held after s p (inl (is_open, refl, same))
-section_read g on gives remaining session mid new shelf left next opened whole held after s number is
+section_read g on gives remaining session mid new shelf left next opened whole held after s number
+    is
     (inr (inl (device, gave, p))) some =
-    more_read g on gives remaining session mid new shelf left next opened whole (remaining device) held
+    more_read g on gives remaining session mid new shelf left next opened whole (remaining device)
+    held
     after s p (inr (number, is, device, gave, refl))
-section_read g on gives remaining session mid new shelf left next opened whole held after s number is
+section_read g on gives remaining session mid new shelf left next opened whole held after s number
+    is
     (inr (inr (gave, same, none))) some = absurd (some none)
 
 -- What was read so far is all.
@@ -294,7 +300,8 @@ wanted_sect (Some want) = want.sect
 -- the file is complete, as far as it was read
 pub ended_as : {S L R : Type 0} {g : Ghosts S} {gives : Mounting L R}
     {remaining : R → Option (List ℕ)} {locations : List Located} {old new : SessionState S}
-    {shelf left : L} {opened : Bool} {whole : Option (List ℕ)} {after : Option (Mounted R)} {b is : Bool} → b ≡ is
+    {shelf left : L} {opened : Bool} {whole : Option (List ℕ)} {after : Option (Mounted R)}
+    {b is : Bool} → b ≡ is
     → ReadsSections g gives remaining locations b old new shelf left opened whole after
     → ReadsSections g gives remaining locations is old new shelf left opened whole after
 ended_as {S} {L} {R} {g} {gives} {remaining} {locations} {old} {new} {shelf} {left} {opened} {whole}

@@ -32,7 +32,8 @@ use Rattle.tape_run.proofs.LocatedReaders.{leads_on, front_of}
 -- ---- what was read
 
 pub part_front : {S R : Type 0} (g : Ghosts S) (remaining : R → Option (List ℕ))
-    (had left : Option (List ℕ)) (failed : Bool) (old new : SessionState S) (after : Option (Mounted R))
+    (had left : Option (List ℕ)) (failed : Bool) (old new : SessionState S)
+    (after : Option (Mounted R))
     → IfSeen g old (λ was. IsSeen g new (λ is. IfSome had (λ b. Reeled b left failed was is)))
     → IsHeld remaining after had → ReadsPart g remaining had old new after
 part_front {S} {R} g remaining had left failed old new after reads held = record {

@@ -134,7 +134,8 @@ passes_front core new bytes left answer key waits set file ends r = elim (broken
       absurd (never_ends (mount_of core) e.items e.item waits
       (mounted_broken core.phase core.position broken).0 e.ended)
   | inr sound ↦
-      let (items, item, at, s, walks) = leaves_behind core new bytes left answer waits sound r ends in
+      let (items, item, at, s, walks) = leaves_behind core new bytes left answer waits sound r ends
+      in
       record {
         front = items ++ item ∷ [];
         at = at;
@@ -156,7 +157,8 @@ passes_on core new front place whole bytes left answer key waits set file ends o
           absurd (never_ends (behind_of core) e.items e.item waits
           (mounted_broken core.phase core.position broken).1 e.ended)
       | inr sound ↦
-          let (items, item, at, s, walks) = leaves_behind_again core new front bytes left answer waits
+          let (items, item, at, s, walks) = leaves_behind_again core new front bytes left answer
+          waits
           sound (over sound) r ends in
           let moved : Walks place bytes (items ++ item ∷ []) (place + at) left =
           record { leads = walks.leads; moves = omega (arith, walks.moves) } in
@@ -189,7 +191,8 @@ pub behind_waits : (p : Position) (core new : State) (bytes left : List ℕ) (an
 behind_waits (Awaits sect b part) core new bytes left answer waits r = r
 behind_waits Finished core new bytes left answer waits r = absurd (cc)
 
-pub held_front : (had left : Option (List ℕ)) (core new : State) (answer : ReelAnswer) (key : FileKey)
+pub held_front : (had left : Option (List ℕ)) (core new : State) (answer : ReelAnswer)
+    (key : FileKey)
     → is_finished core.position ≡ false → key.set_id ≡ core.set_id → key.file ≡ core.file
     → EndsSection answer.answer
     → IfKnown had left (λ bytes rest. Reads core.position core bytes rest answer new)
@@ -214,9 +217,12 @@ pub held_on : (whole had left : Option (List ℕ)) (core new : State) (answer : 
     → IfKnown had left (λ bytes rest. ReadsBehind core.position core bytes rest answer new)
     → IfKnown whole left (PassesTo key)
 held_on None had left core new answer before key waits same less set file ends p r = tt
-held_on (Some whole) None left core new answer before key waits same less set file ends p r = absurd p
-held_on (Some whole) (Some had) None core new answer before key waits same less set file ends p r = r
-held_on (Some whole) (Some had) (Some left) core new answer before key waits same less set file ends p r
+held_on (Some whole) None left core new answer before key waits same less set file ends p r =
+    absurd p
+held_on (Some whole) (Some had) None core new answer before key waits same less set file ends p r =
+    r
+held_on (Some whole) (Some had) (Some left) core new answer before key waits same less set file
+    ends p r
     = passes_on core new p.front p.at whole had left answer key waits set file ends
     (λ sound. p.passed core (sym same) less waits sound) p.walks
     (behind_waits core.position core new had left answer waits r)

@@ -16,12 +16,11 @@ use Rattle.tape_run.specs.declared.merge.MergeFault.TheVariants as faults
 use Rattle.tape_run.specs.declared.merge.reading.Reading.{Reading}
 use Rattle.tape_run.specs.MergeSteps.{HasRead, HasTaken, HaveTaken, TookLast, nothing, last}
 use Rattle.tape_run.specs.MergeSteps.{bads, one_if, is_bad_one}
-use Rattle.tape_run.specs.MergeCalls.{AreAtFront, Merges, FitsFault}
+use Rattle.tape_run.specs.MergeCalls.{AreAtFront, IfImages, Merges, FitsFault}
 use Rattle.tape_run.specs.MergedImages.{LastIsAt, no_item, last_item, TakesImage, TakeImages}
 use Rattle.tape_run.specs.MergedImages.{AllBegin, MergesImages, FaultsImages}
 use Rattle.tape_run.specs.MergeLaws.{AreFronts, TakesAs}
 use Rattle.tape_run.proofs.MergeGiven.{readers_give_images}
-use Rattle.tape_run.proofs.MergeRefusals.{refuses_fault}
 use Rattle.tape_run.proofs.MergeJoins.{differ_for_good}
 
 -- ---- how long readings are
@@ -147,7 +146,7 @@ are_begun _ _ _ _ _ front h begins = absurd h
 
 faults_images : {R : Type 0} (images : List (List ℕ)) (firsts nows : List (Reading R))
     (old new : Writer) (fault : MergeFault) → AreAtFront (map Some images) firsts
-    → FitsFault firsts nows old new fault → FaultsImages images nows fault
+    → FitsFault firsts nows old new fault → FaultsImages images nows old new fault
 faults_images images firsts nows old new (faults.Differ n) front d = record {
   readings = d.readings;
   have = take_images images firsts nows d.readings front d.have;
@@ -164,24 +163,32 @@ faults_images images firsts nows old new (faults.Differ n) front d = record {
 }
 faults_images images firsts nows old new faults.OutOfMemory front d = tt
 faults_images images firsts nows old new faults.Log front d = tt
-faults_images images firsts nows old new (faults.Write fault) front
-    (mid, wrote, on, x, fits, refused) = refuses_fault x mid new fault fits on refused
+faults_images images firsts nows old new (faults.Write fault) front d = record {
+  readings = d.readings;
+  taken = take_images images firsts nows d.readings front d.taken;
+  merged = d.merged;
+  x = d.x;
+  is = d.is;
+  mid = d.mid;
+  wrote = d.wrote;
+  refused = d.refused;
+}
 
 -- ---- as an engine answers
 
 pub ok_images : {R : Type 0} (result : Result Merged MergeFault) (firsts nows : List (Reading R))
     (old new : Writer) (log logged : Option (List ℕ))
     → IfOk result (λ m. Merges firsts nows m old new log logged)
-    → IfOk result (λ m. (images : List (List ℕ)) → AreAtFront (map Some images) firsts
-    → MergesImages images nows m old new log logged)
+    → IfOk result (λ m. IfImages firsts (λ images.
+    MergesImages images nows m old new log logged))
 ok_images (Ok m) firsts nows old new log logged h =
     λ images front. merges_images images firsts nows m old new log logged front h
 ok_images (Err fault) firsts nows old new log logged h = tt
 
 pub err_images : {R : Type 0} (result : Result Merged MergeFault) (firsts nows : List (Reading R))
     (old new : Writer) → IfErr result (FitsFault firsts nows old new)
-    → IfErr result (λ fault. (images : List (List ℕ)) → AreAtFront (map Some images) firsts
-    → FaultsImages images nows fault)
+    → IfErr result (λ fault. IfImages firsts (λ images.
+    FaultsImages images nows old new fault))
 err_images (Ok m) firsts nows old new h = tt
 err_images (Err fault) firsts nows old new h =
     λ images front. faults_images images firsts nows old new fault front h

@@ -23,7 +23,7 @@ use Rattle.tape_run.specs.MergeLog.{log_rows, row_now}
 use Rattle.tape_run.specs.MergeCalls.{Counts, firsts_in, miscounted_of, Puts}
 use Rattle.tape_run.specs.MergeCalls.{Merges, DiffersAt, FitsFault, RefusesCandidate}
 use Rattle.tape_run.proofs.NotedSoFar.{one_block}
-use Rattle.tape_run.proofs.MergeRefusals.{best_fits}
+use Rattle.tape_run.proofs.MergeRefusals.{best_fits, refuses_puts}
 use Rattle.tape_run.proofs.MergeAsking.{HaveCandidate, all_best, all_differ}
 use Rattle.tape_run.proofs.MergeCounts.{put_one_more, put_moves, was_put, was_none, CountsOne}
 use Rattle.tape_run.proofs.MergeCounts.{counts_more, phase_more, alone_kept}
@@ -99,6 +99,16 @@ round firsts olds nows a p old new log row now beside s asked none =
     (λ tape k reads. subst (λ (l : List TapeItem). IsReadFrom l tape) empty
     (s.is.least tape reads)) asked none
 
+-- the best item is the next one of the merged tape
+is_next : {R : Type 0} (firsts nows : List (Reading R)) (rs : List (List TapeItem))
+    (m : List TapeItem) (now beside : Option TapeItem) (x : TapeItem) → now ≡ Some x
+    → (h : HaveCandidate firsts nows rs m None now beside (λ _. Unit {0}))
+    → IsMerged h.readings (m ++ x ∷ [])
+is_next firsts nows rs m now beside x is h =
+    subst (λ (l : List TapeItem). IsMerged h.readings l)
+    (ap (λ (t : Option TapeItem). m ++ best_items t) is)
+    (record { all = h.all; least = λ tape reads. h.least tape tt reads })
+
 -- there was an item, and it was written
 pub goes_on : {R : Type 0} (firsts olds nows : List (Reading R)) (a b : Merged) (p q : Phase)
     (have : ℕ) (old mid new : Writer) (log row logged : Option (List ℕ))
@@ -110,8 +120,6 @@ pub goes_on : {R : Type 0} (firsts olds nows : List (Reading R)) (a b : Merged) 
 goes_on firsts olds nows a b p q have old mid new log row logged now beside x s asked none many is
     put noted one =
     let h = round firsts olds nows a p old mid log row now beside s asked none in
-    let shown : s.merged ++ best_items now ≡ s.merged ++ x ∷ [] =
-    ap (λ (t : Option TapeItem). s.merged ++ best_items t) is in
     let long : length (s.merged ++ x ∷ []) ≡ length s.merged + 1 =
     length-append s.merged (x ∷ []) in
     record {
@@ -119,11 +127,7 @@ goes_on firsts olds nows a b p q have old mid new log row logged now beside x s 
       have = h.have;
       merged = s.merged ++ x ∷ [];
       at = subst (λ (k : ℕ). AreUpTo k nows h.readings) (sym long) h.at;
-      is = record {
-        all = subst (λ (l : List TapeItem). AreReadFrom h.readings l) shown h.all;
-        least = λ tape reads. subst (λ (l : List TapeItem). IsReadFrom l tape) shown
-            (h.least tape tt reads);
-      };
+      is = is_next firsts nows s.readings s.merged now beside x is h;
       count = counts_more s.merged x s.readings h.readings a b p q have s.count s.phase_is one
           (λ j lt. ap goods_in (h.before j lt)) (goods_seen nows _ h.here ∙ sym many);
       phase_is = phase_more s.merged x a b p q have s.phase_is one;
@@ -284,66 +288,49 @@ one_more firsts olds nows a b p next have old mid new log row logged now other s
     }
 
 -- the item was refused
-pub refused_at : {R : Type 0} (firsts olds nows : List (Reading R)) (a : Merged) (p : Phase)
-    (old mid new : Writer) (log row : Option (List ℕ))
-    (now other : Option TapeItem) (fault : ImageWriteFault) → SoFar firsts olds a p old mid log row
-    → AskedAll olds nows None now None other → mid.standing ≡ writing
-    → RefusesCandidate now fault mid new
-    → FitsFault firsts nows old new (faults.Write fault)
-refused_at firsts olds nows a p old mid new log row None other fault s h on refused = absurd refused
-refused_at firsts olds nows a p old mid new log row (Some x) other fault s h on refused = (
-  mid,
-  record {
-    mids = olds;
-    fronts = s.readings;
-    had = s.have;
-    merged = s.merged;
-    is = s.is;
-    wrote = s.wrote;
-  },
-  on,
-  x,
-  best_fits olds nows None (Some x) None other tt h,
-  refused,
-)
-
 pub refused_now : {T R : Type 0} (result : Result T MergeFault)
     (firsts olds nows : List (Reading R)) (a : Merged) (p : Phase) (old mid new : Writer)
     (log row : Option (List ℕ)) (now other : Option TapeItem) (fault : ImageWriteFault)
     → result ≡ Err (faults.Write fault) → SoFar firsts olds a p old mid log row
-    → AskedAll olds nows None now None other → mid.standing ≡ writing
-    → RefusesCandidate now fault mid new
-    → IfErr result (FitsFault firsts nows old new)
-refused_now {T} {R} result firsts olds nows a p old mid new log row now other fault is s h on
-    refused =
+    → AskedAll olds nows None now None other → is_some other ≡ false → mid.standing ≡ writing
+    → RefusesCandidate now fault mid new → IfErr result (FitsFault firsts nows old new)
+refused_now result firsts olds nows a p old mid new log row None other fault is s asked none on
+    refused = absurd refused
+refused_now {T} {R} result firsts olds nows a p old mid new log row (Some x) other fault is s asked
+    none on refused =
+    let h = round firsts olds nows a p old mid log row (Some x) other s asked (is_none other none)
+    in
     let P : Result T MergeFault → Type 0 = λ r. IfErr r (FitsFault firsts nows old new) in
-    subst P (sym is)
-    (refused_at firsts olds nows a p old mid new log row now other fault s h on refused)
+    subst P (sym is) (record {
+      readings = h.readings;
+      taken = h.have;
+      merged = s.merged;
+      x = x;
+      is = is_next firsts nows s.readings s.merged (Some x) other x refl h;
+      mid = mid;
+      wrote = s.wrote;
+      refused = refuses_puts x mid new fault (best_fits olds nows None (Some x) None other tt asked)
+          on refused;
+    })
 
 -- the item was written, but its row was refused
 pub row_refused : {T R : Type 0} (result : Result T MergeFault)
-    (firsts olds nows : List (Reading R)) (a : Merged) (p : Phase) (old mid new : Writer) (log row : Option (List ℕ))
-    (now other : Option TapeItem) (some : Bool) → result ≡ Err faults.Log
-    → SoFar firsts olds a p old mid log row → AskedAll olds nows None now None other
-    → is_some other ≡ false → Puts now some mid new → some ≡ true
-    → IfErr result (FitsFault firsts nows old new)
+    (firsts olds nows : List (Reading R)) (a : Merged) (p : Phase) (old mid new : Writer)
+    (log row : Option (List ℕ)) (now other : Option TapeItem) (some : Bool)
+    → result ≡ Err faults.Log → SoFar firsts olds a p old mid log row
+    → AskedAll olds nows None now None other → is_some other ≡ false → Puts now some mid new
+    → some ≡ true → IfErr result (FitsFault firsts nows old new)
 row_refused {T} {R} result firsts olds nows a p old mid new log row now other some is s asked none
     puts put_it =
     let (x, best, put) =
     was_put now mid new (subst (λ (b : Bool). Puts now b mid new) put_it puts) in
     let h = round firsts olds nows a p old mid log row now other s asked (is_none other none) in
-    let shown : s.merged ++ best_items now ≡ s.merged ++ x ∷ [] =
-    ap (λ (t : Option TapeItem). s.merged ++ best_items t) best in
     let P : Result T MergeFault → Type 0 = λ r. IfErr r (FitsFault firsts nows old new) in
     subst P (sym is) (record {
       mids = nows;
       fronts = h.readings;
       had = h.have;
       merged = s.merged ++ x ∷ [];
-      is = record {
-        all = subst (λ (l : List TapeItem). AreReadFrom h.readings l) shown h.all;
-        least = λ tape reads. subst (λ (l : List TapeItem). IsReadFrom l tape) shown
-            (h.least tape tt reads);
-      };
+      is = is_next firsts nows s.readings s.merged now other x best h;
       wrote = put_one_more s.merged old mid new x s.wrote put;
     })

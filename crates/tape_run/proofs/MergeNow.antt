@@ -2,12 +2,14 @@
 use Rattle.std.proofs.Common.{◌≡◌, ◌⊎◌, ℕ, zero, suc, ◌+◌, List, [], ◌∷◌, ◌++◌, length}
 use Rattle.std.proofs.Common.{map, Option, Some, None, Result, Ok, Err, IfOk, IfErr}
 use Rattle.std.proofs.Common.{refl, sym, ap, subst, ◌∙◌, inl, inr, arith, length-append}
+use Rattle.std.proofs.Common.{append_assoc, append-nil}
 use Rattle.std.specs.List.{flat_map}
 use Rattle.std.specs.Io.KnownBytes.{Appends, Keeps}
 use Rattle.std.proofs.KnownBytes.{Appends-nil, Appends-trans}
 use Rattle.tape_image.specs.Tape.{TapeItem}
-use Rattle.tape_image.specs.Written.{written}
+use Rattle.tape_image.specs.Written.{written, AppendsFront}
 use Rattle.tape_image.specs.Writer.{Writer, writing, PutItems}
+use Rattle.tape_image.proofs.Pieces.{front_more}
 use Rattle.tape_image.proofs.WrittenItems.{put_item}
 use Rattle.tape_run.specs.declared.merge.Merged.{Merged}
 use Rattle.tape_run.specs.declared.merge.MergeFault.{MergeFault}
@@ -20,16 +22,16 @@ use Rattle.tape_run.specs.declared.merge.now.MergeStop.TheVariants as stops
 use Rattle.tape_run.specs.declared.merge.MergeFault.TheVariants as faults
 use Rattle.tape_run.specs.declared.merge.reading.Reading.{Reading}
 use Rattle.tape_run.specs.Reeling.{Mounting, AreMounted}
-use Rattle.tape_run.specs.MergeCalls.{AreAtFront}
+use Rattle.tape_run.specs.MergeCalls.{AreAtFront, IfImages}
 use Rattle.tape_run.specs.MergedImages.{MergesImages, FaultsImages}
 use Rattle.tape_run.specs.MergeLines.{lines_from, reading_line, has_line, merged_line, differ_line}
 use Rattle.tape_run.specs.MergeNow.{IsOn, MountsAll, IsMissing, EndsAs, end_bytes}
-use Rattle.tape_run.specs.MergeNow.{FitsEnd, HoldsMerged, ComesTo, ReadingsComeTo, MergesNow}
-use Rattle.tape_run.specs.MergeNow.{Misses}
-use Rattle.tape_run.specs.MergeNow.{LeavesPlace}
+use Rattle.tape_run.specs.MergeNow.{FitsEnd, HoldsMerged, ComesTo, IfMounted}
+use Rattle.tape_run.specs.MergeNow.{Misses, ReportsNoImage, LeavesPlace}
 use Rattle.tape_run.specs.MergeLog.{log_head, log_rows}
 use Rattle.tape_run.proofs.Turns.{one_mounted}
 use Rattle.tape_run.proofs.Fitting.{kept}
+use Rattle.tape_run.proofs.Reporting.{front_then}
 
 -- ---- mounting
 
@@ -64,97 +66,162 @@ is_missing {L} {R} gives shelf mid next number devices image h g is = record {
 
 -- ---- what was written
 
-appends_items : (items : List TapeItem) (old new : Writer) → PutItems items old new
+pub items_put : (items : List TapeItem) (old new : Writer) → PutItems items old new
     → Appends old.contents new.contents (flat_map written items)
-appends_items [] old new same =
-    subst (λ (w : Writer). Appends old.contents w.contents []) (sym same) (Appends-nil old.contents)
-appends_items (x ∷ items) old new (mid, put, then) =
-    Appends-trans old.contents mid.contents new.contents (written x) (flat_map written items)
-    (put_item x old mid put).1.wrote (appends_items items mid new then)
+    × (new.size ≡ old.size + length (flat_map written items))
+items_put [] old new same =
+    subst (λ (w : Writer). Appends old.contents w.contents [] × (w.size ≡ old.size + 0)) (sym same)
+    (Appends-nil old.contents, omega arith)
+items_put (x ∷ items) old new (mid, put, then) =
+    let all = (put_item x old mid put).1 in
+    let (wrote, size) = items_put items mid new then in (
+      Appends-trans old.contents mid.contents new.contents (written x) (flat_map written items)
+          all.wrote wrote,
+      omega (arith, size, all.size, length-append (written x) (flat_map written items)),
+    )
 
 -- ---- from readings to images
 
-merges_now : {L R : Type 0} (size : L → ℕ) (gives : Mounting L R) (remaining : R → Option (List ℕ))
-    (shelf left : L) (devices : List R) (firsts : List (Reading R)) (names : List (List ℕ))
-    (out stands : Option (List ℕ)) (logs says : List ℕ → Type 0) (end : MergeEnd)
+if_mounted : {L R : Type 0} (size : L → ℕ) (gives : Mounting L R) (remaining : R → Option (List ℕ))
+    (shelf left : L) (devices : List R) (firsts : List (Reading R)) (holds : List (List ℕ) → Type 0)
     → MountsAll size gives shelf left devices → AreAtFront (map remaining devices) firsts
-    → ReadingsComeTo firsts names out stands logs says end
-    → MergesNow size gives remaining shelf left names out stands logs says end
-merges_now size gives remaining shelf left devices firsts names out stands logs says end mounts
-    front comes = record {
-      devices = devices;
-      mounts = mounts;
-      comes = λ images is. comes images
-          (subst (λ (l : List (Option (List ℕ))). AreAtFront l firsts) is front);
-    }
-
--- ---- as the engine answers
+    → IfImages firsts holds → IfMounted size gives remaining shelf left holds
+if_mounted size gives remaining shelf left devices firsts holds mounts front h = record {
+  devices = devices;
+  mounts = mounts;
+  comes = λ images is. h images
+      (subst (λ (l : List (Option (List ℕ))). AreAtFront l firsts) is front);
+}
 
 pub ok_now : {L R : Type 0} (result : Result MergeEnd MergeStop) (size : L → ℕ)
     (gives : Mounting L R) (remaining : R → Option (List ℕ)) (shelf left : L) (devices : List R)
-    (firsts : List (Reading R)) (names : List (List ℕ)) (out stands : Option (List ℕ))
-    (logs says : List ℕ → Type 0)
+    (firsts : List (Reading R)) (holds : MergeEnd → List (List ℕ) → Type 0)
     → MountsAll size gives shelf left devices → AreAtFront (map remaining devices) firsts
-    → IfOk result (ReadingsComeTo firsts names out stands logs says)
-    → IfOk result (MergesNow size gives remaining shelf left names out stands logs says)
-ok_now (Ok end) size gives remaining shelf left devices firsts names out stands logs says mounts
-    front h = merges_now size gives remaining shelf left devices firsts names out stands logs says
-    end mounts front h
-ok_now (Err stop) size gives remaining shelf left devices firsts names out stands logs says mounts
+    → IfOk result (λ end. IfImages firsts (holds end))
+    → IfOk result (λ end. IfMounted size gives remaining shelf left (holds end))
+ok_now (Ok end) size gives remaining shelf left devices firsts holds mounts front h =
+    if_mounted size gives remaining shelf left devices firsts (holds end) mounts front h
+ok_now (Err stop) size gives remaining shelf left devices firsts holds mounts front h = tt
+
+pub misses_more : (a b p q : ℕ → Type 0) (stop : MergeStop) → ((n : ℕ) → a n → b n)
+    → ((n : ℕ) → p n → q n) → Misses a p stop → Misses b q stop
+misses_more a b p q (stops.NotOpened number) f g h = f number h
+misses_more a b p q (stops.TooLong size) f g h = g size h
+misses_more a b p q stops.OutOfMemory f g h = tt
+misses_more a b p q stops.WriteFailed f g h = tt
+misses_more a b p q stops.LogFailed f g h = tt
+
+pub err_misses : {T : Type 0} (result : Result T MergeStop) (a b p q : ℕ → Type 0)
+    → ((n : ℕ) → a n → b n) → ((n : ℕ) → p n → q n) → IfErr result (Misses a p)
+    → IfErr result (Misses b q)
+err_misses (Ok end) a b p q f g h = tt
+err_misses (Err stop) a b p q f g h = misses_more a b p q stop f g h
+
+pub cause_now : {L R : Type 0} (result : Result MergeEnd MergeStop) (missing : ℕ → Type 0)
+    (size : L → ℕ) (gives : Mounting L R) (remaining : R → Option (List ℕ)) (shelf left : L)
+    (devices : List R) (firsts : List (Reading R)) (long : ℕ → List (List ℕ) → Type 0)
+    → MountsAll size gives shelf left devices → AreAtFront (map remaining devices) firsts
+    → IfErr result (Misses (λ _. ⊥) (λ n. IfImages firsts (long n)))
+    → IfErr result (Misses missing (λ n. IfMounted size gives remaining shelf left (long n)))
+cause_now result missing size gives remaining shelf left devices firsts long mounts front h =
+    err_misses result (λ _. ⊥) missing (λ n. IfImages firsts (long n)) _ (λ n no. absurd no)
+    (λ n k. if_mounted size gives remaining shelf left devices firsts (long n) mounts front k) h
+
+leaves_more : {O : Type 0} (stands : O → Option (List ℕ)) (old new : O) (said P Q : Type 0)
+    (stop : MergeStop) → (P → Q) → LeavesPlace stands old new said P stop
+    → LeavesPlace stands old new said Q stop
+leaves_more stands old new said P Q (stops.NotOpened number) f h = h
+leaves_more stands old new said P Q (stops.TooLong size) f h = h
+leaves_more stands old new said P Q stops.OutOfMemory f h = h
+leaves_more stands old new said P Q stops.LogFailed f h = h
+leaves_more stands old new said P Q stops.WriteFailed f (inl same) = inl same
+leaves_more stands old new said P Q stops.WriteFailed f (inr made) = inr (f made)
+
+pub left_now : {L R O : Type 0} (result : Result MergeEnd MergeStop) (place : O → Option (List ℕ))
+    (old new : O) (said : Type 0) (size : L → ℕ) (gives : Mounting L R)
+    (remaining : R → Option (List ℕ)) (shelf left : L) (devices : List R)
+    (firsts : List (Reading R)) (holds : MergeEnd → List (List ℕ) → Type 0)
+    → MountsAll size gives shelf left devices → AreAtFront (map remaining devices) firsts
+    → IfErr result (LeavesPlace place old new said ((end : MergeEnd) × IfImages firsts (holds end)))
+    → IfErr result (LeavesPlace place old new said ((end : MergeEnd)
+    × IfMounted size gives remaining shelf left (holds end)))
+left_now (Ok end) place old new said size gives remaining shelf left devices firsts holds mounts
     front h = tt
-
-leaves_more : {O : Type 0} (stands : O → Option (List ℕ)) (old new : O) (missing : ℕ → Type 0)
-    (P Q : Type 0) (stop : MergeStop) → (P → Q) → LeavesPlace stands old new (λ _. ⊥) P stop
-    → LeavesPlace stands old new missing Q stop
-leaves_more stands old new missing P Q (stops.NotOpened number) f h = absurd h.1
-leaves_more stands old new missing P Q (stops.TooLong size) f h = h
-leaves_more stands old new missing P Q stops.OutOfMemory f h = h
-leaves_more stands old new missing P Q stops.LogFailed f h = h
-leaves_more stands old new missing P Q stops.WriteFailed f (inl same) = inl same
-leaves_more stands old new missing P Q stops.WriteFailed f (inr made) = inr (f made)
-
-pub err_now : {L R O : Type 0} (result : Result MergeEnd MergeStop) (place : O → Option (List ℕ))
-    (old new : O) (size : L → ℕ) (gives : Mounting L R) (remaining : R → Option (List ℕ))
-    (shelf left : L) (devices : List R) (firsts : List (Reading R)) (names : List (List ℕ))
-    (out stands : Option (List ℕ)) (logs says : List ℕ → Type 0)
-    → MountsAll size gives shelf left devices → AreAtFront (map remaining devices) firsts
-    → IfErr result (LeavesPlace place old new (λ _. ⊥)
-    ((end : MergeEnd) × ReadingsComeTo firsts names out stands logs says end))
-    → IfErr result (LeavesPlace place old new (IsMissing gives shelf left)
-    ((end : MergeEnd) × MergesNow size gives remaining shelf left names out stands logs says end))
-err_now (Ok end) place old new size gives remaining shelf left devices firsts names out stands
-    logs says mounts front h = tt
-err_now (Err stop) place old new size gives remaining shelf left devices firsts names out stands
-    logs says mounts front h =
-    leaves_more place old new (IsMissing gives shelf left) _ _ stop (λ made. (
+left_now (Err stop) place old new said size gives remaining shelf left devices firsts holds mounts
+    front h = leaves_more place old new said _ _ stop (λ made. (
       made.0,
-      merges_now size gives remaining shelf left devices firsts names out stands logs says made.0
-          mounts front made.1,
+      if_mounted size gives remaining shelf left devices firsts (holds made.0) mounts front made.1,
     )) h
 
 -- the output's name was not touched
-stays : {O : Type 0} (stands : O → Option (List ℕ)) (place : O) (missing : ℕ → Type 0)
-    (made : Type 0) (stop : MergeStop) → Misses missing stop
-    → LeavesPlace stands place place missing made stop
-stays stands place missing made (stops.NotOpened number) h = (refl, h)
-stays stands place missing made (stops.TooLong size) h = refl
-stays stands place missing made stops.OutOfMemory h = refl
-stays stands place missing made stops.WriteFailed h = inl refl
-stays stands place missing made stops.LogFailed h = refl
+pub stays : {O : Type 0} (stands : O → Option (List ℕ)) (place : O) (said made : Type 0)
+    (stop : MergeStop) → said → LeavesPlace stands place place said made stop
+stays stands place said made (stops.NotOpened number) h = (refl, h)
+stays stands place said made (stops.TooLong size) h = (refl, h)
+stays stands place said made stops.OutOfMemory h = (refl, h)
+stays stands place said made stops.WriteFailed h = inl (refl, h)
+stays stands place said made stops.LogFailed h = (refl, h)
 
 pub err_stays : {T O : Type 0} (result : Result T MergeStop) (stands : O → Option (List ℕ))
-    (place : O) (missing : ℕ → Type 0) (made : Type 0) → IfErr result (Misses missing)
-    → IfErr result (LeavesPlace stands place place missing made)
-err_stays (Ok end) stands place missing made h = tt
-err_stays (Err stop) stands place missing made h = stays stands place missing made stop h
+    (place : O) (said made : Type 0) → said
+    → IfErr result (LeavesPlace stands place place said made)
+err_stays (Ok end) stands place said made h = tt
+err_stays (Err stop) stands place said made h = stays stands place said made stop h
 
 -- a write failed
 pub err_write : {T O : Type 0} (result : Result T MergeStop) (stands : O → Option (List ℕ))
-    (old new : O) (missing : ℕ → Type 0) (made : Type 0) → result ≡ Err stops.WriteFailed
-    → (stands new ≡ stands old) ⊎ made
-    → IfErr result (LeavesPlace stands old new missing made)
-err_write {T} result stands old new missing made is h =
-    subst (λ (r : Result T MergeStop). IfErr r (LeavesPlace stands old new missing made)) (sym is) h
+    (old new : O) (said made : Type 0) → result ≡ Err stops.WriteFailed
+    → ((stands new ≡ stands old) × said) ⊎ made
+    → IfErr result (LeavesPlace stands old new said made)
+err_write {T} result stands old new said made is h =
+    subst (λ (r : Result T MergeStop). IfErr r (LeavesPlace stands old new said made)) (sym is) h
+
+-- ---- the report after a fault
+
+pub says_nothing : (R : Type 0) (names : List (List ℕ)) (old : Option (List ℕ))
+    → ReportsNoImage R names old old
+says_nothing R names old = ([], 0, ([], _, Appends-nil old, refl))
+
+-- lines about readings, or a prefix of them
+pub says_front : {R : Type 0} (names : List (List ℕ)) (nows : List (Reading R))
+    (old new : Option (List ℕ)) → AppendsFront old new (lines_from (reading_line names) 0 nows)
+    → ReportsNoImage R names old new
+says_front names nows old new part = (nows, 0, front_more old new _ _ part)
+
+pub says_lines : {R : Type 0} (names : List (List ℕ)) (nows : List (Reading R))
+    (old new : Option (List ℕ)) → Appends old new (lines_from (reading_line names) 0 nows)
+    → ReportsNoImage R names old new
+says_lines names nows old new wrote =
+    let lines = lines_from (reading_line names) 0 nows in
+    says_front names nows old new (lines, [], wrote, sym (append-nil lines))
+
+-- also about a difference, or a prefix of that line
+pub says_differ : {R : Type 0} (names : List (List ℕ)) (nows : List (Reading R)) (n : ℕ)
+    (old mid new : Option (List ℕ)) → Appends old mid (lines_from (reading_line names) 0 nows)
+    → AppendsFront mid new (differ_line n) → ReportsNoImage R names old new
+says_differ names nows n old mid new wrote part =
+    let lines = lines_from (reading_line names) 0 nows in
+    let items = lines_from (has_line names) 0 nows in (
+      nows,
+      n,
+      front_then old mid new lines (differ_line n) items _ wrote part
+          (sym (append_assoc lines (differ_line n) items)),
+    )
+
+-- also items of the readings there, or a prefix of those lines
+pub says_items : {R : Type 0} (names : List (List ℕ)) (nows : List (Reading R)) (n : ℕ)
+    (old mid new : Option (List ℕ))
+    → Appends old mid (lines_from (reading_line names) 0 nows ++ differ_line n)
+    → AppendsFront mid new (lines_from (has_line names) 0 nows) → ReportsNoImage R names old new
+says_items names nows n old mid new wrote part =
+    let lines = lines_from (reading_line names) 0 nows in
+    let items = lines_from (has_line names) 0 nows in (
+      nows,
+      n,
+      front_then old mid new (lines ++ differ_line n) items [] _ wrote part
+          (sym (append_assoc lines (differ_line n) items)
+          ∙ sym (append-nil ((lines ++ differ_line n) ++ items))),
+    )
 
 -- ---- the readings
 
@@ -180,19 +247,18 @@ pub made : {R : Type 0} (firsts nows : List (Reading R)) (counts : Merged) (firs
     (log logged out put stands : Option (List ℕ)) (ends : MergedEnd) (end : MergeEnd)
     (names : List (List ℕ)) (logs says : List ℕ → Type 0)
     → first ≡ record { size = 0; standing = writing; contents = out }
-    → ((images : List (List ℕ)) → AreAtFront (map Some images) firsts
-    → MergesImages images nows counts first mid log logged)
+    → IfImages firsts (λ images. MergesImages images nows counts first mid log logged)
     → Appends mid.contents put (end_bytes ends) → stands ≡ put
     → FitsEnd counts.bad counts.miscounted ends end → EndsAs counts.items nows ends
     → ((rows : List ℕ) → Appends log logged rows → logs (log_head names ++ rows))
     → says (lines_from (reading_line names) 0 nows ++ merged_line counts ends)
-    → ReadingsComeTo firsts names out stands logs says end
+    → IfImages firsts (λ images. ComesTo R images names out stands logs says end)
 made firsts nows counts first mid log logged out put stands ends end names logs says is merges
     wrote there fits how noted lines = λ images front.
     let m = merges images front in
     let begun : Appends out mid.contents (flat_map written m.merged) =
     subst (λ (w : Writer). Appends w.contents mid.contents (flat_map written m.merged)) is
-    (appends_items m.merged first mid m.wrote) in
+    (items_put m.merged first mid m.wrote).0 in
     comes_whole _ images names out stands logs says end ends counts.bad counts.miscounted fits
     (record {
       nows = nows;
@@ -218,13 +284,12 @@ pub made_some : {R : Type 0} (firsts nows : List (Reading R)) (counts : Merged)
     (first mid : Writer) (log logged out put stands : Option (List ℕ)) (ends : MergedEnd)
     (names : List (List ℕ)) (logs says : List ℕ → Type 0)
     → first ≡ record { size = 0; standing = writing; contents = out }
-    → ((images : List (List ℕ)) → AreAtFront (map Some images) firsts
-    → MergesImages images nows counts first mid log logged)
+    → IfImages firsts (λ images. MergesImages images nows counts first mid log logged)
     → Appends mid.contents put (end_bytes ends) → stands ≡ put
     → EndsAs counts.items nows ends
     → ((rows : List ℕ) → Appends log logged rows → logs (log_head names ++ rows))
     → says (lines_from (reading_line names) 0 nows ++ merged_line counts ends)
-    → (end : MergeEnd) × ReadingsComeTo firsts names out stands logs says end
+    → (end : MergeEnd) × IfImages firsts (λ images. ComesTo R images names out stands logs says end)
 made_some firsts nows counts first mid log logged out put stands ends names logs says is merges
     wrote there how noted lines =
     let (end, fits) = some_end counts.bad counts.miscounted ends in (
@@ -242,19 +307,20 @@ all_logged a b c d names text head is named wrote flushed rows more =
     (Appends-trans a b c (log_head names) rows (subst (λ t. Appends a b t) (is ∙ named) wrote) more)
     flushed
 
-pub differed : {R : Type 0} (firsts nows : List (Reading R)) (number : ℕ) (fault : MergeFault)
-    (out stands : Option (List ℕ)) (names : List (List ℕ)) (logs says : List ℕ → Type 0)
-    → ((images : List (List ℕ)) → AreAtFront (map Some images) firsts
-    → FaultsImages images nows fault)
+pub differed : {R : Type 0} (firsts nows : List (Reading R)) (old new : Writer) (number : ℕ)
+    (fault : MergeFault) (out stands : Option (List ℕ)) (names : List (List ℕ))
+    (logs says : List ℕ → Type 0)
+    → IfImages firsts (λ images. FaultsImages images nows old new fault)
     → fault ≡ faults.Differ number
     → says (lines_from (reading_line names) 0 nows ++ differ_line number
     ++ lines_from (has_line names) 0 nows)
-    → ReadingsComeTo firsts names out stands logs says Differs
-differed firsts nows number fault out stands names logs says faulted is lines = λ images front.
-    record {
+    → IfImages firsts (λ images. ComesTo R images names out stands logs says Differs)
+differed firsts nows old new number fault out stands names logs says faulted is lines =
+    λ images front. record {
       nows = nows;
       number = number;
-      differ = subst (λ (f : MergeFault). FaultsImages images nows f) is (faulted images front);
+      differ = subst (λ (f : MergeFault). FaultsImages images nows old new f) is
+          (faulted images front);
       lines = lines;
     }
 

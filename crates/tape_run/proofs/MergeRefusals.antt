@@ -1,14 +1,12 @@
 -- Why a merged item is not written.
-use Rattle.std.proofs.Common.{◌≡◌, ◌≢◌, ◌<◌, ◌≤◌, ℕ, List, [], ◌∷◌, length, Option, Some, None}
+use Rattle.std.proofs.Common.{◌≡◌, ◌<◌, ◌≤◌, ℕ, List, [], ◌∷◌, length, Option, Some, None}
 use Rattle.std.proofs.Common.{Bool, true, false, Err, sym, subst, arith}
 use Rattle.std.specs.Prelude.{MatchBool}
 use Rattle.std.proofs.lemmas.Bool.Decides.{nat_tests}
 use Rattle.tape_image.specs.declared.item.ImageWriteFault.{ImageWriteFault}
-use Rattle.tape_image.specs.declared.item.ImageWriteFault.TheVariants.{BlockLength, Finished}
-use Rattle.tape_image.specs.declared.item.ImageWriteFault.TheVariants.{TooLong, Device}
 use Rattle.tape_image.specs.Tape.{TapeItem, block, bad, mark, IsTapeItem}
 use Rattle.tape_image.specs.Written.{written, is_no_block}
-use Rattle.tape_image.specs.Writer.{Writer, Standing, writing, Puts, PutsFrom, BlockFrom}
+use Rattle.tape_image.specs.Writer.{Writer, Standing, writing, PutsFrom, BlockFrom}
 use Rattle.tape_run.specs.declared.merge.reading.Reading.{Reading}
 use Rattle.tape_run.specs.declared.merge.reading.Verdict.{Verdict}
 use Rattle.tape_run.specs.declared.merge.reading.Verdict.TheVariants as verdicts
@@ -57,39 +55,22 @@ best_fits (o ∷ olds) [] best now other beside h asked = absurd asked
 best_fits (o ∷ olds) (n ∷ nows) best now other beside h (mid, between, one, rest) =
     best_fits olds nows mid now between beside (asked_fits o n best mid other between h one) rest
 
--- an open writer refuses it because the device fails, or because there is no room
-puts_fault : (bytes : List ℕ) (after : Standing) (old new : Writer) (fault : ImageWriteFault)
-    → Puts bytes after old (Err fault) new → (fault ≢ BlockLength) × (fault ≢ Finished)
-puts_fault bytes after old new TooLong h = (λ e. cc e, λ e. cc e)
-puts_fault bytes after old new Device h = (λ e. cc e, λ e. cc e)
-puts_fault bytes after old new BlockLength h = absurd h
-puts_fault bytes after old new Finished h = absurd h
-
-from_fault : (s after : Standing) (bytes : List ℕ) (old new : Writer) (fault : ImageWriteFault)
-    → s ≡ writing → PutsFrom s bytes after old (Err fault) new
-    → (fault ≢ BlockLength) × (fault ≢ Finished)
-from_fault s after bytes old new fault is h = puts_fault bytes after old new fault
-    (subst (λ (t : Standing). PutsFrom t bytes after old (Err fault) new) is h)
-
-block_fault : (b : Bool) (content : List ℕ) (old new : Writer) (fault : ImageWriteFault)
-    (P : Type 0) → b ≡ false
-    → MatchBool b P (Puts (written (block content)) writing old (Err fault) new)
-    → (fault ≢ BlockLength) × (fault ≢ Finished)
-block_fault true content old new fault P is h = absurd (cc is)
-block_fault false content old new fault P is h =
-    puts_fault (written (block content)) writing old new fault h
+block_puts : (b : Bool) (P Q : Type 0) → b ≡ false → MatchBool b P Q → Q
+block_puts true P Q is h = absurd (cc is)
+block_puts false P Q is h = h
 
 is_block : (content : List ℕ) → 0 < length content → length content ≤ 99999
     → is_no_block content ≡ false
 is_block content some few = grind (arith, nat_tests)
 
-pub refuses_fault : (x : TapeItem) (old new : Writer) (fault : ImageWriteFault) → IsTapeItem x
+-- an open writer refuses it because the device fails, or because there is no room
+pub refuses_puts : (x : TapeItem) (old new : Writer) (fault : ImageWriteFault) → IsTapeItem x
     → old.standing ≡ writing → Refuses x fault old new
-    → (fault ≢ BlockLength) × (fault ≢ Finished)
-refuses_fault (block content) old new fault fits is h =
-    block_fault (is_no_block content) content old new fault _ (is_block content fits.0 fits.1)
+    → PutsFrom writing (written x) writing old (Err fault) new
+refuses_puts (block content) old new fault fits is h =
+    block_puts (is_no_block content) _ _ (is_block content fits.0 fits.1)
     (subst (λ (t : Standing). BlockFrom t content old (Err fault) new) is h)
-refuses_fault bad old new fault fits is h =
-    from_fault old.standing writing (written bad) old new fault is h
-refuses_fault mark old new fault fits is h =
-    from_fault old.standing writing (written mark) old new fault is h
+refuses_puts bad old new fault fits is h =
+    subst (λ (t : Standing). PutsFrom t (written bad) writing old (Err fault) new) is h
+refuses_puts mark old new fault fits is h =
+    subst (λ (t : Standing). PutsFrom t (written mark) writing old (Err fault) new) is h

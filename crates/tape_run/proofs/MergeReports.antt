@@ -1,7 +1,7 @@
 -- The lines of readings, one after another, and how the merged image ends.
-use Rattle.std.proofs.Common.{◌≡◌, ◌⊎◌, ℕ, zero, suc, ◌+◌, ◌<◌, ◌≤◌, List, [], ◌∷◌, ◌++◌, length}
+use Rattle.std.proofs.Common.{◌≡◌, ◌⊎◌, ℕ, zero, suc, ◌+◌, ◌<◌, ◌≤◌, List, [], ◌∷◌, length}
 use Rattle.std.proofs.Common.{drop, get_or, Option, Some, None, refl, sym, ap, subst, ◌∙◌, inl, inr}
-use Rattle.std.proofs.Common.{arith}
+use Rattle.std.proofs.Common.{◌++◌, arith, append_assoc, append-nil}
 use Rattle.std.specs.Io.KnownBytes.{Appends}
 use Rattle.std.proofs.KnownBytes.{Appends-nil, Appends-trans}
 use Rattle.tape_image.specs.declared.item.Ending.{Ending}
@@ -11,8 +11,12 @@ use Rattle.tape_run.specs.declared.merge.line.MergedEnd.{MergedEnd}
 use Rattle.tape_run.specs.declared.merge.line.MergedEnd.TheVariants.{Marked, Physical, Cut}
 use Rattle.tape_run.specs.declared.merge.reading.Reading.{Reading}
 use Rattle.tape_run.specs.declared.merge.line.HasLine.{HasLine}
-use Rattle.tape_run.specs.MergeLines.{lines_from, item_line, with_name, has_text}
+use Rattle.tape_run.specs.declared.merge.line.ReadingLine.{ReadingLine}
+use Rattle.tape_run.specs.MergeLines.{lines_from, reading_text, line_of, reading_line, name_at}
+use Rattle.tape_run.specs.MergeLines.{has_of, has_line, item_line, with_name, has_text}
+use Rattle.tape_image.specs.Written.{AppendsFront}
 use Rattle.tape_run.specs.MergeNow.{SomeEnds, EndsAs}
+use Rattle.tape_run.proofs.Reporting.{front_then}
 
 -- ---- lines
 
@@ -31,35 +35,81 @@ drop_one {A} (y ∷ xs) (suc n) x lt is =
     drop_one xs n x (omega arith) is
     ∙ ap (λ (l : List A). x ∷ l) (ap (λ k. drop k (y ∷ xs)) (sym next))
 
--- The lines of these readings were reported; the lines of the others will complete the report.
-abbrev pub ReportsFirst : {A : Type 0} → (ℕ → A → List ℕ) → ℕ → List A → Option (List ℕ)
-    → Option (List ℕ) → Type 0
-ReportsFirst line number xs old mid = (new : Option (List ℕ))
-    → Appends mid new (lines_from line number (drop number xs))
-    → Appends old new (lines_from line 0 xs)
+-- The lines of the first readings were reported; the lines of the others complete the report.
+pub record ReportsFirst {A : Type 0} (line : ℕ → A → List ℕ) (number : ℕ) (xs : List A)
+    (old mid : Option (List ℕ)) : Type 0 where
+  pub done : List ℕ
+  pub wrote : Appends old mid done
+  pub rest : lines_from line 0 xs ≡ done ++ lines_from line number (drop number xs)
+
+pub reports_none : {A : Type 0} (line : ℕ → A → List ℕ) (xs : List A) (old : Option (List ℕ))
+    → ReportsFirst line 0 xs old old
+reports_none line xs old = record { done = []; wrote = Appends-nil old; rest = refl }
+
+-- the lines of the others, after one more
+rest_after : {A : Type 0} (line : ℕ → A → List ℕ) (number : ℕ) (xs : List A) (x : A)
+    (done text : List ℕ) → number < length xs → x ≡ get_or xs number x → text ≡ line number x
+    → lines_from line 0 xs ≡ done ++ lines_from line number (drop number xs)
+    → lines_from line 0 xs
+    ≡ (done ++ text) ++ lines_from line (number + 1) (drop (number + 1) xs)
+rest_after {A} line number xs x done text lt is this rest =
+    let more = lines_from line (number + 1) (drop (number + 1) xs) in
+    rest ∙ ap (λ (l : List A). done ++ lines_from line number l) (drop_one xs number x lt is)
+    ∙ ap (λ t. done ++ (t ++ more)) (sym this) ∙ sym (append_assoc done text more)
 
 pub reports_more : {A : Type 0} (line : ℕ → A → List ℕ) (number : ℕ) (xs : List A) (x : A)
     (old mid next : Option (List ℕ)) (text : List ℕ) → number < length xs
     → x ≡ get_or xs number x → text ≡ line number x → ReportsFirst line number xs old mid
     → Appends mid next text → ReportsFirst line (number + 1) xs old next
-reports_more {A} line number xs x old mid next text lt is this h wrote = λ new rest.
-    h new (subst (λ (l : List A). Appends mid new (lines_from line number l))
-    (sym (drop_one xs number x lt is))
-    (Appends-trans mid next new (line number x) (lines_from line (number + 1)
-    (drop (number + 1) xs)) (subst (λ t. Appends mid next t) this wrote) rest))
+reports_more line number xs x old mid next text lt is this h wrote = record {
+  done = h.done ++ text;
+  wrote = Appends-trans old mid next h.done text h.wrote wrote;
+  rest = rest_after line number xs x h.done text lt is this h.rest;
+}
+
+pub reports_so_far : {A : Type 0} (line : ℕ → A → List ℕ) (number : ℕ) (xs : List A)
+    (old mid : Option (List ℕ)) → ReportsFirst line number xs old mid
+    → AppendsFront old mid (lines_from line 0 xs)
+reports_so_far line number xs old mid h = (h.done, _, h.wrote, h.rest)
+
+-- a prefix of the next line was reported
+pub reports_part : {A : Type 0} (line : ℕ → A → List ℕ) (number : ℕ) (xs : List A) (x : A)
+    (old mid next : Option (List ℕ)) (text : List ℕ) → number < length xs
+    → x ≡ get_or xs number x → text ≡ line number x → ReportsFirst line number xs old mid
+    → AppendsFront mid next text → AppendsFront old next (lines_from line 0 xs)
+reports_part line number xs x old mid next text lt is this h part =
+    front_then old mid next h.done text (lines_from line (number + 1) (drop (number + 1) xs))
+    (lines_from line 0 xs) h.wrote part (rest_after line number xs x h.done text lt is this h.rest)
 
 pub reports_all : {A : Type 0} (line : ℕ → A → List ℕ) (number : ℕ) (xs : List A)
     (old new : Option (List ℕ)) → length xs ≤ number → ReportsFirst line number xs old new
     → Appends old new (lines_from line 0 xs)
 reports_all {A} line number xs old new le h =
-    h new (subst (λ (l : List A). Appends new new (lines_from line number l))
-    (sym (drop_none xs number le)) (Appends-nil new))
+    subst (λ t. Appends old new t) (sym (h.rest
+    ∙ ap (λ (l : List A). h.done ++ lines_from line number l) (drop_none xs number le)
+    ∙ append-nil h.done)) h.wrote
 
--- the line of an item that exists
-pub item_some : (o : Option HasLine) (has : HasLine) (number : ℕ) (name : List ℕ) → o ≡ Some has
-    → item_line o number name ≡ with_name (has_text (number + 1) has) name
-item_some o has number name is = ap (λ (o : Option HasLine). item_line o number name) is
+-- the line about a reading, as it is built
+pub named_reading : {R : Type 0} (names : List (List ℕ)) (n : ℕ) (r : Reading R) (l : ReadingLine)
+    (short text name line : List ℕ) → l ≡ line_of r → short ≡ reading_text (n + 1) l
+    → text ≡ short → name ≡ name_at names n → line ≡ with_name text name
+    → line ≡ reading_line names n r
+named_reading names n r l short text name line is shown same named joined =
+    joined ∙ ap (λ t. with_name t name) (same ∙ shown
+    ∙ ap (λ (x : ReadingLine). reading_text (n + 1) x) is)
+    ∙ ap (λ t. with_name (reading_text (n + 1) (line_of r)) t) named
 
+-- the line about an item, as it is built
+pub named_item : {R : Type 0} (names : List (List ℕ)) (n : ℕ) (r : Reading R) (has : HasLine)
+    (short text name line : List ℕ) → has_of r ≡ Some has → short ≡ has_text (n + 1) has
+    → text ≡ short → name ≡ name_at names n → line ≡ with_name text name
+    → line ≡ has_line names n r
+named_item names n r has short text name line is shown same named joined =
+    joined ∙ ap (λ t. with_name t name) (same ∙ shown)
+    ∙ ap (λ t. with_name (has_text (n + 1) has) t) named
+    ∙ ap (λ (o : Option HasLine). item_line o n (name_at names n)) (sym is)
+
+-- there is no item
 pub item_none : (o : Option HasLine) (number : ℕ) (name : List ℕ) → o ≡ None
     → item_line o number name ≡ []
 item_none o number name is = ap (λ (o : Option HasLine). item_line o number name) is

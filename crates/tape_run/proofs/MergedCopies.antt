@@ -9,14 +9,14 @@ use Rattle.tape_set.specs.Layout.{FileSet, Entry, a_label, a_data_block, a_mark,
 use Rattle.tape_set.specs.Layout.{entries}
 use Rattle.tape_set.specs.Layout.{item_of}
 use Rattle.tape_set.specs.Reading.{Reading, as_read}
-use Rattle.tape_set.specs.Reach.{passes}
+use Rattle.tape_set.specs.Reach.{passes, IsWithin}
 use Rattle.tape_run.specs.Mount.{IsCopy}
 use Rattle.tape_run.specs.Merging.{IsReadAs, IsReadFrom, AreReadFrom, IsMerged}
 use Rattle.tape_run.specs.MergeLaws.{longest}
 use Rattle.tape_run.proofs.MergeReadings.{reads_more}
 use Rattle.tape_run.proofs.MergeBest.{as_long}
-use Rattle.tape_run.specs.MergedCopies.{AreCopies, IsWithin, AreWithin, MergedIsCopy}
-use Rattle.tape_run.proofs.MergedBetter.{passes_better}
+use Rattle.tape_run.specs.MergedCopies.{AreCopies, AreWithin, MergedIsCopy}
+use Rattle.tape_set.proofs.Reaching.{passes_better}
 
 -- ---- items as they were read
 

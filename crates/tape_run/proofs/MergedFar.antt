@@ -16,10 +16,10 @@ use Rattle.tape_set.specs.Reading.{Reading}
 use Rattle.tape_set.specs.Reach.{far, far_in, far_over, before_data, passes, good_run, first_unread}
 use Rattle.tape_set.specs.Reach.{both_good, stopped, moved, behind}
 use Rattle.tape_set.proofs.Orders.{up_to_same, up_to_end}
-use Rattle.tape_set.proofs.Reaching.{and_left, first_unread_most, far_never_falls}
+use Rattle.tape_set.proofs.Reaching.{and_left, first_unread_most, far_never_falls, up_to_behind}
+use Rattle.tape_set.proofs.Reaching.{far_better}
 use Rattle.tape_set.proofs.AllVolumes.{goes_on_on_next}
 use Rattle.tape_run.specs.MergedCopies.{IsBetter, OnceIsEnough}
-use Rattle.tape_run.proofs.MergedBetter.{up_to_behind, better_is_as_far}
 use Rattle.tape_run.proofs.MergedOrders.{up_trans, up_both, up_sect, up_block}
 
 -- ---- the first block that was not read well is the same from any block before it
@@ -324,5 +324,5 @@ once_is_enough set file p rs s lawful all =
     go (r ∷ rs) q below on all = go rs (far set file q r)
         (up_trans p q (far set file q r) below (far_never_falls set file q r))
         (up_trans (far set file q r) (far set file q s) (far set file p s)
-        (better_is_as_far set file q r s all.0.0 all.0.1)
+        (far_better set file q r s all.0.0 all.0.1)
         (once set file s (goes_on_on_next set lawful) p q below on)) all.1

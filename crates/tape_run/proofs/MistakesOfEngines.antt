@@ -23,7 +23,7 @@ use Rattle.tape_run.specs.Reeling.{AreMounted}
 use Rattle.tape_run.specs.declared.salvage.copies.SectionCopy.{SectionCopy}
 use Rattle.tape_run.specs.SalvageCopies.{believed}
 use Rattle.tape_run.specs.SalvageBlocks.{Salvaged}
-use Rattle.tape_run.specs.SalvageEnds.{ended, stopped, read_again}
+use Rattle.tape_run.specs.SalvageEnds.{ended, without_rest, without_gap, read_again}
 use Rattle.tape_run.proofs.check.check_to.Reads as check_to
 use Rattle.tape_run.proofs.extract.extract_to.Reads as extract_to
 
@@ -273,5 +273,6 @@ either_missing false x y is one off = absurd (cc)
 stopped_reading_told_as_complete : (n : ℕ) (c : SectionCopy) (g : Salvaged) → n < believed c
     → (read_again n c g).missing ≡ false → ⊥
 stopped_reading_told_as_complete n c g fewer off =
-    either_missing (nat_lt n (believed c)) (stopped g) (ended c c.closed g)
+    either_missing (nat_lt n (believed c)) (without_rest (without_gap g))
+    (ended c c.closed (without_gap g))
     (lt-ltb n (believed c) fewer) refl off

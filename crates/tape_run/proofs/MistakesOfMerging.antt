@@ -1,12 +1,23 @@
 -- Wrong answers that the contracts of merging exclude.
-use Rattle.std.proofs.Common.{◌≡◌, ◌≢◌, ◌⊎◌, inl, inr, ℕ, suc, List, [], ◌∷◌, Option, Some, None}
+use Rattle.std.proofs.Common.{◌≡◌, ◌≢◌, ◌⊎◌, inl, inr, ℕ, suc, ◌+◌, ◌<◌, List, [], ◌∷◌, ◌++◌}
+use Rattle.std.proofs.Common.{length, Option, Some, None}
+use Rattle.std.specs.Prelude.{codes}
+use Rattle.std.specs.List.{flat_map}
+use Rattle.tape_image.proofs.WrittenItems.{known_after}
 use Rattle.std.proofs.Common.{refl, sym, ap, ◌∙◌, get_or, arith, false}
 use Rattle.tape_image.specs.Tape.{TapeItem, block, bad, mark}
+use Rattle.tape_image.specs.Begins.{image_limit}
+use Rattle.tape_image.specs.Written.{written}
 use Rattle.tape_run.specs.declared.merge.line.MergedEnd.{MergedEnd}
+use Rattle.tape_run.specs.declared.merge.line.MergedEnd.TheVariants.{Marked}
 use Rattle.tape_run.specs.declared.merge.now.MergeEnd.TheVariants.{Whole}
-use Rattle.tape_run.specs.Merging.{IsReadAs, IsMerged, Differ}
+use Rattle.tape_run.specs.declared.merge.reading.Reading.{Reading}
+use Rattle.tape_run.specs.Merging.{IsReadAs, IsReadFrom, IsMerged, Differ}
+use Rattle.tape_run.specs.MergeSteps.{AllStopped}
+use Rattle.tape_run.specs.MergedImages.{TakeImages}
 use Rattle.tape_run.specs.MergeCalls.{alone_in}
-use Rattle.tape_run.specs.MergeNow.{FitsEnd}
+use Rattle.tape_run.specs.MergeNow.{FitsEnd, EndsAs, end_bytes, IsTooLong, ReportsNoImage}
+use Rattle.tape_run.specs.MergeLines.{lines_from, reading_line, has_line, differ_line}
 use Rattle.tape_run.specs.MergeLog.{is_logged, log_row, seen_cell}
 
 -- two different readable items at the same place
@@ -52,6 +63,51 @@ merge_bad_differs_from_a_mark differ = differ (mark ∷ []) ((inl refl, tt), ((i
 merge_whole_with_a_bad_item : (n miscounted : ℕ) (end : MergedEnd)
     → FitsEnd (suc n) miscounted end Whole → ⊥
 merge_whole_with_a_bad_item n miscounted end fits = absurd (omega (arith, fits.0))
+
+-- merge_too_long_at_once: no image has an item, but the merged image is reported as too long
+merge_too_long_at_once : (R : Type 0) (size : ℕ) → IsTooLong R [] size → ⊥
+merge_too_long_at_once R size long = go long.nows long.readings long.have long.merged long.comes
+    long.size_is long.long
+  where
+    none : (x : TapeItem) (items : List TapeItem) → IsReadFrom (items ++ x ∷ []) [] → ⊥
+    none x [] reads = reads
+    none x (y ∷ items) reads = reads
+
+    empty : (items : List TapeItem) → IsReadFrom items [] → items ≡ []
+    empty [] reads = refl
+    empty (y ∷ items) reads = absurd reads
+
+    go : (nows : List (Reading R)) (readings : List (List TapeItem))
+        → TakeImages [] nows readings → (merged : List TapeItem)
+        → ((x : TapeItem) × IsMerged readings (merged ++ x ∷ []) × (long.next ≡ written x))
+        ⊎ (AllStopped nows × IsMerged readings merged × EndsAs (length merged) nows Marked
+        × (long.next ≡ end_bytes Marked))
+        → size ≡ length (flat_map written merged) → image_limit < size + length long.next → ⊥
+    go [] [] have merged (inl (x, is, at)) e over = none x merged (is.least [] tt)
+    go [] [] have merged (inr (off, is, how, at)) e over =
+        absurd (omega (
+          arith,
+          e,
+          over,
+          ap length at,
+          ap (λ (l : List TapeItem). length (flat_map written l)) (empty merged (is.least [] tt)),
+        ))
+    go [] (r ∷ rs) have merged comes e over = absurd have
+    go (n ∷ ns) rs have merged comes e over = absurd have
+
+-- merge_reported_without_a_file: the merged image has no name, but its line was reported
+merge_reported_without_a_file : (R : Type 0) (names : List (List ℕ)) (rest : List ℕ)
+    → ReportsNoImage R names (Some []) (Some (codes "MERGED" ++ rest)) → ⊥
+merge_reported_without_a_file R names rest (nows, n, (front, more, wrote, is)) =
+    go nows (cc (known_after (Some []) (Some (codes "MERGED" ++ rest)) [] front refl wrote)) is
+  where
+    go : (nows : List (Reading R)) → front ≡ codes "MERGED" ++ rest
+        → lines_from (reading_line names) 0 nows ++ (differ_line n
+        ++ lines_from (has_line names) 0 nows) ≡ front ++ more → ⊥
+    go [] starts is = absurd (let e : 68 ≡ 77 =
+        ap (λ t. get_or t 0 0) (is ∙ ap (λ t. t ++ more) starts) in omega arith)
+    go (r ∷ rs) starts is = absurd (let e : 73 ≡ 77 =
+        ap (λ t. get_or t 0 0) (is ∙ ap (λ t. t ++ more) starts) in omega arith)
 
 -- merge_two_witnesses_counted_as_one: both readings have a mark, but it is counted as that of one
 merge_two_witnesses_counted_as_one : alone_in 1 ((mark ∷ []) ∷ (mark ∷ []) ∷ []) ≡ 1 → ⊥

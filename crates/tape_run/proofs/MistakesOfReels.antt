@@ -100,7 +100,8 @@ image_fault_swallowed S R LS LR g d h e κs a answer s left l p b q none =
     cut_is_told (mount_of old) new c.items left answer none c.ended
 
 -- the items after which a cut image stopped are those before the answer's fault
-cut_behind : (core new : State) (items xs : List TapeItem) (bytes left : List ℕ) (answer : ReelAnswer)
+cut_behind : (core new : State) (items xs : List TapeItem) (bytes left : List ℕ)
+    (answer : ReelAnswer)
     (place end : ℕ)
     → answer.fault ≡ Some (record { place = place; cause = causes.Truncated })
     → Begins 0 bytes xs end (faults causes.Truncated)

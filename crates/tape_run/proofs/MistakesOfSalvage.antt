@@ -1,18 +1,25 @@
 -- Wrong answers of `salvage` that the definitions exclude.
-use Rattle.std.proofs.Common.{◌≡◌, ◌<◌, ℕ, Bool, false, [], Some, None, Result, Ok, Err}
-use Rattle.std.proofs.Common.{ap, sym, ◌∙◌, arith}
+use Rattle.std.proofs.Common.{◌≡◌, ◌<◌, ℕ, ◌&&◌, ◌||◌, not, Bool, true, false, List, [], ◌∷◌}
+use Rattle.std.proofs.Common.{◌++◌, Option, Some, None, Result, Ok, Err, ap, sym, ◌∙◌, arith}
 use Rattle.std.specs.Prelude.{◌==◌, if◌then◌else◌}
+use Rattle.tape_image.specs.Tape.{TapeItem, block}
 use Rattle.tape_label.specs.declared.label.LabelFault.{LabelFault}
 use Rattle.tape_label.specs.declared.values.Head1.{Head1}
 use Rattle.tape_label.specs.declared.values.Trail1.{Trail1}
-use Rattle.tape_set.specs.Lawful.{label_count}
+use Rattle.tape_set.specs.Lawful.{label_count, FileForm}
+use Rattle.tape_run.specs.declared.section.SectionKey.{SectionKey}
+use Rattle.tape_run.specs.declared.salvage.copies.SectionCopy.{SectionCopy}
+use Rattle.tape_run.specs.declared.salvage.walk.Expected.{Expected}
 use Rattle.tape_run.specs.declared.salvage.walk.OpenSection.{OpenSection}
 use Rattle.tape_run.specs.declared.salvage.walk.Closing.{Closing}
 use Rattle.tape_run.specs.declared.salvage.walk.UnnamedItems.{UnnamedItems}
 use Rattle.tape_run.specs.declared.salvage.walk.Expected.TheVariants.{Trailers, Unnamed}
 use Rattle.tape_run.specs.SalvageWalk.{begun_by, named_by, one_read, unnamed_by}
 use Rattle.tape_run.specs.SalvageCopies.{believed}
-use Rattle.tape_run.specs.SalvageBlocks.{gap_text}
+use Rattle.tape_run.specs.SalvageBlocks.{Salvaged, gap_text}
+use Rattle.tape_run.specs.SalvageImage.{ReadsSection, closings}
+use Rattle.tape_run.specs.SalvageConflicts.{are_conflicting, has_conflict, conflict_text, text_if}
+use Rattle.tape_run.specs.SalvageGaps.{Gap, AreGaps}
 
 -- gap_not_reported: blocks are missing, and no line says so
 gap_not_reported : (sect first next records : ℕ) → gap_text sect (Some first) next records ≡ []
@@ -45,3 +52,38 @@ labels_taken_as_data r t h u k other e = not_trailers h u k
     (sym (ap (λ (b : Bool). if b
     then Trailers (named_by r t) (record { eof = t.eof; count = t.blocks })
     else begun_by h (Unnamed one_read)) other) ∙ e)
+
+-- conflict_not_reported: two complete copies differ, and no line says so
+conflict_not_reported : (best c : SectionCopy) → are_conflicting best c ≡ true
+    → conflict_text (Some best) (c ∷ []) ≡ [] → ⊥
+conflict_not_reported best c differ e =
+    absurd (cc (sym (ap (λ b. text_if b best c ++ []) differ) ∙ e))
+
+-- conflict_reported_as_complete: two complete copies of section 1 differ, and the file is called
+-- complete
+conflict_reported_as_complete : (best c : SectionCopy) (cs : List SectionCopy) (missing any : Bool)
+    → are_conflicting best c ≡ true → any ≡ has_conflict (Some best) (c ∷ cs)
+    → (not missing && not any) ≡ true → ⊥
+conflict_reported_as_complete best c cs missing any differ is complete =
+    never missing (has_conflict (Some best) cs) (ap (λ b. not missing && not b)
+    (sym (is ∙ ap (λ b. b || has_conflict (Some best) cs) differ)) ∙ complete)
+  where
+    never : (a b : Bool) → (not a && not (true || b)) ≡ true → ⊥
+    never true b e = absurd (cc e)
+    never false b e = absurd (cc e)
+
+-- section_read_twice: the data of a section that is on the image twice are read from both
+section_read_twice : (before after : Option (List ℕ)) (start : Expected) (key : SectionKey)
+    (items : List TapeItem) → ReadsSection before after start key items true
+    → closings key start items ≡ 2 → ⊥
+section_read_twice before after start key items r twice = absurd (omega (arith, r.once, twice))
+
+-- gap_with_a_readable_block: a block that was read is reported as missing
+gap_with_a_readable_block : (form : Option FileForm) (n : ℕ) (g : Salvaged) (b : List ℕ)
+    (gap : Gap) → AreGaps form n g (block b ∷ []) (gap ∷ []) → ⊥
+gap_with_a_readable_block form n g b gap ([], rest, more, is, all, starts, one, next) =
+    absurd (cc is)
+gap_with_a_readable_block form n g b gap (x ∷ [], rest, more, is, all, starts, one, next) =
+    absurd (cc is)
+gap_with_a_readable_block form n g b gap (x ∷ y ∷ front, rest, more, is, all, starts, one, next) =
+    absurd (cc is)

@@ -1,28 +1,27 @@
 -- The result of a run that writes the records while it reads the images.
 use Rattle.std.proofs.Common.{◌≡◌, ℕ, ◌⊎◌, List, [], map, Option, Some}
-use Rattle.std.proofs.Common.{None, refl, sym, ap, subst, ◌∙◌, inl, arith, append-nil, false}
+use Rattle.std.proofs.Common.{None, refl, sym, ap, subst, ◌∙◌, inl, inr, arith, append-nil, false}
 use Rattle.std.specs.Io.KnownBytes.{Appends}
 use Rattle.std.proofs.KnownBytes.{Appends-trans}
 use Rattle.tape_blocks.specs.Block.{Portion}
 use Rattle.tape_core.specs.declared.sink.PartSink.{Ghosts}
-use Rattle.tape_set.specs.declared.position.Position.TheVariants.{Finished}
 use Rattle.tape_set.specs.declared.position.Want.{Want}
 use Rattle.tape_set.specs.Position.{want_at}
-use Rattle.tape_run.specs.Seen.{seen, IfSeen}
+use Rattle.tape_run.specs.Seen.{Seen, seen, IfSeen}
 use Rattle.tape_run.specs.Extracting.{TellsEnd}
 use Rattle.tape_run.specs.SessionState.{SessionState}
 use Rattle.tape_blocks.specs.declared.parts.Form.{Form}
 use Rattle.tape_image.specs.Written.{AppendsFront}
-use Rattle.tape_run.specs.RecordText.{output_of}
 use Rattle.tape_run.specs.ReelLine.{reel_lines, last_line}
 use Rattle.tape_run.specs.Reeling.{answer_of, TakesAll, StopsReading, Mounting}
-use Rattle.tape_run.specs.ExtractingNow.{IsPut, ExtractsNow, StopsNow}
-use Rattle.tape_run.proofs.Extracted.{tells_then}
+use Rattle.tape_run.specs.ExtractingNow.{IsPut, ExtractsNow, LeavesName, StopsNow}
+use Rattle.tape_run.proofs.Extracted.{tells_then, less_then}
 use Rattle.tape_image.proofs.Pieces.{front_more, front_behind}
 use Rattle.tape_run.proofs.TurnSteps.{are_steps}
 
 pub extracted_now : {S L R : Type 0} (gs : Ghosts S)
-    (size : L → ℕ) (gives : Mounting L R) (remaining : R → Option (List ℕ)) (old mid : SessionState S)
+    (size : L → ℕ) (gives : Mounting L R) (remaining : R → Option (List ℕ))
+    (old mid : SessionState S)
     (shelf left : L) (form : Form) (tells : Type 0)
     (stands said between says : Option (List ℕ)) (want : Option Want) (records : ℕ)
     → TakesAll gs (size shelf) 0 gives remaining false false old mid shelf
@@ -75,11 +74,27 @@ stops_reading_now {S} {L} {R} {O} gs size gives remaining old new
       lines = front_more said says _ (last_line None 0) s.lines;
       follows = λ held was.
           let (core, now, f, leaves) = s.follows held was tt in
-          (core, now, f, inl s.lines, inl refl);
+          (core, now, f, inl s.lines, inl (refl, inl s.lines));
     }
 
+leaves_then : {O : Type 0} (said between says : Option (List ℕ)) (lines : List ℕ)
+    (want : Option Want) (form : Form) (tells : Type 0) (stands : O → Option (List ℕ))
+    (out put : O) (now : Seen) → Appends said between lines
+    → LeavesName (AppendsFront between says []) want form tells stands out put now
+    → LeavesName (AppendsFront said says lines) want form tells stands out put now
+leaves_then said between says lines want form tells stands out put now before
+    (inl (same, inl less)) = inl (same, inl (less_then said between says lines before less))
+leaves_then said between says lines want form tells stands out put now before
+    (inl (same, inr some)) = inl (same, inr some)
+leaves_then said between says lines want form tells stands out put now before
+    (inr (done, inl (same, less))) =
+    inr (done, inl (same, less_then said between says lines before less))
+leaves_then said between says lines want form tells stands out put now before
+    (inr (done, inr named)) = inr (done, inr named)
+
 pub stops_at_end_now : {S L R O : Type 0} (gs : Ghosts S)
-    (size : L → ℕ) (gives : Mounting L R) (remaining : R → Option (List ℕ)) (old mid : SessionState S)
+    (size : L → ℕ) (gives : Mounting L R) (remaining : R → Option (List ℕ))
+    (old mid : SessionState S)
     (shelf left : L) (form : Form) (tells : Type 0)
     (stands : O → Option (List ℕ)) (out put : O) (said between says : Option (List ℕ))
     (want : Option Want) (records : ℕ)
@@ -87,9 +102,7 @@ pub stops_at_end_now : {S L R O : Type 0} (gs : Ghosts S)
     left said between
     → AppendsFront between says (last_line want records)
     → IfSeen gs mid (TellsEnd (AppendsFront between says []) want records)
-    → ((held : List Portion) → gs.holds mid.sink held → (put ≡ out) ⊎ ((mid.core.position
-    ≡ Finished) × ((stands put ≡ stands out)
-    ⊎ (tells → stands put ≡ Some (output_of form held)))))
+    → IfSeen gs mid (LeavesName (AppendsFront between says []) want form tells stands out put)
     → StopsNow gs size gives remaining old shelf left form tells stands out put
     said says
 stops_at_end_now {S} {L} {R} {O} gs size gives remaining old mid
@@ -112,6 +125,7 @@ stops_at_end_now {S} {L} {R} {O} gs size gives remaining old mid
             seen gs mid now,
             f,
             tells_then said between says _ want records (seen gs mid now) lines (told now has),
-            wrote now has,
+            leaves_then said between says _ want form tells stands out put (seen gs mid now)
+                lines (wrote now has),
           );
     }

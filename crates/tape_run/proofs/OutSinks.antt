@@ -13,8 +13,7 @@ use Rattle.tape_image.proofs.WrittenItems.{known_after}
 use Rattle.tape_core.proofs.Weights.{weight_of-one_more, front_of_all}
 use Rattle.tape_blocks.specs.declared.parts.Form.{Form}
 use Rattle.tape_run.specs.RecordText.{record_end, records_text, part_text}
-use Rattle.tape_run.specs.OutSinks.{begun_text, text_so_far, with_end, TellsAlways, IsText}
-use Rattle.tape_run.specs.OutSinks.{HasTaken}
+use Rattle.tape_run.specs.OutSinks.{begun_text, text_so_far, with_end, TellsAlways, HasTaken}
 
 records_text-append : (form : Form) (xs ys : List (List ℕ))
     → records_text form (xs ++ ys) ≡ records_text form xs ++ records_text form ys
@@ -95,48 +94,35 @@ pub grows : (form : Form) (ps : List Portion) (p : Portion)
     → Grows form (join ps) (join (ps ++ p ∷ [])) p
 grows form ps p = grows_by form ps p (leaves p.span) refl
 
--- ---- known bytes
-
-text_alone : (failed : Bool) (text : List ℕ) (known : Option (List ℕ)) → failed ≡ false
-    → IsText failed text known → known ≡ Some text
-text_alone failed text known works (more, is, none) =
-    is ∙ ap (λ l. Some (text ++ l)) (none works) ∙ ap Some (append-nil text)
-
 -- ---- calls
 
 pub put_done : {W : Type 0} (contents : W → Option (List ℕ)) (form : Form) (out new : W)
-    (weight heavier records more : ℕ) (begun begins failed : Bool) (parts : List Portion)
-    (p : Portion) → failed ≡ false → Appends (contents out) (contents new) (part_text form p)
+    (weight heavier records more : ℕ) (begun begins : Bool) (parts : List Portion)
+    (p : Portion) → Appends (contents out) (contents new) (part_text form p)
     → heavier ≡ weight + (5 + length p.bytes) → more ≡ with_end (leaves p.span) records
     → begins ≡ leaves p.span
-    → HasTaken contents form out weight records begun failed parts
-    → HasTaken contents form new heavier more begins failed (parts ++ p ∷ [])
-put_done contents form out new weight heavier records more begun begins failed parts p works wrote
+    → HasTaken contents form (Some out) weight records begun parts
+    → HasTaken contents form (Some new) heavier more begins (parts ++ p ∷ [])
+put_done contents form out new weight heavier records more begun begins parts p wrote
     heavy counts is h =
     let g = grows form parts p in
     let all = weight_of-one_more parts (parts ++ p ∷ []) p refl in
     let known = λ (tells : TellsAlways contents). known_after (contents out) (contents new)
-    (text_so_far form parts) (part_text form p)
-    (text_alone failed (text_so_far form parts) (contents out) works (h.text tells)) wrote in
+    (text_so_far form parts) (part_text form p) (h.text tells) wrote in
     record {
       weighs = heavy ∙ ap (λ n. n + (5 + length p.bytes)) h.weighs ∙ sym all;
       counted = counts ∙ ap (with_end (leaves p.span)) h.counted ∙ sym g.count;
       begins = is ∙ sym g.begins;
-      text = λ tells. (
-        [],
-        known tells ∙ ap Some (sym g.text
-            ∙ sym (append-nil (text_so_far form (parts ++ p ∷ [])))),
-        λ w. refl,
-      );
+      text = λ tells. known tells ∙ ap Some (sym g.text);
     }
 
 -- a prefix of the parts that weighs as much as all of them is the whole list
-pub all_kept : {W : Type 0} (contents : W → Option (List ℕ)) (form : Form) (out : W)
-    (weight records : ℕ) (begun failed : Bool) (front rest : List Portion)
+pub all_kept : {W : Type 0} (contents : W → Option (List ℕ)) (form : Form) (out : Option W)
+    (weight records : ℕ) (begun : Bool) (front rest : List Portion)
     → weight_of front ≡ weight
-    → HasTaken contents form out weight records begun failed (front ++ rest)
-    → HasTaken contents form out weight records begun failed front
-all_kept contents form out weight records begun failed front rest e h =
+    → HasTaken contents form out weight records begun (front ++ rest)
+    → HasTaken contents form out weight records begun front
+all_kept contents form out weight records begun front rest e h =
     let same : front ++ rest ≡ front = front_of_all front (front ++ rest) (rest, refl)
     (omega (arith, e, h.weighs)) in
-    subst (HasTaken contents form out weight records begun failed) same h
+    subst (HasTaken contents form out weight records begun) same h

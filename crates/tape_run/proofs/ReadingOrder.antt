@@ -1,5 +1,6 @@
 -- The order in which the images of a file are read.
-use Rattle.std.proofs.Common.{◌≡◌, ◌≢◌, ◌⊎◌, ◌<◌, ◌||◌, ◌==◌, ℕ, Bool, true, false, List, [], ◌∷◌, ◌++◌}
+use Rattle.std.proofs.Common.{◌≡◌, ◌≢◌, ◌⊎◌, ◌<◌, ◌||◌, ◌==◌, ℕ, Bool, true, false, List, [], ◌∷◌}
+use Rattle.std.proofs.Common.{◌++◌}
 use Rattle.std.proofs.Common.{length, refl, sym, ◌∙◌, arith, inl, inr}
 use Rattle.std.specs.Prelude.{get_or}
 use Rattle.std.proofs.Math.ListN.{set}

@@ -122,7 +122,7 @@ last_more [] c = omega arith
 last_more (d ∷ cs) c = let r = last_more cs c in omega (arith, r)
 
 -- one more copy of the section
-taken_more : {X : Type 0} (xs : List X) (place : ℕ) (x z : X) → place < length xs
+pub taken_more : {X : Type 0} (xs : List X) (place : ℕ) (x z : X) → place < length xs
     → x ≡ get_or xs place z → take (place + 1) xs ≡ take place xs ++ x ∷ []
 taken_more xs place x z within is =
     take_more xs place z within ∙ ap (λ y. take place xs ++ y ∷ []) (sym is)

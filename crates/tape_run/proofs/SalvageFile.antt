@@ -15,7 +15,7 @@ use Rattle.tape_run.specs.SalvageRecords.{Piece, nothing, torn}
 use Rattle.tape_run.specs.SalvageCopies.{wrong_count}
 use Rattle.tape_run.specs.SalvageBlocks.{Salvaged, none_salvaged, with_block, without_block}
 use Rattle.tape_run.specs.SalvageImage.{read_in, salvaged_from}
-use Rattle.tape_run.specs.SalvageEnds.{with_end, with_count, without_gap, ended, stopped}
+use Rattle.tape_run.specs.SalvageEnds.{with_end, with_count, without_gap, ended}
 use Rattle.tape_run.specs.SalvageEnds.{without_rest}
 use Rattle.tape_run.specs.SalvageTaking.{Taken, after_taken, after_copy, after_all, has_form}
 use Rattle.tape_run.specs.SalvageWhole.{Blocks, piece_after}
@@ -76,7 +76,7 @@ not_less n m e = grind (arith, nat_tests)
 
 ended_adds : (form : FileForm) (c : SectionCopy) (closed : Closing) (g s : Salvaged) (bs : Blocks)
     → s ≡ salvaged_blocks (Some form) 0 g bs
-    → Adds form closed.eof g (ended c (Some closed) s) bs
+    → Adds form closed.eof g (ended c (Some closed) (without_gap s)) bs
 ended_adds form c closed g s bs is =
     let t = with_count (wrong_count c) (without_gap s) in
     let piece : s.piece ≡ piece_after form g.piece bs =
@@ -108,11 +108,12 @@ taken_adds set_id volumes known form eof t r g x =
     ∙ reading_salvaged u.key form set_id volumes x.volume x.labels x.before r x.rest g x.items
     x.unread x.is_volume x.are_labels x.are_before x.others_before x.are_rest x.others_rest
     x.is_read x.own x.splits x.ends in
-    let whole : after_taken Records known t.copy t.items g ≡ ended c (Some closed) s =
+    let whole : after_taken Records known t.copy t.items g ≡ ended c (Some closed) (without_gap s) =
     ap (λ (z : Taken). after_taken Records known z.copy z.items g) x.is
     ∙ ap (λ f. if has_form Records f then after_copy c f (Some x.items) g else without_rest g)
     x.forms
-    ∙ ap (λ (b : Bool). if b then stopped s else ended c (Some closed) s)
+    ∙ ap (λ (b : Bool). if b then without_rest (without_gap s)
+    else ended c (Some closed) (without_gap s))
     (not_less n u.blocks counts) in
     subst (λ h. Adds form eof g h r.blocks) (sym whole)
     (ended_adds form c closed g s r.blocks is)

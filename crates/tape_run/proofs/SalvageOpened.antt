@@ -19,7 +19,8 @@ use Rattle.tape_run.specs.declared.salvage.walk.Expected.TheVariants.{Outside, S
 use Rattle.tape_run.specs.declared.salvage.walk.Expected.TheVariants.{Data, Trailer, Trailers}
 use Rattle.tape_run.specs.declared.salvage.walk.Expected.TheVariants.{Next, Over, Skipping}
 use Rattle.tape_run.specs.declared.salvage.walk.Expected.TheVariants.{Unnamed, UnnamedTrailer}
-use Rattle.tape_run.specs.SalvageWalk.{step, section_by, begun_by, with_item, with_unreadable}
+use Rattle.tape_run.specs.SalvageWalk.{step, section_by, begun_by, with_item, with_data}
+use Rattle.tape_run.specs.SalvageWalk.{with_unreadable}
 use Rattle.tape_run.specs.SalvageWalk.{doubted, closes, closed_by, second_by, unclosed_by}
 use Rattle.tape_run.specs.SalvageWalk.{with_trailer, unnamed_after, one_read}
 use Rattle.tape_run.specs.SalvageWhole.{Blocks}
@@ -116,13 +117,13 @@ none_headed u ((false, b) ∷ ls) = none_headed (doubted u) ls
 -- after these data items
 unfoldable pub section_after : OpenSection → Blocks → OpenSection
 section_after u [] = u
-section_after u ((true, f) ∷ bs) = section_after (with_item u) bs
+section_after u ((true, f) ∷ bs) = section_after (with_data f.bytes u) bs
 section_after u ((false, f) ∷ bs) = section_after (with_item (with_unreadable u)) bs
 
 pub same_section_after : (u : OpenSection) (bs : Blocks) → (section_after u bs).key ≡ u.key
 unfolding section_after
 same_section_after u [] = refl
-same_section_after u ((true, f) ∷ bs) = same_section_after (with_item u) bs
+same_section_after u ((true, f) ∷ bs) = same_section_after (with_data f.bytes u) bs
 same_section_after u ((false, f) ∷ bs) = same_section_after (with_item (with_unreadable u)) bs
 
 pub one_more : (n : ℕ) → n < 4294967295 → min (n + 1) 4294967295 ≡ n + 1
@@ -134,7 +135,7 @@ unfolding section_after
 counted u [] few = omega arith
 counted u ((true, f) ∷ bs) few =
     let n = one_more u.blocks (omega (arith, few)) in
-    let r = counted (with_item u) bs (omega (arith, n, few)) in
+    let r = counted (with_data f.bytes u) bs (omega (arith, n, few)) in
     omega (arith, n, r)
 counted u ((false, f) ∷ bs) few =
     let n = one_more u.blocks (omega (arith, few)) in

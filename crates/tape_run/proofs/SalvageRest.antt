@@ -35,7 +35,7 @@ module _ (key : SectionKey) where
   stays_in (UnnamedTrailer r) x h m = absurd (cc h)
   stays_in (Skipping n u) x h m = absurd (cc h)
 
-  none_by : (m : Bool) (n : ℕ) → (if true && m then 1 else 0) + n ≡ 0 → m ≡ false
+  pub none_by : (m : Bool) (n : ℕ) → (if true && m then 1 else 0) + n ≡ 0 → m ≡ false
   none_by true n e = absurd (omega (arith, e))
   none_by false n e = refl
 
@@ -54,7 +54,7 @@ module _ (key : SectionKey) where
       open_to_end (step s x).0 xs (stays_in s x h m)
       (rest_none (is_in key s && is_mark x) n none)
 
-  no_number : (most : ℕ) (s : Expected) → is_in key s ≡ false → number_in key most s ≡ None
+  pub no_number : (most : ℕ) (s : Expected) → is_in key s ≡ false → number_in key most s ≡ None
   no_number most (Data u) h =
       ap (λ (b : Bool). if b && nat_lt u.blocks most then Some u.blocks else None) h
   no_number most (Outside n) h = refl

@@ -13,7 +13,8 @@ use Rattle.tape_run.specs.declared.salvage.walk.Expected.TheVariants.{Outside, S
 use Rattle.tape_run.specs.declared.salvage.walk.Expected.TheVariants.{Data, Trailer, Trailers}
 use Rattle.tape_run.specs.declared.salvage.walk.Expected.TheVariants.{Next, Over, Skipping}
 use Rattle.tape_run.specs.declared.salvage.walk.Expected.TheVariants.{Unnamed, UnnamedTrailer}
-use Rattle.tape_run.specs.SalvageWalk.{step, expected_after, with_item, with_unreadable}
+use Rattle.tape_run.specs.SalvageWalk.{step, expected_after, with_item, with_data}
+use Rattle.tape_run.specs.SalvageWalk.{with_unreadable}
 use Rattle.tape_run.specs.SalvageBlocks.{Salvaged, salvaged_at, with_block, without_block}
 use Rattle.tape_run.specs.SalvageImage.{salvaged_from, number_in}
 use Rattle.tape_run.specs.SalvageWhole.{Blocks, piece_after}
@@ -58,7 +59,7 @@ quiet key most form = record {
 }
 
 -- nothing is recovered from a mark
-no_mark : (form : Option FileForm) (g : Salvaged) (n : Option ℕ) → salvaged_at form g n mark ≡ g
+pub no_mark : (form : Option FileForm) (g : Salvaged) (n : Option ℕ) → salvaged_at form g n mark ≡ g
 no_mark form g None = refl
 no_mark form g (Some n) = refl
 
@@ -78,7 +79,7 @@ piece_of form n g [] = refl
 piece_of form n g ((true, f) ∷ bs) = piece_of form (n + 1) (with_block (Some form) f.bytes g) bs
 piece_of form n g ((false, f) ∷ bs) = piece_of form (n + 1) (without_block n g) bs
 
-is_number : (key : SectionKey) (most : ℕ) (u : OpenSection) → same_key u.key key ≡ true
+pub is_number : (key : SectionKey) (most : ℕ) (u : OpenSection) → same_key u.key key ≡ true
     → u.blocks < most → number_in key most (Data u) ≡ Some u.blocks
 is_number key most u same lt =
     let n : nat_lt u.blocks most ≡ true = grind (arith, nat_tests) in
@@ -92,7 +93,7 @@ unfolding section_after salvaged_blocks
 own_data key most form u g [] same few fits = record { after = refl; gives = refl }
 own_data key most form u g ((true, f) ∷ bs) same few fits =
     let n = one_more u.blocks (omega (arith, few, fits)) in
-    let v = with_item u in
+    let v = with_data f.bytes u in
     let h = with_block form f.bytes g in
     first (taken key most form) (Data u) (Data v) (Data (section_after v bs)) g h
     (salvaged_blocks form (u.blocks + 1) h bs) (block f.bytes) (read_blocks bs) refl

@@ -15,7 +15,7 @@ use Rattle.tape_run.specs.declared.salvage.walk.Expected.TheVariants.{Outside, S
 use Rattle.tape_run.specs.declared.salvage.walk.Expected.TheVariants.{Data, Trailer, Trailers}
 use Rattle.tape_run.specs.declared.salvage.walk.Expected.TheVariants.{Next}
 use Rattle.tape_run.specs.SalvageWalk.{step, expected_after, section_by, begun_by, with_item}
-use Rattle.tape_run.specs.SalvageWalk.{with_unreadable, doubted, closes, with_trailer}
+use Rattle.tape_run.specs.SalvageWalk.{with_data, with_unreadable, doubted, closes, with_trailer}
 use Rattle.tape_run.specs.SalvageWhole.{Blocks}
 use Rattle.tape_run.specs.SalvageSections.{Labels, read_labels, labels_of, read_blocks}
 use Rattle.tape_run.specs.SalvageSections.{SectionRead, read_section, AreNoHeads, NoneBegins}
@@ -82,7 +82,7 @@ module _ {A : Type 0} (act : Expected → A → TapeItem → A) where
   unfolding section_after
   quiet_data key u a [] own f g = record { after = refl; gives = refl }
   quiet_data key u a ((true, x) ∷ bs) own f g =
-      let v = with_item u in
+      let v = with_data x.bytes u in
       first (Data u) (Data v) (Data (section_after v bs)) a a a (block x.bytes) (read_blocks bs)
       refl (f u x.bytes own) (quiet_data key v a bs own f g)
   quiet_data key u a ((false, x) ∷ bs) own f g =

@@ -57,7 +57,7 @@ labels_no_heads ((true, b) ∷ ls) (c ∷ bs) e (is, all) =
 labels_no_heads ((false, b) ∷ ls) (c ∷ bs) e (is, all) =
     let t : labels_of ls ≡ bs = cc in labels_no_heads ls bs t all
 
-volume_no_heads : (v : Volume) (ls : Labels) → IsVolume v → AreLabels v ls → AreNoHeads ls
+pub volume_no_heads : (v : Volume) (ls : Labels) → IsVolume v → AreLabels v ls → AreNoHeads ls
 volume_no_heads v [] is e = absurd (cc e)
 volume_no_heads v ((true, b) ∷ ls) is e =
     let h : v.vol1 ≡ b = cc in

@@ -193,15 +193,15 @@ pub ends_data : {W : Type 0} (contents : W → Option (List ℕ)) (all left next
     (p q : ℕ) (origin : Expected) (key : SectionKey) (most : ℕ) (form : Option FileForm)
     (expected : Expected) (item : TapeItem) (old mid new : Recovery W)
     (said says now : Option (List ℕ))
-    → SoFar contents all left p origin key most form expected old mid said says
+    → (s : SoFar contents all left p origin key most form expected old mid said says)
     → IfKnown left next (TakesItem p item q) → is_in key expected ≡ true → item ≡ mark
-    → (n : ℕ) → n ≡ read_in key expected
+    → (n : ℕ) → n ≡ read_in key expected → closings key origin s.items ≡ 0
     → Recovers contents mid new says now
     (λ g. salvaged_at form g (number_in key most expected) item)
     (λ g. text_at key.sect form g (number_in key most expected) item)
     → RecoversSection contents all next origin key most form old new said now n
 ends_data contents all left next p q origin key most form expected item old mid new said says now s
-    takes is e n count taken =
+    takes is e n count none taken =
     let more = one_more contents all left next p q origin key most form expected
     (step expected item).0 item old mid new said says now s takes refl taken in
     record {
@@ -215,7 +215,12 @@ ends_data contents all left next p q origin key most form expected item old mid 
           ap (is_in key) (sym s.expects) ∙ is,
         );
         all = λ f. absurd (cc);
-        unended = λ f. absurd (cc);
+        once = ap (λ x. closings key origin (s.items ++ x ∷ [])) e
+            ∙ closings-append key origin s.items (mark ∷ [])
+            ∙ ap (λ t. closings key origin s.items + ((if is_in key t && true then 1 else 0) + 0))
+            (sym s.expects)
+            ∙ ap (λ b. closings key origin s.items + ((if b && true then 1 else 0) + 0)) is
+            ∙ ap (λ m. m + 1) none;
       };
       count = count ∙ read_at_mark key expected is
           ∙ ap (λ x. read_in key (step expected x).0) (sym e) ∙ ap (read_in key) more.expects;
@@ -244,7 +249,7 @@ at_end contents all left next p q ending origin key most form expected old new s
               (by_ending s.items ending q)
               (known_end all left next 0 p q s.items ending s.known takes),
         );
-        unended = λ _. unended;
+        once = unended;
       };
       count = count ∙ ap (read_in key) s.expects;
       recovers = s.recovers;
@@ -266,7 +271,7 @@ at_fault contents all left next p fault origin key most form expected old new sa
         walked = placed all left p s.items s.known;
         at_mark = λ f. absurd (cc);
         all = λ _. (Fault fault, known_fault all left next 0 p s.items fault s.known takes);
-        unended = λ _. unended;
+        once = unended;
       };
       count = count ∙ ap (read_in key) s.expects;
       recovers = s.recovers;

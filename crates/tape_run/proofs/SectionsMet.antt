@@ -95,7 +95,8 @@ begins_more items v more b = record {
 }
 
 -- a section that is shown is still shown if more items follow
-unfoldable pub shown_more : (items : List TapeItem) (key : SectionKey) (entry : Entry) (more : List TapeItem)
+unfoldable pub shown_more : (items : List TapeItem) (key : SectionKey) (entry : Entry)
+    (more : List TapeItem)
     → Shown items key entry → Shown (items ++ more) key entry
 shown_more items key entry more s = record {
   volume = begins_more items entry.volume more s.volume;

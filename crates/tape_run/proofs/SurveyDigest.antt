@@ -1,10 +1,8 @@
 -- What changes a digest.
 use Rattle.std.proofs.Common.{◌≡◌, ℕ, ◌+◌, ◌-◌, ◌*◌, ◌/◌, ◌%◌, ◌^◌, ◌<◌, ◌≤◌, List, [], ◌∷◌, ◌++◌}
-use Rattle.std.proofs.Common.{refl, sym, ap, ◌∙◌, arith, suc, length, map, take, drop, get_or}
+use Rattle.std.proofs.Common.{refl, sym, ap, ◌∙◌, arith, length, map, drop}
 use Rattle.std.proofs.Common.{append_assoc}
 use Rattle.std.specs.Prelude.{◌≢◌}
-use Rattle.std.proofs.Math.Seq.{take-suc}
-use Rattle.std.proofs.lemmas.List.{map-append, take_all}
 use Rattle.std.specs.Int.{from_le_bytes}
 use Rattle.std.specs.Simd.{first_chunks}
 use Rattle.std.specs.Int.{w64, rotate_left}
@@ -89,23 +87,6 @@ same_turned d e dn en same =
 pub side_over-append : (ds ws vs : List ℕ) → side_over ds (ws ++ vs) ≡ side_over (side_over ds ws) vs
 side_over-append ds [] vs = refl
 side_over-append ds (w ∷ ws) vs = side_over-append (side_by ds w) ws vs
-
--- one more word
-pub side_more : {X : Type 0} (f : X → ℕ) (ds all next : List ℕ) (word : ℕ) (xs : List X) (i : ℕ)
-    (x : X) → i < length xs → word ≡ f (get_or xs i x) → all ≡ side_over ds (map f (take i xs))
-    → next ≡ side_by all word → next ≡ side_over ds (map f (take (i + 1) xs))
-side_more f ds all next word xs i x within is was goes =
-    let more : suc i ≡ i + 1 = omega arith in
-    goes ∙ ap (side_by all) is ∙ ap (λ a. side_by a (f (get_or xs i x))) was
-    ∙ sym (ap (λ n. side_over ds (map f (take n xs))) (sym more)
-    ∙ ap (λ ys. side_over ds (map f ys)) (take-suc xs i x within)
-    ∙ ap (side_over ds) (map-append f (take i xs) (get_or xs i x ∷ []))
-    ∙ side_over-append ds (map f (take i xs)) (f (get_or xs i x) ∷ []))
-
--- no word is left
-pub side_all : {X : Type 0} (f : X → ℕ) (ds all : List ℕ) (xs : List X) (i : ℕ) → length xs ≤ i
-    → all ≡ side_over ds (map f (take i xs)) → all ≡ side_over ds (map f xs)
-side_all f ds all xs i none was = was ∙ ap (λ ys. side_over ds (map f ys)) (take_all i xs none)
 
 -- the words of a block
 pub with_words : (ds : List ℕ) (b : List ℕ) (front all : List ℕ)

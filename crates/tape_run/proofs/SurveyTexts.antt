@@ -1,32 +1,31 @@
 -- The texts of a survey, image by image and file by file.
-use Rattle.std.proofs.Common.{◌≡◌, inl, inr, ℕ, zero, suc, ◌+◌, ◌-◌, ◌<◌, ◌≤◌, Bool, true, false}
-use Rattle.std.proofs.Common.{List, [], ◌∷◌, ◌++◌, length, take, get_or, slice_get, Option, Some}
-use Rattle.std.proofs.Common.{refl, sym, ap, subst, ◌∙◌, arith, append_assoc, append-nil}
-use Rattle.std.proofs.Common.{length-append, map}
-use Rattle.std.specs.Prelude.{◌==◌, ◌&&◌, ◌||◌}
-use Rattle.std.proofs.lemmas.List.{get_or-map}
+use Rattle.std.proofs.Common.{◌≡◌, inr, ℕ, zero, suc, ◌+◌, ◌-◌, ◌<◌, ◌≤◌, Bool, true, false}
+use Rattle.std.proofs.Common.{List, [], ◌∷◌, ◌++◌, length, take, drop, get_or, slice_get}
+use Rattle.std.proofs.Common.{Option, Some, refl, sym, ap, subst, ◌∙◌, arith, append_assoc, append-nil, map}
+use Rattle.std.specs.Prelude.{◌&&◌, ◌||◌}
+use Rattle.std.proofs.lemmas.List.{get_or-map, at_drop_more, at_drop_all}
 use Rattle.std.specs.List.{flat_map}
 use Rattle.std.specs.Io.KnownBytes.{Appends}
-use Rattle.std.proofs.KnownBytes.{Appends-trans, Appends-nil}
-use Rattle.std.proofs.lemmas.Bool.Decides.{nat_tests}
 use Rattle.std.proofs.lemmas.Grind.{flat_map-append}
+use Rattle.tape_run.specs.declared.section.SectionKey.{SectionKey}
 use Rattle.tape_run.specs.declared.survey.Wording.{Wording}
+use Rattle.tape_run.specs.declared.survey.tally.Tally.{Tally}
 use Rattle.tape_run.specs.declared.survey.view.ImageSurvey.{ImageSurvey}
 use Rattle.tape_run.specs.Lacks.{SetFiles}
 use Rattle.tape_image.specs.Written.{AppendsFront}
 use Rattle.tape_run.specs.Reeling.{Mounting}
-use Rattle.tape_run.specs.Survey.{image_texts, TellsSight, TellsSights, StopsAtSight, Surveys}
-use Rattle.tape_run.specs.Survey.{SurveysInPart, summary_at}
+use Rattle.tape_run.specs.Survey.{image_texts, survey_text, Surveys, SurveysInPart}
+use Rattle.tape_run.specs.SurveyCopies.{Held, disputed_on}
 use Rattle.tape_run.specs.SurveyFiles.{Filed, any_differs}
 use Rattle.tape_run.specs.SurveyWording.{image_text, file_text, file_texts, set_text, set_texts}
-use Rattle.tape_run.specs.SurveyWording.{summary}
 use Rattle.tape_run.specs.SurveyRead.{Found, nothing_found, IsViewed, AreViewed}
 use Rattle.tape_run.specs.Noted.{is_good}
 use Rattle.tape_run.specs.Passing.{Told}
 use Rattle.tape_run.specs.SurveySets.{is_all, all_good}
+use Rattle.tape_run.specs.SurveyTally.{with_state, state_at, tally_from}
 use Rattle.tape_run.proofs.Listing.{take_get}
-use Rattle.tape_run.proofs.Reporting.{front_then}
 use Rattle.tape_run.proofs.SurveyConflicts.{conflicts_are_real}
+use Rattle.tape_run.proofs.SurveyDisputes.{disputes_are_told}
 use Rattle.tape_run.proofs.SurveySound.{all_is_sound}
 
 -- ---- files and sets
@@ -62,7 +61,7 @@ texts_all y d set_id new goal file left none was =
     sym (append-nil new) ∙ ap (λ n. new ++ file_texts y d set_id file n) (sym none) ∙ was
 
 -- the text of the file at an index was added
-pub flat_more : {X : Type 0} (f : X → List ℕ) (xs : List X) (old new : List ℕ) (i : ℕ) (x : X)
+pub flat_more : {X Y : Type 0} (f : X → List Y) (xs : List X) (old new : List Y) (i : ℕ) (x : X)
     → Some x ≡ slice_get xs i → new ≡ old ++ f x
     → old ≡ flat_map f (take i xs) → new ≡ flat_map f (take (i + 1) xs)
 flat_more f xs old new i x at put was =
@@ -123,24 +122,56 @@ pub name_at : {X : Type 0} (f : X → List ℕ) (xs : List X) (i : ℕ) (d : X) 
     → f (get_or xs i d) ≡ get_or (map f xs) i []
 name_at f xs i d within = sym (get_or-map f xs i d [] within)
 
--- the line of one more image
-pub line_more : (y : Wording) (names : List (List ℕ)) (sights : List (Option ImageSurvey))
-    (sight : Option ImageSurvey) (name : List ℕ) → length sights < length names
-    → name ≡ get_or names (length sights) []
-    → image_texts y names (sights ++ sight ∷ [])
-    ≡ image_texts y names sights ++ image_text y name sight
-line_more y [] sights sight name within is = absurd (omega (arith, within))
-line_more y (n ∷ names) [] sight name within is =
-    none y names (image_text y n sight) ∙ ap (λ m. image_text y m sight) (sym is)
-  where
-    none : (y : Wording) (names : List (List ℕ)) (line : List ℕ)
-        → line ++ image_texts y names [] ≡ line
-    none y [] line = append-nil line
-    none y (n ∷ names) line = append-nil line
-line_more y (n ∷ names) (s ∷ sights) sight name within is =
-    ap (λ ls. image_text y n s ++ ls)
-    (line_more y names sights sight name (omega (arith, within)) is)
-    ∙ sym (append_assoc (image_text y n s) (image_texts y names sights) (image_text y name sight))
+-- the text of one more image was added
+pub image_added : (y : Wording) (held : List Held) (names : List (List ℕ))
+    (sights : List (Option ImageSurvey)) (old new goal name : List ℕ)
+    (sight other : Option ImageSurvey) (i : ℕ) (key : Option SectionKey)
+    → i < length names → i < length sights
+    → name ≡ get_or names i [] → sight ≡ get_or sights i other → key ≡ disputed_on held i
+    → new ≡ old ++ image_text y name sight key
+    → old ++ image_texts y held i (drop i names) (drop i sights) ≡ goal
+    → new ++ image_texts y held (i + 1) (drop (i + 1) names) (drop (i + 1) sights) ≡ goal
+image_added y held names sights old new goal name sight other i key within there is seen on put
+    was =
+    let rest = image_texts y held (i + 1) (drop (i + 1) names) (drop (i + 1) sights) in
+    ap (λ ls. ls ++ rest) put ∙ append_assoc old (image_text y name sight key) rest
+    ∙ ap (λ n. old ++ (image_text y n sight key ++ rest)) is
+    ∙ ap (λ (s : Option ImageSurvey). old ++ (image_text y (get_or names i []) s key ++ rest)) seen
+    ∙ ap (λ (k : Option SectionKey). old
+    ++ (image_text y (get_or names i []) (get_or sights i other) k ++ rest)) on
+    ∙ ap (λ ls. old ++ ls)
+    (sym (at_drop_more (λ ns. image_texts y held i ns (drop i sights)) names i [] within
+    ∙ at_drop_more (image_texts y held i (get_or names i [] ∷ drop (i + 1) names)) sights i other
+    there))
+    ∙ was
+
+-- and it was counted
+pub image_counted : (held : List Held) (sights : List (Option ImageSurvey)) (old new goal : Tally)
+    (sight other : Option ImageSurvey) (i : ℕ) (key : Option SectionKey) → i < length sights
+    → sight ≡ get_or sights i other → key ≡ disputed_on held i
+    → new ≡ with_state old (state_at sight key) → tally_from held old i (drop i sights) ≡ goal
+    → tally_from held new (i + 1) (drop (i + 1) sights) ≡ goal
+image_counted held sights old new goal sight other i key there seen on is was =
+    let rest = drop (i + 1) sights in
+    ap (λ (t : Tally). tally_from held t (i + 1) rest) is
+    ∙ ap (λ (s : Option ImageSurvey). tally_from held (with_state old (state_at s key)) (i + 1)
+    rest) seen
+    ∙ ap (λ (k : Option SectionKey). tally_from held
+    (with_state old (state_at (get_or sights i other) k)) (i + 1) rest) on
+    ∙ sym (at_drop_more (tally_from held old i) sights i other there) ∙ was
+
+-- no image is left
+pub images_all : (y : Wording) (held : List Held) (names : List (List ℕ))
+    (sights : List (Option ImageSurvey)) (new goal : List ℕ) (i : ℕ) → length names ≤ i
+    → new ++ image_texts y held i (drop i names) (drop i sights) ≡ goal → new ≡ goal
+images_all y held names sights new goal i none was =
+    sym (append-nil new)
+    ∙ sym (at_drop_all (λ ns. new ++ image_texts y held i ns (drop i sights)) names i none) ∙ was
+
+pub all_counted : (held : List Held) (sights : List (Option ImageSurvey)) (t goal : Tally) (i : ℕ)
+    → length sights ≤ i → tally_from held t i (drop i sights) ≡ goal → t ≡ goal
+all_counted held sights t goal i none was =
+    sym (at_drop_all (tally_from held t i) sights i none) ∙ was
 
 -- one more image was opened and read
 pub viewed_more : {L R : Type 0} (gives : Mounting L R) (remaining : R → Option (List ℕ))
@@ -174,168 +205,43 @@ viewed_more gives remaining shelf number (s ∷ sights) c left mid sight image l
           viewed,
     )
 
--- the first images were read, and their lines written
-pub record ToldSoFar {L R : Type 0} (y : Wording) (gives : Mounting L R)
-    (remaining : R → Option (List ℕ))
-    (names : List (List ℕ)) (shelf left : L) (number : ℕ) (d : Found) (old new : Option (List ℕ)) :
-    Type 0 where
-  pub sights : List (Option ImageSurvey)
-  pub counted : length sights ≡ number
-  pub viewed : AreViewed gives remaining shelf 0 sights nothing_found left d
-  pub wrote : Appends old new (image_texts y names sights)
-
-pub tells_none : {L R : Type 0} (y : Wording) (gives : Mounting L R)
-    (remaining : R → Option (List ℕ))
-    (names : List (List ℕ)) (shelf : L) (d : Found) (w : Option (List ℕ)) → d ≡ nothing_found
-    → ToldSoFar y gives remaining names shelf shelf 0 d w w
-tells_none y gives remaining names shelf d w none = record {
-  sights = [];
-  counted = refl;
-  viewed = (refl, none);
-  wrote = subst (Appends w w) (sym (nothing y names)) (Appends-nil w);
-}
-  where
-    nothing : (y : Wording) (names : List (List ℕ)) → image_texts y names [] ≡ []
-    nothing y [] = refl
-    nothing y (n ∷ names) = refl
-
-pub tells_more : {L R : Type 0} (y : Wording) (gives : Mounting L R)
-    (remaining : R → Option (List ℕ))
-    (names : List (List ℕ)) (shelf left next : L) (number : ℕ) (mid d : Found)
-    (old w new : Option (List ℕ)) (image : Option R) (name : List ℕ)
-    → number < length names → name ≡ get_or names number []
-    → ToldSoFar y gives remaining names shelf left number mid old w
-    → gives left number image next
-    → TellsSight y (Rattle.std.specs.Prelude.option_map remaining image) name mid d w new
-    → ToldSoFar y gives remaining names shelf next (number + 1) d old new
-tells_more y gives remaining names shelf left next number mid d old w new image name within is s g
-    (sight, viewed, wrote) =
-    let at : number ≡ 0 + length s.sights = omega (arith, s.counted) in
-    let lines = line_more y names s.sights sight name (omega (arith, within, s.counted))
-    (subst (λ n. name ≡ get_or names n []) (sym s.counted) is) in
-    record {
-      sights = s.sights ++ sight ∷ [];
-      counted = length-append s.sights (sight ∷ []) ∙ ap (λ n. n + 1) s.counted;
-      viewed = viewed_more gives remaining shelf 0 s.sights nothing_found left mid sight image next
-          d s.viewed (subst (λ n. gives left n image next) at g) viewed;
-      wrote = subst (Appends old new) (sym lines) (Appends-trans old w new
-          (image_texts y names s.sights) (image_text y name sight) s.wrote wrote);
-    }
-
--- a prefix of a survey, if a prefix of its next text was written
-in_part : {L R : Type 0} (y : Wording) (gives : Mounting L R)
-    (remaining : R → Option (List ℕ))
-    (names : List (List ℕ)) (shelf left : L) (sights : List (Option ImageSurvey)) (d : Found)
-    (old w new : Option (List ℕ)) (a b : List ℕ) → length sights ≤ length names
-    → AreViewed gives remaining shelf 0 sights nothing_found left d
-    → Appends old w a → AppendsFront w new b → image_texts y names sights ≡ a ++ b
-    → SurveysInPart y gives remaining names shelf old new
-in_part y gives remaining names shelf left sights d old w new a b few viewed wrote part is =
-    let more = summary_at y names (length sights == length names) d in
-    record {
-      sights = sights;
-      few = few;
-      found = d;
-      left = left;
-      viewed = viewed;
-      wrote = front_then old w new a b more (image_texts y names sights ++ more) wrote part
-          (ap (λ l. l ++ more) is);
-    }
-
--- an empty list is a prefix of an empty list
-front_of_none : (old new : Option (List ℕ)) → Appends old new [] → AppendsFront old new []
-front_of_none old new wrote = ([], [], wrote, refl)
-
--- a fault occurred before an image was opened
-pub stops_before : {L R : Type 0} (y : Wording) (gives : Mounting L R)
-    (remaining : R → Option (List ℕ))
-    (names : List (List ℕ)) (shelf left : L) (number : ℕ) (mid : Found) (old w : Option (List ℕ))
-    → number < length names → ToldSoFar y gives remaining names shelf left number mid old w
-    → SurveysInPart y gives remaining names shelf old w
-stops_before y gives remaining names shelf left number mid old w within s =
-    in_part y gives remaining names shelf left s.sights mid old w w
-    (image_texts y names s.sights) []
-    (omega (arith, within, s.counted)) s.viewed s.wrote (front_of_none w w (Appends-nil w))
-    (sym (append-nil (image_texts y names s.sights)))
-
--- a fault occurred at an image that was opened
-pub stops_at : {L R : Type 0} (y : Wording) (gives : Mounting L R)
-    (remaining : R → Option (List ℕ))
-    (names : List (List ℕ)) (shelf left next : L) (number : ℕ) (mid : Found)
-    (old w new : Option (List ℕ)) (image : Option R) (name : List ℕ)
-    → number < length names → name ≡ get_or names number []
-    → ToldSoFar y gives remaining names shelf left number mid old w
-    → gives left number image next
-    → StopsAtSight y (Rattle.std.specs.Prelude.option_map remaining image) name mid w new
-    → SurveysInPart y gives remaining names shelf old new
-stops_at y gives remaining names shelf left next number mid old w new image name within is s g
-    (inl none) =
-    in_part y gives remaining names shelf left s.sights mid old w new
-    (image_texts y names s.sights) []
-    (omega (arith, within, s.counted)) s.viewed s.wrote (front_of_none w new none)
-    (sym (append-nil (image_texts y names s.sights)))
-stops_at y gives remaining names shelf left next number mid old w new image name within is s g
-    (inr (sight, d, viewed, part)) =
-    let at : number ≡ 0 + length s.sights = omega (arith, s.counted) in
-    in_part y gives remaining names shelf next (s.sights ++ sight ∷ []) d old w new
-    (image_texts y names s.sights) (image_text y name sight)
-    (omega (arith, within, s.counted, length-append s.sights (sight ∷ [])))
-    (viewed_more gives remaining shelf 0 s.sights nothing_found left mid sight image next d s.viewed
-    (subst (λ n. gives left n image next) at g) viewed)
-    s.wrote part
-    (line_more y names s.sights sight name (omega (arith, within, s.counted))
-    (subst (λ n. name ≡ get_or names n []) (sym s.counted) is))
-
 -- ---- the whole
 
--- all images were read
-pub tells_all : {L R : Type 0} (y : Wording) (gives : Mounting L R)
-    (remaining : R → Option (List ℕ))
-    (names : List (List ℕ)) (shelf left : L) (number : ℕ) (d : Found) (old new : Option (List ℕ))
-    → number ≡ length names → ToldSoFar y gives remaining names shelf left number d old new
-    → TellsSights y gives remaining names shelf left d old new
-tells_all y gives remaining names shelf left number d old new all s = record {
-  sights = s.sights;
-  each = s.counted ∙ all;
-  viewed = s.viewed;
-  wrote = s.wrote;
-}
-
--- and the text after these was written
+-- the survey of images that were read was written
 pub surveyed : {L R : Type 0} (y : Wording) (gives : Mounting L R)
     (remaining : R → Option (List ℕ))
-    (names : List (List ℕ)) (shelf left : L) (d : Found) (old w new : Option (List ℕ)) (all : Bool)
-    → TellsSights y gives remaining names shelf left d old w → all ≡ is_all d
-    → Appends w new (summary y names d) → Surveys y gives remaining names shelf left old new all
-surveyed y gives remaining names shelf left d old w new all s is wrote = record {
-  sights = s.sights;
-  found = d;
-  each = s.each;
-  viewed = s.viewed;
-  wrote = Appends-trans old w new (image_texts y names s.sights) (summary y names d) s.wrote wrote;
-  is_so = is;
-  sound = λ e. all_is_sound gives remaining shelf left s.sights d s.viewed (sym is ∙ e);
-  conflicts = conflicts_are_real gives remaining shelf left s.sights d s.viewed;
-}
+    (names : List (List ℕ)) (shelf left : L) (sights seen : List (Option ImageSurvey)) (d : Found)
+    (old new : Option (List ℕ)) (all : Bool) → length sights ≡ length names
+    → AreViewed gives remaining shelf 0 sights nothing_found left d → seen ≡ sights → all ≡ is_all d
+    → Appends old new (survey_text y names seen d)
+    → Surveys y gives remaining names shelf left old new all
+surveyed y gives remaining names shelf left sights seen d old new all each viewed same is wrote =
+    record {
+      sights = sights;
+      found = d;
+      each = each;
+      viewed = viewed;
+      wrote = subst (λ l. Appends old new (survey_text y names l d)) same wrote;
+      is_so = is;
+      sound = λ e. all_is_sound gives remaining shelf left sights d viewed (sym is ∙ e);
+      conflicts = conflicts_are_real gives remaining shelf left sights d viewed;
+      disputes = disputes_are_told gives remaining shelf left sights d viewed;
+    }
 
--- a prefix of that text was written
+-- a prefix of it was written
 pub surveyed_in_part : {L R : Type 0} (y : Wording) (gives : Mounting L R)
     (remaining : R → Option (List ℕ))
-    (names : List (List ℕ)) (shelf left : L) (d : Found) (old w new : Option (List ℕ))
-    → TellsSights y gives remaining names shelf left d old w → AppendsFront w new (summary y names d)
+    (names : List (List ℕ)) (shelf left : L) (sights seen : List (Option ImageSurvey)) (d : Found)
+    (old new : Option (List ℕ)) → length sights ≡ length names
+    → AreViewed gives remaining shelf 0 sights nothing_found left d → seen ≡ sights
+    → AppendsFront old new (survey_text y names seen d)
     → SurveysInPart y gives remaining names shelf old new
-surveyed_in_part y gives remaining names shelf left d old w new s part = record {
-  sights = s.sights;
-  few = omega (arith, s.each);
-  found = d;
-  left = left;
-  viewed = s.viewed;
-  wrote = front_then old w new (image_texts y names s.sights) (summary y names d) []
-      (image_texts y names s.sights ++ summary_at y names (length s.sights == length names) d) s.wrote
-      part
-      (ap (λ b. image_texts y names s.sights ++ summary_at y names b d) (same (length s.sights)
-      (length names) s.each) ∙ sym (append-nil (image_texts y names s.sights ++ summary y names d)));
-}
-  where
-    same : (a b : ℕ) → a ≡ b → (a == b) ≡ true
-    same a b e = grind (arith, nat_tests, e)
+surveyed_in_part y gives remaining names shelf left sights seen d old new each viewed same wrote =
+    inr (record {
+      sights = sights;
+      found = d;
+      left = left;
+      each = each;
+      viewed = viewed;
+      wrote = subst (λ l. AppendsFront old new (survey_text y names l d)) same wrote;
+    })

@@ -132,7 +132,8 @@ part_line number outcome old new (front, rest, wrote, all) =
 -- The bytes returned of an image whose reading failed begin with items that end at the offset in
 -- the line of the image: so, although nobody sees the rest of a closed image, the offset says which
 -- items count.
-pub given_to_place : (core new : State) (bytes left given : List ℕ) (place : ℕ) (answer : ReelAnswer)
+pub given_to_place : (core new : State) (bytes left given : List ℕ) (place : ℕ)
+    (answer : ReelAnswer)
     → answer.fault ≡ Some (record { place = place; cause = Device })
     → ReadsReel core bytes left answer new → IsGiven true bytes (Some left) given
     → (items : List TapeItem) × (stop : Stop) × Begins 0 given items place stop

@@ -27,7 +27,8 @@ views_none gives remaining shelf d sights none empty =
     (record { counted = refl; viewed = (refl, none) })
 
 pub views_more : {L R : Type 0} (gives : Mounting L R) (remaining : R → Option (List ℕ))
-    (shelf left next : L) (number : ℕ) (mid d : Found) (image : Option R) (sight : Option ImageSurvey)
+    (shelf left next : L) (number : ℕ) (mid d : Found) (image : Option R)
+    (sight : Option ImageSurvey)
     (old new : List (Option ImageSurvey)) → new ≡ old ++ sight ∷ []
     → ViewedSoFar gives remaining shelf left number mid old
     → gives left number image next → IsViewed (option_map remaining image) sight mid d

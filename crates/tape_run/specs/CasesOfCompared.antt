@@ -11,7 +11,7 @@ use Rattle.tape_run.specs.CasesOfCatalogues.{met}
 use Rattle.tape_run.specs.Lacks.{key_at}
 use Rattle.tape_run.specs.SurveyCompared.{copies_text}
 use Rattle.tape_run.specs.SurveyCopies.{no_copies, copy_note, with_told, copies_on, dispute_at}
-use Rattle.tape_run.specs.SurveyCopies.{blocks_with, Copied, is_agreed}
+use Rattle.tape_run.specs.SurveyCopies.{blocks_with, Copied, is_agreed, disputed, disputed_on}
 use Rattle.tape_run.specs.SurveyDigest.{digest_of}
 use Rattle.tape_run.specs.SurveyFiles.{file_key}
 
@@ -50,6 +50,11 @@ pub record CasesOfCompared : Type 0 where
   pub agreed : is_agreed (both 7).conflicts ≡ true
   pub in_conflict : dispute_at (both 8) (file_key (codes "ABC001") 1) ≡ Some 1
   pub other_file : dispute_at (both 8) (file_key (codes "ABC001") 2) ≡ None
+  -- each image with a good copy of such a section is in conflict, also the first one
+  pub none_disputed : disputed (both 7) ≡ []
+  pub first_disputed : disputed_on (disputed (both 8)) 0 ≡ Some (key_at (codes "ABC001") 1 1)
+  pub second_disputed : disputed_on (disputed (both 8)) 1 ≡ Some (key_at (codes "ABC001") 1 1)
+  pub other_image : disputed_on (disputed (both 8)) 2 ≡ None
   -- the result of comparing these copies
   pub alone : copies_text Words [] ((key_at (codes "ABC001") 1 2, first) ∷ []) ≡ []
   pub line : copies_text Words [] ((key_at (codes "ABC001") 1 2, copy_note (Some first) 1 3 7) ∷ [])

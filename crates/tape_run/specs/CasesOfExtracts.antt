@@ -23,6 +23,7 @@ use Rattle.tape_core.specs.Weight.{Rose}
 use Rattle.tape_core.specs.declared.sink.PartSink.{Ghosts}
 use Rattle.tape_core.specs.declared.sink.SinkFault.{SinkFault}
 use Rattle.tape_core.specs.declared.sink.SinkFault.TheVariants.{Device, Failed}
+use Rattle.tape_core.specs.declared.sink.SinkFault.TheVariants as sink
 use Rattle.tape_run.specs.declared.fault.EngineFault.{EngineFault}
 use Rattle.tape_run.specs.declared.fault.EngineFault.TheVariants.{Run, WriteFailed}
 use Rattle.tape_run.specs.declared.fault.RunFault.{RunFault}
@@ -36,7 +37,8 @@ use Rattle.tape_run.specs.Headline.{HasRun}
 use Rattle.tape_run.specs.Lead.{Lead, over_reel}
 use Rattle.tape_run.specs.Mount.{MountEvent, IsMountOf, foreign_reel, after_mount}
 use Rattle.tape_image.specs.Written.{AppendsFront}
-use Rattle.tape_run.specs.OutSinks.{HasTaken, IsText, TellsAlways, text_so_far, with_end}
+use Rattle.tape_run.specs.OutSinks.{HasTaken, IsText, RefusesText, TellsAlways, text_so_far}
+use Rattle.tape_run.specs.OutSinks.{with_end}
 use Rattle.tape_run.specs.RecordText.{output_of}
 use Rattle.tape_run.specs.ReelLine.{reel_lines, last_line}
 use Rattle.tape_run.specs.Reeling.{Opened, Turn, answer_of, AreTurns, IsTurn, Follows}
@@ -140,6 +142,7 @@ as_sink = record {
   holds = λ s ps. s ≡ ps;
   weighs = λ s. 0;
   refusals = λ s. 0;
+  refuses_change = λ old fault new. ⊥;
   crashes = λ s. lost;
 }
 
@@ -271,40 +274,60 @@ pub record CasesOfOutputs : Type 0 where
       (out now said says : Known)
       → StopsListedNow session shelf left form out now said says → (now ≡ out)
       ⊎ ((s : Seen) × (s.place.position ≡ Finished) × (now ≡ Some (output_of form s.parts)))
+  -- if more than the lines of the reels was reported, and nothing is missing, the name has the
+  -- records
+  pub complete_is_named : (session : Listed) (shelf left : Readers) (form : Form)
+      (out now said says : Known) (s : StopsListedNow session shelf left form out now said says)
+      → s.want ≡ None → (AppendsFront said says
+      (reel_lines 1 (map answer_of s.turns ++ s.more)) → ⊥)
+      → (p : Seen) × (now ≡ Some (output_of form p.parts))
   -- the parts that a sink that writes them has received
-  pub taken : (form : Form) (out : Known) (weight records : ℕ) (begun failed : Bool)
+  pub taken : (form : Form) (out : Option Known) (weight records : ℕ) (begun : Bool)
       (parts : List Portion)
-      → HasTaken (λ (w : Known). w) form out weight records begun failed parts
+      → HasTaken (λ (w : Known). w) form out weight records begun parts
       → (weight ≡ weight_of parts) × (records ≡ length (join parts).records)
-  pub taken_text : (form : Form) (out : Known) (weight records : ℕ) (begun failed : Bool)
+  pub taken_text : (form : Form) (out : Option Known) (weight records : ℕ) (begun : Bool)
       (parts : List Portion)
-      → HasTaken (λ (w : Known). w) form out weight records begun failed parts
+      → HasTaken (λ (w : Known). w) form out weight records begun parts
       → (begun ≡ is_some (join parts).rest)
-      × (TellsAlways (λ (w : Known). w) → IsText failed (text_so_far form parts) out)
-  pub text : (known : List ℕ) → IsText false (7 ∷ []) (Some known) → known ≡ 7 ∷ []
+      × (TellsAlways (λ (w : Known). w) → IsText (λ (w : Known). w) (text_so_far form parts) out)
+  pub text : (known : List ℕ) → IsText (λ (w : Known). w) (7 ∷ []) (Some (Some known))
+      → known ≡ 7 ∷ []
+  pub no_writer : IsText (λ (w : Known). w) (7 ∷ []) None
   -- a writer that consists of its bytes always knows them, and one with unknown bytes does not
   pub tells : TellsAlways (λ (w : List ℕ). Some w)
   pub tells_nothing : TellsAlways {W = List ℕ} (λ w. None) → ⊥
   pub ended : (with_end true 3 ≡ 3) × (with_end false 3 ≡ 4)
+  -- a change is refused with Device by the write that failed first, with Full if a part would be
+  -- too heavy, and never for lack of memory
+  pub write_refused : (works still : Bool) (weight : ℕ) → RefusesText works weight sink.Device still
+      → (works ≡ true) × (still ≡ false)
+  pub not_heavy : (works still : Bool) → RefusesText works 5 sink.Full still → ⊥
+  pub heavy : (works still : Bool) → RefusesText works 999999999999999 sink.Full still
+  pub refused_later : (works still : Bool) (weight : ℕ) → RefusesText works weight sink.Failed still
+  pub no_memory_taken : (works still : Bool) (weight : ℕ)
+      → RefusesText works weight sink.OutOfMemory still → ⊥
 
 -- ---- why it was not
 
--- a sink that consists of its count of refused calls, and either contains no part or has unknown
--- contents
+-- a sink that consists of its count of refused calls, refuses them with Device alone, and either
+-- contains no part or has unknown contents
 abbrev pub FailsEmpty : EngineFault → ℕ → ℕ → Type 0
-FailsEmpty fault old new = WritingFails (λ s ps. ps ≡ []) (λ s. s) old new fault
+FailsEmpty fault old new =
+    WritingFails (λ s ps. ps ≡ []) (λ s. s) (λ mid cause after. cause ≡ Device) old new fault
 
 abbrev pub FailsUnknown : EngineFault → ℕ → ℕ → Type 0
-FailsUnknown fault old new = WritingFails (λ s ps. ⊥) (λ s. s) old new fault
+FailsUnknown fault old new =
+    WritingFails (λ s ps. ⊥) (λ s. s) (λ mid cause after. cause ≡ Device) old new fault
 
 pub record CasesOfCauses : Type 0 where
-  -- a refusal is reported if one was counted, whatever its cause
+  -- a refusal is reported if one was counted, with the fault of the call
   pub refused_writing : (cause : SinkFault) (old new : ℕ) → FailsEmpty (Run (Sink cause)) old new
-      → Rose old new
+      → Rose old new × (cause ≡ Device)
   pub told_refusal : FailsEmpty (Run (Sink Device)) 3 4
   -- only a sink with unknown contents may return Failed, and no other fault, without a refused call
   pub only_failed : (cause : SinkFault) (old new : ℕ) → FailsUnknown (Run (Sink cause)) old new
-      → Rose old new ⊎ (cause ≡ Failed)
+      → (Rose old new × (cause ≡ Device)) ⊎ (cause ≡ Failed)
   pub fewer_given : FailsUnknown (Run (Sink Failed)) 3 3
   -- no other fault occurs, and a failed write is not a refusal
   pub no_other_fault : (old new : ℕ) → (FailsUnknown (Run NoSuchPoint) old new → ⊥)
@@ -312,15 +335,15 @@ pub record CasesOfCauses : Type 0 where
       × (FailsUnknown (Run OtherFile) old new → ⊥)
   pub write_failed : (old new : ℕ) → FailsUnknown WriteFailed old new → new ≡ old
   -- the output of a sink is not finished for one of three reasons, and each of them is one
-  pub not_ended : (failed begun : Bool) (form asked : Form) (fault : RunFault)
-      → EndingFails failed begun form asked (Run fault)
-      → (fault ≡ Sink Failed) × ((failed ≡ true) ⊎ (begun ≡ true) ⊎ (form ≢ asked))
-  pub three_reasons : (failed begun : Bool) (form asked : Form)
-      → (EndingFails true begun form asked (Run (Sink Failed)))
-      × (EndingFails failed true form asked (Run (Sink Failed)))
-      × (form ≢ asked → EndingFails failed begun form asked (Run (Sink Failed)))
+  pub not_ended : (works begun : Bool) (form asked : Form) (fault : RunFault)
+      → EndingFails works begun form asked (Run fault)
+      → (fault ≡ Sink Failed) × ((works ≡ false) ⊎ (begun ≡ true) ⊎ (form ≢ asked))
+  pub three_reasons : (works begun : Bool) (form asked : Form)
+      → (EndingFails false begun form asked (Run (Sink Failed)))
+      × (EndingFails works true form asked (Run (Sink Failed)))
+      × (form ≢ asked → EndingFails works begun form asked (Run (Sink Failed)))
   -- or the writer failed, and none of these reasons applies
-  pub writer_failed : (failed begun : Bool) (form asked : Form)
-      → EndingFails failed begun form asked WriteFailed → (failed ≡ true → ⊥) × (begun ≡ true → ⊥)
+  pub writer_failed : (works begun : Bool) (form asked : Form)
+      → EndingFails works begun form asked WriteFailed → (works ≡ false → ⊥) × (begun ≡ true → ⊥)
       × (form ≢ asked → ⊥)
-  pub ends_but_for_it : (form : Form) → EndingFails false false form form WriteFailed
+  pub ends_but_for_it : (form : Form) → EndingFails true false form form WriteFailed

@@ -30,7 +30,8 @@ use Rattle.tape_run.specs.Given.{AreGivenBy}
 use Rattle.tape_run.specs.History.{IsHistory}
 use Rattle.tape_run.specs.Lacks.{LackIsFirst, IsFoundWhole, IsFirstLack, lack_of, found_all}
 use Rattle.tape_run.specs.Lead.{AreItems, ItemsAreThere}
-use Rattle.tape_run.specs.CrashRuns.{StoodComesBack, StandsAcrossCrashes, ComesBack, CrashRun, Outlives}
+use Rattle.tape_run.specs.CrashRuns.{StoodComesBack, StandsAcrossCrashes, ComesBack, CrashRun}
+use Rattle.tape_run.specs.CrashRuns.{Outlives}
 use Rattle.tape_run.specs.CrashRuns.{AreHistories, IsResumed, ResumedGoesOn}
 use Rattle.tape_run.specs.Listing.{OneListing, IsListing}
 use Rattle.tape_run.specs.Headline.{HasRun}

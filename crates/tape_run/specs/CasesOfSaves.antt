@@ -46,6 +46,7 @@ weighing crashes = record {
   holds = λ s parts. s.staged ≡ weight_of parts;
   weighs = λ s. s.staged;
   refusals = λ s. 0;
+  refuses_change = λ old fault new. ⊥;
   crashes = crashes;
 }
 
@@ -55,6 +56,7 @@ holding_none crashes = record {
   holds = λ s parts. ⊥;
   weighs = λ s. s.staged;
   refusals = λ s. 0;
+  refuses_change = λ old fault new. ⊥;
   crashes = crashes;
 }
 
@@ -88,7 +90,8 @@ pub record CasesOfSaved : Type 0 where
       → old.notes ≡ c ∷ [] → new.notes ≡ c ∷ [] → old.sink ≡ c → IsFront ps held
       → weight_of ps ≡ c.staged → t ≤ old.sink.file
       → KeepsLast (weighing (comes_since ps)) old held new now → new.sink ≡ c
-  pub survived : (old new : SessionState Point) (held now : List Portion) (t : ℕ) → t ≤ old.sink.file
+  pub survived : (old new : SessionState Point) (held now : List Portion) (t : ℕ)
+      → t ≤ old.sink.file
       → KeepsLast (weighing (comes_since [])) old held new now
       → old.sink.position ≡ Finished → new.sink.position ≡ Finished
   pub goes_on : (old new : SessionState Point) (held now : List Portion)
@@ -102,14 +105,16 @@ pub record CasesOfSaved : Type 0 where
       → (new.sink ≡ c) × (now.place ≡ rest_of new.core)
       × IsFront ps now.parts × (c.staged ≡ weight_of now.parts)
   -- after a fault only the checkpoint made meanwhile, or the session's position, may be left
-  pub left_at_a_fault : (old new : SessionState Point) (held ps : List Portion) (now : Seen) (c : Point)
+  pub left_at_a_fault : (old new : SessionState Point) (held ps : List Portion) (now : Seen)
+      (c : Point)
       → old.notes ≡ [] → now.notes ≡ c ∷ []
       → LeavesSaved (weighing (comes_now ps)) old held
       now new
       → ((new.sink ≡ c) × IsFront ps now.parts)
       ⊎ ((new.sink.staged ≡ weight_of ps) × IsFront now.parts ps
       × (new.sink ≡ saved (rest_of new.core) (weight_of ps)))
-  pub alone_at_a_fault : (old new : SessionState Point) (held ps : List Portion) (now : Seen) (c : Point)
+  pub alone_at_a_fault : (old new : SessionState Point) (held ps : List Portion) (now : Seen)
+      (c : Point)
       → old.notes ≡ c ∷ [] → now.notes ≡ c ∷ [] → old.sink ≡ c → IsFront ps held
       → weight_of ps ≡ c.staged
       → LeavesSaved (holding_none (comes_now ps)) old held now new → new.sink ≡ c

@@ -9,29 +9,30 @@ use Rattle.tape_core.specs.Point.{Point}
 use Rattle.tape_core.specs.Weight.{Rose}
 use Rattle.tape_core.specs.declared.sink.PartSink.{Ghosts}
 use Rattle.tape_core.specs.declared.sink.SinkFault.{SinkFault}
-use Rattle.tape_core.specs.declared.sink.SinkFault.TheVariants.{Failed}
+use Rattle.tape_core.specs.declared.sink.SinkFault.TheVariants.{Device, Full, Failed}
 use Rattle.tape_run.specs.declared.fault.RunFault.TheVariants.{Sink, NoSuchPoint, TooFewReels}
 use Rattle.tape_run.specs.declared.fault.RunFault.TheVariants.{OutOfMemory, OtherFile}
 use Rattle.tape_run.specs.declared.fault.EngineFault.TheVariants as engine
-use Rattle.tape_run.specs.Causes.{ExtractFails, IsExtractFault, IsCalm}
+use Rattle.tape_run.specs.Causes.{ExtractFails, ReadingFails, RefusesAny, IsCalm}
 use Rattle.tape_run.specs.CasesOfSaves.{comes_now, weighing, holding_none}
 use Rattle.tape_run.specs.Crash.{BringsNoMore, IsWalked, KeepsLast}
 use Rattle.tape_run.specs.Given.{IfTold}
 use Rattle.tape_run.specs.Reeling.{Carries, IsKeptFor}
 use Rattle.tape_run.specs.Seen.{Seen, seen, IsKept, IfSeen, IsSeen, IsSeenUnless}
 use Rattle.tape_run.specs.Runs.{RefusesStep, StopsFor}
-use Rattle.tape_run.specs.Steps.{Refuses, RefusesRestart}
+use Rattle.tape_run.specs.Steps.{IsRefused, Refuses, RefusesRestart}
 use Rattle.tape_run.specs.declared.fault.RunFault.{RunFault}
 use Rattle.tape_run.specs.declared.script.Step.TheVariants.{Reel, Save, Restart}
 use Rattle.tape_run.specs.SessionState.{SessionState}
 
 -- a sink that consists of a number: it contains any list of as many parts, and has refused as many
--- calls
+-- calls, each with Device
 abbrev pub counting : Ghosts ℕ
 counting = record {
   holds = λ n parts. length parts ≡ n;
   weighs = λ n. 0;
   refusals = λ n. n;
+  refuses_change = λ old fault new. fault ≡ Device;
   crashes = λ n. lost;
 }
 
@@ -52,7 +53,8 @@ pub record CasesOfSeen : Type 0 where
   -- a sink that lost its parts may contain any parts
   pub lost_parts : (s : SessionState ℕ) (parts : List Portion)
       → IsSeenUnless ⊤ counting s (λ is. is.parts ≡ parts)
-  pub not_lost : (s : SessionState ℕ) → s.sink ≡ 1 → IsSeenUnless ⊥ counting s (λ is. is.parts ≡ []) → ⊥
+  pub not_lost : (s : SessionState ℕ) → s.sink ≡ 1
+      → IsSeenUnless ⊥ counting s (λ is. is.parts ≡ []) → ⊥
   -- a claim about known bytes is required only if each reader knows its bytes
   pub told : (a b : List ℕ) (all : List (List ℕ))
       → IfTold (λ r. r) (Some a ∷ Some b ∷ []) (λ bytes. bytes ≡ all) → all ≡ a ∷ b ∷ []
@@ -65,7 +67,8 @@ pub record CasesOfSeen : Type 0 where
   pub of_no_parts : (old new : Point) → BringsNoMore (holding_none (comes_now [])) old new
   -- a session changes from its earlier state to its current one, with its checkpoints and the last
   -- of them
-  pub carried : (back : Bool) (old new : SessionState Point) → old.sink.staged ≡ 0 → new.sink.staged ≡ 0
+  pub carried : (back : Bool) (old new : SessionState Point) → old.sink.staged ≡ 0
+      → new.sink.staged ≡ 0
       → IsKeptFor back (seen (weighing (comes_now [])) old [])
       → Carries (weighing (comes_now [])) back old new
       (λ was is. is.place.file ≡ was.place.file + 1) → (new.core.file ≡ old.core.file + 1)
@@ -78,7 +81,11 @@ pub record CasesOfSeen : Type 0 where
   -- changed, and for no other reason
   pub reel_refused : (cause : SinkFault) (old new : SessionState ℕ)
       → Refuses counting (Sink cause) old new
-      → (new.failures ≡ old.failures) × Rose old.sink new.sink
+      → (new.failures ≡ old.failures) × Rose old.sink new.sink × (cause ≡ Device)
+  -- no call was refused before the one whose fault is reported
+  pub refused_first : (cause : SinkFault) (old new : ℕ)
+      → IsRefused (λ n. n) (λ mid fault after. (mid ≡ 7) × (fault ≡ Device)) old cause new
+      → (old ≡ 7) × (cause ≡ Device) × Rose old new
   pub no_memory : (old new : SessionState ℕ) → Refuses counting OutOfMemory old new → new ≡ old
   pub no_other_fault : (old new : SessionState ℕ) → (Refuses counting NoSuchPoint old new → ⊥)
       × (Refuses counting TooFewReels old new → ⊥)
@@ -87,7 +94,7 @@ pub record CasesOfSeen : Type 0 where
   -- only possible if its contents are unknown
   pub back_refused : (cause : SinkFault) (n : ℕ) (old new : SessionState ℕ)
       → RefusesRestart counting n (Sink cause) old new → (new.failures ≡ old.failures)
-      × (Rose old.sink new.sink ⊎ ((cause ≡ Failed) × (new.sink ≡ old.sink)
+      × ((Rose old.sink new.sink × (cause ≡ Device)) ⊎ ((cause ≡ Failed) × (new.sink ≡ old.sink)
       × ((held : List Portion) → length held ≡ old.sink → IsKept (seen counting old held) → ⊥)))
   pub no_note : (n : ℕ) (old new : SessionState ℕ) → RefusesRestart counting n NoSuchPoint old new
       → (length old.notes ≤ n) × (new ≡ old)
@@ -109,24 +116,24 @@ pub record CasesOfSeen : Type 0 where
   -- images are not read because the sink refused a call, or failed with unknown contents; or,
   -- without a refusal, because memory ran out or a write failed
   pub not_extracted : (back : Bool) (cause : SinkFault) (old new : SessionState ℕ)
-      → ExtractFails counting back (engine.Run (Sink cause)) old new
-      → Rose old.sink new.sink ⊎ ((cause ≡ Failed)
+      → ReadingFails counting back (engine.Run (Sink cause)) old new
+      → (Rose old.sink new.sink × (cause ≡ Device)) ⊎ ((cause ≡ Failed)
       × ((held : List Portion) → length held ≡ old.sink → IsKept (seen counting old held) → ⊥))
+  pub refused_either : (back : Bool) (cause : SinkFault) (old new : SessionState ℕ)
+      → ExtractFails counting (RefusesAny counting (λ mid fault after. fault ≡ Full)) back
+      (engine.Run (Sink cause)) old new → (cause ≡ Device) ⊎ (cause ≡ Full) ⊎ (cause ≡ Failed)
   pub no_memory_to_extract : (back : Bool) (old new : SessionState ℕ)
-      → (ExtractFails counting back (engine.Run OutOfMemory) old new → new.sink ≡ old.sink)
-      × (ExtractFails counting back engine.WriteFailed old new → new.sink ≡ old.sink)
+      → (ReadingFails counting back (engine.Run OutOfMemory) old new → new.sink ≡ old.sink)
+      × (ReadingFails counting back engine.WriteFailed old new → new.sink ≡ old.sink)
   -- a session with a checkpoint has no other fault, and neither has one that does not roll back
   pub noted : (back : Bool) (c : Point) (old new : SessionState ℕ) → old.notes ≡ c ∷ []
-      → ExtractFails counting back (engine.Run NoSuchPoint) old new → ⊥
-  pub goes_on : (old new : SessionState ℕ) → ExtractFails counting false (engine.Run NoSuchPoint) old new
+      → ReadingFails counting back (engine.Run NoSuchPoint) old new → ⊥
+  pub goes_on : (old new : SessionState ℕ)
+      → ReadingFails counting false (engine.Run NoSuchPoint) old new
       → ⊥
   pub no_other_end : (back : Bool) (old new : SessionState ℕ)
-      → (ExtractFails counting back (engine.Run TooFewReels) old new → ⊥)
-      × (ExtractFails counting back (engine.Run OtherFile) old new → ⊥)
-  pub extract_faults : (cause : SinkFault) → IsExtractFault (engine.Run (Sink cause))
-      × IsExtractFault (engine.Run OutOfMemory) × IsExtractFault engine.WriteFailed
-  pub no_extract_faults : (IsExtractFault (engine.Run NoSuchPoint) → ⊥)
-      × (IsExtractFault (engine.Run TooFewReels) → ⊥) × (IsExtractFault (engine.Run OtherFile) → ⊥)
+      → (ReadingFails counting back (engine.Run TooFewReels) old new → ⊥)
+      × (ReadingFails counting back (engine.Run OtherFile) old new → ⊥)
   -- no call was refused
   pub none_refused : (old new : SessionState ℕ) → IsCalm counting old new → (new.sink ≡ old.sink)
       × (new.notes ≡ [] → old.notes ≡ []) × ((held : List Portion) → length held ≡ old.sink

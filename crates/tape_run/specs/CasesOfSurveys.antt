@@ -1,5 +1,5 @@
 -- Examples for the definitions of surveys. They are the contract of the call `laws::cases`.
-use Rattle.std.specs.Prelude.{◌≡◌, ◌≢◌, ◌++◌, ◌+◌, ◌==◌, ◌≤◌, ◌&&◌, length, ℕ, Bool, true, false}
+use Rattle.std.specs.Prelude.{◌≡◌, ◌≢◌, ◌++◌, ◌+◌, ◌&&◌, length, ℕ, Bool, true, false}
 use Rattle.std.specs.Prelude.{List, [], ◌∷◌, replicate, Option, Some, None, Ok, Err, codes, decimal}
 use Rattle.std.specs.List.{AllByRecursion}
 use Rattle.std.specs.Io.KnownBytes.{Appends}
@@ -20,6 +20,7 @@ use Rattle.tape_run.specs.declared.passing.Phase.TheVariants as phases
 use Rattle.tape_run.specs.declared.section.ImageStop.{ImageStop}
 use Rattle.tape_run.specs.declared.section.ImageStop.TheVariants.{Marked, Physical, Fault}
 use Rattle.tape_run.specs.declared.section.SectionState.TheVariants.{Good, Bad}
+use Rattle.tape_run.specs.declared.section.SectionKey.{SectionKey}
 use Rattle.tape_run.specs.declared.survey.dates.Date.{Date}
 use Rattle.tape_run.specs.declared.survey.glance.First.TheVariants as firsts
 use Rattle.tape_run.specs.declared.survey.course.ExpectedItem.{ExpectedItem}
@@ -28,18 +29,20 @@ use Rattle.tape_run.specs.declared.survey.course.LabelOrder.{LabelOrder}
 use Rattle.tape_run.specs.declared.survey.course.LabelOrder.TheVariants.{Follows, Blank, Ended, Leaves}
 use Rattle.tape_run.specs.declared.survey.sets.Standing.TheVariants.{Complete, Damaged, Behind}
 use Rattle.tape_run.specs.declared.survey.sets.Standing.TheVariants.{Missing}
+use Rattle.tape_run.specs.declared.survey.line.ImageState.TheVariants as states
+use Rattle.tape_run.specs.declared.survey.tally.Tally.{Tally}
 use Rattle.tape_run.specs.declared.survey.Wording.{Wording}
 use Rattle.tape_run.specs.declared.survey.Wording.TheVariants.{Words, Rows}
 use Rattle.tape_run.specs.declared.survey.view.ImageSurvey.{ImageSurvey}
 use Rattle.tape_run.specs.CasesOfCatalogues.{met}
 use Rattle.tape_run.specs.CasesOfExtracts.{Known, Readers}
-use Rattle.tape_run.specs.Checked.{Reel}
 use Rattle.tape_run.specs.Dates.{date_of, date_text}
 use Rattle.tape_run.specs.Noted.{noted_all}
 use Rattle.tape_image.specs.Written.{AppendsFront}
 use Rattle.tape_run.specs.Passing.{met_in, Told}
 use Rattle.tape_run.specs.Reeling.{Took}
-use Rattle.tape_run.specs.SurveyCopies.{Copied, no_copies, copied_in}
+use Rattle.tape_run.specs.SurveyConflicts.{TellsDispute, all_placed}
+use Rattle.tape_run.specs.SurveyCopies.{Copied, no_copies, copied_in, disputed, disputed_on}
 use Rattle.tape_run.specs.SurveyFiles.{filed_in, Filed, is_other, with_head, note_at, file_key}
 use Rattle.tape_run.specs.SurveyGlance.{glance_of, blank_glance, first_of, is_ebcdic, course_with}
 use Rattle.tape_run.specs.SurveyGlance.{late_with, unread_with, unread_by, or_else, is_kind_vol1}
@@ -47,18 +50,18 @@ use Rattle.tape_run.specs.SurveyLaws.{course_of, has_left, end_marks, IsSectionI
 use Rattle.tape_run.specs.SurveyLaws.{IsVolumeInOrder, IsFirstAstray, LeavesThere, EndedIsVolume}
 use Rattle.tape_run.specs.SurveyGaps.{is_found, gap_first, gap_text, numbers_line}
 use Rattle.tape_run.specs.SurveyWording.{found_text, file_text}
-use Rattle.tape_run.specs.SurveyWording.{image_text, summary, sections_text, end_text}
-use Rattle.tape_run.specs.SurveyLine.{trimmed_text}
+use Rattle.tape_run.specs.SurveyWording.{image_text, sections_text, end_text}
+use Rattle.tape_run.specs.SurveyLine.{trimmed_text, dispute_text}
 use Rattle.tape_run.specs.SurveyRows.{section_row, sight_cells, eof_cell, standing_cells}
-use Rattle.tape_run.specs.SurveyRows.{conflict_cell}
+use Rattle.tape_run.specs.SurveyRows.{conflict_cell, whole_cell}
 use Rattle.tape_run.specs.Lacks.{good_end, entry_at, key_at}
 use Rattle.tape_run.specs.SurveyLocations.{Located, with_location, located_in, next_image}
 use Rattle.tape_image.specs.Reader.{IfKnown}
 use Rattle.tape_run.specs.Added.{StopsBehind}
 use Rattle.tape_run.specs.SurveyRead.{Found, nothing_found, IsViewed, AreViewed}
-use Rattle.tape_run.specs.SurveyTally.{is_whole_sight, no_images, with_state, state_of, tally_line}
+use Rattle.tape_run.specs.SurveyTally.{is_whole_sight, no_images, state_at, state_by, tally_line}
 use Rattle.tape_run.specs.SurveySets.{standing_of, is_all}
-use Rattle.tape_run.specs.Survey.{image_texts, TellsSight, Surveys, SurveysInPart, summary_at}
+use Rattle.tape_run.specs.Survey.{image_texts, survey_text, Surveys, SurveysFront}
 
 -- an image that was read this far and ended like this, with or without a file in an unsupported
 -- format
@@ -94,7 +97,6 @@ found_with whole sections files copies = record {
   locations = [];
   copies = copies;
   images = 1;
-  tally = no_images;
 }
 
 -- one good section, and these files
@@ -103,7 +105,11 @@ found whole files = found_with whole (met 1 1 true Good ∷ []) files no_copies
 
 -- a file with copies of its first section that differ
 abbrev pub in_dispute : Copied
-in_dispute = record { notes = []; conflicts = (file_key (codes "ABC001") 1, 1) ∷ [] }
+in_dispute = record {
+  notes = [];
+  conflicts = (file_key (codes "ABC001") 1, 1) ∷ [];
+  held = [];
+}
 
 -- a day of the calendar
 abbrev pub date : ℕ → ℕ → ℕ → Date
@@ -191,6 +197,7 @@ pub record CasesOfWholes : Type 0 where
   pub all : is_all (found true []) ≡ true
   pub not_whole : is_all (found false []) ≡ false
   pub nothing_met : is_all nothing_found ≡ false
+  pub not_found : is_all (found_with true (met 2 1 true Good ∷ []) [] no_copies) ≡ false
   pub mixed : is_all (found true
       ((file_key (codes "ABC001") 1, record { head = first_week; differs = true }) ∷ [])) ≡ false
   pub not_good : is_all (found_with true (met 1 1 true Good ∷ met 1 2 true Bad ∷ []) [] no_copies)
@@ -228,13 +235,9 @@ pub record CasesOfSurveys : Type 0 where
       × (has_left (course_of (a.before ++ a.item ∷ [])) ≡ true)
   -- an image has a line with its name, and one that was not opened was not read completely
   pub line : (y : Wording) (name : List ℕ) (s : Option ImageSurvey)
-      → image_texts y (name ∷ name ∷ []) (s ∷ []) ≡ image_text y name s ++ []
+      → image_texts y [] 0 (name ∷ name ∷ []) (s ∷ []) ≡ image_text y name s None ++ []
   pub left_unopened : (c d : Found) → IsViewed None None c d
-      → d ≡ record c {
-        whole = false;
-        images = next_image c.images;
-        tally = with_state c.tally None;
-      }
+      → d ≡ record c { whole = false; images = next_image c.images }
   pub unopened : (s : ImageSurvey) (c d : Found) → IsViewed None (Some s) c d → ⊥
   pub opened : (before : Option (List ℕ)) (c d : Found) → IsViewed (Some before) None c d → ⊥
   pub viewed : (before : Option (List ℕ)) (s : ImageSurvey) (c d : Found)
@@ -245,7 +248,6 @@ pub record CasesOfSurveys : Type 0 where
       × (d.locations ≡ located_in c.images c.sections c.locations v.1.items)
       × (d.copies ≡ copied_in c.images c.copies v.1.items)
       × (d.whole ≡ (c.whole && is_whole_sight s)) × (d.images ≡ next_image c.images)
-      × (d.tally ≡ with_state c.tally (Some (state_of s)))
   -- numbers that were not found are reported before the next file that was
   pub gap_of_one : gap_text Words (codes "ABC001") 1 2 ≡ codes "  file 1: not found\n"
   pub gap_of_many : gap_text Words (codes "ABC001") 1 9999 ≡ codes "  files 1-9998: not found\n"
@@ -275,26 +277,30 @@ pub record CasesOfSurveys : Type 0 where
       → with_location c l image (Some h) ≡ l
   pub first_image : nothing_found.images ≡ 0
   pub second_image : next_image 0 ≡ 1
-  pub tells : (y : Wording) (reel : Reel) (name : List ℕ) (c d : Found)
-      (old new : Option (List ℕ)) (t : TellsSight y reel name c d old new) → IsViewed reel t.0 c d
-      × Appends old new (image_text y name t.0)
-  -- the text after the images is printed if no image is left
-  pub summary_last : (y : Wording) (names : List (List ℕ)) (d : Found)
-      → summary_at y names true d ≡ summary y names d
-  pub no_summary_before : (y : Wording) (names : List (List ℕ)) (d : Found)
-      → summary_at y names false d ≡ []
+  -- an image of any kind with a good copy of a section is in conflict if its good copies differ
+  pub in_conflict : (s : ImageSurvey) (key : SectionKey)
+      → state_at (Some s) (Some key) ≡ Some states.Conflict
+  pub not_in_conflict : (s : ImageSurvey)
+      → state_at (Some s) None ≡ Some (state_by s.glance.first s)
+  pub not_opened : (key : Option SectionKey) → state_at None key ≡ None
+  pub row_in_conflict : (sound : Bool) → whole_cell true sound ≡ codes "CONFLICT"
+  pub row_of_whole : whole_cell false true ≡ codes "WHOLE"
+  pub conflict_named : dispute_text (codes "; ") (Some (key_at (codes "ABC001") 1 2))
+      ≡ codes "; section 2 of file 1: good copies differ"
   -- rows have each section, and no last line; a tab separates their columns
   pub sections_in_rows : (t : Told) → sections_text Rows (t ∷ []) ≡ section_row t ++ []
-  pub no_end_in_rows : (d : Found) → end_text Rows d ≡ []
+  pub no_end_in_rows : (t : Tally) (all : Bool) → end_text Rows t all ≡ []
   -- the lines for five volumes without damage and one image that is no tape, and for one blank
   -- volume
   pub six_images : tally_line (record no_images { images = 6; ok = 5; not_tapes = 1 })
       ≡ codes "6 images: 5 ok, 1 not a tape\n"
   pub one_image : tally_line (record no_images { images = 1; blank = 1 })
       ≡ codes "1 image: 0 ok, 1 blank\n"
+  pub two_in_conflict : tally_line (record no_images { images = 3; ok = 1; conflict = 2 })
+      ≡ codes "3 images: 1 ok, 2 in conflict\n"
   pub last_section : eof_cell true ≡ codes "EOF"
   pub other_section : eof_cell false ≡ []
-  pub no_columns : sight_cells None ≡ codes "NOT OPENED\t\t\t\t\t\t\t"
+  pub no_columns : (disputed : Bool) → sight_cells None disputed ≡ codes "NOT OPENED\t\t\t\t\t\t\t"
   pub wanted : (n : ℕ) → standing_cells (Behind n (codes "ABC001"))
       ≡ codes "MISSING\t" ++ decimal n ++ codes "\t" ++ codes "ABC001"
   pub nothing_wanted : standing_cells Complete ≡ codes "COMPLETE\t\t"
@@ -304,16 +310,19 @@ pub record CasesOfSurveys : Type 0 where
       (all : Bool) (s : Surveys y Took (λ r. r) names shelf left old new all)
       → (length s.sights ≡ length names)
       × AreViewed Took (λ r. r) shelf 0 s.sights nothing_found left s.found
-      × Appends old new (image_texts y names s.sights ++ summary y names s.found)
+      × Appends old new (survey_text y names s.sights s.found)
       × (all ≡ is_all s.found)
-  -- after a fault a prefix of a survey of the first images was written; the summary follows the
-  -- last image
+  -- after a fault a prefix of the survey of all images was written, if anything was
   pub surveyed_in_part : (y : Wording) (names : List (List ℕ)) (shelf : Readers) (old new : Known)
-      (s : SurveysInPart y Took (λ r. r) names shelf old new)
-      → (length s.sights ≤ length names)
+      (s : SurveysFront y Took (λ r. r) names shelf old new)
+      → (length s.sights ≡ length names)
       × AreViewed Took (λ r. r) shelf 0 s.sights nothing_found s.left s.found
-      × AppendsFront old new
-      (image_texts y names s.sights ++ summary_at y names (length s.sights == length names) s.found)
+      × AppendsFront old new (survey_text y names s.sights s.found)
+  -- of two images with good copies that differ each is in conflict, and no other image
+  pub disputes : (y : Wording) (names : List (List ℕ)) (shelf left : Readers) (old new : Known)
+      (all : Bool) (s : Surveys y Took (λ r. r) names shelf left old new all) (image : ℕ)
+      → TellsDispute (all_placed Took (λ r. r) shelf 0 s.sights nothing_found left s.found s.viewed)
+      s.found.copies.notes image (disputed_on (disputed s.found.copies) image)
   -- conclusions that a caller can draw from the laws about image summaries
   pub left_there : LeavesThere → (items : List TapeItem) (n : ℕ) (w : ExpectedItem)
       → course_of items ≡ Leaves n w → IsFirstAstray items n

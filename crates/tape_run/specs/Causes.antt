@@ -1,9 +1,9 @@
 -- Why records were not written.
-use Rattle.std.specs.Prelude.{◌≡◌, ◌≢◌, ◌⊎◌, ℕ, Bool, true, List, [], ⊤}
+use Rattle.std.specs.Prelude.{◌≡◌, ◌≢◌, ◌⊎◌, ℕ, Bool, true, false, List, []}
 use Rattle.tape_blocks.specs.Block.{Portion}
 use Rattle.tape_blocks.specs.declared.parts.Form.{Form}
-use Rattle.tape_core.specs.Weight.{Rose}
 use Rattle.tape_core.specs.declared.sink.PartSink.{Ghosts}
+use Rattle.tape_core.specs.declared.sink.SinkFault.{SinkFault}
 use Rattle.tape_core.specs.declared.sink.SinkFault.TheVariants.{Failed}
 use Rattle.tape_run.specs.declared.fault.EngineFault.{EngineFault}
 use Rattle.tape_run.specs.declared.fault.EngineFault.TheVariants.{Run, WriteFailed}
@@ -11,41 +11,46 @@ use Rattle.tape_run.specs.declared.fault.RunFault.TheVariants.{Sink, NoSuchPoint
 use Rattle.tape_run.specs.declared.fault.RunFault.TheVariants.{OutOfMemory, OtherFile}
 use Rattle.tape_run.specs.Seen.{IsKept, IfSeen, IsSeen}
 use Rattle.tape_run.specs.SessionState.{SessionState}
+use Rattle.tape_run.specs.Steps.{IsRefused}
 
--- why the records of a sink were not written: it refused a call; or it returned fewer than were
--- counted, which is only possible if its contents are unknown; or a write failed, and it refused
--- none
-abbrev pub WritingFails : {S : Type 0} → (S → List Portion → Type 0) → (S → ℕ) → S → S
-    → EngineFault → Type 0
-WritingFails holds refusals old new (Run (Sink cause)) = Rose (refusals old) (refusals new)
+-- why the records of a sink were not written: it refused a call with this fault; or it returned
+-- fewer than were counted, which is only possible if its contents are unknown; or a write failed,
+-- and it refused none
+abbrev pub WritingFails : {S : Type 0} → (S → List Portion → Type 0) → (S → ℕ)
+    → (S → SinkFault → S → Type 0) → S → S → EngineFault → Type 0
+WritingFails holds refusals refuses old new (Run (Sink cause)) =
+    IsRefused refusals refuses old cause new
     ⊎ ((cause ≡ Failed) × ((parts : List Portion) → holds old parts → ⊥))
-WritingFails holds refusals old new (Run NoSuchPoint) = ⊥
-WritingFails holds refusals old new (Run TooFewReels) = ⊥
-WritingFails holds refusals old new (Run OutOfMemory) = ⊥
-WritingFails holds refusals old new (Run OtherFile) = ⊥
-WritingFails holds refusals old new WriteFailed = refusals new ≡ refusals old
+WritingFails holds refusals refuses old new (Run NoSuchPoint) = ⊥
+WritingFails holds refusals refuses old new (Run TooFewReels) = ⊥
+WritingFails holds refusals refuses old new (Run OutOfMemory) = ⊥
+WritingFails holds refusals refuses old new (Run OtherFile) = ⊥
+WritingFails holds refusals refuses old new WriteFailed = refusals new ≡ refusals old
 
 -- why images were not read, or the records of a session's sink not written, by one that rolls back
--- or not: the sink refused a call; or it has failed, which is only possible if its contents are
--- unknown; or memory ran out, or a write failed, and the sink refused no call. A session without a
--- checkpoint does not roll back.
-abbrev pub ExtractFails : {S : Type 0} → Ghosts S → Bool → EngineFault → SessionState S → SessionState S → Type 0
-ExtractFails g back (Run (Sink cause)) old new = Rose (g.refusals old.sink) (g.refusals new.sink)
+-- or not: the sink refused a call with this fault; or it has failed, which is only possible if its
+-- contents are unknown; or memory ran out, or a write failed, and the sink refused no call. A
+-- session without a checkpoint does not roll back.
+abbrev pub ExtractFails : {S : Type 0} → Ghosts S → (S → SinkFault → S → Type 0) → Bool
+    → EngineFault → SessionState S → SessionState S → Type 0
+ExtractFails g refuses back (Run (Sink cause)) old new =
+    IsRefused g.refusals refuses old.sink cause new.sink
     ⊎ ((cause ≡ Failed) × IfSeen g old (λ was. IsKept was → ⊥))
-ExtractFails g back (Run NoSuchPoint) old new = (back ≡ true) × (old.notes ≡ [])
-ExtractFails g back (Run TooFewReels) old new = ⊥
-ExtractFails g back (Run OutOfMemory) old new = g.refusals new.sink ≡ g.refusals old.sink
-ExtractFails g back (Run OtherFile) old new = ⊥
-ExtractFails g back WriteFailed old new = g.refusals new.sink ≡ g.refusals old.sink
+ExtractFails g refuses back (Run NoSuchPoint) old new = (back ≡ true) × (old.notes ≡ [])
+ExtractFails g refuses back (Run TooFewReels) old new = ⊥
+ExtractFails g refuses back (Run OutOfMemory) old new = g.refusals new.sink ≡ g.refusals old.sink
+ExtractFails g refuses back (Run OtherFile) old new = ⊥
+ExtractFails g refuses back WriteFailed old new = g.refusals new.sink ≡ g.refusals old.sink
 
--- The sink refused, memory ran out, or a write failed.
-abbrev pub IsExtractFault : EngineFault → Type 0
-IsExtractFault (Run (Sink cause)) = ⊤
-IsExtractFault (Run NoSuchPoint) = ⊥
-IsExtractFault (Run TooFewReels) = ⊥
-IsExtractFault (Run OutOfMemory) = ⊤
-IsExtractFault (Run OtherFile) = ⊥
-IsExtractFault WriteFailed = ⊤
+-- why images were not read: the sink refused a change
+abbrev pub ReadingFails : {S : Type 0} → Ghosts S → Bool → EngineFault → SessionState S
+    → SessionState S → Type 0
+ReadingFails g = ExtractFails g g.refuses_change
+
+-- a change of the sink was refused, or a part of its walk
+abbrev pub RefusesAny : {S : Type 0} → Ghosts S → (S → SinkFault → S → Type 0) → S → SinkFault → S
+    → Type 0
+RefusesAny g walk old fault new = g.refuses_change old fault new ⊎ walk old fault new
 
 -- No call of the sink was refused, a session with checkpoints still has one, and the invariant of
 -- sessions is preserved.
@@ -56,11 +61,11 @@ pub record IsCalm {S : Type 0} (g : Ghosts S) (old new : SessionState S) : Type 
 
 -- a write failed before, a record is unfinished, or another form was written than is requested
 abbrev pub CannotEnd : Bool → Bool → Form → Form → Type 0
-CannotEnd failed begun form asked = (failed ≡ true) ⊎ (begun ≡ true) ⊎ (form ≢ asked)
+CannotEnd works begun form asked = (works ≡ false) ⊎ (begun ≡ true) ⊎ (form ≢ asked)
 
 -- why the output of a sink was not finished: it cannot be finished; or it can, and the writer
 -- failed
 abbrev pub EndingFails : Bool → Bool → Form → Form → EngineFault → Type 0
-EndingFails failed begun form asked (Run fault) = (fault ≡ Sink Failed)
-    × CannotEnd failed begun form asked
-EndingFails failed begun form asked WriteFailed = CannotEnd failed begun form asked → ⊥
+EndingFails works begun form asked (Run fault) = (fault ≡ Sink Failed)
+    × CannotEnd works begun form asked
+EndingFails works begun form asked WriteFailed = CannotEnd works begun form asked → ⊥

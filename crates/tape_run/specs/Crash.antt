@@ -64,7 +64,8 @@ IsHeld g parts s back there = g.holds s.sink there × IsFront parts there
 
 -- A step failed: a crash leaves only what it could leave before, or the session's position after
 -- the step, and after a rollback also the last checkpoint.
-abbrev pub LeavesStep : {S : Type 0} → Ghosts S → Bool → SessionState S → List Portion → SessionState S → Type 0
+abbrev pub LeavesStep : {S : Type 0} → Ghosts S → Bool → SessionState S → List Portion
+    → SessionState S → Type 0
 LeavesStep g goes old held new =
     AddsOnly (λ back there. ((goes ≡ true) × IsLast (seen g old held) back there)
     ⊎ IsHeld g held new back there) (g.crashes old.sink) (g.crashes new.sink)

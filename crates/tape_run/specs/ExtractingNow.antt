@@ -1,5 +1,5 @@
 -- What `extract` leaves if the records are written while the images are read.
-use Rattle.std.specs.Prelude.{◌≡◌, ◌⊎◌, ℕ, ◌+◌, ◌<◌, ◌≤◌, List, ◌++◌, length, map, Option, Some}
+use Rattle.std.specs.Prelude.{◌≡◌, ◌≢◌, ◌⊎◌, ℕ, ◌+◌, ◌<◌, ◌≤◌, List, ◌++◌, length, map, Option, Some}
 use Rattle.std.specs.Prelude.{None, ⊤, false}
 use Rattle.std.specs.Io.KnownBytes.{Appends}
 use Rattle.tape_blocks.specs.Block.{Portion}
@@ -53,6 +53,15 @@ pub record ExtractsNow {S L R : Type 0} (g : Ghosts S) (size : L → ℕ) (gives
   pub ends : IfSeen g session (λ was.
       EndsNow session.core was turns want records form tells stands)
 
+-- The output's name after a fault: it was not touched, and the last line, if anything of it was
+-- reported, does not say that the file is complete; or the file is complete, nothing of the last
+-- line was reported, and the file with the name is unchanged; or that file is exactly the records.
+abbrev pub LeavesName : {O : Type 0} → Type 0 → Option Want → Form → Type 0
+    → (O → Option (List ℕ)) → O → O → Seen → Type 0
+LeavesName less want form tells stands out put now = ((put ≡ out) × (less ⊎ (want ≢ None)))
+    ⊎ ((now.place.position ≡ Finished) × (((stands put ≡ stands out) × less)
+    ⊎ (tells → stands put ≡ Some (output_of form now.parts))))
+
 -- A fault ended the run: the report is a prefix of such a report, for the first of the images; and
 -- the output's name was not touched, or the file is complete, and the file with the output's name
 -- is unchanged or contains exactly the records.
@@ -72,5 +81,5 @@ pub record StopsNow {S L R O : Type 0} (g : Ghosts S) (size : L → ℕ) (gives 
   pub follows : IfSeen g session (λ was. (last : State) × (now : Seen)
       × Follows false false session.core was turns last now × TellsEnd (AppendsFront said says
       (reel_lines 1 (map answer_of turns ++ more))) want records now
-      × ((put ≡ out) ⊎ ((now.place.position ≡ Finished) × ((stands put ≡ stands out)
-      ⊎ (tells → stands put ≡ Some (output_of form now.parts))))))
+      × LeavesName (AppendsFront said says (reel_lines 1 (map answer_of turns ++ more))) want form
+      tells stands out put now)

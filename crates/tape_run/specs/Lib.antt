@@ -113,10 +113,16 @@ pub mod SalvageImage
 pub mod SalvageEnds
 pub mod SalvageChoice
 pub mod SalvageTaking
+pub mod SalvageConflicts
+pub mod SalvageGaps
+pub mod SalvageClosed
 pub mod Salvaging
 pub mod SalvageWhole
 pub mod SalvageSections
 pub mod SalvageFile
+pub mod SalvageReadings
+pub mod SalvageDamaged
+pub mod SalvageUnnamed
 -- Examples, which show that the definitions are not too weak.
 pub mod Cases
 pub mod CasesOfRuns

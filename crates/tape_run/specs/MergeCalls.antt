@@ -1,8 +1,9 @@
 -- What the calls of merging do.
-use Rattle.std.specs.Prelude.{[], ◌∷◌, ◌≡◌, ◌≢◌, ℕ, zero, suc, ◌+◌, ◌==◌, Bool, true, false, List}
+use Rattle.std.specs.Prelude.{[], ◌∷◌, ◌++◌, ◌≡◌, ℕ, zero, suc, ◌+◌, ◌==◌, Bool, true, false}
+use Rattle.std.specs.Prelude.{List}
 use Rattle.std.specs.Prelude.{length, map, take, Option, Some, None, Err, ⊤}
 use Rattle.std.specs.Io.KnownBytes.{Appends}
-use Rattle.tape_image.specs.Tape.{TapeItem, block, bad, mark, IsTapeItem}
+use Rattle.tape_image.specs.Tape.{TapeItem, block, bad, mark}
 use Rattle.tape_image.specs.Reader.{going}
 use Rattle.tape_image.specs.declared.item.ImageWriteFault.{ImageWriteFault}
 use Rattle.tape_image.specs.Written.{written}
@@ -137,6 +138,19 @@ pub record HasWritten {R : Type 0} (firsts : List (Reading R)) (old new : Writer
   pub is : IsMerged fronts merged
   pub wrote : PutItems merged old new
 
+-- Of the merged tape of what was read, each item but the last was written. The writer refused the
+-- last one, since the image would be too long or the device failed.
+pub record RefusesLast (have : List (List TapeItem) → Type 0) (fault : ImageWriteFault)
+    (old new : Writer) : Type 0 where
+  pub readings : List (List TapeItem)
+  pub taken : have readings
+  pub merged : List TapeItem
+  pub x : TapeItem
+  pub is : IsMerged readings (merged ++ x ∷ [])
+  pub mid : Writer
+  pub wrote : PutItems merged old mid
+  pub refused : PutsFrom writing (written x) writing mid (Err fault) new
+
 -- the properties after each fault
 abbrev pub FitsFault : {R : Type 0} → List (Reading R) → List (Reading R) → Writer → Writer
     → MergeFault → Type 0
@@ -144,8 +158,7 @@ FitsFault firsts nows old new (faults.Differ n) = DiffersAt firsts nows n old ne
 FitsFault firsts nows old new faults.OutOfMemory = HasWritten firsts old new
 FitsFault firsts nows old new faults.Log = HasWritten firsts old new
 FitsFault firsts nows old new (faults.Write fault) =
-    (mid : Writer) × HasWritten firsts old mid × (mid.standing ≡ writing)
-    × (x : TapeItem) × IsTapeItem x × Refuses x fault mid new
+    RefusesLast (HaveTaken firsts nows) fault old new
 
 -- The readings are at the beginning of images with these bytes, if those are known.
 abbrev pub AreAtFront : {R : Type 0} → List (Option (List ℕ)) → List (Reading R) → Type 0
@@ -154,3 +167,8 @@ AreAtFront (bytes ∷ more) (r ∷ rs) =
     (r.image.left ≡ bytes) × (r.image.status ≡ going) × (r.image.place ≡ 0)
     × (r.items ≡ 0) × (r.bad ≡ 0) × AreAtFront more rs
 AreAtFront _ _ = ⊥
+
+-- this holds of the bytes of the images that the readings are at the beginning of, if all are known
+abbrev pub IfImages : {R : Type 0} → List (Reading R) → (List (List ℕ) → Type 0) → Type 0
+IfImages firsts holds = (images : List (List ℕ)) → AreAtFront (map Some images) firsts
+    → holds images

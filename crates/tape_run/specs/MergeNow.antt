@@ -1,14 +1,15 @@
 -- What `merge_now` leaves: all images opened, the merged one under the output's name, and the
 -- report.
-use Rattle.std.specs.Prelude.{◌≡◌, ◌≢◌, ◌⊎◌, ℕ, ◌<◌, List, [], ◌∷◌, ◌++◌, length, map, Option, Some}
-use Rattle.std.specs.Prelude.{None, ⊤}
+use Rattle.std.specs.Prelude.{◌≡◌, ◌≢◌, ◌⊎◌, ℕ, ◌+◌, ◌<◌, List, [], ◌∷◌, ◌++◌, length, map}
+use Rattle.std.specs.Prelude.{Option, Some, None, ⊤}
 use Rattle.std.specs.List.{flat_map}
 use Rattle.std.specs.Io.KnownBytes.{Appends}
 use Rattle.tape_image.specs.declared.item.Ending.{Ending}
 use Rattle.tape_image.specs.declared.item.Ending.TheVariants as endings
 use Rattle.tape_image.specs.Tape.{TapeItem}
 use Rattle.tape_image.specs.Reader.{ended}
-use Rattle.tape_image.specs.Written.{written}
+use Rattle.tape_image.specs.Begins.{image_limit}
+use Rattle.tape_image.specs.Written.{written, AppendsFront}
 use Rattle.tape_run.specs.declared.merge.Merged.{Merged}
 use Rattle.tape_run.specs.declared.merge.line.MergedEnd.{MergedEnd}
 use Rattle.tape_run.specs.declared.merge.line.MergedEnd.TheVariants.{Marked, Physical, Cut}
@@ -20,7 +21,7 @@ use Rattle.tape_run.specs.declared.merge.reading.Reading.{Reading}
 use Rattle.tape_run.specs.Reeling.{Mounting, AreMounted}
 use Rattle.tape_run.specs.Merging.{IsMerged}
 use Rattle.tape_run.specs.MergeSteps.{AllStopped}
-use Rattle.tape_run.specs.MergeCalls.{Counts, AreAtFront}
+use Rattle.tape_run.specs.MergeCalls.{Counts}
 use Rattle.tape_run.specs.MergeLines.{reading_line, has_line, lines_from, merged_line, differ_line}
 use Rattle.tape_run.specs.MergeLog.{log_text}
 use Rattle.tape_run.specs.MergedImages.{TakeImages, DifferImages}
@@ -116,35 +117,49 @@ ComesTo R images names out stands logs says Partial =
     HoldsMerged R images names out stands logs says Partial
 ComesTo R images names out stands logs says Differs = ReportsDiffering R images names says
 
--- the result of merging readings that are at the beginning of images with known bytes
-abbrev pub ReadingsComeTo : {R : Type 0} → List (Reading R) → List (List ℕ) → Option (List ℕ)
-    → Option (List ℕ) → (List ℕ → Type 0) → (List ℕ → Type 0) → MergeEnd → Type 0
-ReadingsComeTo {R} firsts names out stands logs says end = (images : List (List ℕ))
-    → AreAtFront (map Some images) firsts → ComesTo R images names out stands logs says end
+-- The images have no merged image, since one that holds what was read of them would be too long:
+-- `size` bytes of it fit, but not its next item, nor its end-of-medium marker.
+pub record IsTooLong (R : Type 0) (images : List (List ℕ)) (size : ℕ) : Type 0 where
+  pub nows : List (Reading R)
+  pub readings : List (List TapeItem)
+  pub have : TakeImages images nows readings
+  pub merged : List TapeItem
+  pub size_is : size ≡ length (flat_map written merged)
+  pub next : List ℕ
+  pub comes : ((x : TapeItem) × IsMerged readings (merged ++ x ∷ []) × (next ≡ written x))
+      ⊎ (AllStopped nows × IsMerged readings merged × EndsAs (length merged) nows Marked
+      × (next ≡ end_bytes Marked))
+  pub long : image_limit < size + length next
 
--- All images of the shelf were mounted, and merged if their bytes are known.
-pub record MergesNow {L R : Type 0} (size : L → ℕ) (gives : Mounting L R)
-    (remaining : R → Option (List ℕ)) (shelf left : L) (names : List (List ℕ))
-    (out stands : Option (List ℕ)) (logs says : List ℕ → Type 0) (end : MergeEnd) : Type 0 where
-  pub devices : List R
-  pub mounts : MountsAll size gives shelf left devices
-  pub comes : (images : List (List ℕ)) → map remaining devices ≡ map Some images
-      → ComesTo R images names out stands logs says end
+-- All images of the shelf were mounted, and this holds of their bytes, if they are known.
+pub record IfMounted {L R : Type 0} (size : L → ℕ) (gives : Mounting L R)
+    (remaining : R → Option (List ℕ)) (shelf left : L) (holds : List (List ℕ) → Type 0) : Type 0
+  where
+    pub devices : List R
+    pub mounts : MountsAll size gives shelf left devices
+    pub comes : (images : List (List ℕ)) → map remaining devices ≡ map Some images → holds images
 
--- an image that could not be opened is missing
-abbrev pub Misses : (ℕ → Type 0) → MergeStop → Type 0
-Misses missing (stops.NotOpened number) = missing number
-Misses missing (stops.TooLong size) = ⊤
-Misses missing stops.OutOfMemory = ⊤
-Misses missing stops.WriteFailed = ⊤
-Misses missing stops.LogFailed = ⊤
+-- what is so if an image could not be opened, or if the merged image would be too long
+abbrev pub Misses : (ℕ → Type 0) → (ℕ → Type 0) → MergeStop → Type 0
+Misses missing long (stops.NotOpened number) = missing number
+Misses missing long (stops.TooLong size) = long size
+Misses missing long stops.OutOfMemory = ⊤
+Misses missing long stops.WriteFailed = ⊤
+Misses missing long stops.LogFailed = ⊤
 
--- The output's place after a fault: it was not touched, or, if a write failed, what is there did
--- not change, or the merged image is there. An image that could not be opened is missing.
-abbrev pub LeavesPlace : {O : Type 0} → (O → Option (List ℕ)) → O → O → (ℕ → Type 0) → Type 0
-    → MergeStop → Type 0
-LeavesPlace stands old new missing made (stops.NotOpened number) = (new ≡ old) × missing number
-LeavesPlace stands old new missing made (stops.TooLong size) = new ≡ old
-LeavesPlace stands old new missing made stops.OutOfMemory = new ≡ old
-LeavesPlace stands old new missing made stops.LogFailed = new ≡ old
-LeavesPlace stands old new missing made stops.WriteFailed = (stands new ≡ stands old) ⊎ made
+-- Lines about readings were reported, and perhaps about a difference, or a prefix of these: none
+-- about a merged image.
+abbrev pub ReportsNoImage : Type 0 → List (List ℕ) → Option (List ℕ) → Option (List ℕ) → Type 0
+ReportsNoImage R names old new = (nows : List (Reading R)) × (n : ℕ) × AppendsFront old new
+    (lines_from (reading_line names) 0 nows ++ (differ_line n
+    ++ lines_from (has_line names) 0 nows))
+
+-- The output's place and the report after a fault: the place was not touched, and no merged image
+-- is reported; or, if a write failed, what is there did not change, or the merged image is there.
+abbrev pub LeavesPlace : {O : Type 0} → (O → Option (List ℕ)) → O → O → Type 0 → Type 0 → MergeStop
+    → Type 0
+LeavesPlace stands old new said made (stops.NotOpened number) = (new ≡ old) × said
+LeavesPlace stands old new said made (stops.TooLong size) = (new ≡ old) × said
+LeavesPlace stands old new said made stops.OutOfMemory = (new ≡ old) × said
+LeavesPlace stands old new said made stops.LogFailed = (new ≡ old) × said
+LeavesPlace stands old new said made stops.WriteFailed = ((stands new ≡ stands old) × said) ⊎ made

@@ -1,5 +1,5 @@
 -- Images that are copies of one volume, and the merged one.
-use Rattle.std.specs.Prelude.{◌≡◌, ℕ, Bool, true, List, [], ◌∷◌, IsSome, ⊤}
+use Rattle.std.specs.Prelude.{◌≡◌, ℕ, List, [], ◌∷◌, IsSome, ⊤}
 use Rattle.std.specs.List.{AllByRecursion}
 use Rattle.tape_image.specs.Tape.{TapeItem}
 use Rattle.tape_run.specs.Merging.{IsMerged}
@@ -7,7 +7,7 @@ use Rattle.tape_set.specs.declared.position.Position.{Position}
 use Rattle.tape_set.specs.Position.{IsUpTo}
 use Rattle.tape_set.specs.Layout.{FileSet, nth}
 use Rattle.tape_set.specs.Reading.{Reading}
-use Rattle.tape_set.specs.Reach.{far, far_over}
+use Rattle.tape_set.specs.Reach.{far, far_over, IsWithin}
 use Rattle.tape_set.specs.Lawful.{IsLawful}
 use Rattle.tape_run.specs.Mount.{IsCopy}
 
@@ -18,12 +18,7 @@ AreCopies set k (xs ∷ images) (r ∷ rs) =
     IsCopy set xs r × (r.volume ≡ k) × AreCopies set k images rs
 AreCopies set k _ _ = ⊥
 
--- each item that was read well in one was read well in the other
-abbrev pub IsWithin : List Bool → List Bool → Type 0
-IsWithin [] hs = ⊤
-IsWithin (g ∷ gs) [] = ⊥
-IsWithin (g ∷ gs) (h ∷ hs) = (g ≡ true → h ≡ true) × IsWithin gs hs
-
+-- each item that was read well in one of these readings was read well in s
 abbrev pub AreWithin : List Reading → Reading → Type 0
 AreWithin [] s = ⊤
 AreWithin (r ∷ rs) s = IsWithin r.good s.good × AreWithin rs s

@@ -1,8 +1,7 @@
 -- Merging, in terms of the bytes of images.
-use Rattle.std.specs.Prelude.{◌≡◌, ◌≢◌, ℕ, ◌+◌, List, [], ◌∷◌, ◌++◌, length, map, take, Option}
+use Rattle.std.specs.Prelude.{◌≡◌, ℕ, ◌+◌, List, [], ◌∷◌, ◌++◌, length, map, take, Option}
 use Rattle.std.specs.Prelude.{Some, ⊤}
 use Rattle.std.specs.Io.KnownBytes.{Appends}
-use Rattle.tape_image.specs.declared.item.ImageWriteFault.TheVariants.{BlockLength, Finished}
 use Rattle.tape_image.specs.Tape.{TapeItem}
 use Rattle.tape_image.specs.Begins.{Stop, Begins, Walks}
 use Rattle.tape_image.specs.Writer.{Writer, PutItems}
@@ -14,7 +13,7 @@ use Rattle.tape_run.specs.Merging.{IsMerged, Differ}
 use Rattle.tape_run.specs.MergeSteps.{bads, block_length, AllStopped, AreUpTo, AreJudged}
 use Rattle.tape_run.specs.MergeLaws.{TakesAs}
 use Rattle.tape_run.specs.MergeLog.{log_rows}
-use Rattle.tape_run.specs.MergeCalls.{Counts}
+use Rattle.tape_run.specs.MergeCalls.{Counts, RefusesLast}
 
 -- The fields record where the last item of the image begins, and its length.
 pub data LastIsAt {R : Type 0} (bytes : List ℕ) (now : Reading R) (items : List TapeItem) : Type 0
@@ -81,9 +80,11 @@ pub record DifferImages {R : Type 0} (images : List (List ℕ)) (nows : List (Re
   pub is : IsMerged (map (take (length merged)) readings) merged
   pub count : length merged + 1 ≡ n
 
--- A write fails because the device fails, or because the merged image would be too long.
-abbrev pub FaultsImages : {R : Type 0} → List (List ℕ) → List (Reading R) → MergeFault → Type 0
-FaultsImages images nows (faults.Differ n) = DifferImages images nows n
-FaultsImages images nows faults.OutOfMemory = ⊤
-FaultsImages images nows faults.Log = ⊤
-FaultsImages images nows (faults.Write fault) = (fault ≢ BlockLength) × (fault ≢ Finished)
+-- A write fails because the merged image would be too long, or because the device fails.
+abbrev pub FaultsImages : {R : Type 0} → List (List ℕ) → List (Reading R) → Writer → Writer
+    → MergeFault → Type 0
+FaultsImages images nows old new (faults.Differ n) = DifferImages images nows n
+FaultsImages images nows old new faults.OutOfMemory = ⊤
+FaultsImages images nows old new faults.Log = ⊤
+FaultsImages images nows old new (faults.Write fault) =
+    RefusesLast (TakeImages images nows) fault old new

@@ -1,9 +1,14 @@
 -- A sink that writes the records of a file as its parts come.
-use Rattle.std.specs.Prelude.{◌≡◌, ℕ, ◌+◌, Bool, true, false, List, [], ◌++◌, length, Option}
+use Rattle.std.specs.Prelude.{◌≡◌, ℕ, ◌+◌, ◌<◌, ⊤, Bool, true, false, List, [], ◌++◌, length}
+use Rattle.std.specs.Prelude.{Option}
 use Rattle.std.specs.Prelude.{Some, None, IsSome, is_some}
 use Rattle.tape_blocks.specs.Block.{Portion}
 use Rattle.tape_blocks.specs.Spans.{join}
+use Rattle.tape_blocks.specs.Packing.{longest_block}
+use Rattle.tape_core.specs.Known.{most_staged}
 use Rattle.tape_core.specs.Stands.{weight_of}
+use Rattle.tape_core.specs.declared.sink.SinkFault.{SinkFault}
+use Rattle.tape_core.specs.declared.sink.SinkFault.TheVariants.{OutOfMemory, Device, Full, Failed}
 use Rattle.tape_blocks.specs.declared.parts.Form.{Form}
 use Rattle.tape_run.specs.RecordText.{output_of}
 
@@ -25,16 +30,24 @@ with_end false n = n + 1
 abbrev pub TellsAlways : {W : Type 0} → (W → Option (List ℕ)) → Type 0
 TellsAlways {W} contents = (w : W) → IsSome (contents w)
 
--- known bytes are this text; after a failed write, any bytes may follow
-abbrev pub IsText : Bool → List ℕ → Option (List ℕ) → Type 0
-IsText failed text known = (more : List ℕ) × (known ≡ Some (text ++ more))
-    × (failed ≡ false → more ≡ [])
+-- the bytes of the writer, if there still is one, are this text
+abbrev pub IsText : {W : Type 0} → (W → Option (List ℕ)) → List ℕ → Option W → Type 0
+IsText contents text None = ⊤
+IsText contents text (Some out) = contents out ≡ Some text
 
 -- The parts were received: their weight, the number of their records, and whether a record is
 -- unfinished are recorded. If the writer knows its bytes, these are the text of the parts.
-pub record HasTaken {W : Type 0} (contents : W → Option (List ℕ)) (form : Form) (out : W)
-    (weight records : ℕ) (begun failed : Bool) (parts : List Portion) : Type 0 where
+pub record HasTaken {W : Type 0} (contents : W → Option (List ℕ)) (form : Form) (out : Option W)
+    (weight records : ℕ) (begun : Bool) (parts : List Portion) : Type 0 where
   pub weighs : weight ≡ weight_of parts
   pub counted : records ≡ length (join parts).records
   pub begins : begun ≡ is_some (join parts).rest
-  pub text : TellsAlways contents → IsText failed (text_so_far form parts) (contents out)
+  pub text : TellsAlways contents → IsText contents (text_so_far form parts) out
+
+-- Why a change of an output of this weight is refused: a write failed, in the call or earlier, or a
+-- part would be too heavy, or written records would have to be removed.
+abbrev pub RefusesText : Bool → ℕ → SinkFault → Bool → Type 0
+RefusesText works weight Device still = (works ≡ true) × (still ≡ false)
+RefusesText works weight Failed still = ⊤
+RefusesText works weight Full still = most_staged < weight + (5 + longest_block)
+RefusesText works weight OutOfMemory still = ⊥

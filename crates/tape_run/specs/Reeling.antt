@@ -203,7 +203,8 @@ AreSteps back turns old new = (bytes : List (List ℕ)) → AreTold turns bytes
 
 -- For any parts of its sink, the session changed in this way from its earlier state to its current
 -- one, a session that rolls back still has its own checkpoints, and a crash leaves the last one.
-abbrev pub Carries : {S : Type 0} → Ghosts S → Bool → SessionState S → SessionState S → (Seen → Seen → Type 0)
+abbrev pub Carries : {S : Type 0} → Ghosts S → Bool → SessionState S → SessionState S
+    → (Seen → Seen → Type 0)
     → Type 0
 Carries g back old new so = IfSeen g old (λ was. IsKeptFor back was
     → IsSeen g new (λ is. IsKeptFor back is × so was is
@@ -222,7 +223,8 @@ pub record Takes {S R : Type 0} (g : Ghosts S) (remaining : R → Option (List �
 -- The given number of images was read in order, all of them or up to the one that completed the
 -- file, and a line was reported for each, after the given number of earlier lines.
 pub record TakesAll {S L R : Type 0} (g : Ghosts S) (size before : ℕ) (gives : Mounting L R)
-    (remaining : R → Option (List ℕ)) (back spares : Bool) (old new : SessionState S) (shelf left : L)
+    (remaining : R → Option (List ℕ)) (back spares : Bool) (old new : SessionState S)
+    (shelf left : L)
     (said says : Option (List ℕ)) : Type 0 where
   pub turns : List Turn
   pub are_turns : AreTurns gives remaining shelf 0 turns left
@@ -240,14 +242,16 @@ IsReported number said says = (more : List (Option ReelAnswer)) × (length more 
 
 -- The session's position is here, and its sink contains these parts; and a crash leaves only its
 -- last checkpoint, if it has made one since its old state or only that was left before.
-abbrev pub StoodSaved : {S : Type 0} → Ghosts S → SessionState S → List Portion → SessionState S → Seen → Type 0
+abbrev pub StoodSaved : {S : Type 0} → Ghosts S → SessionState S → List Portion → SessionState S
+    → Seen → Type 0
 StoodSaved g old held new now = (parts : List Portion) × g.holds new.sink parts
     × (now ≡ seen g new parts) × KeepsLast g old held new parts
 
 -- Images were read in their order until a fault ended the run: a line was reported for each of
 -- them, and a prefix of one for one more. The images after that one were not opened.
 pub record StopsReading {S L R : Type 0} (g : Ghosts S) (size before : ℕ) (gives : Mounting L R)
-    (remaining : R → Option (List ℕ)) (back spares : Bool) (old new : SessionState S) (shelf left : L)
+    (remaining : R → Option (List ℕ)) (back spares : Bool) (old new : SessionState S)
+    (shelf left : L)
     (said says : Option (List ℕ)) : Type 0 where
   pub turns : List Turn
   pub are_turns : AreFirstTurns gives remaining shelf turns left

@@ -52,7 +52,8 @@ pub record RunsUpTo (which : List Bool) (old : Seen) (steps : List Step)
   pub fails : Fails step (drop (reels_in (take n steps)) reels) fault mid new
 
 -- The reason why the step failed, for any sink, whether or not the readers' bytes are known.
-abbrev pub RefusesStep : {S : Type 0} → Ghosts S → Step → RunFault → SessionState S → SessionState S → Type 0
+abbrev pub RefusesStep : {S : Type 0} → Ghosts S → Step → RunFault → SessionState S
+    → SessionState S → Type 0
 RefusesStep g Reel fault old new = Refuses g fault old new ⊎ ((fault ≡ TooFewReels) × (new ≡ old))
 RefusesStep g Save fault old new = Refuses g fault old new
 RefusesStep g (Restart n) fault old new = RefusesRestart g n fault old new

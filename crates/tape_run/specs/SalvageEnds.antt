@@ -1,5 +1,5 @@
 -- The report at the end of the blocks of a section.
-use Rattle.std.specs.Prelude.{ℕ, ◌-◌, ◌&&◌, ◌||◌, nat_lt, Bool, true, if◌then◌else◌, List, []}
+use Rattle.std.specs.Prelude.{ℕ, ◌-◌, ◌&&◌, ◌||◌, min, nat_lt, Bool, true, if◌then◌else◌, List, []}
 use Rattle.std.specs.Prelude.{◌++◌, Option, Some, None, is_some}
 use Rattle.tape_run.specs.declared.salvage.copies.SectionCopy.{SectionCopy}
 use Rattle.tape_run.specs.declared.salvage.walk.Closing.{Closing}
@@ -24,18 +24,14 @@ no_section_text sect g = rest_text sect 0 g ++ no_section_line sect g.piece.reco
 abbrev pub no_form_text : ℕ → Salvaged → List ℕ
 no_form_text sect g = rest_text sect 0 g ++ no_form_line sect g.piece.records
 
+-- the blocks of the section from this one on are missing
+abbrev pub open_text : ℕ → ℕ → Salvaged → List ℕ
+open_text sect n g = rest_text sect n g ++ open_gap_line sect n g.piece.records
+
 -- the items after the reliable ones
 abbrev pub unsure_text : ℕ → ℕ → ℕ → List ℕ
 unsure_text sect first blocks =
     if nat_lt first blocks then unsure_line sect first (blocks - 1) else []
-
--- the section did not close
-abbrev pub open_text : SectionCopy → Salvaged → List ℕ
-open_text c g =
-    let sect = c.section.key.sect in
-    let first = believed c in
-    rest_text sect first g
-    ++ (open_gap_line sect first g.piece.records ++ unsure_text sect first c.section.blocks)
 
 -- a gap at the end of the section ends there
 abbrev pub without_gap : Salvaged → Salvaged
@@ -54,33 +50,35 @@ count_text sect (Some label) blocks = count_line sect label blocks
 abbrev pub with_end : Bool → Salvaged → Salvaged
 with_end eof g = if eof && g.piece.begun then without_rest g else g
 
--- after the blocks of a copy
+-- after the blocks of a copy, and the gap at their end
 abbrev pub ended : SectionCopy → Option Closing → Salvaged → Salvaged
 ended c None g = without_rest g
-ended c (Some closed) g = with_end closed.eof (with_count (wrong_count c) (without_gap g))
+ended c (Some closed) g = with_end closed.eof (with_count (wrong_count c) g)
 
 abbrev pub ended_text : SectionCopy → Option Closing → Salvaged → List ℕ
-ended_text c None g = open_text c g
+ended_text c None g =
+    let sect = c.section.key.sect in
+    let first = believed c in
+    open_text sect first g ++ unsure_text sect first c.section.blocks
 ended_text c (Some closed) g =
     let sect = c.section.key.sect in
     let blocks = c.section.blocks in
-    gap_text sect g.gap blocks g.piece.records ++ (count_text sect (wrong_count c) blocks
-    ++ torn_text (closed.eof && g.piece.begun) sect blocks g.piece.records)
+    count_text sect (wrong_count c) blocks
+    ++ torn_text (closed.eof && g.piece.begun) sect blocks g.piece.records
 
--- after a copy that was not read again from some block on
-abbrev pub stopped : Salvaged → Salvaged
-stopped g = without_rest (without_gap g)
+-- the same if the given number of data items was read again: all the reliable ones, or fewer
+abbrev pub end_from : ℕ → SectionCopy → Salvaged → Salvaged
+end_from n c g = if nat_lt n (believed c) then without_rest g else ended c c.closed g
 
-abbrev pub stopped_text : ℕ → ℕ → Salvaged → List ℕ
-stopped_text sect n g = gap_text sect g.gap n g.piece.records
-    ++ (rest_text sect n g ++ open_gap_line sect n g.piece.records)
+abbrev pub end_text : ℕ → SectionCopy → Salvaged → List ℕ
+end_text n c g =
+    if nat_lt n (believed c) then open_text c.section.key.sect n g else ended_text c c.closed g
 
--- after a copy of which the given number of data items was read again: all the reliable ones, or
--- fewer
+-- after a copy of which the given number of data items was read again
 abbrev pub read_again : ℕ → SectionCopy → Salvaged → Salvaged
-read_again n c g = if nat_lt n (believed c) then stopped g else ended c c.closed g
+read_again n c g = end_from n c (without_gap g)
 
 abbrev pub read_again_text : ℕ → SectionCopy → Salvaged → List ℕ
 read_again_text n c g =
-    if nat_lt n (believed c) then stopped_text c.section.key.sect n g
-    else ended_text c c.closed g
+    gap_text c.section.key.sect g.gap (min n (believed c)) g.piece.records
+    ++ end_text n c (without_gap g)

@@ -62,14 +62,14 @@ abbrev pub EndsData : Expected → SectionKey → List TapeItem → Type 0
 EndsData start key items = (front : List TapeItem) × (items ≡ front ++ mark ∷ [])
     × (is_in key (expected_after start front) ≡ true)
 
--- These items of an image were read: up to the mark after the section's data if it was found,
--- otherwise all items.
+-- These items of an image were read: up to the first mark that ends the section's data if there is
+-- one, otherwise all items.
 pub record ReadsSection (before after : Option (List ℕ)) (start : Expected) (key : SectionKey)
     (items : List TapeItem) (is_ended : Bool) : Type 0 where
   pub walked : IfSome before (λ xs. (place : ℕ) × (ys : List ℕ) × Walks 0 xs items place ys)
   pub at_mark : is_ended ≡ true → EndsData start key items
   pub all : is_ended ≡ false → (stop : ImageStop) × IfKnown before after (StopsBehind items stop)
-  pub unended : is_ended ≡ false → closings key start items ≡ 0
+  pub once : closings key start items ≡ (if is_ended then 1 else 0)
 
 -- Items of the image were read, among them the given number of data items of the section, and its
 -- blocks were processed.

@@ -56,6 +56,12 @@ abbrev pub section_line : ℕ → ℕ → ℕ → List ℕ
 section_line sect image blocks =
     codes "SECTION" ++ number_text sect ++ number_text image ++ number_text blocks ++ codes "\n"
 
+-- two images, counted from 1, have complete copies of the section with different blocks; the first
+-- one is used
+abbrev pub conflict_line : ℕ → ℕ → ℕ → List ℕ
+conflict_line sect used other =
+    codes "CONFLICT" ++ number_text sect ++ number_text used ++ number_text other ++ codes "\n"
+
 -- the last line
 abbrev pub last_line : Bool → ℕ → List ℕ
 last_line whole records =

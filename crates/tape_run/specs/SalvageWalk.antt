@@ -19,6 +19,7 @@ use Rattle.tape_label.specs.Reading.{head1_at, head2_at, trail1_at}
 use Rattle.tape_set.specs.Lawful.{FileForm, binding_len, label_count}
 use Rattle.tape_core.specs.Known.{known_of}
 use Rattle.tape_core.specs.Range.{form_in_range}
+use Rattle.tape_run.specs.SurveyDigest.{digest_with}
 use Rattle.tape_run.specs.declared.salvage.walk.OpenSection.{OpenSection}
 use Rattle.tape_run.specs.declared.salvage.walk.Closing.{Closing}
 use Rattle.tape_run.specs.declared.salvage.walk.UnnamedItems.{UnnamedItems}
@@ -36,6 +37,10 @@ FoundSection = OpenSection × Option Closing
 -- one more data item; the count cannot overflow, since an image has fewer items
 abbrev pub with_item : OpenSection → OpenSection
 with_item u = record u { blocks = min (u.blocks + 1) 4294967295 }
+
+-- one more data block that was read
+abbrev pub with_data : List ℕ → OpenSection → OpenSection
+with_data b u = record (with_item u) { digest = digest_with u.digest b }
 
 -- the first of these
 abbrev pub first_of : Option ℕ → ℕ → Option ℕ
@@ -64,6 +69,7 @@ section_by h = record {
   certain = None;
   unreadable = 0;
   after = None;
+  digest = 0;
 }
 
 -- after a block at which a section may begin
@@ -189,7 +195,7 @@ step (Second u) mark = (Data u, None)
 step (Headers u) (block b) = (Headers u, None)
 step (Headers u) bad = (Headers (doubted u), None)
 step (Headers u) mark = (Data u, None)
-step (Data u) (block b) = (Data (with_item u), None)
+step (Data u) (block b) = (Data (with_data b u), None)
 step (Data u) bad = (Data (with_item (with_unreadable u)), None)
 step (Data u) mark = (Trailer u, None)
 step (Trailer u) (block b) = closed_by u (trail1_at b) (head1_at b)

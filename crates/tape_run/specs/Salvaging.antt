@@ -1,6 +1,6 @@
 -- The result of `salvage` for images.
-use Rattle.std.specs.Prelude.{◌≡◌, ℕ, ◌+◌, not, Bool, List, [], ◌∷◌, ◌++◌, length, Option, Some}
-use Rattle.std.specs.Prelude.{None}
+use Rattle.std.specs.Prelude.{◌≡◌, ℕ, ◌+◌, ◌&&◌, not, Bool, List, [], ◌∷◌, ◌++◌, length, Option}
+use Rattle.std.specs.Prelude.{Some, None}
 use Rattle.std.specs.Io.KnownBytes.{Appends}
 use Rattle.tape_run.specs.declared.salvage.copies.SectionCopy.{SectionCopy}
 use Rattle.tape_run.specs.Reeling.{Mounting, AreMounted}
@@ -10,7 +10,8 @@ use Rattle.tape_run.specs.SalvageCopies.{FindsCopies}
 use Rattle.tape_run.specs.SalvageRecords.{parts_text}
 use Rattle.tape_run.specs.SalvageLine.{not_opened_line, last_line}
 use Rattle.tape_run.specs.SalvageBlocks.{none_salvaged}
-use Rattle.tape_run.specs.SalvageChoice.{form_of_file}
+use Rattle.tape_run.specs.SalvageChoice.{form_of_file, last_section}
+use Rattle.tape_run.specs.SalvageConflicts.{AreConflicts}
 use Rattle.tape_run.specs.SalvageTaking.{Taken, AreTaken, AreAllSections, after_file, file_text}
 
 -- An image was read, and the file's sections on it were found; or it could not be opened, and its
@@ -40,8 +41,9 @@ pub record FindsAll {L R : Type 0} (size : L → ℕ) (gives : Mounting L R)
   pub wrote : Appends said says text
 
 -- The readable parts of a file were recovered: the copies of its sections were found on the images,
--- each section was recovered from its best copy, the records were written to the output, which got
--- its name, and the last line gives the number of records and whether any are missing.
+-- and those that differ from the best one were reported; each section was recovered from its best
+-- copy, the records were written to the output, which got its name, and the last line gives the
+-- number of records, and whether nothing is missing and no copy differs.
 pub record Salvages {W L R : Type 0} (contents : W → Option (List ℕ)) (size : L → ℕ)
     (gives : Mounting L R) (remaining : R → Option (List ℕ)) (task : SalvageTask) (out : W)
     (shelf left : L) (stands : Option (List ℕ)) (said says : Option (List ℕ)) (complete : Bool)
@@ -50,11 +52,16 @@ pub record Salvages {W L R : Type 0} (contents : W → Option (List ℕ)) (size 
   pub middle : L
   pub found : Option (List ℕ)
   pub finds : FindsAll size gives remaining task.set_id task.file shelf middle copies said found
+  pub conflicts : List ℕ
+  pub conflict : Bool
+  pub differ : AreConflicts copies (last_section copies) conflicts conflict
   pub taken : List Taken
   pub took : AreTaken gives remaining copies task.content (form_of_file copies) 1 middle taken left
   pub all : AreAllSections task.content (form_of_file copies) copies taken
   pub wrote : Appends (contents out) stands
       (parts_text task.form (after_file task.content copies taken none_salvaged).piece.done)
-  pub is_complete : complete ≡ not (after_file task.content copies taken none_salvaged).missing
-  pub reported : Appends found says (file_text task.content copies taken none_salvaged
-      ++ last_line complete (after_file task.content copies taken none_salvaged).piece.records)
+  pub is_complete : complete
+      ≡ (not (after_file task.content copies taken none_salvaged).missing && not conflict)
+  pub reported : Appends found says (conflicts
+      ++ (file_text task.content copies taken none_salvaged ++ last_line complete
+      (after_file task.content copies taken none_salvaged).piece.records))

@@ -69,6 +69,7 @@ IsSeen g s so = (now : List Portion) × g.holds s.sink now × so (seen g s now)
 
 -- This is true of the session with the parts that its sink contains, unless the step lost the
 -- parts.
-abbrev pub IsSeenUnless : {S : Type 0} → Type 0 → Ghosts S → SessionState S → (Seen → Type 0) → Type 0
+abbrev pub IsSeenUnless : {S : Type 0} → Type 0 → Ghosts S → SessionState S → (Seen → Type 0)
+    → Type 0
 IsSeenUnless lost g s so = (now : List Portion) × ((lost → ⊥) → g.holds s.sink now)
     × so (seen g s now)

@@ -15,6 +15,7 @@ use Rattle.tape_core.specs.Table.{saved, mount_of}
 use Rattle.tape_core.specs.Stands.{weight_of}
 use Rattle.tape_core.specs.Weight.{IsFront, Rose}
 use Rattle.tape_core.specs.declared.sink.PartSink.{Ghosts}
+use Rattle.tape_core.specs.declared.sink.SinkFault.{SinkFault}
 use Rattle.tape_core.specs.declared.sink.SinkFault.TheVariants.{Failed}
 use Rattle.tape_run.specs.declared.fault.RunFault.{RunFault}
 use Rattle.tape_run.specs.declared.fault.RunFault.TheVariants.{Sink, NoSuchPoint, TooFewReels}
@@ -124,22 +125,33 @@ ReelFails bytes TooFewReels old new = ⊥
 ReelFails bytes OutOfMemory old new = new ≡ old
 ReelFails bytes OtherFile old new = ⊥
 
+-- The sink refused a call with this fault, for a reason of its own, and no call before it.
+pub record IsRefused {S : Type 0} (refusals : S → ℕ) (refuses : S → SinkFault → S → Type 0)
+    (old : S) (fault : SinkFault) (new : S) : Type 0 where
+  pub mid : S
+  pub calm : refusals mid ≡ refusals old
+  pub why : refuses mid fault new
+  pub counted : Rose (refusals old) (refusals new)
+
 -- Why a reel was not read to its end, or no checkpoint was made, for any sink, whether or not a
--- reader knows its bytes: the sink refused a call, or memory was refused, and nothing changed.
+-- reader knows its bytes: the sink refused a call with this fault, or memory was refused, and
+-- nothing changed.
 abbrev pub Refuses : {S : Type 0} → Ghosts S → RunFault → SessionState S → SessionState S → Type 0
 Refuses g (Sink cause) old new = (new.failures ≡ old.failures)
-    × Rose (g.refusals old.sink) (g.refusals new.sink)
+    × IsRefused g.refusals g.refuses_change old.sink cause new.sink
 Refuses g NoSuchPoint old new = ⊥
 Refuses g TooFewReels old new = ⊥
 Refuses g OutOfMemory old new = new ≡ old
 Refuses g OtherFile old new = ⊥
 
--- Why a session did not roll back, for any sink: the sink refused a call, or weighs less than the
+-- Why a session did not roll back, for any sink: the sink refused a call with this fault, or
+-- weighs less than the
 -- checkpoint says, which is only possible if its contents are unknown; or there is no such
 -- checkpoint.
-abbrev pub RefusesRestart : {S : Type 0} → Ghosts S → ℕ → RunFault → SessionState S → SessionState S → Type 0
+abbrev pub RefusesRestart : {S : Type 0} → Ghosts S → ℕ → RunFault → SessionState S
+    → SessionState S → Type 0
 RefusesRestart g n (Sink cause) old new = (new.failures ≡ old.failures)
-    × (Rose (g.refusals old.sink) (g.refusals new.sink)
+    × (IsRefused g.refusals g.refuses_change old.sink cause new.sink
     ⊎ ((cause ≡ Failed) × (g.refusals new.sink ≡ g.refusals old.sink)
     × IfSeen g old (λ was. IsKept was → ⊥)))
 RefusesRestart g n NoSuchPoint old new = (length old.notes ≤ n) × (new ≡ old)

@@ -1,52 +1,37 @@
 -- What `survey` prints of images.
-use Rattle.std.specs.Prelude.{◌≡◌, ◌⊎◌, ◌≤◌, ◌==◌, ℕ, Bool, true, false, List, [], ◌∷◌, ◌++◌}
-use Rattle.std.specs.Prelude.{length, Option, Some}
+use Rattle.std.specs.Prelude.{◌≡◌, ◌⊎◌, ◌+◌, ℕ, Bool, true, List, [], ◌∷◌, ◌++◌, length, Option}
+use Rattle.std.specs.Prelude.{Some}
 use Rattle.std.specs.Io.KnownBytes.{Appends}
 use Rattle.tape_run.specs.declared.section.SectionKey.{SectionKey}
 use Rattle.tape_run.specs.declared.survey.copies.CopyNote.{CopyNote}
 use Rattle.tape_run.specs.declared.survey.Wording.{Wording}
 use Rattle.tape_run.specs.declared.survey.view.ImageSurvey.{ImageSurvey}
-use Rattle.tape_run.specs.Checked.{Reel}
 use Rattle.tape_image.specs.Written.{AppendsFront}
 use Rattle.tape_run.specs.Reeling.{Mounting}
 use Rattle.tape_run.specs.SurveyWording.{image_text, summary}
-use Rattle.tape_run.specs.SurveyConflicts.{IsIn, CopiesDiffer, all_placed}
-use Rattle.tape_run.specs.SurveyCopies.{Noted}
+use Rattle.tape_run.specs.SurveyConflicts.{IsIn, CopiesDiffer, TellsDispute, all_placed}
+use Rattle.tape_run.specs.SurveyCopies.{Noted, Held, disputed, disputed_on}
 use Rattle.tape_run.specs.SurveySound.{IsSound}
-use Rattle.tape_run.specs.SurveyRead.{Found, nothing_found, IsViewed, AreViewed}
+use Rattle.tape_run.specs.SurveyRead.{Found, nothing_found, AreViewed}
 use Rattle.tape_run.specs.SurveySets.{is_all}
+use Rattle.tape_run.specs.SurveyTally.{no_images, tally_from}
 
--- the reports on images, as far as the names and the results go
-abbrev pub image_texts : Wording → List (List ℕ) → List (Option ImageSurvey) → List ℕ
-image_texts y [] sights = []
-image_texts y (name ∷ names) [] = []
-image_texts y (name ∷ names) (sight ∷ sights) =
-    image_text y name sight ++ image_texts y names sights
+-- the texts about images, of which the first has this number, with the good copies of sections
+-- whose good copies differ
+abbrev pub image_texts : Wording → List Held → ℕ → List (List ℕ) → List (Option ImageSurvey)
+    → List ℕ
+image_texts y held image [] sights = []
+image_texts y held image (name ∷ names) [] = []
+image_texts y held image (name ∷ names) (sight ∷ sights) =
+    image_text y name sight (disputed_on held image) ++ image_texts y held (image + 1) names sights
 
--- an image was read, and its line was written
-abbrev pub TellsSight : Wording → Reel → List ℕ → Found → Found → Option (List ℕ)
-    → Option (List ℕ) → Type 0
-TellsSight y reel name c d old new =
-    (sight : Option ImageSurvey) × IsViewed reel sight c d × Appends old new (image_text y name sight)
+-- the survey of images with these names, on which this was found
+abbrev pub survey_text : Wording → List (List ℕ) → List (Option ImageSurvey) → Found → List ℕ
+survey_text y names sights d = image_texts y (disputed d.copies) 0 names sights
+    ++ summary y names (tally_from (disputed d.copies) no_images 0 sights) d
 
--- A fault came at an image: nothing more was written, or the image was read and a prefix of its
--- line was written.
-abbrev pub StopsAtSight : Wording → Reel → List ℕ → Found → Option (List ℕ) → Option (List ℕ)
-    → Type 0
-StopsAtSight y reel name c old new = Appends old new [] ⊎ ((sight : Option ImageSurvey) × (d : Found)
-    × IsViewed reel sight c d × AppendsFront old new (image_text y name sight))
-
--- the images with these names were read, and their lines were written
-pub record TellsSights {L R : Type 0} (y : Wording) (gives : Mounting L R)
-    (remaining : R → Option (List ℕ))
-    (names : List (List ℕ)) (shelf left : L) (d : Found) (old new : Option (List ℕ)) : Type 0 where
-  pub sights : List (Option ImageSurvey)
-  pub each : length sights ≡ length names
-  pub viewed : AreViewed gives remaining shelf 0 sights nothing_found left d
-  pub wrote : Appends old new (image_texts y names sights)
-
--- The survey of the images with these names, one after another, was written, and the result says
--- whether all is well. After the images this was found.
+-- The images were read, one after another, and their survey was written; the result says whether
+-- all is well.
 pub record Surveys {L R : Type 0} (y : Wording) (gives : Mounting L R)
     (remaining : R → Option (List ℕ))
     (names : List (List ℕ)) (shelf left : L) (old new : Option (List ℕ)) (all : Bool)
@@ -55,7 +40,7 @@ pub record Surveys {L R : Type 0} (y : Wording) (gives : Mounting L R)
   pub found : Found
   pub each : length sights ≡ length names
   pub viewed : AreViewed gives remaining shelf 0 sights nothing_found left found
-  pub wrote : Appends old new (image_texts y names sights ++ summary y names found)
+  pub wrote : Appends old new (survey_text y names sights found)
   pub is_so : all ≡ is_all found
   -- if all is well, the images are sound; and copies that are reported to differ do differ
   pub sound : all ≡ true → IsSound gives remaining shelf left sights found viewed
@@ -63,21 +48,25 @@ pub record Surveys {L R : Type 0} (y : Wording) (gives : Mounting L R)
       → IsIn {X = Noted} found.copies.notes (key, n) → n.other ≡ Some other
       → CopiesDiffer (all_placed gives remaining shelf 0 sights nothing_found left found viewed) key
       n.image other
+  -- an image is reported to be in conflict exactly if it has a good copy of a section whose good
+  -- copies differ
+  pub disputes : (image : ℕ) → TellsDispute
+      (all_placed gives remaining shelf 0 sights nothing_found left found viewed)
+      found.copies.notes image (disputed_on (disputed found.copies) image)
 
--- the summary follows if no image is left
-abbrev pub summary_at : Wording → List (List ℕ) → Bool → Found → List ℕ
-summary_at y names true d = summary y names d
-summary_at y names false d = []
-
--- The first images were read, and a prefix of their survey was written; its summary follows the
--- line of the last.
-pub record SurveysInPart {L R : Type 0} (y : Wording) (gives : Mounting L R)
+-- The images were read, and a prefix of their survey was written.
+pub record SurveysFront {L R : Type 0} (y : Wording) (gives : Mounting L R)
     (remaining : R → Option (List ℕ))
     (names : List (List ℕ)) (shelf : L) (old new : Option (List ℕ)) : Type 0 where
   pub sights : List (Option ImageSurvey)
-  pub few : length sights ≤ length names
   pub found : Found
   pub left : L
+  pub each : length sights ≡ length names
   pub viewed : AreViewed gives remaining shelf 0 sights nothing_found left found
-  pub wrote : AppendsFront old new (image_texts y names sights
-      ++ summary_at y names (length sights == length names) found)
+  pub wrote : AppendsFront old new (survey_text y names sights found)
+
+-- nothing was written, or all images were read
+abbrev pub SurveysInPart : {L R : Type 0} → Wording → Mounting L R → (R → Option (List ℕ))
+    → List (List ℕ) → L → Option (List ℕ) → Option (List ℕ) → Type 0
+SurveysInPart y gives remaining names shelf old new =
+    (new ≡ old) ⊎ SurveysFront y gives remaining names shelf old new

@@ -1,5 +1,6 @@
 -- The consequences for the images if good copies are reported to agree or to differ.
-use Rattle.std.specs.Prelude.{◌≡◌, ◌≢◌, ℕ, ◌+◌, List, [], ◌∷◌, ◌++◌, map, Option, Some}
+use Rattle.std.specs.Prelude.{◌≡◌, ◌≢◌, ℕ, ◌+◌, true, false, List, [], ◌∷◌, ◌++◌, map, Option, Some}
+use Rattle.std.specs.Prelude.{None}
 use Rattle.std.specs.Prelude.{option_map}
 use Rattle.std.specs.List.{AllByRecursion}
 use Rattle.tape_image.specs.Tape.{TapeItem}
@@ -9,7 +10,7 @@ use Rattle.tape_run.specs.Checked.{Reel}
 use Rattle.tape_run.specs.Passing.{Told}
 use Rattle.tape_run.specs.Reeling.{Mounting}
 use Rattle.tape_run.specs.Shown.{Shown}
-use Rattle.tape_run.specs.SurveyCopies.{Copy, copies_on}
+use Rattle.tape_run.specs.SurveyCopies.{Copy, Noted, copies_on, noted_at, differs}
 use Rattle.tape_run.specs.SurveyRead.{Found, IsViewed, AreViewed}
 
 -- ---- a good copy
@@ -65,3 +66,11 @@ pub record CopiesDiffer (xs : List Placed) (key : SectionKey) (first other : ℕ
   pub one_on : one.0 ≡ first
   pub two_on : two.0 ≡ other
   pub differ : one.1.1 ≢ two.1.1
+
+-- One of these copies is on this image and is a copy of this section, whose good copies differ; or
+-- none on this image is a copy of such a section.
+abbrev pub TellsDispute : List Placed → List Noted → ℕ → Option SectionKey → Type 0
+TellsDispute xs notes image (Some key) = (x : Placed) × IsIn xs x × (x.0 ≡ image)
+    × (x.1.0.0 ≡ key) × (differs (noted_at notes key) ≡ true)
+TellsDispute xs notes image None =
+    (x : Placed) → IsIn xs x → x.0 ≡ image → differs (noted_at notes x.1.0.0) ≡ false

@@ -1,6 +1,7 @@
 -- The good copies of sections, compared by their data blocks.
 use Rattle.std.specs.Prelude.{ℕ, ◌+◌, ◌==◌, ◌&&◌, min, Bool, true, false, if◌then◌else◌, List, []}
 use Rattle.std.specs.Prelude.{◌∷◌, ◌++◌, Option, Some, None, is_some}
+use Rattle.std.specs.List.{flat_map}
 use Rattle.std.specs.Map.{lookup}
 use Rattle.indexmap.specs.IndexMap.{insert_entry}
 use Rattle.tape_image.specs.Tape.{TapeItem, block, bad, mark}
@@ -52,14 +53,19 @@ Noted = SectionKey × CopyNote
 abbrev pub Disputed : Type 0
 Disputed = FileKey × ℕ
 
--- the good copies that were found
+-- the number of an image, and a section of which it has a good copy
+abbrev pub Held : Type 0
+Held = ℕ × SectionKey
+
+-- the good copies that were found, by sections and one by one
 pub record Copied : Type 0 where
   pub notes : List Noted
   pub conflicts : List Disputed
+  pub held : List Held
 
 -- no copy was found
 abbrev pub no_copies : Copied
-no_copies = record { notes = []; conflicts = [] }
+no_copies = record { notes = []; conflicts = []; held = [] }
 
 -- the number of copies with one more
 abbrev pub one_copy_more : ℕ → ℕ
@@ -91,17 +97,18 @@ with_conflict files key differs =
     if differs then insert_entry same_file files (file_key key.set_id key.file) key.sect
     else files
 
--- after this record of a section
-abbrev pub with_note : Copied → SectionKey → CopyNote → Copied
-with_note c key note = record {
+-- after a copy on this image, with this record of its section
+abbrev pub with_note : Copied → ℕ → SectionKey → CopyNote → Copied
+with_note c image key note = record {
   notes = insert_entry same_key c.notes key note;
   conflicts = with_conflict c.conflicts key (is_some note.other);
+  held = c.held ++ (image, key) ∷ [];
 }
 
 -- after a good copy on this image, with this number of blocks and this digest
 abbrev pub with_good : Copied → ℕ → SectionKey → ℕ → ℕ → Copied
 with_good c image key blocks digest =
-    with_note c key (copy_note (noted_at c.notes key) image blocks digest)
+    with_note c image key (copy_note (noted_at c.notes key) image blocks digest)
 
 -- after the section that was completed on this image, if any, with its digest
 abbrev pub with_told : Copied → ℕ → Option Told → ℕ → Copied
@@ -142,6 +149,24 @@ digest_in digest p mark = digest_past digest p
 -- a section of a file whose good copies differ, if any
 abbrev pub dispute_at : Copied → FileKey → Option ℕ
 dispute_at c key = lookup (same_file key) c.conflicts
+
+-- good copies of the section with this record differ
+abbrev pub differs : Option CopyNote → Bool
+differs None = false
+differs (Some n) = is_some n.other
+
+-- a good copy, if good copies of its section differ
+abbrev pub disputed_by : List Noted → Held → List Held
+disputed_by notes h = if differs (noted_at notes h.1) then h ∷ [] else []
+
+-- the good copies of sections whose good copies differ, in the order in which they were found
+abbrev pub disputed : Copied → List Held
+disputed c = flat_map (disputed_by c.notes) c.held
+
+-- the section of the first of these copies that is on this image
+abbrev pub disputed_on : List Held → ℕ → Option SectionKey
+disputed_on [] image = None
+disputed_on (h ∷ hs) image = if h.0 == image then Some h.1 else disputed_on hs image
 
 -- no file is in conflict
 abbrev pub is_agreed : List Disputed → Bool

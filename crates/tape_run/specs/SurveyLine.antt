@@ -7,6 +7,7 @@ use Rattle.std.specs.List.{suffix_len}
 use Rattle.tape_image.specs.Fault.{number_of}
 use Rattle.tape_label.specs.declared.values.Head1.{Head1}
 use Rattle.tape_run.specs.declared.section.ImageStop.{ImageStop}
+use Rattle.tape_run.specs.declared.section.SectionKey.{SectionKey}
 use Rattle.tape_run.specs.declared.section.SectionLine.{SectionLine}
 use Rattle.tape_run.specs.declared.section.SectionState.{SectionState}
 use Rattle.tape_run.specs.declared.section.SectionState.TheVariants.{Good, Bad, Count, Cut}
@@ -178,35 +179,43 @@ stop_text between (Fault fault) = fault_text between fault
 stop_text between Marked = []
 stop_text between Physical = []
 
--- the description of an image
-abbrev pub seen_text : List ℕ → ImageSurvey → List ℕ
-seen_text between s = glance_text between s.glance
-    ++ (course_text between (course_shown s.glance.first s.glance.course) s.stop ++ (stop_text between s.stop
-    ++ damages_text between s.glance))
+-- a section on the image whose good copies differ, if any
+abbrev pub dispute_text : List ℕ → Option SectionKey → List ℕ
+dispute_text between None = []
+dispute_text between (Some key) = between ++ (codes "section " ++ (decimal key.sect
+    ++ (codes " of file " ++ (decimal key.file ++ codes ": good copies differ"))))
+
+-- the description of an image with such a section, if any
+abbrev pub seen_text : List ℕ → ImageSurvey → Option SectionKey → List ℕ
+seen_text between s key = glance_text between s.glance
+    ++ (course_text between (course_shown s.glance.first s.glance.course) s.stop
+    ++ (stop_text between s.stop ++ (damages_text between s.glance ++ dispute_text between key)))
 
 -- the word for a state, padded to a column
 abbrev pub state_word : ImageState → List ℕ
 state_word states.Ok = codes "ok           "
 state_word states.Blank = codes "blank        "
+state_word states.Conflict = codes "conflict     "
 state_word states.Damaged = codes "damaged      "
 state_word states.Unsupported = codes "unsupported  "
 state_word states.Empty = codes "empty        "
 state_word states.NotTape = codes "not a tape   "
 
 -- its state and what it is, each fact after the first on a line of its own
-abbrev pub opened_text : ImageSurvey → List ℕ
-opened_text s = state_word (state_of s) ++ (seen_text (codes "\n    ") s ++ codes "\n")
+abbrev pub opened_text : ImageSurvey → Option SectionKey → List ℕ
+opened_text s key =
+    state_word (state_of s key) ++ (seen_text (codes "\n    ") s key ++ codes "\n")
 
 -- the description of an image, or the text that it was not opened
-abbrev pub sight_text : Option ImageSurvey → List ℕ
-sight_text (Some s) = opened_text s
-sight_text None = codes "not opened\n"
+abbrev pub sight_text : Option ImageSurvey → Option SectionKey → List ℕ
+sight_text (Some s) key = opened_text s key
+sight_text None key = codes "not opened\n"
 
 -- the line about an image after its printed name, given the length of the name: the next column is
 -- aligned for all names of at most 24 bytes
-abbrev pub line_end : ℕ → Option ImageSurvey → List ℕ
-line_end named sight = replicate (24 - named) 32 ++ (codes "  " ++ sight_text sight)
+abbrev pub line_end : ℕ → Option ImageSurvey → Option SectionKey → List ℕ
+line_end named sight key = replicate (24 - named) 32 ++ (codes "  " ++ sight_text sight key)
 
 -- the line of an image
-abbrev pub image_line : List ℕ → Option ImageSurvey → List ℕ
-image_line name sight = name_text name ++ line_end (length (name_text name)) sight
+abbrev pub image_line : List ℕ → Option ImageSurvey → Option SectionKey → List ℕ
+image_line name sight key = name_text name ++ line_end (length (name_text name)) sight key

@@ -3,7 +3,6 @@ use Rattle.std.specs.Prelude.{◌≡◌, ℕ, ◌+◌, ◌&&◌, Bool, true, fal
 use Rattle.std.specs.Prelude.{Option, Some, None}
 use Rattle.tape_image.specs.Tape.{TapeItem}
 use Rattle.tape_image.specs.Reader.{IfKnown}
-use Rattle.tape_run.specs.declared.survey.tally.Tally.{Tally}
 use Rattle.tape_run.specs.declared.survey.view.ImageSurvey.{ImageSurvey}
 use Rattle.tape_run.specs.Added.{StopsBehind}
 use Rattle.tape_run.specs.Checked.{Reel}
@@ -14,11 +13,10 @@ use Rattle.tape_run.specs.SurveyCopies.{Copied, no_copies, copied_in}
 use Rattle.tape_run.specs.SurveyFiles.{Filed, filed_in}
 use Rattle.tape_run.specs.SurveyGlance.{glance_of}
 use Rattle.tape_run.specs.SurveyLocations.{Located, located_in, next_image}
-use Rattle.tape_run.specs.SurveyTally.{is_whole_sight, state_of, no_images, with_state}
+use Rattle.tape_run.specs.SurveyTally.{is_whole_sight}
 
 -- the results of reading images: the sections and files found, whether every image was read
--- completely, the image of each section, its good copies, and the number of images, in all and in
--- each state
+-- completely, the image of each section, its good copies, and the number of images
 pub record Found : Type 0 where
   pub sections : List Told
   pub files : List Filed
@@ -26,7 +24,6 @@ pub record Found : Type 0 where
   pub locations : List Located
   pub copies : Copied
   pub images : ℕ
-  pub tally : Tally
 
 -- nothing was found
 abbrev pub nothing_found : Found
@@ -37,7 +34,6 @@ nothing_found = record {
   locations = [];
   copies = no_copies;
   images = 0;
-  tally = no_images;
 }
 
 -- All items that a reader of the image with this number returned were surveyed: the sections and
@@ -57,16 +53,11 @@ pub record ViewsItems (before after : Option (List ℕ)) (image : ℕ) (sections
 
 -- An image was read, completely if it is a whole volume; or it was not opened.
 abbrev pub IsViewed : Reel → Option ImageSurvey → Found → Found → Type 0
-IsViewed None None c d = d ≡ record c {
-  whole = false;
-  images = next_image c.images;
-  tally = with_state c.tally None;
-}
+IsViewed None None c d = d ≡ record c { whole = false; images = next_image c.images }
 IsViewed (Some before) (Some sight) c d = (after : Option (List ℕ))
     × ViewsItems before after c.images c.sections c.files c.locations c.copies sight d.sections
     d.files d.locations d.copies
     × (d.whole ≡ (c.whole && is_whole_sight sight)) × (d.images ≡ next_image c.images)
-    × (d.tally ≡ with_state c.tally (Some (state_of sight)))
 IsViewed _ _ c d = ⊥
 
 -- Images of a source from this number on, opened one after another, were read.

@@ -3,6 +3,7 @@
 use Rattle.std.specs.Prelude.{ℕ, Bool, if◌then◌else◌, List, [], ◌++◌, codes, decimal}
 use Rattle.std.specs.Prelude.{Option, Some, None, is_some, ◌||◌}
 use Rattle.tape_label.specs.declared.values.Head1.{Head1}
+use Rattle.tape_run.specs.declared.section.SectionKey.{SectionKey}
 use Rattle.tape_run.specs.declared.survey.files.FileNote.{FileNote}
 use Rattle.tape_run.specs.declared.survey.glance.First.{First}
 use Rattle.tape_run.specs.declared.survey.glance.First.TheVariants as firsts
@@ -22,9 +23,10 @@ use Rattle.tape_run.specs.SurveyTally.{is_sound}
 use Rattle.tape_run.specs.declared.survey.Wording.TheVariants.{Rows}
 use Rattle.tape_run.specs.SurveySets.{standing_of, is_mixed, is_whole_file, rest_lines}
 
--- whether an image was read completely
-abbrev pub whole_cell : Bool → List ℕ
-whole_cell whole = if whole then codes "WHOLE" else codes "PARTIAL"
+-- the state of an image: whether it is in conflict, or else was read completely without damage
+abbrev pub whole_cell : Bool → Bool → List ℕ
+whole_cell disputed sound =
+    if disputed then codes "CONFLICT" else if sound then codes "WHOLE" else codes "PARTIAL"
 
 -- the volume, if the first item is a volume label
 abbrev pub volume_cell : First → List ℕ
@@ -42,31 +44,31 @@ abbrev pub count_cells : ImageSummary → List ℕ
 count_cells g =
     decimal g.items ++ codes "\t" ++ decimal g.files ++ codes "\t" ++ decimal g.bad
 
--- the description of an image
-abbrev pub seen_cells : ImageSurvey → List ℕ
-seen_cells s =
-    whole_cell (is_sound s) ++ codes "\t" ++ volume_cell s.glance.first ++ codes "\t"
+-- the description of an image, which has a good copy of a section whose good copies differ or not
+abbrev pub seen_cells : ImageSurvey → Bool → List ℕ
+seen_cells s disputed =
+    whole_cell disputed (is_sound s) ++ codes "\t" ++ volume_cell s.glance.first ++ codes "\t"
     ++ head_cells s.glance.head ++ codes "\t" ++ count_cells s.glance ++ codes "\t"
     ++ stop_text s.stop
 
 -- the description of the image, or that it was not opened
-abbrev pub sight_cells : Option ImageSurvey → List ℕ
-sight_cells (Some s) = seen_cells s
-sight_cells None = codes "NOT OPENED\t\t\t\t\t\t\t"
+abbrev pub sight_cells : Option ImageSurvey → Bool → List ℕ
+sight_cells (Some s) disputed = seen_cells s disputed
+sight_cells None disputed = codes "NOT OPENED\t\t\t\t\t\t\t"
 
 -- the columns after a name, except the words at the end
-abbrev pub middle_cells : Option ImageSurvey → List ℕ
-middle_cells sight = codes "\t" ++ sight_cells sight ++ codes "\t"
+abbrev pub middle_cells : Option ImageSurvey → Bool → List ℕ
+middle_cells sight disputed = codes "\t" ++ sight_cells sight disputed ++ codes "\t"
 
 -- the description of an image in words, at the end of its row
-abbrev pub words_cell : Option ImageSurvey → List ℕ
-words_cell (Some s) = seen_text (codes "; ") s ++ codes "\n"
-words_cell None = codes "not opened\n"
+abbrev pub words_cell : Option ImageSurvey → Option SectionKey → List ℕ
+words_cell (Some s) key = seen_text (codes "; ") s key ++ codes "\n"
+words_cell None key = codes "not opened\n"
 
 -- the row of an image
-abbrev pub image_row : List ℕ → Option ImageSurvey → List ℕ
-image_row name sight =
-    codes "IMAGE\t" ++ name_text name ++ middle_cells sight ++ words_cell sight
+abbrev pub image_row : List ℕ → Option ImageSurvey → Option SectionKey → List ℕ
+image_row name sight key =
+    codes "IMAGE\t" ++ name_text name ++ middle_cells sight (is_some key) ++ words_cell sight key
 
 -- the numbers of the section
 abbrev pub key_cells : List ℕ → ℕ → ℕ → List ℕ

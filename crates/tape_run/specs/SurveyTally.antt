@@ -1,11 +1,13 @@
 -- The state of an image, and the number of images in each state. The line is for people, and may
 -- change.
 use Rattle.std.specs.Prelude.{ℕ, ◌+◌, ◌==◌, ◌&&◌, nat_le, min, not, is_some, Bool, true, false}
-use Rattle.std.specs.Prelude.{if◌then◌else◌, List, [], ◌++◌, codes, decimal, Option, Some, None}
+use Rattle.std.specs.Prelude.{if◌then◌else◌, List, [], ◌∷◌, ◌++◌, codes, decimal, Option, Some}
+use Rattle.std.specs.Prelude.{None}
 use Rattle.tape_image.specs.declared.item.ImageFault.{ImageFault}
 use Rattle.tape_image.specs.Fault.{number_of}
 use Rattle.tape_run.specs.declared.section.ImageStop.{ImageStop}
 use Rattle.tape_run.specs.declared.section.ImageStop.TheVariants.{Marked, Physical, Fault}
+use Rattle.tape_run.specs.declared.section.SectionKey.{SectionKey}
 use Rattle.tape_run.specs.declared.survey.course.LabelOrder.{LabelOrder}
 use Rattle.tape_run.specs.declared.survey.course.LabelOrder.TheVariants.{Ended}
 use Rattle.tape_run.specs.declared.survey.glance.First.{First}
@@ -14,6 +16,7 @@ use Rattle.tape_run.specs.declared.survey.line.ImageState.{ImageState}
 use Rattle.tape_run.specs.declared.survey.line.ImageState.TheVariants as states
 use Rattle.tape_run.specs.declared.survey.tally.Tally.{Tally}
 use Rattle.tape_run.specs.declared.survey.view.ImageSurvey.{ImageSurvey}
+use Rattle.tape_run.specs.SurveyCopies.{Held, disputed_on}
 
 -- the image does not end with a fault
 abbrev pub is_end : ImageStop → Bool
@@ -69,9 +72,16 @@ state_by firsts.Ebcdic s = states.Unsupported
 state_by (firsts.Block n) s = states.Unsupported
 state_by firsts.Mark s = states.Unsupported
 
--- the state of any image
-abbrev pub state_of : ImageSurvey → ImageState
-state_of s = state_by s.glance.first s
+-- the state of an image: it is in conflict if it has a good copy of a section, given here, whose
+-- good copies differ
+abbrev pub state_of : ImageSurvey → Option SectionKey → ImageState
+state_of s (Some key) = states.Conflict
+state_of s None = state_by s.glance.first s
+
+-- the same if the image was opened
+abbrev pub state_at : Option ImageSurvey → Option SectionKey → Option ImageState
+state_at None key = None
+state_at (Some s) key = Some (state_of s key)
 
 -- ---- how many are in each
 
@@ -81,6 +91,7 @@ no_images = record {
   images = 0;
   ok = 0;
   blank = 0;
+  conflict = 0;
   damaged = 0;
   unsupported = 0;
   empty = 0;
@@ -96,6 +107,7 @@ one_more n = min (n + 1) 4294967295
 abbrev pub counted : Tally → Option ImageState → Tally
 counted t (Some states.Ok) = record t { ok = one_more t.ok }
 counted t (Some states.Blank) = record t { blank = one_more t.blank }
+counted t (Some states.Conflict) = record t { conflict = one_more t.conflict }
 counted t (Some states.Damaged) = record t { damaged = one_more t.damaged }
 counted t (Some states.Unsupported) = record t { unsupported = one_more t.unsupported }
 counted t (Some states.Empty) = record t { empty = one_more t.empty }
@@ -105,6 +117,13 @@ counted t None = record t { not_opened = one_more t.not_opened }
 -- the numbers after one more image, in this state if it was opened
 abbrev pub with_state : Tally → Option ImageState → Tally
 with_state t state = counted (record t { images = one_more t.images }) state
+
+-- the numbers after these images, of which the first has this number, with the good copies of
+-- sections whose good copies differ
+abbrev pub tally_from : List Held → Tally → ℕ → List (Option ImageSurvey) → Tally
+tally_from held t image [] = t
+tally_from held t image (sight ∷ sights) =
+    tally_from held (with_state t (state_at sight (disputed_on held image))) (image + 1) sights
 
 -- a number of images in a state, if there are any
 abbrev pub count_text : ℕ → List ℕ → List ℕ
@@ -122,9 +141,10 @@ images_text n = if n == 1 then codes "1 image" else decimal n ++ codes " images"
 
 -- the numbers of images that are not volumes without damage
 abbrev pub counts_text : Tally → List ℕ
-counts_text t = count_text t.blank (codes "blank") ++ (count_text t.damaged (codes "damaged")
+counts_text t = count_text t.blank (codes "blank")
+    ++ (count_text t.conflict (codes "in conflict") ++ (count_text t.damaged (codes "damaged")
     ++ (count_text t.unsupported (codes "unsupported") ++ (count_text t.empty (codes "empty")
-    ++ (not_tapes_text t.not_tapes ++ count_text t.not_opened (codes "not opened")))))
+    ++ (not_tapes_text t.not_tapes ++ count_text t.not_opened (codes "not opened"))))))
 
 -- the line of all images
 abbrev pub tally_line : Tally → List ℕ

@@ -1,8 +1,10 @@
 -- The text of a survey, in words or in rows.
-use Rattle.std.specs.Prelude.{ℕ, zero, suc, ◌+◌, ◌-◌, if◌then◌else◌, List, [], ◌++◌, Option}
+use Rattle.std.specs.Prelude.{ℕ, zero, suc, ◌+◌, ◌-◌, Bool, if◌then◌else◌, List, [], ◌++◌, Option}
 use Rattle.std.specs.List.{flat_map}
+use Rattle.tape_run.specs.declared.section.SectionKey.{SectionKey}
 use Rattle.tape_run.specs.declared.survey.Wording.{Wording}
 use Rattle.tape_run.specs.declared.survey.Wording.TheVariants.{Words, Rows}
+use Rattle.tape_run.specs.declared.survey.tally.Tally.{Tally}
 use Rattle.tape_run.specs.declared.survey.view.ImageSurvey.{ImageSurvey}
 use Rattle.tape_run.specs.Lacks.{SetFiles, sets_from}
 use Rattle.tape_run.specs.Passing.{Told}
@@ -15,10 +17,10 @@ use Rattle.tape_run.specs.SurveyRows.{image_row, section_row, file_row}
 use Rattle.tape_run.specs.SurveyTally.{tally_line}
 use Rattle.tape_run.specs.SurveySets.{file_lines, set_line, sure_files, strays_text, is_all, last_text}
 
--- the text about an image
-abbrev pub image_text : Wording → List ℕ → Option ImageSurvey → List ℕ
-image_text Words name sight = image_line name sight
-image_text Rows name sight = image_row name sight
+-- the text about an image with a section whose good copies differ, if any
+abbrev pub image_text : Wording → List ℕ → Option ImageSurvey → Option SectionKey → List ℕ
+image_text Words name sight key = image_line name sight key
+image_text Rows name sight key = image_row name sight key
 
 -- the text about a file for which a label was found
 abbrev pub found_text : Wording → Found → List ℕ → ℕ → List ℕ
@@ -63,12 +65,12 @@ sections_text Words c = []
 sections_text Rows c = flat_map section_row c
 
 -- the last lines, which rows do not have: the number of images, and whether all is well
-abbrev pub end_text : Wording → Found → List ℕ
-end_text Words d = tally_line d.tally ++ last_text (is_all d)
-end_text Rows d = []
+abbrev pub end_text : Wording → Tally → Bool → List ℕ
+end_text Words t all = tally_line t ++ last_text all
+end_text Rows t all = []
 
--- the text after the images with these names
-abbrev pub summary : Wording → List (List ℕ) → Found → List ℕ
-summary y names d = sections_text y d.sections
+-- the text after the images, which have these names and numbers
+abbrev pub summary : Wording → List (List ℕ) → Tally → Found → List ℕ
+summary y names t d = sections_text y d.sections
     ++ (sets_text y d ++ (strays_text y d.sections ++ (copies_text y names d.copies.notes
-    ++ end_text y d)))
+    ++ end_text y t (is_all d))))

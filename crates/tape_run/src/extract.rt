@@ -14,14 +14,14 @@ ghost use Rattle.std.specs.Io.KnownBytes.{Appends};
 ghost use Rattle.tape_blocks.specs.Block.{Portion};
 ghost use Rattle.tape_blocks.specs.Parts.{view};
 ghost use Rattle.tape_blocks.specs.Spans.{join};
-ghost use Rattle.tape_core.specs.Weight.{Rose};
-ghost use Rattle.tape_run.specs.Causes.{WritingFails, ExtractFails, IsCalm};
+ghost use Rattle.tape_run.specs.Causes.{WritingFails, ExtractFails, RefusesAny, IsCalm};
 ghost use Rattle.tape_run.specs.Crash.{IsWalked, BringsNoMore};
 ghost use Rattle.tape_image.specs.Written.{AppendsFront};
 ghost use Rattle.tape_run.specs.Extracting.{Extracts, Stops, EndsFile, StopsAtEnd, IsWritten};
 ghost use Rattle.tape_run.specs.RecordText.{output_of, record_end, part_text};
 ghost use Rattle.tape_run.specs.Reeling.{goes_back};
 ghost use Rattle.tape_run.specs.ReelLine.{last_line};
+ghost use Rattle.tape_run.specs.Steps.{IsRefused};
 
 use crate::extract::images::ImageSource;
 use crate::fault::{EngineFault, RunFault, WriteFailed};
@@ -79,7 +79,8 @@ pub fn extract_to<S: PartWalk, R: Read + Drop, L: ImageSource<R>, W: Write, P: W
     // The sink refused a call, or memory ran out, or a write failed; a session without a checkpoint
     // is not rolled back.
     ensures cause { IfErr result (λ fault. ExtractFails S.PartSink
-        (goes_back session.old.notes) fault session.old session.new) }
+        (RefusesAny S.PartSink S.refuses) (goes_back session.old.notes) fault
+        session.old session.new) }
     // After an Ok the session can be used again, for any readers.
     ensures calm { OnOk result (IsCalm S.PartSink session.old session.new) }
 {
@@ -102,7 +103,7 @@ fn end_file<S: PartWalk, W: Write, P: Write>(
         (P.contents report.old) (P.contents report.new)) }
     ensures same { IsWalked S.PartSink session.old session.new }
     ensures cause { IfErr result
-        (WritingFails S.holds S.refusals session.old.sink session.new.sink) }
+        (WritingFails S.holds S.refusals S.refuses session.old.sink session.new.sink) }
     ensures calm { OnOk result (S.refusals session.new.sink ≡ S.refusals session.old.sink) }
 {
     if let Some(want) = session.want() {
@@ -154,7 +155,7 @@ pub fn write_file<S: PartWalk, W: Write>(
     ensures kept { (parts : List Portion) → S.holds sink.old parts → S.holds sink.new parts }
     // In any case, a crash after it leaves nothing that no crash before it could.
     ensures crash { BringsNoMore S.PartSink sink.old sink.new }
-    ensures cause { IfErr result (WritingFails S.holds S.refusals sink.old sink.new) }
+    ensures cause { IfErr result (WritingFails S.holds S.refusals S.refuses sink.old sink.new) }
     ensures calm { OnOk result (S.refusals sink.new ≡ S.refusals sink.old) }
 {
     let records = write_parts(sink, form, out)?;
@@ -172,7 +173,8 @@ pub fn count_records<S: PartWalk>(sink: &mut S) -> Result<u64, SinkFault>
         → count ≡ length (join parts).records) }
     ensures kept { (parts : List Portion) → S.holds sink.old parts → S.holds sink.new parts }
     ensures crash { BringsNoMore S.PartSink sink.old sink.new }
-    ensures cause { OnErr result (Rose (S.refusals sink.old) (S.refusals sink.new)) }
+    ensures cause { IfErr result (λ fault.
+        IsRefused S.refusals S.refuses sink.old fault sink.new) }
     ensures calm { OnOk result (S.refusals sink.new ≡ S.refusals sink.old) }
 {
     // A sink's weight is limited, so the count below stays far from the maximum of u64.
@@ -215,7 +217,7 @@ pub fn write_records<S: PartWalk, W: Write>(
     ensures kept { (parts : List Portion) → S.holds sink.old parts → S.holds sink.new parts }
     ensures crash { BringsNoMore S.PartSink sink.old sink.new }
     ensures cause { IfErr result (λ fault. WritingFails (λ s parts. S.ahead s parts
-        × (records ≡ length (join parts).records)) S.refusals sink.old sink.new fault) }
+        × (records ≡ length (join parts).records)) S.refusals S.refuses sink.old sink.new fault) }
     ensures calm { OnOk result (S.refusals sink.new ≡ S.refusals sink.old) }
 {
     let mut left = records;

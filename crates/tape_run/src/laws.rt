@@ -1,13 +1,14 @@
-//! Laws of runs, as contracts of calls that do nothing.
+//! Laws of runs, listings, catalogues, reports and printed names, as contracts of calls that do
+//! nothing.
 
-ghost use Rattle.tape_run.specs.GoesBehind.{LeavesBehind, LeavesBehindAgain};
-ghost use Rattle.tape_run.specs.GoesBehind.{PassesFiles, LeadsOverAll, ReadsByHistory};
+ghost use Rattle.tape_run.specs.GoesBehind.{LeavesBehind, LeavesBehindAgain, PassesFiles};
+ghost use Rattle.tape_run.specs.GoesBehind.{LeadsOverAll, ReadsByHistory};
 ghost use Rattle.tape_run.specs.Cases.{CasesOfMounts, CasesOfHistories, CasesOfGiven};
 ghost use Rattle.tape_run.specs.Cases.{CasesOfVolumes, CasesOfSessions, CasesOfMade};
 ghost use Rattle.tape_run.specs.Cases.{CasesOfCrashes};
 ghost use Rattle.tape_run.specs.CasesOfReels.{CasesOfAnswers, CasesOfTable, CasesOfLeads};
-ghost use Rattle.tape_run.specs.CasesOfCatalogues.{CasesOfCatalogues, CasesOfImages};
-ghost use Rattle.tape_run.specs.CasesOfCatalogues.{CasesOfCopies, CasesOfReports};
+ghost use Rattle.tape_run.specs.CasesOfCatalogues.{CasesOfCatalogues, CasesOfImages, CasesOfCopies};
+ghost use Rattle.tape_run.specs.CasesOfCatalogues.{CasesOfReports};
 ghost use Rattle.tape_run.specs.CasesOfSections.{CasesOfSections};
 ghost use Rattle.tape_run.specs.CasesOfExtracts.{CasesOfTurns, CasesOfOutputs, CasesOfCauses};
 ghost use Rattle.tape_run.specs.CasesOfSaves.{CasesOfSaved};
@@ -24,6 +25,19 @@ ghost use Rattle.tape_run.specs.CrashRuns.{StoodComesBack, StandsAcrossCrashes, 
 ghost use Rattle.tape_run.specs.Runs.{OnlyRefusalsStop};
 ghost use Rattle.tape_run.specs.WorkedDays.{DaysAreWorked};
 ghost use Rattle.tape_run.specs.WorkedHistory.{HistoryIsWorked};
+ghost use Rattle.tape_run.specs.ListExamples.{ListingIsWorked, OutcomesSay};
+ghost use Rattle.tape_run.specs.Listing.{OneListing};
+ghost use Rattle.tape_run.specs.PlacedExamples.{PlacesSay};
+ghost use Rattle.tape_run.specs.CheckExamples.{ReportIsWorked};
+ghost use Rattle.tape_run.specs.WholeReels.{WholeSetIsTold, GoodWasSeen};
+ghost use Rattle.tape_run.specs.Lacks.{LackIsFirst};
+ghost use Rattle.tape_run.specs.OneEntry.{OneEntryASection};
+ghost use Rattle.tape_run.specs.Shown.{GoodAreShown};
+ghost use Rattle.tape_run.specs.WholeSet.{WholeVolumeIsGood, WholeSetIsGood, WholeCopiesAreAdded};
+ghost use Rattle.tape_run.specs.WholeSet.{WholeSetLacksNothing, WholeSetIsFound};
+ghost use Rattle.tape_run.specs.ExtractExamples.{ExtractIsWorked};
+ghost use Rattle.tape_run.specs.UnpackLaws.{NamesDiffer, NamesStay, NamesFit};
+ghost use Rattle.tape_run.specs.QuotingLaws.{NamesShow, NamesTellApart, NamesKeep};
 
 /// Only a refusal can stop a run over a script with existing checkpoints and enough readers.
 pub fn only_refusals_stop()
@@ -113,4 +127,122 @@ pub fn passes_files()
     ensures by_history { ReadsByHistory }
     ensures leaves { LeavesBehind }
     ensures leaves_again { LeavesBehindAgain }
+{}
+
+/// Any bytes of an image have exactly one listing.
+pub fn each_image_has_one_listing()
+    ensures { OneListing }
+{}
+
+/// A worked listing.
+pub fn listings_are_worked()
+    ensures { ListingIsWorked }
+{}
+
+/// The meaning of each outcome of a listing, clause by clause.
+pub fn outcomes_say()
+    ensures { OutcomesSay }
+{}
+
+/// A worked listing with offsets: its items are those that the bytes begin with, and its offsets
+/// are the only possible ones, and those of the first words of blocks and marks.
+pub fn places_say()
+    ensures { PlacesSay }
+{}
+
+/// For complete copies of all volumes of a valid set, in any order and with repeats, each section
+/// is reported as GOOD, and nothing as missing.
+pub fn whole_sets_are_told()
+    ensures { WholeSetIsTold }
+{}
+
+/// A section reported as GOOD is complete on one of the images.
+pub fn what_is_good_was_seen()
+    ensures { GoodWasSeen }
+{}
+
+/// Lines of a report, worked out.
+pub fn reports_are_worked()
+    ensures { ReportIsWorked }
+{}
+
+/// A section that is reported as good is complete in the items that report it.
+pub fn good_sections_are_shown()
+    ensures { GoodAreShown }
+{}
+
+/// A complete copy of a volume of a valid set makes each section on it good, whatever was found
+/// before.
+pub fn whole_volumes_make_sections_good()
+    ensures { WholeVolumeIsGood }
+{}
+
+/// Complete copies of all volumes of a valid set, in any order and with repeats, make each of its
+/// sections good.
+pub fn whole_sets_are_good()
+    ensures { WholeSetIsGood }
+{}
+
+/// The missing section of a file is its first section that is not good. Nothing is missing if its
+/// sections are good up to one that ends it.
+pub fn what_lacks_comes_first()
+    ensures { LackIsFirst }
+{}
+
+/// And if nothing else was found, no file of the set has a missing section.
+pub fn whole_sets_lack_nothing()
+    ensures { WholeSetLacksNothing }
+{}
+
+/// So if the set has a file, all of it is found: something was found, and nothing is missing.
+pub fn whole_sets_are_found()
+    ensures { WholeSetIsFound }
+{}
+
+/// For a complete copy whose reader did not fail, [`Catalogue::add`](crate::Catalogue::add) adds
+/// exactly the sections in the volume's items.
+pub fn whole_copies_are_added()
+    ensures { WholeCopiesAreAdded }
+{}
+
+/// Whatever images are added to a catalogue, it has one entry for each section, and a report has
+/// one line for each.
+pub fn one_entry_a_section()
+    ensures { OneEntryASection }
+{}
+
+/// Examples of what `extract` writes and reports.
+pub fn extract_is_worked()
+    ensures { ExtractIsWorked }
+{}
+
+/// Files with different numbers, or in different sets, never have the same name, even if case is
+/// ignored; the same is true of their stages.
+pub fn names_differ()
+    ensures { NamesDiffer }
+{}
+
+/// No name leads out of its directory, and every file system accepts and keeps each name.
+pub fn names_stay()
+    ensures { NamesStay }
+{}
+
+/// No name is that of a device, and no name is longer than 76 characters.
+pub fn names_fit()
+    ensures { NamesFit }
+{}
+
+/// No character of a printed name is a control character or an invisible one.
+pub fn names_show()
+    ensures { NamesShow }
+{}
+
+/// Different names are printed differently.
+pub fn names_tell_apart()
+    ensures { NamesTellApart }
+{}
+
+/// A name without `\` and hidden characters is printed unchanged.
+pub fn names_keep()
+    ensures { NamesKeep }
 {}

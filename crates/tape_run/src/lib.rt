@@ -5,17 +5,13 @@
 #![tactic(auto)]
 
 mod catalogue;
-pub mod catalogue_laws;
 mod check;
-pub mod check_laws;
 mod check_line;
 mod extract;
-pub mod extract_laws;
 mod fault;
 mod lacks;
 pub mod laws;
 mod list;
-pub mod list_laws;
 mod list_line;
 mod list_places;
 mod merge;
@@ -23,7 +19,6 @@ pub mod merge_laws;
 mod met;
 mod passing;
 mod quoting;
-pub mod quoting_laws;
 mod reel_reader;
 mod report;
 mod salvage;
@@ -36,7 +31,6 @@ mod survey;
 pub mod survey_laws;
 pub mod text;
 mod unpack;
-pub mod unpack_laws;
 mod whole;
 
 pub use crate::extract::images::ImageSource;

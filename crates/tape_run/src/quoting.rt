@@ -55,7 +55,7 @@ pub fn quoted_char(c: char) -> ArrayString<8>
 }
 
 /// Returns a name as it is printed, character by character as `quoted_char` does: nothing of it is
-/// hidden, and different names are printed differently (`quoting_laws`).
+/// hidden, and different names are printed differently (`laws`).
 ///
 /// # Errors
 ///

@@ -15,13 +15,14 @@ ghost use Rattle.tape_core.specs.Known.{is_finished};
 ghost use Rattle.tape_core.specs.Place.{rest_of};
 ghost use Rattle.tape_core.specs.Arrive.{arrival};
 ghost use Rattle.tape_core.specs.Table.{step_of, saved};
-ghost use Rattle.tape_core.specs.Weight.{IsFront, Rose};
+ghost use Rattle.tape_core.specs.Weight.{IsFront};
 ghost use Rattle.tape_run.specs.Crash.{BringsNoMore};
 ghost use Rattle.tape_run.specs.ByTable.{parts_of_arrival, StopsInside};
 ghost use Rattle.tape_run.specs.Given.{is_device};
 ghost use Rattle.tape_run.specs.Puts.{IsSized, IsChecked, refused_point, PutUpTo, PutsFew};
 ghost use Rattle.tape_run.specs.Reels.{ReadsReel, ReadsToBlock, IsDelivery, StopsAt, GoesOn};
 ghost use Rattle.tape_run.specs.Reels.{delivered_by};
+ghost use Rattle.tape_run.specs.Steps.{IsRefused};
 ghost use Rattle.tape_run.specs.Taking.{TakesItem, RefusesItem, ReadsImage, RefusesImage};
 ghost use Rattle.tape_run.specs.Taking.{CutsTable, came_of, fault_of};
 
@@ -99,7 +100,8 @@ pub fn put_parts<S: PartSink>(
         → S.holds sink.old held → PutsFew (S.holds sink.new) held parts first begun refused) }
     ensures within { IfErr result (λ refused. (first ≤ refused.part)
         × (refused.part ≤ longest_block)) }
-    ensures cause { OnErr result (Rose (S.refusals sink.old) (S.refusals sink.new)) }
+    ensures cause { IfErr result (λ refused. IsRefused S.refusals S.refuses_change sink.old
+        refused.cause sink.new) }
     ensures calm { OnOk result (S.refusals sink.new ≡ S.refusals sink.old) }
     ensures crash { BringsNoMore S.PartSink sink.old sink.new }
 {
@@ -210,7 +212,8 @@ impl<S: PartSink> ReelReader<S> {
             × ((item : TapeItem) → arrival event.entry ≡ Some item
             → StopsInside self.old.core (rest_of self.new.core) item held now)
             × RefusesItem (arrival event.entry) self.old.core self.new.core held now) }
-        ensures cause { OnErr result (Rose (S.refusals self.old.sink) (S.refusals self.new.sink)) }
+        ensures cause { IfErr result (λ fault. IsRefused S.refusals S.refuses_change
+            self.old.sink fault self.new.sink) }
         ensures calm { OnOk result (S.refusals self.new.sink ≡ S.refusals self.old.sink) }
         ensures crash { BringsNoMore S.PartSink self.old.sink self.new.sink }
     {
@@ -244,7 +247,8 @@ impl<S: PartSink> ReelReader<S> {
             (StopsAt before.now (saved (rest_of self.old.core) 0) self.new.core) }
         ensures file { self.new.core.file ≡ self.old.core.file }
         ensures set_id { self.new.core.set_id ≡ self.old.core.set_id }
-        ensures cause { OnErr result (Rose (S.refusals self.old.sink) (S.refusals self.new.sink)) }
+        ensures cause { IfErr result (λ fault. IsRefused S.refusals S.refuses_change
+            self.old.sink fault self.new.sink) }
         ensures calm { OnOk result (S.refusals self.new.sink ≡ S.refusals self.old.sink) }
         ensures crash { BringsNoMore S.PartSink self.old.sink self.new.sink }
     {
@@ -290,7 +294,8 @@ impl<S: PartSink> ReelReader<S> {
             (RefusesImage self.old.core self.new.core held now)
             × IfSome image.old.left
             (CutsTable self.old.core (rest_of self.new.core) held now)) }
-        ensures cause { OnErr result (Rose (S.refusals self.old.sink) (S.refusals self.new.sink)) }
+        ensures cause { IfErr result (λ fault. IsRefused S.refusals S.refuses_change
+            self.old.sink fault self.new.sink) }
         ensures calm { OnOk result (S.refusals self.new.sink ≡ S.refusals self.old.sink) }
         ensures crash { BringsNoMore S.PartSink self.old.sink self.new.sink }
     {

@@ -1,11 +1,13 @@
 //! `salvage`: recovers the readable parts of a file that no image has completely.
 
-ghost use Rattle.std.specs.Prelude.{◌≡◌, ◌<◌, ◌⊎◌, Bool, Option, Some, List, ℕ, option_map, OnOk};
+ghost use Rattle.std.specs.Prelude.{◌≡◌, ◌<◌, ◌⊎◌, ◌&&◌, not, Bool, Option, Some, List, ℕ, OnOk};
+ghost use Rattle.std.specs.Prelude.{option_map};
 ghost use Rattle.std.specs.Prelude.{OnErr, IfOk, IfErr};
 ghost use Rattle.std.specs.Io.KnownBytes.{Appends};
 ghost use Rattle.tape_run.specs.Checked.{IsCheckFault};
 ghost use Rattle.tape_run.specs.Salvaging.{FindsOn, FindsAll, Salvages};
 
+mod conflicts;
 mod copies;
 mod ending;
 mod image;
@@ -19,6 +21,7 @@ mod walk;
 use crate::extract::Place;
 use crate::extract::images::ImageSource;
 use crate::fault::{EngineFault, NO_MEMORY};
+use crate::salvage::conflicts::report_conflicts;
 use crate::salvage::copies::{SectionCopy, copies_on};
 use crate::salvage::line::{last_line, not_opened_line};
 use crate::salvage::recovery::Recovery;
@@ -51,8 +54,9 @@ pub struct SalvageTask {
     pub form: Form,
 }
 
-/// Recovers the readable parts of a file from images, writes them to `out`, and reports each gap.
-/// Returns whether nothing is missing. After everything is written, gives `out` its name, and
+/// Recovers the readable parts of a file from images, writes them to `out`, and reports each gap,
+/// and each complete copy of a section that differs from the one that is used. Returns whether
+/// nothing is missing and no copy differs. After everything is written, gives `out` its name, and
 /// reports the last line.
 ///
 /// Each image is read twice: once to find the copies of the file's sections on it, and again if a
@@ -84,6 +88,7 @@ pub fn salvage_to<W: Write + Drop, R: Read + Drop, L: ImageSource<R>, O: Place<W
     ensures fault { IfErr result IsCheckFault }
 {
     let copies = find_copies(alloc, task, images, report)?;
+    let conflict = report_conflicts(copies.as_slice(), report)?;
     let mut recovery = Recovery::new(alloc, out, task.form);
     recover_sections(
         alloc,
@@ -93,7 +98,7 @@ pub fn salvage_to<W: Write + Drop, R: Read + Drop, L: ImageSource<R>, O: Place<W
         &mut recovery,
         report,
     )?;
-    let complete = !recovery.missing;
+    let complete = is_complete(recovery.missing, conflict);
     let records = recovery.mender.records();
     let mut written = recovery.into_out();
     flush(&mut written)?;
@@ -101,6 +106,13 @@ pub fn salvage_to<W: Write + Drop, R: Read + Drop, L: ImageSource<R>, O: Place<W
     write_text(report, &last_line(complete, records))?;
     flush(report)?;
     Ok(complete)
+}
+
+/// Returns whether nothing is missing and no copies differ.
+fn is_complete(missing: bool, conflict: bool) -> bool
+    ensures { result ≡ (not missing && not conflict) }
+{
+    !missing && !conflict
 }
 
 /// Finds the copies of the file's sections on the images.

@@ -5,6 +5,11 @@ ghost use Rattle.tape_run.specs.SalvageWhole.{WritesOutput};
 ghost use Rattle.tape_run.specs.SalvageImage.{RestHasNothing};
 ghost use Rattle.tape_run.specs.SalvageSections.{RecoversSectionOf, PassesSection, FindsSection};
 ghost use Rattle.tape_run.specs.SalvageSections.{RecoversFromVolume, RecoversFromReading};
+ghost use Rattle.tape_run.specs.SalvageReadings.{RecoversReading};
+ghost use Rattle.tape_run.specs.SalvageGaps.{GapsAreRuns};
+ghost use Rattle.tape_run.specs.SalvageClosed.{ClosedAreThere};
+ghost use Rattle.tape_run.specs.SalvageDamaged.{ClosedAreExact};
+ghost use Rattle.tape_run.specs.SalvageUnnamed.{UnnamedAreThere};
 ghost use Rattle.tape_run.specs.SalvageFile.{RecoversBlocks, RecoversFile, RecoversUpToGap};
 
 /// If the parts of a file are in order, and any of its blocks are missing, the recovered records
@@ -71,6 +76,12 @@ pub fn readings_are_recovered()
     ensures { RecoversFromReading }
 {}
 
+/// A complete reading of a volume of a valid set, in which only data blocks were unreadable, is
+/// such a volume. So exactly the records of a section's readable blocks are recovered from it.
+pub fn readings_of_sets_are_recovered()
+    ensures { RecoversReading }
+{}
+
 /// From readings of the volumes of a valid set, each section from one reading, exactly the records
 /// in the sections' blocks, one after another, are recovered, whichever blocks were read. If
 /// nothing is missing, every block was read.
@@ -88,4 +99,30 @@ pub fn files_are_recovered()
 /// is recovered as `extract` recovers up to there.
 pub fn files_are_recovered_up_to_the_gap()
     ensures { RecoversUpToGap }
+{}
+
+/// Each gap that is reported for a section is a longest run of unreadable blocks, and each such run
+/// is reported as one gap, with the number of records before it.
+pub fn gaps_are_the_missing_blocks()
+    ensures { GapsAreRuns }
+{}
+
+/// On any image, a section that is found by its HDR1 and closes is exactly the items between the
+/// tape mark after its labels and the one before its trailer label: its number of blocks and its
+/// digest are theirs.
+pub fn closed_sections_are_there()
+    ensures { ClosedAreThere }
+{}
+
+/// On a volume of a valid set of which any items may be unreadable, also labels and tape marks, a
+/// section of the set that is found by its HDR1 and closes has exactly its blocks, provided that no
+/// other block reads as HDR1, EOF1 or EOV1.
+pub fn closed_sections_are_exact()
+    ensures { ClosedAreExact }
+{}
+
+/// On any image, a section that is found without its HDR1 has exactly the items between two tape
+/// marks; its trailer label follows, has its numbers, and counts exactly these items.
+pub fn sections_without_hdr1_are_there()
+    ensures { UnnamedAreThere }
 {}

@@ -8,9 +8,8 @@ pub mod tally;
 
 ghost use Rattle.std.specs.Prelude.{◌≡◌, ◌<◌, ◌+◌, ◌++◌, length, take, IfOk, OnOk};
 ghost use Rattle.std.specs.Result.{IsOkUnless};
-ghost use Rattle.tape_run.specs.SurveyRead.{nothing_found};
 ghost use Rattle.tape_run.specs.Unpacking.{file_at, files_from, set_files, files_of};
-ghost use Rattle.tape_run.specs.Unpacking.{is_read, set_of, volume_of, FilesOn, ViewsAll};
+ghost use Rattle.tape_run.specs.Unpacking.{is_read, set_of, volume_of, FilesOn};
 ghost use Rattle.tape_run.specs.declared.fault.RunFault.TheVariants as faults;
 
 use crate::extract::images::ImageSource;
@@ -20,7 +19,7 @@ use crate::report::{Sets, sets_of};
 use crate::survey::files::FileKey;
 use crate::survey::glance::First;
 use crate::survey::locations::Locations;
-use crate::survey::view::{Findings, ImageSurvey};
+use crate::survey::view::{Findings, ImageSurvey, read_images};
 use std::alloc::{AllocError, Global};
 use std::io::Read;
 use tape_label::Field;
@@ -73,7 +72,8 @@ pub fn find_files<R: Read + Drop, L: ImageSource<R>>(
     ensures fault { IsOkUnless result faults.OutOfMemory }
 {
     let mut findings = Findings::new(alloc);
-    let sights = view_images(&mut findings, images)?;
+    let count = images.count();
+    let sights = read_images(&mut findings, images, count)?;
     let whole = findings.whole;
     match files_of(alloc, &findings) {
         Ok(files) => Ok(FoundFiles {
@@ -84,29 +84,6 @@ pub fn find_files<R: Read + Drop, L: ImageSource<R>>(
         }),
         Err(_) => Err(RunFault::OutOfMemory),
     }
-}
-
-/// Reads the images, and returns what each is.
-fn view_images<R: Read + Drop, L: ImageSource<R>>(
-    findings: &mut Findings,
-    images: &mut L,
-) -> Result<Vec<Option<ImageSurvey>>, RunFault>
-    requires { findings.old ≡ nothing_found }
-    ensures ok { IfOk result (λ sights.
-        ViewsAll L.size L.gives R.remaining images.old images.new findings.new sights.items) }
-    ensures fault { IsOkUnless result faults.OutOfMemory }
-{
-    let mut sights = Vec::new(findings.alloc);
-    for number in 0..images.count() {
-        let Ok(image) = images.mount(number) else {
-            return Err(RunFault::OutOfMemory);
-        };
-        let sight = findings.read(image)?;
-        let Ok(()) = sights.push(sight) else {
-            return Err(RunFault::OutOfMemory);
-        };
-    }
-    Ok(sights)
 }
 
 /// Returns whether an image was read completely: it was opened, and is a volume from its label to

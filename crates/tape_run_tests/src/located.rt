@@ -35,12 +35,19 @@ fn extracted<'a>(
     file: u16,
 ) -> Result<(Result<Option<u64>, EngineFault>, Option<u8>), Fail> {
     let sink = OutSink::new(Narrow::new(alloc, 100, true), Form::Lines);
-    let session = Session::new(alloc, set_id(), file, sink)?;
+    let mut session = Session::new(alloc, set_id(), file, sink)?;
     let mut name = Name {
         is_free: true,
         there: None,
     };
-    let answer = extract_located(session, shelf, mounted, locations, Form::Lines, &mut name);
+    let answer = extract_located(
+        &mut session,
+        shelf,
+        mounted,
+        locations,
+        Form::Lines,
+        &mut name,
+    );
     let first = match name.there {
         Some(out) => out.taken.first().copied(),
         None => None,

@@ -90,14 +90,20 @@ fn comes_to(alloc: Global, row: &Row<'_>) -> Result<bool, Fail> {
     let (length, left, flushes, is_free, wanted, lines, there) = row;
     let image = cut(alloc, *length)?;
     let out = Narrow::new(alloc, *left, *flushes);
-    let session = Session::new(alloc, set_id(), 1, OutSink::new(out, Form::Lines))?;
+    let mut session = Session::new(alloc, set_id(), 1, OutSink::new(out, Form::Lines))?;
     let mut shelf = shelf_of(alloc, &mut [Some(image.bytes.as_slice())])?;
     let mut report = Vec::new(alloc);
     let mut name = Name {
         is_free: *is_free,
         there: None,
     };
-    let answer = extract_streaming(session, &mut shelf, Form::Lines, &mut name, &mut report);
+    let answer = extract_streaming(
+        &mut session,
+        &mut shelf,
+        Form::Lines,
+        &mut name,
+        &mut report,
+    );
     let stands = name.there.map(|out| out.taken.len());
     Ok(answer == *wanted && report.as_slice() == lines.as_bytes() && stands == *there)
 }

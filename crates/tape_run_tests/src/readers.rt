@@ -1,6 +1,6 @@
 //! A reader that fails, and a sink that only counts.
 
-ghost use Rattle.std.specs.Prelude.{◌≤◌};
+ghost use Rattle.std.specs.Prelude.{◌≡◌, ◌≤◌};
 ghost use Rattle.tape_core.specs.Crash.{lost};
 ghost use Rattle.tape_core.specs.Known.{most_staged};
 
@@ -32,11 +32,15 @@ pub struct Counting {
 }
 
 impl PartSink for Counting {
+    ghost use Rattle.tape_core.specs.declared.sink.SinkFault.TheVariants.{Full};
+
     ghost holds = { λ sink parts. ⊥ };
 
     ghost weighs = { λ sink. sink.weighs };
 
     ghost refusals = { λ sink. sink.refused };
+
+    ghost refuses_change = { λ _ fault _. fault ≡ Full };
 
     ghost crashes = { λ sink. lost };
 

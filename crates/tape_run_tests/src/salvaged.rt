@@ -1,4 +1,5 @@
-//! Tests of `salvage` on images without HDR1, and on images whose second reading fails.
+//! Tests of `salvage` on images without HDR1, on images whose second reading fails or differs, and
+//! on copies that differ.
 ghost use Rattle.std.specs.Prelude.{⊤};
 
 use crate::devices::Narrow;
@@ -32,6 +33,28 @@ impl<'a> ImageSource<Failing<'a>> for Twice<'a> {
     fn mount(&mut self, _number: usize) -> Result<Option<Failing<'a>>, AllocError> {
         let bytes = if self.is_read { self.again } else { self.first };
         self.is_read = true;
+        Ok(Some(Failing(bytes)))
+    }
+}
+
+/// A source of two images.
+#[derive(Drop)]
+struct Both<'a> {
+    first: &'a [u8],
+    second: &'a [u8],
+}
+
+impl<'a> ImageSource<Failing<'a>> for Both<'a> {
+    ghost size = { λ _. 2 };
+
+    ghost gives = { λ _ _ _ _. ⊤ };
+
+    fn count(&self) -> usize {
+        2
+    }
+
+    fn mount(&mut self, number: usize) -> Result<Option<Failing<'a>>, AllocError> {
+        let bytes = if number == 0 { self.first } else { self.second };
         Ok(Some(Failing(bytes)))
     }
 }
@@ -153,6 +176,17 @@ fn comes_to(
         again,
         is_read: false,
     };
+    salvages(alloc, &mut shelf, complete, lines, length)
+}
+
+/// Returns whether `salvage` of these images has this result.
+fn salvages<'a, L: ImageSource<Failing<'a>>>(
+    alloc: Global,
+    shelf: &mut L,
+    complete: bool,
+    lines: &str,
+    length: usize,
+) -> Result<bool, Fail> {
     let task = SalvageTask {
         set_id: set_id(),
         file: 1,
@@ -165,7 +199,7 @@ fn comes_to(
     };
     let mut report = Vec::new(alloc);
     let out = Narrow::new(alloc, 10000, true);
-    let answer = salvage_to(alloc, &task, &mut shelf, out, &mut name, &mut report);
+    let answer = salvage_to(alloc, &task, shelf, out, &mut name, &mut report);
     let written = name.there.map(|out| out.taken.len());
     Ok(answer == Ok(complete) && report.as_slice() == lines.as_bytes() && written == Some(length))
 }
@@ -192,5 +226,39 @@ fn sections_without_hdr1(rt: HostRuntime) -> Result<(), Fail> {
         let is_so = comes_to(rt.alloc(), bytes, bytes, *complete, lines, *length)?;
         assert!(rt; is_so, "row {number}");
     }
+    Ok(())
+}
+
+/// Without a trailer label, a block that can be read only the first time is a gap of its own.
+#[test]
+fn blocks_unreadable_again(rt: HostRuntime) -> Result<(), Fail> {
+    let first = cut(rt.alloc(), 2292)?;
+    let mut second = cut(rt.alloc(), 2292)?;
+    for place in [1887, 2291] {
+        if let Some(byte) = second.bytes.as_mut_slice().get_mut(place) {
+            *byte = 128;
+        }
+    }
+    let lines = "SECTION 1 1 3\nGAP 1 2 2 20\nGAP 1 3 - 20\nSALVAGED 20\n";
+    let (first, second) = (first.bytes.as_slice(), second.bytes.as_slice());
+    assert!(rt; comes_to(rt.alloc(), first, second, false, lines, 1620)?);
+    Ok(())
+}
+
+/// Complete copies that differ are reported, and the file is not called complete.
+#[test]
+fn copies_that_differ(rt: HostRuntime) -> Result<(), Fail> {
+    let first = cut(rt.alloc(), 2484)?;
+    let second = changed(rt.alloc(), &[(300, b'#')])?;
+    let (first, second) = (first.bytes.as_slice(), second.bytes.as_slice());
+    let mut same = Both {
+        first,
+        second: first,
+    };
+    let lines = "SECTION 1 1 3\nCOMPLETE 25\n";
+    assert!(rt; salvages(rt.alloc(), &mut same, true, lines, 2025)?);
+    let mut other = Both { first, second };
+    let lines = "CONFLICT 1 1 2\nSECTION 1 1 3\nSALVAGED 25\n";
+    assert!(rt; salvages(rt.alloc(), &mut other, false, lines, 2025)?);
     Ok(())
 }

@@ -246,13 +246,15 @@ Set ABC001: 0 of 1 files complete
 1 image: 0 ok, 1 damaged
 ";
 
-const MIXED: &str = "one.tap                   ok           volume ABC001, 1 section
-two.tap                   ok           volume ABC001, 1 section
+const MIXED: &str = "one.tap                   conflict     volume ABC001, 1 section
+    section 1 of file 1: good copies differ
+two.tap                   conflict     volume ABC001, 1 section
+    section 1 of file 1: good copies differ
 Set ABC001: 0 of 1 files complete
   Volumes: ABC001
    1 PAYROLL                        conflict: labels of different files have this number
 ABC001 file 1 section 1: CONFLICT, one.tap and two.tap differ ('tape compare' shows where)
-2 images: 2 ok
+2 images: 0 ok, 2 in conflict
 ";
 
 /// HDR1 of another file, with the numbers of the example file.

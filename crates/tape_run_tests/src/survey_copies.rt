@@ -17,20 +17,24 @@ ABC001 file 1 section 1: good, 2 copies agree
 All files are complete, and every image was read to its end.
 ";
 
-const DISPUTED: &str = "one.tap                   ok           volume ABC001, 1 section
-two.tap                   ok           volume ABC001, 1 section
+const DISPUTED: &str = "one.tap                   conflict     volume ABC001, 1 section
+    section 1 of file 1: good copies differ
+two.tap                   conflict     volume ABC001, 1 section
+    section 1 of file 1: good copies differ
 Set ABC001: 0 of 1 files complete
   Volumes: ABC001
    1 PAYROLL                        conflict: good copies of a section differ
 ABC001 file 1 section 1: CONFLICT, one.tap and two.tap differ ('tape compare' shows where)
-2 images: 2 ok
+2 images: 0 ok, 2 in conflict
 ";
 
 const ROWS_OF_THREE: &str =
-    "IMAGE\t1.tap\tWHOLE\tABC001\tABC001\t\t12\t1\t0\tMARKED\tvolume ABC001, \
-         1 section
-IMAGE\t2.tap\tWHOLE\tABC001\tABC001\t\t12\t1\t0\tMARKED\tvolume ABC001, 1 section
-IMAGE\t3.tap\tWHOLE\tABC001\tABC001\t\t12\t1\t0\tMARKED\tvolume ABC001, 1 section
+    "IMAGE\t1.tap\tCONFLICT\tABC001\tABC001\t\t12\t1\t0\tMARKED\tvolume ABC001, \
+         1 section; section 1 of file 1: good copies differ
+IMAGE\t2.tap\tCONFLICT\tABC001\tABC001\t\t12\t1\t0\tMARKED\tvolume ABC001, \
+         1 section; section 1 of file 1: good copies differ
+IMAGE\t3.tap\tCONFLICT\tABC001\tABC001\t\t12\t1\t0\tMARKED\tvolume ABC001, \
+         1 section; section 1 of file 1: good copies differ
 SECTION\tABC001\t1\t1\tABC001\t3\tGOOD\tEOF
 FILE\tABC001\t1\tPAYROLL\t 00000\tCOMPLETE\t\t\tCONFLICT\t
 COPIES\tABC001\t1\t1\t2\t1.tap\t2.tap\tCONFLICT

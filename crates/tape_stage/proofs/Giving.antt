@@ -210,14 +210,14 @@ held_ahead weight parts bytes holding = record {
 
 -- ---- a part that is not returned
 
-pub lends_none : {D : Type 0} (disk : Ghosts D) (failed : Bool) (walked weight : ℕ) (old new : D)
+pub lends_none : {D : Type 0} (disk : Ghosts D) (readable : Bool) (walked weight : ℕ) (old new : D)
     (fault : SinkFault) → (fault ≡ Device) ⊎ (fault ≡ Failed)
     → (fault ≡ Device → Rose (disk.faults old) (disk.faults new))
     → (disk.is_honest old → fault ≡ Failed
     → NoFrameAt (256 + walked) (256 + weight) (disk.seen old))
-    → LendsNone disk failed walked weight old fault new
-lends_none disk failed walked weight old new fault (inl is) device none =
-    subst (λ f. LendsNone disk failed walked weight old f new) (sym is) (device is)
-lends_none disk failed walked weight old new fault (inr is) device none =
-    subst (λ f. LendsNone disk failed walked weight old f new) (sym is)
+    → LendsNone disk readable walked weight old fault new
+lends_none disk readable walked weight old new fault (inl is) device none =
+    subst (λ f. LendsNone disk readable walked weight old f new) (sym is) (device is)
+lends_none disk readable walked weight old new fault (inr is) device none =
+    subst (λ f. LendsNone disk readable walked weight old f new) (sym is)
     (inr (λ honest. none honest is))

@@ -7,7 +7,11 @@ use Rattle.tape_stage.specs.declared.disk.Disk.{Ghosts}
 use Rattle.tape_blocks.specs.Block.{Portion}
 use Rattle.tape_core.specs.Stands.{weight_of}
 use Rattle.tape_stage.specs.Staged.{Holding, Ready}
-use Rattle.tape_stage.specs.Stages.{IsStage, IsStaged, AreHeld, Holds, HasRefused}
+use Rattle.tape_core.specs.Weight.{Rose}
+use Rattle.tape_core.specs.declared.sink.SinkFault.{SinkFault}
+use Rattle.tape_core.specs.declared.sink.SinkFault.TheVariants as sink
+use Rattle.tape_stage.specs.Faults.{sink_fault_of}
+use Rattle.tape_stage.specs.Stages.{IsStage, IsStaged, AreHeld, Holds, HasRefused, RefusesChange}
 use Rattle.tape_core.specs.Point.{Point}
 use Rattle.tape_stage.specs.declared.stage.Stage.{Stage}
 use Rattle.tape_stage.specs.declared.stage.StageFault.{StageFault}
@@ -65,9 +69,9 @@ module _ {D : Type 0} {disk : Ghosts D} where
       → (disk.is_honest old.disk → Holding old.weight parts (disk.seen old.disk)
       → Holding old.weight parts (disk.seen new.disk)) → Holds old parts → Holds new parts
   refused_holds old new parts Device is honest kept holds = record {
-    honest = λ none. honest refl none (holds.honest (old.settled is.0));
+    honest = λ none. honest refl none (holds.honest (old.settled (old.usable is.0)));
     framed = subst (λ (w : ℕ). Holding w parts (disk.seen new.disk)) (sym is.2)
-        (kept (holds.honest (old.settled is.0)) holds.framed);
+        (kept (holds.honest (old.settled (old.usable is.0))) holds.framed);
     weighs = is.2 ∙ holds.weighs;
     ready = λ alive. absurd (cc (alive, is.1));
   }
@@ -78,6 +82,21 @@ module _ {D : Type 0} {disk : Ghosts D} where
   refused_holds old new parts NoPoint is honest kept holds = absurd is
   refused_holds old new parts (BadFrame place) is honest kept holds = absurd is
   refused_holds old new parts OutOfMemory is honest kept holds = absurd is
+
+  -- a call was refused with the fault of the stage
+  pub change_refused : (old mid new : Stage D disk) (fault : StageFault) (told : SinkFault)
+      → told ≡ sink_fault_of fault → HasRefused old mid fault
+      → (fault ≡ Device → Rose (disk.faults old.disk) (disk.faults new.disk))
+      → (fault ≡ Full → RefusesChange old sink.Full new) → RefusesChange old told new
+  change_refused old mid new Device told same is cause full =
+      subst (λ f. RefusesChange old f new) (sym same) (cause refl)
+  change_refused old mid new Full told same is cause full =
+      subst (λ f. RefusesChange old f new) (sym same) (full refl)
+  change_refused old mid new Failed told same is cause full =
+      subst (λ f. RefusesChange old f new) (sym same) is.1
+  change_refused old mid new NoPoint told same is cause full = absurd is
+  change_refused old mid new (BadFrame place) told same is cause full = absurd is
+  change_refused old mid new OutOfMemory told same is cause full = absurd is
 
   -- reading leaves the contents unchanged
   read_staged : (old new : D) (in_second : Bool) (g : ℕ) (point : Point) (other_open : Bool)

@@ -18,7 +18,7 @@ use Rattle.tape_stage.specs.Staged.{best, blank, body_at, gate_at, slot_at, Stag
 use Rattle.tape_stage.specs.Stages.{IsStage, Holds}
 use Rattle.tape_stage.specs.declared.stage.StageFault.TheVariants.{Device, Full, NoPoint}
 use Rattle.tape_stage.proofs.Once.{staged_remains}
-use Rattle.tape_stage.proofs.stage.opening.find_on.Reads as find_on
+use Rattle.tape_stage.proofs.stage.opening.look.Reads as look
 use Rattle.tape_stage.proofs.stage.putting.StagePartWalk.next_part.Reads as next_part
 use Rattle.tape_stage.proofs.stage.putting.StagePartWalk.rewind.Reads as rewind
 use Rattle.tape_stage.proofs.stage.saving.close_gate.Reads as close_gate
@@ -130,12 +130,12 @@ no_stage_emptied : (D : _) (L : _) (g : _) (d : _) (κs : _) (a : _) (refused : 
     → g.length_of a.1.0 ≡ 10 → g.length_of refused.disk ≡ 0 → ⊥
 no_stage_emptied D L g d κs a refused s l w ten none =
     let e : g.length_of refused.disk ≡ g.length_of a.1.0
-    = l.same_length (subst IsNotDevice (sym w) tt) in
+    = l.refused.same_length (subst IsNotDevice (sym w) tt) in
     absurd (let n : 0 ≡ 10 = sym none ∙ e ∙ ten in omega arith)
 
 -- no_point_of_256_bytes: a new stage of 256 bytes, without parts, is reported as not a stage
 no_point_of_256_bytes : (D : _) (L : _) (g : _) (d : _) (κs : _) (a : _) (s : _) (point : Point)
-    → find_on.Learnt-named D L g d κs a (Err NoPoint) s → g.is_honest a.0.now
+    → look.Learnt-named D L g d κs a (Err NoPoint) s → g.is_honest a.0.now
     → g.length_of a.0.now ≡ 256 → Staged (g.seen a.0.now) 1 point [] → ⊥
 no_point_of_256_bytes D L g d κs a s point l honest size staged =
     l.none honest tt 1 point None [] (staged_remains (g.seen a.0.now) 1 point [] staged)
@@ -144,7 +144,7 @@ no_point_of_256_bytes D L g d κs a s point l honest size staged =
 
 -- cut_at_opening_before_a_sync: the second slot was read, but a crash may lose it
 cut_at_opening_before_a_sync : (D : _) (L : _) (g : _) (d : _) (κs : _) (a : _) (found : _) (s : _)
-    (c : List ℕ) (slot : Slot) → find_on.Learnt-named D L g d κs a (Ok found) s
+    (c : List ℕ) (slot : Slot) → look.Learnt-named D L g d κs a (Ok found) s
     → g.is_honest a.0.now → g.may_leave s.0.now c → slot_at true (g.seen s.0.now) ≡ Some slot
     → slot_at true c ≡ None → ⊥
 cut_at_opening_before_a_sync D L g d κs a found s c slot l honest left read lost =

@@ -5,10 +5,9 @@ use Rattle.std.specs.Prelude.{Option, Some, None, Ok, Err, option_map, unwrap_or
 use Rattle.tape_core.specs.Point.{Point}
 use Rattle.tape_stage.specs.declared.disk.DiskFault.TheVariants as disk_faults
 use Rattle.tape_stage.specs.declared.stage.StageFault.TheVariants.{Device, Full, NoPoint}
-use Rattle.tape_stage.specs.Faults.{SaysNone}
+use Rattle.tape_stage.specs.Stages.{RefusesCreating}
 use Rattle.tape_stage.specs.Found.{IsFaultOf}
 use Rattle.tape_stage.specs.Salvaged.{Remains}
-use Rattle.tape_stage.proofs.disk.file.FileDisk.sync_file.Reads as sync_file
 use Rattle.tape_stage.proofs.disk.file.FileDiskDisk.sync.Reads as sync
 use Rattle.tape_stage.proofs.stage.Stage.create.Reads as create
 use Rattle.tape_stage.proofs.stage.Stage.open_disk.Reads as open_disk
@@ -26,18 +25,20 @@ full_at_generation_1000 D L g d κs a s l w =
 -- good_stage_refused_as_full: opening a stage is refused as full, although nothing is added
 good_stage_refused_as_full : (D : _) (L : _) (g : _) (d : _) (κs : _) (a : _) (refused : _) (s : _)
     → open_disk.Learnt-named D L g d κs a (Err refused) s → refused.fault ≡ Full → ⊥
-good_stage_refused_as_full D L g d κs a refused s l w = l.not_full w
+good_stage_refused_as_full D L g d κs a refused s l w = l.refused.not_full w
 
 -- create_told_as_full: an empty disk is reported as full
 create_told_as_full : (D : _) (L : _) (g : _) (d : _) (κs : _) (a : _) (refused : _) (s : _)
     → create.Learnt-named D L g d κs a (Err refused) s → refused.fault ≡ Full → ⊥
-create_told_as_full D L g d κs a refused s l w = l.not_full w
+create_told_as_full D L g d κs a refused s l w =
+    subst (λ f. RefusesCreating (g.faults a.1.0) f (g.faults refused.disk)) w l.refused
 
 -- no_memory_told_as_no_stage: when a stage is created on an empty disk, the fault says that the
 -- disk contains no stage
 no_memory_told_as_no_stage : (D : _) (L : _) (g : _) (d : _) (κs : _) (a : _) (refused : _) (s : _)
     → create.Learnt-named D L g d κs a (Err refused) s → refused.fault ≡ NoPoint → ⊥
-no_memory_told_as_no_stage D L g d κs a refused s l w = l.not_none (subst SaysNone (sym w) tt)
+no_memory_told_as_no_stage D L g d κs a refused s l w =
+    subst (λ f. RefusesCreating (g.faults a.1.0) f (g.faults refused.disk)) w l.refused
 
 -- bad_frame_told_as_no_stage: a frame is damaged, and the fault says that no slot is valid
 bad_frame_told_as_no_stage : (D : _) (L : _) (g : _) (d : _) (κs : _) (a : _) (refused : _) (s : _)
@@ -46,7 +47,7 @@ bad_frame_told_as_no_stage : (D : _) (L : _) (g : _) (d : _) (κs : _) (a : _) (
     → Remains (g.seen a.1.0) n point (Some place) parts → refused.fault ≡ NoPoint → ⊥
 bad_frame_told_as_no_stage D L g d κs a refused s n point place parts l honest is w =
     let says : IsFaultOf (g.seen a.1.0) NoPoint
-    = subst (IsFaultOf (g.seen a.1.0)) w (l.says honest) in
+    = subst (IsFaultOf (g.seen a.1.0)) w (l.refused.says honest) in
     says n point (Some place) parts is
 
 -- ---- the checkpoint that was being saved
@@ -79,7 +80,7 @@ pending_is_the_acknowledged D L g d κs a s l heavy light older =
 -- sync_failure_forgotten: the file could not be synced, but later calls succeed
 sync_failure_forgotten : (F : _) (L : _) (r : _) (dr : _) (w : _) (dw : _) (k : _) (dk : _)
     (o : _) (dp : _) (κs : _) (a : _) (s : _)
-    → sync_file.Learnt-named F L r dr w dw k dk o dp κs a (Err disk_faults.Device) s
+    → sync.Learnt-named F L r dr w dw k dk o dp κs a (Err disk_faults.Device) s
     → s.0.now.lost ≡ false → ⊥
 sync_failure_forgotten F L r dr w dw k dk o dp κs a s l is =
     let e : false ≡ true = sym is ∙ l.lost in

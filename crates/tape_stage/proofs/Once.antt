@@ -111,7 +111,8 @@ before_end : (staged : ℕ) (broken : Option ℕ) (bytes : List ℕ)
 before_end staged None bytes breaks = tt
 before_end staged (Some place) bytes breaks = breaks.high
 
-framed_once : (staged : ℕ) (broken other : Option ℕ) (parts more : List Portion) (bytes : List ℕ)
+pub framed_once : (staged : ℕ) (broken other : Option ℕ) (parts more : List Portion)
+    (bytes : List ℕ)
     → FramedTo staged broken parts bytes → FramedTo staged other more bytes
     → (broken ≡ other) × (parts ≡ more)
 framed_once staged broken other parts more bytes first second =

@@ -7,11 +7,23 @@ use Rattle.tape_stage.specs.Disk.{CutShort}
 use Rattle.tape_stage.specs.Found.{IsFound}
 use Rattle.tape_stage.specs.Moments.{Passes, Untouched}
 use Rattle.tape_stage.specs.OnlyReading.{OnlyReads}
-use Rattle.tape_stage.specs.Staged.{Holding, KeepsStaged, StandsLike}
-use Rattle.tape_stage.specs.Stages.{IsOpened}
+use Rattle.tape_core.specs.Weight.{Rose}
+use Rattle.tape_stage.specs.Faults.{SaysNone}
+use Rattle.tape_stage.specs.Found.{IsFaultOf}
+use Rattle.tape_stage.specs.Staged.{Holding, HoldsNone, KeepsStaged, Ready, Staged, StandsLike}
+use Rattle.tape_stage.specs.Stages.{RefusesOpening}
+use Rattle.tape_stage.specs.declared.stage.StageFault.{StageFault}
+use Rattle.tape_stage.specs.declared.stage.StageFault.TheVariants.{Device, Failed, Full}
 use Rattle.tape_stage.proofs.Finds.{stands_like, cut_ready, found_read}
 use Rattle.tape_stage.proofs.Passing.{weaken, follow}
 use Rattle.tape_stage.proofs.Refusals.{same_keeps, cut_keeps}
+
+-- the disk represents the slot found, with its parts, and the stage is ready
+pub record IsOpened {D : Type 0} (disk : Ghosts D) (found : Found) (old new : D) : Type 0 where
+  pub parts : List Portion
+  pub read : Staged (disk.seen old) found.generation found.point parts
+  pub ready : Ready found.in_second found.generation found.point parts found.other_open
+      (disk.seen new) (disk.may_leave new)
 
 -- the disk was only read
 module _ {D : Type 0} (g : Ghosts D) (a b : D) (reads : OnlyReads g a b)
@@ -26,6 +38,24 @@ module _ {D : Type 0} (g : Ghosts D) (a b : D) (reads : OnlyReads g a b)
       → Passes g a b (λ x. g.may_leave a x ⊎ P x)
   look_passes P = weaken g a b (g.may_leave a)
       (λ x. g.may_leave a x ⊎ P x) (λ x left. inl left) (reads.any_moment honest)
+
+-- the disk was only read, and the stage was refused
+pub read_refuses : {D : Type 0} (g : Ghosts D) (a b : D) → OnlyReads g a b → (fault : StageFault)
+    → (g.is_honest a → SaysNone fault → HoldsNone (g.seen a))
+    → (g.is_honest a → IsFaultOf (g.seen a) fault) → (fault ≡ Full → ⊥) → (fault ≡ Failed → ⊥)
+    → (fault ≡ Device → Rose (g.faults a) (g.faults b)) → RefusesOpening g a fault b
+read_refuses g a b reads fault none says not_full not_failed cause = record {
+  none = none;
+  says = says;
+  not_full = not_full;
+  not_failed = not_failed;
+  cause = cause;
+  any_moment = λ honest. look_passes g a b reads honest (StandsLike (g.seen a));
+  kept = λ honest. look_keeps g a b reads honest;
+  untouched = λ honest calm. look_untouched g a b reads honest;
+  foreign = λ honest none. look_untouched g a b reads honest;
+  same_length = λ calm. reads.same_length;
+}
 
 -- the bytes after the weight that was found were then removed
 module _ {D : Type 0} (g : Ghosts D) (a b c : D) (reads : OnlyReads g a b)

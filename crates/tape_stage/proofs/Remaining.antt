@@ -6,34 +6,37 @@ use Rattle.std.specs.Int.{to_be_bytes, from_be_bytes}
 use Rattle.std.proofs.lemmas.Nat.{from_be_bytes-to_be_bytes_4}
 use Rattle.tape_blocks.specs.declared.parts.Span.{Span}
 use Rattle.tape_blocks.specs.Block.{Portion, indicator}
+use Rattle.tape_blocks.specs.Spans.{join}
+use Rattle.tape_core.specs.Point.{Point}
 use Rattle.tape_stage.specs.Found.{IsFound, IsBadPlace}
 use Rattle.tape_stage.specs.Frames.{NoFrameAt}
-use Rattle.tape_stage.specs.Salvaged.{FramedTo, Remains, RemainsNone}
-use Rattle.tape_stage.specs.Staged.{Holding, HoldsNone, WalkedTo}
+use Rattle.tape_stage.specs.Salvaged.{FramedTo, Remains, RemainsNone, WalkedOver}
+use Rattle.tape_stage.specs.Staged.{Holding, HoldsNone, Staged, WalkedTo}
 use Rattle.tape_stage.specs.declared.stage.Found.{Found}
 use Rattle.tape_stage.proofs.Finds.{best_of}
 use Rattle.tape_stage.proofs.Once.{remains_once, staged_remains}
 use Rattle.tape_stage.proofs.Walks.{walked_holding}
 
 -- all frames are intact
-pub framed_whole : (staged place : ℕ) (bytes : List ℕ) → place ≡ 256 + staged
-    → place ≤ length bytes → WalkedTo place bytes
-    → (parts : List Portion) × FramedTo staged None parts bytes
-framed_whole staged place bytes is le walked = (
+pub framed_whole : (staged place records : ℕ) (bytes : List ℕ) → place ≡ 256 + staged
+    → place ≤ length bytes → (walked : WalkedTo place bytes)
+    → records ≡ length (join walked.parts).records → WalkedOver staged None records bytes
+framed_whole staged place records bytes is le walked count = (
   walked.parts,
   record {
     holds = subst (λ (n : ℕ). Holding n walked.parts bytes) (omega (arith, is))
         (walked_holding place bytes le walked);
     breaks = tt;
   },
+  count,
 )
 
 -- no frame begins at the offset
-pub framed_broken : (staged place limit : ℕ) (bytes : List ℕ)
+pub framed_broken : (staged place limit records : ℕ) (bytes : List ℕ)
     → limit ≡ min (256 + staged) (length bytes) → place ≤ limit → place < 256 + staged
-    → WalkedTo place bytes → NoFrameAt place limit bytes
-    → (parts : List Portion) × FramedTo staged (Some place) parts bytes
-framed_broken staged place limit bytes is le high walked none = (
+    → (walked : WalkedTo place bytes) → records ≡ length (join walked.parts).records
+    → NoFrameAt place limit bytes → WalkedOver staged (Some place) records bytes
+framed_broken staged place limit records bytes is le high walked count none = (
   walked.parts,
   record {
     holds = walked_holding place bytes (omega (arith, is, le)) walked;
@@ -43,6 +46,7 @@ framed_broken staged place limit bytes is le high walked none = (
       none = subst (λ (n : ℕ). NoFrameAt place n bytes) is none;
     };
   },
+  count,
 )
 
 -- a header states one length
@@ -55,13 +59,18 @@ same_size header span other size n a b low high =
     from_be_bytes-to_be_bytes_4 n (omega arith)
 
 -- the same under other names
-pub framed_as : (staged n : ℕ) (broken other : Option ℕ) (parts : List Portion)
-    (old new : List ℕ) → staged ≡ n → broken ≡ other → old ≡ new
-    → FramedTo staged broken parts old → FramedTo n other parts new
-framed_as staged n broken other parts old new weighs breaks same framed =
-    subst (FramedTo n other parts) same
-    (subst (λ (b : Option ℕ). FramedTo n b parts old) breaks
-    (subst (λ (m : ℕ). FramedTo m broken parts old) weighs framed))
+pub walked_as : (staged n : ℕ) (broken : Option ℕ) (records : ℕ) (old new : List ℕ)
+    → staged ≡ n → old ≡ new → WalkedOver staged broken records old
+    → WalkedOver n broken records new
+walked_as staged n broken records old new weighs same walked =
+    subst (WalkedOver n broken records) same
+    (subst (λ (m : ℕ). WalkedOver m broken records old) weighs walked)
+
+-- nothing is damaged
+pub whole_framed : (staged : ℕ) (broken : Option ℕ) (parts : List Portion) (bytes : List ℕ)
+    → broken ≡ None → FramedTo staged broken parts bytes → Holding staged parts bytes
+whole_framed staged broken parts bytes none framed =
+    (subst (λ (b : Option ℕ). FramedTo staged b parts bytes) none framed).holds
 
 some_none : (place : ℕ) → Some place ≡ None → ⊥
 some_none place e = cc
@@ -75,31 +84,40 @@ found_remains found broken parts bytes is framed = record {
   framed = framed;
 }
 
--- a slot with damaged frames is not a stage
-pub broken_none : (found : Found) (place : ℕ) (parts : List Portion) (bytes : List ℕ)
-    → IsFound found bytes → FramedTo found.point.staged (Some place) parts bytes → HoldsNone bytes
-broken_none found place parts bytes is framed g point more staged =
-    let same = remains_once bytes found.generation g found.point point (Some place) None parts more
-    (found_remains found (Some place) parts bytes is framed)
-    (staged_remains bytes g point more staged) in
+-- bytes with damaged frames are not a stage
+pub broken_none : (bytes : List ℕ) (g : ℕ) (point : Point) (place : ℕ) (parts : List Portion)
+    → Remains bytes g point (Some place) parts → HoldsNone bytes
+broken_none bytes g point place parts remains n next more staged =
+    let same = remains_once bytes g n point next (Some place) None parts more remains
+    (staged_remains bytes n next more staged) in
     absurd (some_none place same.2)
 
 -- the offset of the damage is that of a bad frame
-pub broken_bad : (found : Found) (place : ℕ) (parts : List Portion) (bytes : List ℕ)
-    → IsFound found bytes → FramedTo found.point.staged (Some place) parts bytes
-    → IsBadPlace bytes place
-broken_bad found place parts bytes is framed = record {
-  generation = found.generation;
-  point = found.point;
-  slot = best_of found.in_second found.generation found.point bytes is.slot is.other;
-  inside = omega (arith, framed.breaks.low, framed.holds.long);
-  walked = record {
-    low = framed.breaks.low;
-    parts = parts;
-    frames_are = framed.holds.frames_are;
-    short = framed.holds.short;
-  };
-  none = framed.breaks.none;
+pub broken_bad : (bytes : List ℕ) (g : ℕ) (point : Point) (place : ℕ) (parts : List Portion)
+    → Remains bytes g point (Some place) parts → IsBadPlace bytes place
+broken_bad bytes g point place parts remains =
+    let framed = remains.framed in
+    record {
+      generation = g;
+      point = point;
+      slot = remains.slot;
+      inside = omega (arith, framed.breaks.low, framed.holds.long);
+      walked = record {
+        low = framed.breaks.low;
+        parts = parts;
+        frames_are = framed.holds.frames_are;
+        short = framed.holds.short;
+      };
+      none = framed.breaks.none;
+    }
+
+-- without damage, all that is staged remains
+pub whole_staged : (bytes : List ℕ) (g : ℕ) (point : Point) (broken : Option ℕ)
+    (parts : List Portion) → broken ≡ None → Remains bytes g point broken parts
+    → Staged bytes g point parts
+whole_staged bytes g point broken parts none remains = record {
+  slot = remains.slot;
+  parts_are = whole_framed point.staged broken parts bytes none remains.framed;
 }
 
 -- if nothing remains, nothing is staged

@@ -35,3 +35,13 @@ no_frame_says bytes Device none bad = tt
 no_frame_says bytes OutOfMemory none bad = tt
 no_frame_says bytes Failed none bad = tt
 no_frame_says bytes Full none bad = tt
+
+-- a fault without a bad frame
+pub no_frame_any : (fault : StageFault) (P : ℕ → Type 0) → OnBadFrame fault (λ place. ⊥)
+    → OnBadFrame fault P
+no_frame_any NoPoint P none = tt
+no_frame_any (BadFrame place) P none = absurd none
+no_frame_any Device P none = tt
+no_frame_any OutOfMemory P none = tt
+no_frame_any Failed P none = tt
+no_frame_any Full P none = tt

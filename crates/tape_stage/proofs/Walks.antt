@@ -1,11 +1,13 @@
 -- Consecutive frames.
 use Rattle.std.proofs.Common.{◌≡◌, ℕ, ◌+◌, ◌-◌, ◌≤◌, List}
 use Rattle.std.proofs.Common.{[], ◌∷◌, ◌++◌, take, drop, length, w32, refl, sym, ap, ◌∙◌}
-use Rattle.std.proofs.Common.{subst, arith}
+use Rattle.std.proofs.Common.{subst, arith, true, false, length-append}
 use Rattle.std.proofs.lemmas.List.{length-take-le, length-drop, drop-drop}
 use Rattle.std.proofs.Math.Seq.{take-add}
 use Rattle.std.specs.Int.{to_be_bytes}
 use Rattle.tape_blocks.specs.Block.{Portion}
+use Rattle.tape_blocks.specs.Spans.{Joined, content_after, join, leaves}
+use Rattle.tape_blocks.proofs.JoinLaws.{join_ends, join_goes_on}
 use Rattle.tape_stage.specs.Parts.{frame, frames}
 use Rattle.tape_blocks.specs.Block.{indicator}
 use Rattle.tape_stage.specs.Staged.{Holding, IsPut, WalkedTo}
@@ -24,7 +26,12 @@ walked_holding place bytes le walked = record {
 pub walked_more : (place size : ℕ) (span : Span) (header bytes : List ℕ)
     → place + (5 + size) ≤ length bytes → header ≡ take 5 (drop place bytes)
     → header ≡ indicator span ∷ to_be_bytes w32 size → size ≤ 99999
-    → WalkedTo place bytes → WalkedTo (place + (5 + size)) bytes
+    → (old : WalkedTo place bytes) → (new : WalkedTo (place + (5 + size)) bytes)
+    × (new.parts ≡ old.parts ++ record {
+      span =
+          span;
+      bytes = take size (drop (place + 5) bytes);
+    } ∷ [])
 walked_more place size span header bytes room read is short walked =
     let content : List ℕ = take size (drop (place + 5) bytes) in
     let part : Portion = record { span = span; bytes = content } in
@@ -45,11 +52,31 @@ walked_more place size span header bytes room read is short walked =
     } in
     let holding = put_holding (place - 256) place walked.parts part bytes bytes
     (omega (arith, walked.low)) (omega (arith, n)) (walked_holding place bytes (omega arith)
-    walked) put in
-    record {
-      low = omega (arith, walked.low);
-      parts = walked.parts ++ part ∷ [];
-      frames_are = subst (λ (k : ℕ). take k (drop 256 bytes) ≡ frames (walked.parts ++ part ∷ []))
-          (omega (arith, n, walked.low)) holding.frames_are;
-      short = holding.short;
-    }
+    walked) put in (
+      record {
+        low = omega (arith, walked.low);
+        parts = walked.parts ++ part ∷ [];
+        frames_are = subst (λ (k : ℕ). take k (drop 256 bytes) ≡ frames (walked.parts ++ part ∷ []))
+            (omega (arith, n, walked.low)) holding.frames_are;
+        short = holding.short;
+      },
+      refl,
+    )
+
+-- the number of records in the parts of a walk, after one more part
+pub counted_ends : (parts : List Portion) (part : Portion) (n : ℕ) → leaves part.span ≡ false
+    → n ≡ length (join parts).records → n + 1 ≡ length (join (parts ++ part ∷ [])).records
+counted_ends parts part n ends is =
+    omega (
+      arith,
+      is,
+      length-append (join parts).records (content_after (join parts).rest part.bytes ∷ []),
+      ap (λ (j : Joined). length j.records)
+          (join_ends parts part (join parts).records (join parts).rest refl ends),
+    )
+
+pub counted_goes_on : (parts : List Portion) (part : Portion) (n : ℕ) → leaves part.span ≡ true
+    → n ≡ length (join parts).records → n ≡ length (join (parts ++ part ∷ [])).records
+counted_goes_on parts part n goes is =
+    is ∙ sym (ap (λ (j : Joined). length j.records)
+    (join_goes_on parts part (join parts).records (join parts).rest refl goes))

@@ -6,14 +6,11 @@ use Rattle.tape_blocks.specs.declared.parts.Span.TheVariants.{Whole}
 use Rattle.tape_blocks.specs.Block.{Portion}
 use Rattle.tape_core.specs.Point.{Point}
 use Rattle.tape_stage.specs.Found.{IsBadPlace, IsFaultOf}
-use Rattle.tape_stage.specs.Frames.{AheadIn, NoFrameAt}
+use Rattle.tape_stage.specs.Frames.{NoFrameAt}
 use Rattle.tape_stage.specs.Parts.{frames}
-use Rattle.tape_stage.specs.Salvaged.{FramedTo, HoldsRest, Remains, RemainsNone, RemainsOnce}
-use Rattle.tape_stage.specs.Salvaged.{RestAhead}
-use Rattle.tape_stage.specs.Staged.{Holding, Staged, best, slot_at}
-use Rattle.tape_stage.specs.declared.disk.Disk.{Ghosts}
+use Rattle.tape_stage.specs.Salvaged.{FramedTo, Remains, RemainsNone, RemainsOnce, WalkedOver}
+use Rattle.tape_stage.specs.Staged.{Staged, best, slot_at}
 use Rattle.tape_stage.specs.declared.stage.StageFault.TheVariants.{NoPoint, BadFrame}
-use Rattle.tape_stage.specs.declared.stage.salvage.Salvage.{Salvage}
 
 -- a whole record of one byte, A
 abbrev pub one_part : Portion
@@ -28,8 +25,7 @@ abbrev pub frame_and_none : List ℕ
 frame_and_none = replicate 256 32
     ++ 48 ∷ 0 ∷ 0 ∷ 0 ∷ 1 ∷ 65 ∷ 52 ∷ 0 ∷ 0 ∷ 0 ∷ 1 ∷ 66 ∷ []
 
--- examples on any disk
-pub record CasesOfSalvage {D : Type 0} (g : Ghosts D) : Type 0 where
+pub record CasesOfSalvage : Type 0 where
   -- no part remains of a frame without its last byte, and the frame is not intact
   pub cut_off : FramedTo 6 (Some 256) [] cut_frame
   pub not_whole : (parts : List Portion) → FramedTo 6 None parts cut_frame → ⊥
@@ -38,6 +34,9 @@ pub record CasesOfSalvage {D : Type 0} (g : Ghosts D) : Type 0 where
   -- nothing is damaged if the frames should end after the first
   pub no_break : FramedTo 6 None (one_part ∷ []) frame_and_none
   pub not_broken : (parts : List Portion) → FramedTo 6 (Some 262) parts frame_and_none → ⊥
+  -- a walk counts the records that end before the damage
+  pub counted : WalkedOver 12 (Some 262) 1 frame_and_none
+  pub not_counted : (n : ℕ) → WalkedOver 12 (Some 262) n frame_and_none → n ≡ 1
   -- all staged parts remain, and if nothing is damaged the remaining parts are staged
   pub all_remains : (bytes : List ℕ) (n : ℕ) (point : Point) (parts : List Portion)
       → Staged bytes n point parts → Remains bytes n point None parts
@@ -62,9 +61,3 @@ pub record CasesOfSalvage {D : Type 0} (g : Ghosts D) : Type 0 where
       (parts more : List Portion) → RemainsOnce bytes → Remains bytes n point broken parts
       → Remains bytes m next other more
       → (n ≡ m) × (point ≡ next) × (broken ≡ other) × (parts ≡ more)
-  -- the parts that remain are those that an honest disk would return
-  pub holds_rest : (s : Salvage D g) (parts : List Portion) → HoldsRest s parts
-      → g.is_honest s.disk × Holding s.weight parts (g.seen s.disk)
-  pub rest_ahead : (s : Salvage D g) (parts : List Portion) → RestAhead s parts
-      → g.is_honest s.disk
-      × AheadIn (256 + s.walked) (256 + s.weight) (g.seen s.disk) parts

@@ -15,9 +15,9 @@ use Rattle.tape_stage.specs.contracts.stage.part_reader.PartReader.{the_row}
 -- the stage returned its next part, or refused the call
 abbrev pub StageGave : {D : Type 0} {disk : Ghosts D} → Stage D disk
     → Result (Option Part) SinkFault → Stage D disk → Type 0
-StageGave {D} {disk} old result new = HasGiven (λ s parts. Holds s parts) (λ s. s.weight) (λ s. s.refused)
-    (λ s. crashes_of s) (λ s parts. IsAhead s parts) (λ s. s.weight - s.walked)
-    (λ s fault t. LendsNone disk s.failed s.walked s.weight s.disk fault t.disk) old result new
+StageGave {D} {disk} old result new = HasGiven (λ s parts. Holds s parts) (λ s. s.weight)
+    (λ s. s.refused) (λ s. crashes_of s) (λ s parts. IsAhead s parts) (λ s. s.weight - s.walked)
+    (λ s fault t. LendsNone disk s.readable s.walked s.weight s.disk fault t.disk) old result new
 
 -- the reader reads the same stage, which returned its next part or refused the call
 pub record HasRead {D : Type 0} {disk : Ghosts D} (old : PartReader D disk)

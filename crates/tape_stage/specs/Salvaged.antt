@@ -2,11 +2,10 @@
 use Rattle.std.specs.Prelude.{◌≡◌, ℕ, ◌+◌, ◌-◌, ◌≤◌, ◌<◌, min, length, true, false, List}
 use Rattle.std.specs.Prelude.{Option, Some, None, IfSome}
 use Rattle.tape_blocks.specs.Block.{Portion}
+use Rattle.tape_blocks.specs.Spans.{join}
 use Rattle.tape_core.specs.Point.{Point}
-use Rattle.tape_stage.specs.Frames.{AheadIn, NoFrameAt}
+use Rattle.tape_stage.specs.Frames.{NoFrameAt}
 use Rattle.tape_stage.specs.Staged.{Holding, best, slot_at}
-use Rattle.tape_stage.specs.declared.disk.Disk.{Ghosts}
-use Rattle.tape_stage.specs.declared.stage.salvage.Salvage.{Salvage}
 
 -- The frames after the first 256 bytes should have the weight `staged`, but they are damaged: no
 -- frame begins at `place` and ends within that weight and the file.
@@ -51,12 +50,8 @@ abbrev pub WalkedIn : ℕ → ℕ → Option ℕ → Type 0
 WalkedIn staged limit None = 256 + staged ≤ limit
 WalkedIn staged limit (Some place) = (256 ≤ place) × (place ≤ limit) × (place < 256 + staged)
 
--- the given parts remain on an honest disk
-abbrev pub HoldsRest : {D : Type 0} {disk : Ghosts D} → Salvage D disk → List Portion → Type 0
-HoldsRest {D} {disk} salvage parts = disk.is_honest salvage.disk
-    × Holding salvage.weight parts (disk.seen salvage.disk)
-
--- the given parts are still to come
-abbrev pub RestAhead : {D : Type 0} {disk : Ghosts D} → Salvage D disk → List Portion → Type 0
-RestAhead {D} {disk} salvage parts = disk.is_honest salvage.disk
-    × AheadIn (256 + salvage.walked) (256 + salvage.weight) (disk.seen salvage.disk) parts
+-- A walk found the frames of some parts, up to the staged end or up to the damage, and counted the
+-- records that end in them.
+abbrev pub WalkedOver : ℕ → Option ℕ → ℕ → List ℕ → Type 0
+WalkedOver staged broken records bytes = (parts : List Portion)
+    × FramedTo staged broken parts bytes × (records ≡ length (join parts).records)

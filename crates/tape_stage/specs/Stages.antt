@@ -1,21 +1,28 @@
 -- The contents and states of a stage.
-use Rattle.std.specs.Prelude.{◌≡◌, ◌⊎◌, ℕ, ◌+◌, ◌≤◌, Bool, true, false, List, Option, None}
+use Rattle.std.specs.Prelude.{◌≡◌, ◌⊎◌, ℕ, ◌+◌, ◌<◌, ◌≤◌, Bool, true, false, List, Option, None}
 use Rattle.std.specs.Prelude.{Result, OnOk, IfErr, IsErrOf}
 use Rattle.tape_stage.specs.declared.disk.Disk.{Ghosts}
 use Rattle.tape_blocks.specs.Block.{Portion}
 use Rattle.tape_core.specs.Crash.{Crashes}
+use Rattle.tape_core.specs.Known.{most_staged}
 use Rattle.tape_core.specs.Stands.{weight_of}
 use Rattle.tape_core.specs.Weight.{Rose}
 use Rattle.tape_core.specs.declared.sink.SinkFault.{SinkFault}
 use Rattle.tape_core.specs.declared.sink.SinkFault.TheVariants as sink
+use Rattle.tape_stage.specs.Body.{most_generation}
+use Rattle.tape_stage.specs.Faults.{IsNotDevice, OnBadFrame, SaysNone}
+use Rattle.tape_stage.specs.Found.{IsFaultOf}
 use Rattle.tape_stage.specs.Frames.{AheadIn, NoFrameAt}
-use Rattle.tape_stage.specs.Moments.{Passes}
-use Rattle.tape_stage.specs.Staged.{Staged, StandsLike, Holding, Ready}
+use Rattle.tape_stage.specs.Moments.{Passes, Untouched}
+use Rattle.tape_stage.specs.OnlyReading.{OnlyReads}
+use Rattle.tape_stage.specs.Parts.{longest_part}
+use Rattle.tape_stage.specs.Salvaged.{RemainsNone}
+use Rattle.tape_stage.specs.Staged.{Staged, StandsLike, Holding, HoldsNone, KeepsStaged, Ready}
 use Rattle.tape_core.specs.Point.{Point}
-use Rattle.tape_stage.specs.declared.stage.Found.{Found}
 use Rattle.tape_stage.specs.declared.stage.Stage.{Stage}
 use Rattle.tape_stage.specs.declared.stage.StageFault.{StageFault}
 use Rattle.tape_stage.specs.declared.stage.StageFault.TheVariants.{Device, Full, Failed}
+use Rattle.tape_stage.specs.declared.stage.StageFault.TheVariants.{OutOfMemory}
 
 -- the parts are staged, and the first of them are acknowledged
 pub record IsStaged {D : Type 0} (disk : Ghosts D) (at : D) (in_second : Bool) (generation : ℕ)
@@ -54,13 +61,23 @@ abbrev pub IsAhead : {D : Type 0} {disk : Ghosts D} → Stage D disk → List Po
 IsAhead {D} {disk} stage parts = (stage.pending ≡ None → disk.is_honest stage.disk)
     × AheadIn (256 + stage.walked) (256 + stage.weight) (disk.seen stage.disk) parts
 
--- Why no part is returned after frames of weight `walked`: the disk failed, in the call or earlier,
--- or there is no frame.
+-- Why no part is returned after frames of weight `walked`: the disk failed, in the call or in an
+-- earlier change, or there is no frame.
 abbrev pub LendsNone : {D : Type 0} → Ghosts D → Bool → ℕ → ℕ → D → SinkFault → D → Type 0
-LendsNone disk failed walked weight old sink.Device new = Rose (disk.faults old) (disk.faults new)
-LendsNone disk failed walked weight old sink.Failed new = (failed ≡ true)
+LendsNone disk readable walked weight old sink.Device new = Rose (disk.faults old) (disk.faults new)
+LendsNone disk readable walked weight old sink.Failed new = (readable ≡ false)
     ⊎ (disk.is_honest old → NoFrameAt (256 + walked) (256 + weight) (disk.seen old))
-LendsNone disk failed walked weight old _ new = ⊥
+LendsNone disk readable walked weight old _ new = ⊥
+
+-- Why a change is refused: the disk failed, in the call or earlier, or there is no room for a part,
+-- or no generation for a checkpoint.
+abbrev pub RefusesChange : {D : Type 0} {disk : Ghosts D} → Stage D disk → SinkFault → Stage D disk
+    → Type 0
+RefusesChange {D} {disk} old sink.Device new = Rose (disk.faults old.disk) (disk.faults new.disk)
+RefusesChange old sink.Failed new = old.failed ≡ true
+RefusesChange old sink.Full new = (most_staged < old.weight + (5 + longest_part))
+    ⊎ (most_generation ≤ old.generation)
+RefusesChange old sink.OutOfMemory new = ⊥
 
 -- the state of a stage after a call was refused: failed if the disk failed, otherwise unchanged
 abbrev pub HasRefused : {D : Type 0} {disk : Ghosts D} → Stage D disk → Stage D disk → StageFault
@@ -128,15 +145,42 @@ crashes_of {D} {disk} stage = record {
   survived = λ t. Survived stage t;
 }
 
--- the disk represents the slot found, with its parts, and the stage is ready
-pub record IsOpened {D : Type 0} (disk : Ghosts D) (found : Found) (old new : D) : Type 0 where
-  pub parts : List Portion
-  pub read : Staged (disk.seen old) found.generation found.point parts
-  pub ready : Ready found.in_second found.generation found.point parts found.other_open
-      (disk.seen new) (disk.may_leave new)
-
 -- A crash at any moment between the two disks left contents that were possible before, or contents
 -- that represent the same as those that were read.
 abbrev pub OpensOver : {D : Type 0} → Ghosts D → D → D → Type 0
 OpensOver disk old new = Passes disk old new
     (λ c. disk.may_leave old c ⊎ StandsLike (disk.seen old) c)
+
+-- Why a stage was not opened for reading: no slot is valid, there was no memory, or the disk
+-- failed. The disk was only read.
+pub record RefusesReading {D : Type 0} (disk : Ghosts D) (old : D) (fault : StageFault)
+    (new : D) : Type 0 where
+  pub none : disk.is_honest old → SaysNone fault → RemainsNone (disk.seen old)
+  pub no_frame : OnBadFrame fault (λ place. ⊥)
+  pub not_full : fault ≡ Full → ⊥
+  pub not_failed : fault ≡ Failed → ⊥
+  pub cause : fault ≡ Device → Rose (disk.faults old) (disk.faults new)
+  pub reads : OnlyReads disk old new
+
+-- Why a stage was not opened, and what is left on its disk. What the fault says about the disk is
+-- true, and the staged data are unchanged at any moment. Unless the disk failed, and in any case if
+-- it contains no stage, it was only read.
+pub record RefusesOpening {D : Type 0} (disk : Ghosts D) (old : D) (fault : StageFault)
+    (new : D) : Type 0 where
+  pub none : disk.is_honest old → SaysNone fault → HoldsNone (disk.seen old)
+  pub says : disk.is_honest old → IsFaultOf (disk.seen old) fault
+  pub not_full : fault ≡ Full → ⊥
+  pub not_failed : fault ≡ Failed → ⊥
+  pub cause : fault ≡ Device → Rose (disk.faults old) (disk.faults new)
+  pub any_moment : disk.is_honest old → OpensOver disk old new
+  pub kept : disk.is_honest old → KeepsStaged (disk.seen old) (disk.seen new)
+  pub untouched : disk.is_honest old → IsNotDevice fault → Untouched disk old new
+  pub foreign : disk.is_honest old → HoldsNone (disk.seen old) → Untouched disk old new
+  pub same_length : IsNotDevice fault → disk.length_of new ≡ disk.length_of old
+
+-- Why no stage was created, given the disk's counts of failures before and after the call: there
+-- was no memory, or the disk failed.
+abbrev pub RefusesCreating : ℕ → StageFault → ℕ → Type 0
+RefusesCreating old OutOfMemory new = Unit {0}
+RefusesCreating old Device new = Rose old new
+RefusesCreating old _ new = ⊥

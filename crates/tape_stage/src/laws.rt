@@ -73,5 +73,5 @@ pub fn cases<D: Disk>()
     ensures stages { CasesOfStages D.Disk }
     ensures faults { CasesOfFaults }
     ensures laws { CasesOfLaws }
-    ensures salvage { CasesOfSalvage D.Disk }
+    ensures salvage { CasesOfSalvage }
 {}

@@ -23,10 +23,9 @@ pub mod opening;
 pub mod part_reader;
 pub mod putting;
 pub mod salvage;
-pub mod salvaging;
 pub mod saving;
 
-ghost use Rattle.std.specs.Prelude.{◌≡◌, ◌+◌, ◌≤◌, false, length, None};
+ghost use Rattle.std.specs.Prelude.{◌≡◌, ◌+◌, ◌≤◌, false, true, length, None};
 ghost use Rattle.tape_core.specs.Known.{most_staged};
 ghost use Rattle.tape_stage.specs.Faults.{number};
 ghost use Rattle.tape_stage.specs.declared.stage.StageFault.TheVariants.{Device, OutOfMemory};
@@ -121,16 +120,19 @@ pub struct Stage<D: Disk> {
     pub(crate) pending: Option<Checkpoint>,
     /// The weight of all staged parts.
     pub(crate) weight: u64,
-    /// Whether the disk failed.
+    /// Whether changes are refused: the disk failed, or the stage was opened for reading only.
     pub(crate) failed: bool,
+    /// Whether parts can be read: the disk did not fail in a change.
+    pub(crate) readable: bool,
     /// A buffer for the part that is returned.
     pub(crate) buffer: Vec<u8>,
     /// The weight of the parts that a walk has returned.
     pub(crate) walked: u64,
     /// The number of refused calls to the stage as a sink.
     pub(crate) refused: u64,
-    ghost long: { failed ≡ false → 256 + weight ≤ D.length_of disk },
-    ghost settled: { failed ≡ false → pending ≡ None },
+    ghost long: { readable ≡ true → 256 + weight ≤ D.length_of disk },
+    ghost usable: { failed ≡ false → readable ≡ true },
+    ghost settled: { readable ≡ true → pending ≡ None },
     ghost behind: { walked ≤ weight },
     ghost room: { longest_part ≤ length buffer.items },
     ghost bounded: { weight ≤ most_staged },

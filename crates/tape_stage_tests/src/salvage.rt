@@ -5,7 +5,7 @@ use std::alloc::{AllocError, Global};
 use std::test::*;
 use tape_blocks::{Part, Span};
 use tape_core::{PartSink, PartWalk, SinkFault};
-use tape_stage::{MemoryDisk, Salvage, StageFault};
+use tape_stage::{MemoryDisk, Stage, StageFault};
 
 // Two complete records of two bytes each, of format D, are staged.
 const FOURTEEN_2: &[u8; 80] =
@@ -13,11 +13,11 @@ const FOURTEEN_2: &[u8; 80] =
 
 /// Returns whether the walk returns exactly `parts`, each a complete record, and a second walk does
 /// the same.
-fn gives_parts(salvage: &mut Salvage<MemoryDisk>, parts: &[&[u8]]) -> bool {
+fn gives_parts(stage: &mut Stage<MemoryDisk>, parts: &[&[u8]]) -> bool {
     for _ in 0..2 {
-        salvage.rewind();
+        stage.rewind();
         for bytes in parts {
-            match salvage.next_part() {
+            match stage.next_part() {
                 Ok(Some(part)) => {
                     if part.span != Span::Whole || part.bytes != *bytes {
                         return false;
@@ -26,7 +26,7 @@ fn gives_parts(salvage: &mut Salvage<MemoryDisk>, parts: &[&[u8]]) -> bool {
                 _ => return false,
             }
         }
-        if !matches!(salvage.next_part(), Ok(None)) {
+        if !matches!(stage.next_part(), Ok(None)) {
             return false;
         }
     }
@@ -102,12 +102,34 @@ const ROWS: &[Row] = &[
 /// the stage are unchanged.
 fn remains(alloc: Global, row: &Row) -> Result<bool, AllocError> {
     let bytes = first_slot(alloc, b'O', FOURTEEN_2, row.frames)?;
-    let Ok((mut salvage, point)) = Salvage::open_disk(alloc, disk_of(alloc, &bytes)?) else {
+    let Ok(opened) = Stage::open_read_only(alloc, disk_of(alloc, &bytes)?) else {
         return Ok(false);
     };
-    let told = point.staged == 14 && salvage.broken() == row.broken;
-    let given = gives_parts(&mut salvage, row.parts);
-    Ok(told && given && salvage.into_disk().bytes() == bytes.as_slice())
+    let told = opened.point.staged == 14 && opened.broken == row.broken;
+    let counted = opened.records == row.parts.len() as u64;
+    let mut stage = opened.stage;
+    let given = gives_parts(&mut stage, row.parts);
+    Ok(told && counted && given && stage.into_disk().bytes() == bytes.as_slice())
+}
+
+#[test]
+fn a_record_is_counted_at_its_last_part(rt: HostRuntime) -> Result<(), AllocError> {
+    let alloc = rt.alloc();
+    // A record in two parts; a record and the first part of another; a record without its end.
+    let rows: [(&[u8], u64); 3] = [
+        (b"1\x00\x00\x00\x02AB3\x00\x00\x00\x02CD", 1),
+        (b"0\x00\x00\x00\x02AB1\x00\x00\x00\x02CD", 1),
+        (b"1\x00\x00\x00\x02AB2\x00\x00\x00\x02CD", 0),
+    ];
+    for (frames, records) in rows {
+        let bytes = first_slot(alloc, b'O', FOURTEEN_2, frames)?;
+        let Ok(opened) = Stage::open_read_only(alloc, disk_of(alloc, &bytes)?) else {
+            assert!(rt; false, "{records}");
+            return Ok(());
+        };
+        assert!(rt; opened.records == records, "{records}");
+    }
+    Ok(())
 }
 
 #[test]
@@ -125,7 +147,7 @@ fn nothing_remains_where_no_slot_counts(rt: HostRuntime) -> Result<(), AllocErro
     let bytes = first_slot(alloc, b'C', FOURTEEN_2, b"0\x00\x00\x00\x02AB")?;
     let short = bytes.get(..255).unwrap_or_default();
     for bytes in [bytes.as_slice(), short, b""] {
-        let fault = match Salvage::open_disk(alloc, disk_of(alloc, bytes)?) {
+        let fault = match Stage::open_read_only(alloc, disk_of(alloc, bytes)?) {
             Ok(_) => None,
             Err(refused) => Some(refused.fault),
         };
@@ -142,7 +164,7 @@ fn each_failing_call_of_the_disk_is_told(rt: HostRuntime) -> Result<(), AllocErr
     for count in 0..5 {
         let mut disk = disk_of(alloc, &bytes)?;
         disk.stop_after(count);
-        let fault = match Salvage::open_disk(alloc, disk) {
+        let fault = match Stage::open_read_only(alloc, disk) {
             Ok(_) => None,
             Err(refused) => Some(refused.fault),
         };
@@ -152,19 +174,21 @@ fn each_failing_call_of_the_disk_is_told(rt: HostRuntime) -> Result<(), AllocErr
 }
 
 #[test]
-fn a_salvage_takes_nothing(rt: HostRuntime) -> Result<(), AllocError> {
+fn a_stage_opened_for_reading_takes_nothing(rt: HostRuntime) -> Result<(), AllocError> {
     let alloc = rt.alloc();
     let bytes = first_slot(alloc, b'O', FOURTEEN_2, b"0\x00\x00\x00\x02AB")?;
-    let Ok((mut salvage, _)) = Salvage::open_disk(alloc, disk_of(alloc, &bytes)?) else {
+    let Ok(opened) = Stage::open_read_only(alloc, disk_of(alloc, &bytes)?) else {
         assert!(rt; false);
         return Ok(());
     };
+    let mut stage = opened.stage;
     let part = Part {
         span: Span::Whole,
         bytes: b"CD",
     };
-    assert!(rt; salvage.put(part) == Err(SinkFault::Failed));
-    assert!(rt; salvage.cut_to(&start()) == Err(SinkFault::Failed));
-    assert!(rt; salvage.weight() == 7 && gives_parts(&mut salvage, &[b"AB"]));
+    assert!(rt; stage.put(part) == Err(SinkFault::Failed));
+    assert!(rt; stage.cut_to(&start()) == Err(SinkFault::Failed));
+    assert!(rt; stage.restart(&start()) == Err(StageFault::Failed));
+    assert!(rt; stage.weight() == 7 && gives_parts(&mut stage, &[b"AB"]));
     Ok(())
 }

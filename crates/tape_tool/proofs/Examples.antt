@@ -134,6 +134,13 @@ cases_of_staging disk = record {
       (n, point, parts, staged, λ own. other own.1);
   unopened = (tt, tt, tt);
   opened = (λ h. h, λ h. h);
-  none_told = (tt, tt);
-  not_told = (λ h. h, λ h. h, λ h. h);
+  none_told = (λ h. h, λ h. h);
+  too_many = λ number. omega (arith, number);
+  file_one = λ refuses. refuses (omega arith, omega arith);
+  failed = (inl (omega arith), inl (omega arith));
+  not_failed = (
+    λ h. ⊎_elim (λ e. omega (arith, e)) (λ e. omega (arith, e)) h,
+    λ h. ⊎_elim (λ e. omega (arith, e)) (λ e. omega (arith, e)) h,
+  );
+  not_full = (λ h. h, λ h. h);
 }

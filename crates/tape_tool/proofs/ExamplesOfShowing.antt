@@ -1,49 +1,47 @@
 -- The cases of `stage`.
-use Rattle.std.proofs.Common.{◌≡◌, ◌≢◌, ◌⊎◌, List, ℕ, Option, refl, inl, inr, sym, subst}
+use Rattle.std.proofs.Common.{◌≡◌, ◌≢◌, ◌⊎◌, Bool, true, false, List, ℕ, Option, None, refl, inl}
+use Rattle.std.proofs.Common.{inr, sym, subst}
 use Rattle.std.specs.Fmt.{digits}
 use Rattle.std.specs.Io.KnownBytes.{Keeps}
 use Rattle.tape_blocks.specs.declared.parts.Form.{Form}
 use Rattle.tape_run.specs.declared.fault.RunFault.{RunFault}
 use Rattle.tape_stage.specs.Faults.{OnBadFrame, SaysNone}
-use Rattle.tape_stage.specs.Found.{IsBadPlace, IsFaultOf}
-use Rattle.tape_stage.specs.Salvaged.{RemainsNone}
+use Rattle.tape_stage.specs.Found.{IsFaultOf}
+use Rattle.tape_blocks.specs.Block.{Portion}
+use Rattle.tape_core.specs.Point.{Point}
+use Rattle.tape_stage.specs.Salvaged.{Remains}
 use Rattle.tape_stage.specs.Staged.{HoldsNone}
 use Rattle.tape_stage.specs.declared.stage.StageFault.{StageFault}
 use Rattle.tape_stage.specs.declared.stage.StageFault.TheVariants.{BadFrame, Device, Failed, Full}
-use Rattle.tape_stage.specs.declared.stage.StageFault.TheVariants.{OutOfMemory}
+use Rattle.tape_stage.specs.declared.stage.StageFault.TheVariants.{OutOfMemory, NoPoint}
 use Rattle.tape_writer.specs.declared.system.fault.FileFault.{FileFault}
 use Rattle.tape_writer.specs.declared.system.fault.FileFault.TheVariants.{WriteFailed}
 use Rattle.tape_tool.specs.declared.fault.ToolFault.{ToolFault}
 use Rattle.tape_tool.specs.declared.fault.ToolFault.TheVariants.{File, Run, Stage}
-use Rattle.tape_tool.specs.StageReport.{unopened, in_part, nothing, salvaged_in_part, EndsInPart}
-use Rattle.tape_tool.specs.StageReport.{StopsShowing, StopsSalvaging}
-use Rattle.tape_tool.specs.CasesOfShowing.{CasesOfShowing, StopSays, SalvageSays, StoppedOnlyBy}
+use Rattle.tape_tool.specs.StageReport.{unopened, in_part, EndsInPart, StopsShowing}
+use Rattle.tape_tool.specs.CasesOfShowing.{CasesOfShowing, StopSays, StoppedOnlyBy}
 
-stopped : (read : List ℕ) (form : Form) (out written said says : Option (List ℕ))
-    (fault : ToolFault) → StopSays read form out written said says fault
-stopped read form out written said says fault (unopened cause is none why full failed kept quiet) =
-    inl (cause, is, none, why, full, failed, kept, quiet)
-stopped read form out written said says fault (in_part generation point parts staged front ends) =
-    inr (generation, point, parts, staged, front.wrote, front.told, ends)
+stopped : (read : List ℕ) (damaged : Bool) (form : Option Form)
+    (out written said says : Option (List ℕ)) (fault : ToolFault)
+    → StopSays read damaged form out written said says fault
+stopped read damaged form out written said says fault
+    (unopened cause is none why frame full failed kept quiet) =
+    inl (cause, is, none, why, frame, full, failed, kept, quiet)
+stopped read damaged form out written said says fault
+    (in_part generation point broken parts remains whole front ends) =
+    inr (generation, point, broken, parts, remains, whole, front.wrote, front.told, ends)
 
-salvage_stopped : (read : List ℕ) (form : Form) (out written said says : Option (List ℕ))
-    (fault : ToolFault) → SalvageSays read form out written said says fault
-salvage_stopped read form out written said says fault
-    (nothing cause is none frame full failed kept quiet) =
-    inl (cause, is, none, frame, full, failed, kept, quiet)
-salvage_stopped read form out written said says fault
-    (salvaged_in_part generation point broken parts remains front ends) =
-    inr (generation, point, broken, parts, remains, front.wrote, front.told, ends)
-
--- why either ends early: nothing was opened, or it was interrupted
+-- why it ends early: nothing was opened, or it was interrupted
 abbrev Why : Type 0 → Type 0 → ToolFault → Type 0
 Why none untouched fault = ((cause : StageFault) × (fault ≡ Stage cause) × (SaysNone cause → none)
-    × (cause ≢ Full) × (cause ≢ Failed) × untouched) ⊎ EndsInPart fault
+    × (cause ≢ Full) × (cause ≢ Failed) × untouched)
+    ⊎ ((fault ≡ File WriteFailed) ⊎ (fault ≡ Stage Device))
 
 is_cause : {one two : StageFault} → Stage one ≡ Stage two → one ≡ two
 is_cause e = cc
 
-pub is_device : (cause : StageFault) → EndsInPart (Stage cause) → cause ≡ Device
+is_device : (cause : StageFault)
+    → (Stage cause ≡ File WriteFailed) ⊎ (Stage cause ≡ Stage Device) → cause ≡ Device
 is_device cause (inl e) = absurd (let h : Stage cause ≡ File WriteFailed = e in cc)
 is_device cause (inr e) = is_cause e
 
@@ -87,44 +85,62 @@ told_none : {none untouched : Type 0} (cause : StageFault) → SaysNone cause
 told_none cause says (inl why) = why.2 (subst SaysNone (is_cause why.1) says)
 told_none cause says (inr ends) = absurd (subst SaysNone (is_device cause ends) says)
 
-pub why_shown : (read : List ℕ) (form : Form) (out written said says : Option (List ℕ))
-    (fault : ToolFault) → StopsShowing read form out written said says fault
+part_ends : (form : Option Form) (fault : ToolFault) → EndsInPart form fault
+    → (fault ≡ File WriteFailed) ⊎ (fault ≡ Stage Device)
+part_ends form fault (inl e) = inl e
+part_ends form fault (inr e) = inr e.0
+
+why_shown : (read : List ℕ) (damaged : Bool) (form : Option Form)
+    (out written said says : Option (List ℕ)) (fault : ToolFault)
+    → StopsShowing read damaged form out written said says fault
     → Why (HoldsNone read) (Keeps out written × Keeps said says) fault
-why_shown read form out written said says fault
-    (unopened cause is none why full failed kept quiet) =
+why_shown read damaged form out written said says fault
+    (unopened cause is none why frame full failed kept quiet) =
     inl (cause, is, none, full, failed, (kept, quiet))
-why_shown read form out written said says fault (in_part g point parts staged front ends) = inr ends
+why_shown read damaged form out written said says fault
+    (in_part g point broken parts remains whole front ends) = inr (part_ends form fault ends)
 
-why_salvaged : (read : List ℕ) (form : Form) (out written said says : Option (List ℕ))
-    (fault : ToolFault) → StopsSalvaging read form out written said says fault
-    → Why (RemainsNone read) (Keeps out written × Keeps said says) fault
-why_salvaged read form out written said says fault
-    (nothing cause is none frame full failed kept quiet) =
-    inl (cause, is, none, full, failed, (kept, quiet))
-why_salvaged read form out written said says fault
-    (salvaged_in_part g point broken parts remains front ends) = inr ends
+pub none_told : (read : List ℕ) (damaged : Bool) (form : Option Form)
+    (out written said says : Option (List ℕ)) (cause : StageFault) → SaysNone cause
+    → StopsShowing read damaged form out written said says (Stage cause) → HoldsNone read
+none_told read damaged form out written said says cause none h =
+    told_none cause none (why_shown read damaged form out written said says (Stage cause) h)
 
-pub none_told : (read : List ℕ) (form : Form) (out written said says : Option (List ℕ))
-    (cause : StageFault) → SaysNone cause
-    → StopsShowing read form out written said says (Stage cause) → HoldsNone read
-none_told read form out written said says cause none h =
-    told_none cause none (why_shown read form out written said says (Stage cause) h)
+-- what NoPoint and BadFrame say is true, and BadFrame is not reported with `damaged`
+pub frame_told : (read : List ℕ) (damaged : Bool) (form : Option Form)
+    (out written said says : Option (List ℕ)) (cause : StageFault) → SaysNone cause
+    → StopsShowing read damaged form out written said says (Stage cause)
+    → IsFaultOf read cause × OnBadFrame cause (λ place. damaged ≡ false)
+frame_told read damaged form out written said says cause says_none
+    (unopened other is none why frame full failed kept quiet) = (
+      subst (IsFaultOf read) (sym (is_cause is)) why,
+      subst (λ (c : StageFault). OnBadFrame c (λ place. damaged ≡ false)) (sym (is_cause is)) frame,
+    )
+frame_told read damaged form out written said says cause says_none
+    (in_part g point broken parts remains whole front ends) =
+    absurd (subst SaysNone (is_device cause (part_ends form (Stage cause) ends)) says_none)
 
-pub bad_frame : (read : List ℕ) (form : Form) (out written said says : Option (List ℕ)) (place : ℕ)
-    → StopsShowing read form out written said says (Stage (BadFrame place)) → IsBadPlace read place
-bad_frame read form out written said says place (unopened cause is none why full failed kept quiet) =
-    subst (IsFaultOf read) (sym (is_cause is)) why
-bad_frame read form out written said says place (in_part g point parts staged front ends) =
-    absurd (let d : BadFrame place ≡ Device = is_device (BadFrame place) ends in cc)
+remaining : (read : List ℕ) (g : ℕ) (point : Point) (broken : Option ℕ) (parts : List Portion)
+    (cause : StageFault) → Remains read g point broken parts → SaysNone cause
+    → IsFaultOf read cause × OnBadFrame cause (λ place. true ≡ false) → ⊥
+remaining read g point broken parts NoPoint remains none told =
+    told.0 g point broken parts remains
+remaining read g point broken parts (BadFrame place) remains none told = cc (told.1)
+remaining read g point broken parts Device remains none told = none
+remaining read g point broken parts OutOfMemory remains none told = none
+remaining read g point broken parts Failed remains none told = none
+remaining read g point broken parts Full remains none told = none
 
-pub no_frame : (read : List ℕ) (form : Form) (out written said says : Option (List ℕ)) (place : ℕ)
-    → StopsSalvaging read form out written said says (Stage (BadFrame place)) → ⊥
-no_frame read form out written said says place
-    (nothing cause is none frame full failed kept quiet) =
-    subst (λ (c : StageFault). OnBadFrame c (λ place. ⊥)) (sym (is_cause is)) frame
-no_frame read form out written said says place
-    (salvaged_in_part g point broken parts remains front ends) =
-    absurd (let d : BadFrame place ≡ Device = is_device (BadFrame place) ends in cc)
+fails_before : (read : List ℕ) (damaged : Bool) (out written said says : Option (List ℕ))
+    → StopsShowing read damaged None out written said says (Stage Device)
+    → Keeps out written × Keeps said says
+fails_before read damaged out written said says
+    (unopened cause is none why frame full failed kept quiet) = (kept, quiet)
+fails_before read damaged out written said says
+    (in_part g point broken parts remains whole front (inl e)) =
+    absurd (let h : Stage Device ≡ File WriteFailed = e in cc)
+fails_before read damaged out written said says
+    (in_part g point broken parts remains whole front (inr e)) = absurd (e.1 refl)
 
 pub cases_of_showing : CasesOfShowing
 unfolding digits
@@ -132,23 +148,18 @@ cases_of_showing = record {
   awaits = refl;
   complete = refl;
   breaks = refl;
-  ends = λ want fault. (refl, refl, refl);
-  damaged_ends = λ want place fault. (refl, refl, refl, refl);
-  shown = λ read form out written said says want s. (s.staged, s.gives.wrote, s.gives.told);
-  salvaged = λ read form out written said says ending s.
-      (s.remains, s.ends, s.gives.wrote, s.gives.told);
+  ends = λ want place fault. (refl, refl, refl, refl);
+  shown = λ read damaged form out written said says ending s.
+      (s.remains, s.whole, s.ends, s.gives.wrote, s.gives.told);
+  counted = λ read damaged out written said says ending s. (s.gives.wrote, s.gives.told);
   stopped = stopped;
-  salvage_stopped = salvage_stopped;
-  good = λ read form out written said says g point parts cause staged none h.
-      none_told read form out written said says cause none h g point parts staged;
+  good = λ read damaged form out written said says g point parts cause staged none h.
+      none_told read damaged form out written said says cause none h g point parts staged;
   remaining = λ read form out written said says g point broken parts cause remains none h.
-      told_none cause none (why_salvaged read form out written said says (Stage cause) h)
-      g point broken parts remains;
-  no_frame = no_frame;
-  stops_by = λ read form out written said says.
-      stops_by (StopsShowing read form out written said says)
-      (why_shown read form out written said says);
-  salvage_stops_by = λ read form out written said says.
-      stops_by (StopsSalvaging read form out written said says)
-      (why_salvaged read form out written said says);
+      remaining read g point broken parts cause remains none
+      (frame_told read true form out written said says cause none h);
+  fails_before = fails_before;
+  stops_by = λ read damaged form out written said says.
+      stops_by (StopsShowing read damaged form out written said says)
+      (why_shown read damaged form out written said says);
 }

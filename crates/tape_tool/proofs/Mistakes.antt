@@ -20,10 +20,10 @@ use Rattle.tape_tool.specs.Ends.{exit_status}
 use Rattle.tape_tool.specs.Fault.{no_memory}
 use Rattle.tape_stage.specs.declared.stage.StageFault.TheVariants as stage_faults
 use Rattle.tape_tool.specs.declared.staging.StagingFault.TheVariants as staging_faults
-use Rattle.tape_tool.specs.Staging.{IsOfFile, IsUnmade, Says, SaysNoStage}
+use Rattle.tape_tool.specs.Staging.{IsOfFile, IsUnmade, RefusesBeginning, Says}
 use Rattle.tape_tool.proofs.program.End.status.Reads as status
 use Rattle.tape_tool.proofs.program.end_of.Reads as end_of
-use Rattle.tape_tool.proofs.program.damaged_end.Reads as damaged_end
+use Rattle.tape_tool.proofs.program.stage_end.Reads as stage_end
 use Rattle.tape_tool.proofs.program.extract_end.Reads as extract_end
 use Rattle.tape_tool.proofs.program.words_end.Reads as words_end
 use Rattle.tape_tool.proofs.program.no_words_end.Reads as no_words_end
@@ -69,7 +69,7 @@ incomplete_is_done κs w s h =
 
 -- damage_ends_with_success: a stage is damaged, but `stage --damaged` is reported as done
 damage_ends_with_success : (κs : _) (place : ℕ) (s : _)
-    → damaged_end.Learnt κs (Ok (endings.Broken place), tt) ends.Done s → ⊥
+    → stage_end.Learnt κs (Ok (endings.Broken place), tt) ends.Done s → ⊥
 damage_ends_with_success κs place s h =
     let e : ends.Done ≡ ends.Incomplete = h in
     absurd (cc)
@@ -136,7 +136,8 @@ empty_disk_told_as_no_stage : (D : _) (L : _) (g : _) (d : _) (e : _) (κs : _) 
     (refused : _) (s : _) → open_session.Learnt-named D L g d e κs a (Err refused) s
     → g.length_of a.1.0 ≡ 0 → refused.fault ≡ staging_faults.Stage stage_faults.NoPoint → ⊥
 empty_disk_told_as_no_stage D L g d e κs a refused s l empty told =
-    l.not_none empty (subst SaysNoStage (sym told) tt)
+    subst (λ f. RefusesBeginning a.1.1.1.0 (g.faults a.1.0) f (g.faults refused.disk)) told
+    (l.empty empty)
 
 -- no_stage_told_as_another_file: a file that is not a stage is reported as the stage of another
 -- file
@@ -146,7 +147,7 @@ no_stage_told_as_another_file : (D : _) (L : _) (g : _) (d : _) (e : _) (κs : _
     → refused.fault ≡ staging_faults.OtherFile → ⊥
 no_stage_told_as_another_file D L g d e κs a refused s l honest some none told =
     let says : Says a.1.1.0 a.1.1.1.0 (g.seen a.1.0) staging_faults.OtherFile
-    = subst (Says a.1.1.0 a.1.1.1.0 (g.seen a.1.0)) told (l.says honest some) in
+    = subst (Says a.1.1.0 a.1.1.1.0 (g.seen a.1.0)) told (l.refused honest some).says in
     none says.0 says.1 says.2 says.3
 
 -- letter_emptied: a file that begins with D is taken for the beginning of a new stage
@@ -173,7 +174,7 @@ stage_of_another_file_emptied : (D : _) (L : _) (g : _) (d : _) (e : _) (κs : _
     → 256 + point.staged ≤ length (g.seen a.1.0) → g.seen refused.disk ≡ [] → ⊥
 stage_of_another_file_emptied D L g d e κs a refused s generation point parts l honest some staged
     long none =
-    let k = l.kept honest some generation point parts staged in
+    let k = (l.refused honest some).kept generation point parts staged in
     let m : 256 + point.staged ≤ length (g.seen refused.disk)
     = subst (λ v. v ≤ length (g.seen refused.disk)) (min-eq_left long) k.no_shorter in
     absurd (let n : length (g.seen refused.disk) ≡ 0 = ap length none in omega (arith, m))

@@ -1,17 +1,14 @@
 -- Sessions over stages that were just created or opened.
-use Rattle.std.proofs.Common.{◌≡◌, ◌⊎◌, inl, inr, ℕ, List, false, sym, subst, ◌∙◌}
+use Rattle.std.proofs.Common.{◌≡◌, ℕ, List, false, sym, subst, ◌∙◌}
 use Rattle.tape_blocks.specs.Block.{Portion}
 use Rattle.tape_core.specs.Point.{Point}
 use Rattle.tape_run.specs.CrashRuns.{IsResumed}
 use Rattle.tape_run.specs.Seen.{seen}
 use Rattle.tape_run.specs.SessionState.{SessionState}
-use Rattle.tape_stage.specs.Stages.{Holds, OpensOver, Returns, Survives, Returned, Survived}
+use Rattle.tape_stage.specs.Stages.{Holds, Returns, Survives, Returned, Survived}
 use Rattle.tape_stage.specs.declared.disk.Disk.{Ghosts}
 use Rattle.tape_stage.specs.declared.stage.Stage.{Stage}
 use Rattle.tape_stage.proofs.Backs.{returned_now, survived_now}
-use Rattle.tape_stage.proofs.Passing.{follow, stands, weaken}
-use Rattle.tape_stage.specs.Disk.{IsLater}
-use Rattle.tape_stage.specs.Staged.{StandsLike}
 use Rattle.tape_tool.specs.Staging.{StandsAt, as_sink}
 
 module _ {D : Type 0} {disk : Ghosts D} where
@@ -27,7 +24,7 @@ module _ {D : Type 0} {disk : Ghosts D} where
       → disk.left_since stage.disk (disk.moment stage.disk) c → disk.may_leave stage.disk c)
       → StandsAt point parts session
   stands_at point told parts session stage same resumed is holds only survives alive now =
-      let honest = holds.honest (stage.settled alive) in
+      let honest = holds.honest (stage.settled (stage.usable alive)) in
       record {
         resumed = resumed;
         holds = subst (λ (s : Stage D disk). Holds s parts) (sym same) holds;
@@ -44,23 +41,3 @@ module _ {D : Type 0} {disk : Ghosts D} where
       this : (back : Point) (there : List Portion) → (back ≡ told) × (there ≡ parts)
           → (back ≡ point) × (there ≡ parts)
       this back there both = (both.0 ∙ is, both.1)
-
--- the length of the disk is read, and then the stage is opened or created
-pub looked : {D : Type 0} (disk : Ghosts D) (a b : D) → disk.seen b ≡ disk.seen a
-    → ((c : List ℕ) → disk.may_leave b c → disk.may_leave a c)
-    → IsLater disk.moment disk.left_since disk.may_leave a b → OpensOver disk a b
-looked disk a b same no_more time = stands disk a b _ time
-    (λ c left. inl (no_more c left))
-
-pub looked_then : {D : Type 0} (disk : Ghosts D) (a b d : D) → disk.seen b ≡ disk.seen a
-    → ((c : List ℕ) → disk.may_leave b c → disk.may_leave a c)
-    → IsLater disk.moment disk.left_since disk.may_leave a b → OpensOver disk b d
-    → OpensOver disk a d
-looked_then disk a b d same no_more time opens =
-    follow disk a b d _ (looked disk a b same no_more time)
-    (weaken disk b d _ _ also opens)
-  where
-    also : (c : List ℕ) → disk.may_leave b c ⊎ StandsLike (disk.seen b) c
-        → disk.may_leave a c ⊎ StandsLike (disk.seen a) c
-    also c (inl left) = inl (no_more c left)
-    also c (inr like) = inr (subst (λ (bytes : List ℕ). StandsLike bytes c) same like)

@@ -6,15 +6,20 @@ use Rattle.std.proofs.lemmas.List.{get_or_at, get_or_past, nil_from_length, take
 use Rattle.std.specs.Prelude.{slice_range}
 use Rattle.tape_stage.specs.Body.{body_text, FitBody}
 use Rattle.tape_stage.specs.OnlyReading.{OnlyReads}
-use Rattle.tape_stage.specs.Staged.{StandsLike, blank, body_at, gate_at, new_slots}
+use Rattle.tape_stage.specs.Staged.{HoldsNone, KeepsStaged, StandsLike, blank, body_at, gate_at}
+use Rattle.tape_stage.specs.Staged.{new_slots}
 use Rattle.tape_stage.specs.Stages.{OpensOver}
 use Rattle.tape_stage.specs.declared.disk.Disk.{Ghosts}
 use Rattle.tape_stage.proofs.Bodies.{length-body}
 use Rattle.tape_stage.proofs.Finds.{none_remains}
-use Rattle.tape_stage.proofs.Openings.{look_passes}
+use Rattle.tape_stage.proofs.Openings.{look_keeps, look_passes, look_untouched}
+use Rattle.tape_stage.proofs.Refusals.{untouched_then}
 use Rattle.tape_stage.proofs.Passing.{follow, weaken}
 use Rattle.tape_stage.proofs.Tears.{closed_none}
-use Rattle.tape_tool.specs.Staging.{IsUnmade, first_point}
+use Rattle.tape_stage.specs.declared.stage.StageFault.TheVariants.{Device}
+use Rattle.tape_tool.specs.Staging.{IsUnmade, RefusesSession, Says, first_point}
+use Rattle.tape_tool.specs.declared.staging.StagingFault.{StagingFault}
+use Rattle.tape_tool.specs.declared.staging.StagingFault.TheVariants.{Stage}
 
 -- an empty disk is one
 pub unmade_nil : (set_id : List ℕ) (file : ℕ) → IsUnmade set_id file []
@@ -84,3 +89,24 @@ module _ {D : Type 0} (disk : Ghosts D) (a b : D) (reads : OnlyReads disk a b)
       also c (inl left) = inl ((reads.any_moment honest).now c left)
       also c (inr like) =
           inr (subst (λ (bytes : List ℕ). StandsLike bytes c) (reads.same honest) like)
+
+  -- what was left of it when no session was opened
+  pub read_then : (set_id : List ℕ) (file : ℕ) (fault : StagingFault) (d : D)
+      → RefusesSession set_id file disk b fault d → RefusesSession set_id file disk a fault d
+  read_then set_id file fault d refuses = record {
+    says = subst (λ (read : List ℕ). Says set_id file read fault) (reads.same honest) refuses.says;
+    any_moment = read_opens d refuses.any_moment;
+    foreign = λ none. untouched_then disk a b d (look_untouched disk a b reads honest)
+        (refuses.foreign (subst HoldsNone (sym (reads.same honest)) none));
+    kept = subst (λ (old : List ℕ). KeepsStaged old (disk.seen d)) (reads.same honest) refuses.kept;
+  }
+
+  -- or when it could not be read further
+  pub read_failed : (set_id : List ℕ) (file : ℕ)
+      → RefusesSession set_id file disk a (Stage Device) b
+  read_failed set_id file = record {
+    says = (λ none. absurd none, tt);
+    any_moment = look_passes disk a b reads honest (StandsLike (disk.seen a));
+    foreign = λ none. look_untouched disk a b reads honest;
+    kept = look_keeps disk a b reads honest;
+  }

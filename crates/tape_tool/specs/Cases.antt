@@ -47,7 +47,7 @@ use Rattle.tape_tool.specs.Fault.{of_list}
 use Rattle.tape_tool.specs.Names.{end_byte, pieces_of, names_in}
 use Rattle.tape_tool.specs.Report.{report}
 use Rattle.tape_tool.specs.Staging.{IsOfFile, first_point, StandsAt, GoesOn, Says, IsUnopened}
-use Rattle.tape_tool.specs.Staging.{SaysNoStage, IsUnmade}
+use Rattle.tape_tool.specs.Staging.{FailsBy, IsUnmade, RefusesBeginning}
 use Rattle.tape_tool.specs.Diagnostics.{fault_line}
 
 -- how runs end
@@ -235,8 +235,15 @@ pub record CasesOfStaging {D : Type 0} (disk : Ghosts D) : Type 0 where
       × IsUnopened (staging.Stage stages.OutOfMemory)
   -- a stage whose disk failed may have been opened, and one of another file was
   pub opened : (IsUnopened (staging.Stage stages.Device) → ⊥) × (IsUnopened staging.OtherFile → ⊥)
-  -- NoPoint and BadFrame mean that the bytes are not a stage, and no other fault means that
-  pub none_told : SaysNoStage (staging.Stage stages.NoPoint)
-      × SaysNoStage (staging.Stage (stages.BadFrame 300))
-  pub not_told : (SaysNoStage (staging.Stage stages.Device) → ⊥)
-      × (SaysNoStage (staging.Stage stages.OutOfMemory) → ⊥) × (SaysNoStage staging.OtherFile → ⊥)
+  -- over an empty disk no session is refused for what the disk contains
+  pub none_told : (RefusesBeginning 1 0 (staging.Stage stages.NoPoint) 1 → ⊥)
+      × (RefusesBeginning 1 0 (staging.Stage (stages.BadFrame 300)) 1 → ⊥)
+  pub too_many : RefusesBeginning 10000 0 staging.OtherFile 0
+  pub file_one : RefusesBeginning 1 0 staging.OtherFile 0 → ⊥
+  -- and only a disk that failed is said to have failed
+  pub failed : FailsBy 3 (staging.Stage stages.Device) 4
+      × RefusesBeginning 1 3 (staging.Stage stages.Device) 4
+  pub not_failed : (FailsBy 3 (staging.Stage stages.Device) 3 → ⊥)
+      × (RefusesBeginning 1 3 (staging.Stage stages.Device) 3 → ⊥)
+  pub not_full : (FailsBy 3 (staging.Stage stages.Full) 4 → ⊥)
+      × (FailsBy 3 (staging.Stage stages.Failed) 4 → ⊥)

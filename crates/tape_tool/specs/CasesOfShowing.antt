@@ -1,5 +1,5 @@
 -- Examples for the definitions of `stage`, which show that none of them is too weak.
-use Rattle.std.specs.Prelude.{◌≡◌, ◌≢◌, ◌⊎◌, ℕ, false, List, length}
+use Rattle.std.specs.Prelude.{◌≡◌, ◌≢◌, ◌⊎◌, ℕ, Bool, true, false, List, [], length}
 use Rattle.std.specs.Prelude.{Option, Some, None, Ok, Err}
 use Rattle.std.specs.Prelude.{codes}
 use Rattle.std.specs.Io.KnownBytes.{Appends, Keeps}
@@ -14,10 +14,10 @@ use Rattle.tape_image.specs.Written.{AppendsFront}
 use Rattle.tape_run.specs.RecordText.{output_of}
 use Rattle.tape_stage.specs.Faults.{OnBadFrame, SaysNone}
 use Rattle.tape_stage.specs.Found.{IsFaultOf}
-use Rattle.tape_stage.specs.Salvaged.{Remains, RemainsNone}
+use Rattle.tape_stage.specs.Salvaged.{Remains}
 use Rattle.tape_stage.specs.Staged.{Staged, HoldsNone}
 use Rattle.tape_stage.specs.declared.stage.StageFault.{StageFault}
-use Rattle.tape_stage.specs.declared.stage.StageFault.TheVariants.{BadFrame, Device, Failed, Full}
+use Rattle.tape_stage.specs.declared.stage.StageFault.TheVariants.{Device, Failed, Full}
 use Rattle.tape_stage.specs.declared.stage.StageFault.TheVariants.{OutOfMemory}
 use Rattle.tape_run.specs.declared.fault.RunFault.{RunFault}
 use Rattle.tape_writer.specs.declared.system.fault.FileFault.{FileFault}
@@ -27,9 +27,8 @@ use Rattle.tape_tool.specs.declared.fault.ToolFault.{ToolFault}
 use Rattle.tape_tool.specs.declared.fault.ToolFault.TheVariants.{File, Run, Stage}
 use Rattle.tape_tool.specs.declared.stage.ending.StageEnding.{StageEnding}
 use Rattle.tape_tool.specs.declared.stage.ending.StageEnding.TheVariants.{Whole, Broken}
-use Rattle.tape_tool.specs.Ends.{stage_end, damaged_end}
-use Rattle.tape_tool.specs.StageReport.{ending_of, told_with, Shows, StopsShowing}
-use Rattle.tape_tool.specs.StageReport.{ShowsDamaged, StopsSalvaging}
+use Rattle.tape_tool.specs.Ends.{stage_end}
+use Rattle.tape_tool.specs.StageReport.{ending_of, output_in, told_with, Shows, StopsShowing}
 
 -- both lines, for a stage that is damaged there or intact
 abbrev pub told_of : Point → Option ℕ → ℕ → List ℕ
@@ -46,33 +45,21 @@ point_at position = record {
   staged = 0;
 }
 
--- the meaning of a fault: no stage was opened and nothing written, and NoPoint and BadFrame are true
--- of the bytes; or a prefix of the staged records in these bytes was written, and the fault is a
--- failed write or the device
-abbrev pub StopSays : List ℕ → Form → Option (List ℕ) → Option (List ℕ) → Option (List ℕ)
-    → Option (List ℕ) → ToolFault → Type 0
-StopSays read form out written said says fault = StopsShowing read form out written said says fault
+-- the meaning of a fault: no stage was opened and nothing written, and NoPoint and BadFrame are
+-- true of the bytes; or a prefix of the remaining records was written, and the fault is a failed
+-- write or the device
+abbrev pub StopSays : List ℕ → Bool → Option Form → Option (List ℕ) → Option (List ℕ)
+    → Option (List ℕ) → Option (List ℕ) → ToolFault → Type 0
+StopSays read damaged form out written said says fault =
+    StopsShowing read damaged form out written said says fault
     → ((cause : StageFault) × (fault ≡ Stage cause) × (SaysNone cause → HoldsNone read)
-    × IsFaultOf read cause × (cause ≢ Full) × (cause ≢ Failed) × Keeps out written × Keeps said says)
-    ⊎ ((g : ℕ) × (point : Point) × (parts : List Portion) × Staged read g point parts
-    × AppendsFront out written (output_of form parts)
-    × AppendsFront said says (told_of point None (length (join parts).records))
-    × ((fault ≡ File WriteFailed) ⊎ (fault ≡ Stage Device)))
-
--- the meaning of a fault of a stage that may be damaged: nothing was opened, NoPoint is reported
--- only if nothing remains, and BadFrame never; or a prefix of the remaining records was written,
--- and the fault is a failed write or the device
-abbrev pub SalvageSays : List ℕ → Form → Option (List ℕ) → Option (List ℕ) → Option (List ℕ)
-    → Option (List ℕ) → ToolFault → Type 0
-SalvageSays read form out written said says fault =
-    StopsSalvaging read form out written said says fault
-    → ((cause : StageFault) × (fault ≡ Stage cause) × (SaysNone cause → RemainsNone read)
-    × OnBadFrame cause (λ place. ⊥) × (cause ≢ Full) × (cause ≢ Failed)
-    × Keeps out written × Keeps said says)
+    × IsFaultOf read cause × OnBadFrame cause (λ place. damaged ≡ false)
+    × (cause ≢ Full) × (cause ≢ Failed) × Keeps out written × Keeps said says)
     ⊎ ((g : ℕ) × (point : Point) × (broken : Option ℕ) × (parts : List Portion)
-    × Remains read g point broken parts × AppendsFront out written (output_of form parts)
+    × Remains read g point broken parts × (damaged ≡ false → broken ≡ None)
+    × AppendsFront out written (output_in form parts)
     × AppendsFront said says (told_of point broken (length (join parts).records))
-    × ((fault ≡ File WriteFailed) ⊎ (fault ≡ Stage Device)))
+    × ((fault ≡ File WriteFailed) ⊎ ((fault ≡ Stage Device) × (form ≢ None))))
 
 -- The faults that can end it: a stage is never reported as full, or as failed before; after
 -- OutOfMemory nothing was written; a fault of a file is a failed write, and there are no faults of
@@ -93,46 +80,45 @@ pub record CasesOfShowing : Type 0 where
   pub breaks : told_of (point_at Finished) (Some 1276) 12
       ≡ codes "STAGE ABC001 1 12\nTRUNCATED AT 1276\n"
   -- how a run ends
-  pub ends : (want : Want) (fault : ToolFault) → (stage_end (Ok None) ≡ Done)
-      × (stage_end (Ok (Some want)) ≡ Incomplete)
+  pub ends : (want : Want) (place : ℕ) (fault : ToolFault)
+      → (stage_end (Ok (Whole None)) ≡ Done) × (stage_end (Ok (Whole (Some want))) ≡ Incomplete)
+      × (stage_end (Ok (Broken place)) ≡ Incomplete)
       × (stage_end (Err fault) ≡ Faulted fault)
-  pub damaged_ends : (want : Want) (place : ℕ) (fault : ToolFault)
-      → (damaged_end (Ok (Whole None)) ≡ Done) × (damaged_end (Ok (Whole (Some want))) ≡ Incomplete)
-      × (damaged_end (Ok (Broken place)) ≡ Incomplete)
-      × (damaged_end (Err fault) ≡ Faulted fault)
-  -- the records of all staged parts were written, and their number is reported
-  pub shown : (read : List ℕ) (form : Form) (out written said says : Option (List ℕ))
-      (want : Option Want) (s : Shows read form out written said says want)
-      → Staged read s.generation s.point s.parts
-      × Appends out written (output_of form s.parts)
-      × Appends said says (told_of s.point None (length (join s.parts).records))
-  -- and the same for what remains of a damaged stage
-  pub salvaged : (read : List ℕ) (form : Form) (out written said says : Option (List ℕ))
-      (ending : StageEnding) (s : ShowsDamaged read form out written said says ending)
+  -- the records of all parts that remain were written, and their number is reported; without
+  -- `damaged` these are all staged parts
+  pub shown : (read : List ℕ) (damaged : Bool) (form : Form)
+      (out written said says : Option (List ℕ)) (ending : StageEnding)
+      (s : Shows read damaged (Some form) out written said says ending)
       → Remains read s.generation s.point s.broken s.parts
+      × (damaged ≡ false → (s.broken ≡ None) × Staged read s.generation s.point s.parts)
       × (ending ≡ ending_of s.point s.broken)
       × Appends out written (output_of form s.parts)
       × Appends said says (told_with s.point ending (length (join s.parts).records))
+  -- without a form nothing is written
+  pub counted : (read : List ℕ) (damaged : Bool) (out written said says : Option (List ℕ))
+      (ending : StageEnding) (s : Shows read damaged None out written said says ending)
+      → Appends out written []
+      × Appends said says (told_with s.point ending (length (join s.parts).records))
   -- after a fault none of these records was written, or a prefix
-  pub stopped : (read : List ℕ) (form : Form) (out written said says : Option (List ℕ))
-      (fault : ToolFault) → StopSays read form out written said says fault
-  pub salvage_stopped : (read : List ℕ) (form : Form) (out written said says : Option (List ℕ))
-      (fault : ToolFault) → SalvageSays read form out written said says fault
+  pub stopped : (read : List ℕ) (damaged : Bool) (form : Option Form)
+      (out written said says : Option (List ℕ)) (fault : ToolFault)
+      → StopSays read damaged form out written said says fault
   -- an intact stage is never reported as not being one
-  pub good : (read : List ℕ) (form : Form) (out written said says : Option (List ℕ)) (g : ℕ)
-      (point : Point) (parts : List Portion) (cause : StageFault) → Staged read g point parts
-      → SaysNone cause → StopsShowing read form out written said says (Stage cause) → ⊥
-  -- nor is a stage of which something remains, and BadFrame is never reported
-  pub remaining : (read : List ℕ) (form : Form) (out written said says : Option (List ℕ)) (g : ℕ)
-      (point : Point) (broken : Option ℕ) (parts : List Portion) (cause : StageFault)
+  pub good : (read : List ℕ) (damaged : Bool) (form : Option Form)
+      (out written said says : Option (List ℕ)) (g : ℕ) (point : Point) (parts : List Portion)
+      (cause : StageFault) → Staged read g point parts → SaysNone cause
+      → StopsShowing read damaged form out written said says (Stage cause) → ⊥
+  -- with `damaged`, nor is a stage of which something remains, and BadFrame is never reported
+  pub remaining : (read : List ℕ) (form : Option Form) (out written said says : Option (List ℕ))
+      (g : ℕ) (point : Point) (broken : Option ℕ) (parts : List Portion) (cause : StageFault)
       → Remains read g point broken parts → SaysNone cause
-      → StopsSalvaging read form out written said says (Stage cause) → ⊥
-  pub no_frame : (read : List ℕ) (form : Form) (out written said says : Option (List ℕ))
-      (place : ℕ) → StopsSalvaging read form out written said says (Stage (BadFrame place)) → ⊥
-  -- which faults stop either
-  pub stops_by : (read : List ℕ) (form : Form) (out written said says : Option (List ℕ))
-      → StoppedOnlyBy (StopsShowing read form out written said says)
-      (Keeps out written × Keeps said says)
-  pub salvage_stops_by : (read : List ℕ) (form : Form) (out written said says : Option (List ℕ))
-      → StoppedOnlyBy (StopsSalvaging read form out written said says)
+      → StopsShowing read true form out written said says (Stage cause) → ⊥
+  -- if no records are written, the device fails only before anything is printed
+  pub fails_before : (read : List ℕ) (damaged : Bool) (out written said says : Option (List ℕ))
+      → StopsShowing read damaged None out written said says (Stage Device)
+      → Keeps out written × Keeps said says
+  -- which faults stop it
+  pub stops_by : (read : List ℕ) (damaged : Bool) (form : Option Form)
+      (out written said says : Option (List ℕ))
+      → StoppedOnlyBy (StopsShowing read damaged form out written said says)
       (Keeps out written × Keeps said says)

@@ -41,18 +41,12 @@ extract_end (Ok None) = Done
 extract_end (Ok (Some want)) = Incomplete
 extract_end (Err fault) = Faulted (of_engine fault)
 
--- how `stage` ends: if something of the file is missing, without success
-abbrev pub stage_end : Result (Option Want) ToolFault → End
-stage_end (Ok None) = Done
-stage_end (Ok (Some want)) = Incomplete
+-- how `stage` ends: with success only if the file is complete and the stage intact
+abbrev pub stage_end : Result StageEnding ToolFault → End
+stage_end (Ok (Whole None)) = Done
+stage_end (Ok (Whole (Some want))) = Incomplete
+stage_end (Ok (Broken place)) = Incomplete
 stage_end (Err fault) = Faulted fault
-
--- how `stage --damaged` ends: with success only if the file is complete and the stage intact
-abbrev pub damaged_end : Result StageEnding ToolFault → End
-damaged_end (Ok (Whole None)) = Done
-damaged_end (Ok (Whole (Some want))) = Incomplete
-damaged_end (Ok (Broken place)) = Incomplete
-damaged_end (Err fault) = Faulted fault
 
 -- help is a success if it was printed
 abbrev pub help_end : Bool → End

@@ -1,11 +1,10 @@
 -- The lines of `stage`, and the records that it writes.
-use Rattle.std.specs.Prelude.{◌≡◌, ◌≢◌, ◌⊎◌, ℕ, List, ◌++◌, length, Option, Some, None, codes}
-use Rattle.std.specs.Prelude.{decimal}
+use Rattle.std.specs.Prelude.{◌≡◌, ◌≢◌, ◌⊎◌, ℕ, List, [], ◌++◌, length, Option, Some, None}
+use Rattle.std.specs.Prelude.{Bool, false, codes, decimal}
 use Rattle.std.specs.Io.KnownBytes.{Appends, Keeps}
 use Rattle.tape_blocks.specs.Block.{Portion}
 use Rattle.tape_blocks.specs.Spans.{join}
 use Rattle.tape_blocks.specs.declared.parts.Form.{Form}
-use Rattle.tape_set.specs.declared.position.Want.{Want}
 use Rattle.tape_set.specs.Position.{want_at}
 use Rattle.tape_core.specs.Point.{Point}
 use Rattle.tape_run.specs.Identifier.{identifier_text}
@@ -14,7 +13,7 @@ use Rattle.tape_run.specs.RecordText.{output_of}
 use Rattle.tape_run.specs.ReelLine.{last_line}
 use Rattle.tape_stage.specs.Faults.{OnBadFrame, SaysNone}
 use Rattle.tape_stage.specs.Found.{IsFaultOf}
-use Rattle.tape_stage.specs.Salvaged.{Remains, RemainsNone}
+use Rattle.tape_stage.specs.Salvaged.{Remains}
 use Rattle.tape_stage.specs.Staged.{Staged, HoldsNone}
 use Rattle.tape_stage.specs.declared.stage.StageFault.{StageFault}
 use Rattle.tape_stage.specs.declared.stage.StageFault.TheVariants.{Device, Failed, Full}
@@ -49,70 +48,54 @@ abbrev pub ending_of : Point → Option ℕ → StageEnding
 ending_of point None = Whole (want_at point.file point.position)
 ending_of point (Some place) = Broken place
 
+-- the text of the records in the given form, or nothing if they are not written
+abbrev pub output_in : Option Form → List Portion → List ℕ
+output_in None parts = []
+output_in (Some form) parts = output_of form parts
+
 -- The complete records that the parts join to were written, and both lines.
-pub record Gives (point : Point) (ending : StageEnding) (form : Form)
+pub record Gives (point : Point) (ending : StageEnding) (form : Option Form)
     (out written said says : Option (List ℕ)) (parts : List Portion) : Type 0 where
-  pub wrote : Appends out written (output_of form parts)
+  pub wrote : Appends out written (output_in form parts)
   pub told : Appends said says (told_with point ending (length (join parts).records))
 
 -- A prefix of these records was written, or all of them and a prefix of the lines.
-pub record GivesFront (point : Point) (ending : StageEnding) (form : Form)
+pub record GivesFront (point : Point) (ending : StageEnding) (form : Option Form)
     (out written said says : Option (List ℕ)) (parts : List Portion) : Type 0 where
-  pub wrote : AppendsFront out written (output_of form parts)
+  pub wrote : AppendsFront out written (output_in form parts)
   pub told : AppendsFront said says (told_with point ending (length (join parts).records))
 
--- The bytes that were read represent a checkpoint and its parts. The missing part of its file is
--- printed, and the records of the parts were written.
-pub record Shows (read : List ℕ) (form : Form) (out written said says : Option (List ℕ))
-    (want : Option Want) : Type 0 where
-  pub generation : ℕ
-  pub point : Point
-  pub parts : List Portion
-  pub staged : Staged read generation point parts
-  pub wanted : want ≡ want_at point.file point.position
-  pub gives : Gives point (ending_of point None) form out written said says parts
-
--- the faults after a stage was opened: a failed write, or its device, since the parts are read
--- again
-abbrev pub EndsInPart : ToolFault → Type 0
-EndsInPart fault = (fault ≡ File WriteFailed) ⊎ (fault ≡ Stage Device)
-
--- A fault ended the run. Either no stage was opened and nothing was written; NoPoint is reported
--- only if no slot is valid, BadFrame with the offset of the bad frame, and Full and Failed never. Or a prefix of the output was written, and
--- the fault is a failed write or the device.
-pub data StopsShowing (read : List ℕ) (form : Form) (out written said says : Option (List ℕ))
-    (fault : ToolFault) : Type 0 where
-  unopened : (cause : StageFault) → fault ≡ Stage cause → (SaysNone cause → HoldsNone read)
-      → IsFaultOf read cause → cause ≢ Full → cause ≢ Failed
-      → Keeps out written → Keeps said says → StopsShowing read form out written said says fault
-  in_part : (generation : ℕ) (point : Point) (parts : List Portion)
-      → Staged read generation point parts
-      → GivesFront point (ending_of point None) form out written said says parts
-      → EndsInPart fault
-      → StopsShowing read form out written said says fault
-
 -- The bytes that were read contain these remains: a checkpoint, and its parts up to the damage, if
--- there is any. The records of these parts were written, and the line after them was printed.
-pub record ShowsDamaged (read : List ℕ) (form : Form) (out written said says : Option (List ℕ))
-    (ending : StageEnding) : Type 0 where
+-- there is any. Without `damaged` there is none: the bytes represent the checkpoint and its parts.
+-- The records of the parts were written, and both lines were printed.
+pub record Shows (read : List ℕ) (damaged : Bool) (form : Option Form)
+    (out written said says : Option (List ℕ)) (ending : StageEnding) : Type 0 where
   pub generation : ℕ
   pub point : Point
   pub broken : Option ℕ
   pub parts : List Portion
   pub remains : Remains read generation point broken parts
+  pub whole : damaged ≡ false → (broken ≡ None) × Staged read generation point parts
   pub ends : ending ≡ ending_of point broken
   pub gives : Gives point ending form out written said says parts
 
--- A fault ended the run. Either nothing was opened and nothing written; NoPoint is reported only if
--- nothing remains, and BadFrame, Full and Failed never. Or a prefix of the output was written, and
--- the fault is a failed write or the device.
-pub data StopsSalvaging (read : List ℕ) (form : Form) (out written said says : Option (List ℕ))
-    (fault : ToolFault) : Type 0 where
-  nothing : (cause : StageFault) → fault ≡ Stage cause → (SaysNone cause → RemainsNone read)
-      → OnBadFrame cause (λ place. ⊥) → cause ≢ Full → cause ≢ Failed
-      → Keeps out written → Keeps said says → StopsSalvaging read form out written said says fault
-  salvaged_in_part : (generation : ℕ) (point : Point) (broken : Option ℕ) (parts : List Portion)
-      → Remains read generation point broken parts
+-- The faults after a stage was opened: a failed write, or its device, if the parts are read again
+-- to be written.
+abbrev pub EndsInPart : Option Form → ToolFault → Type 0
+EndsInPart form fault = (fault ≡ File WriteFailed) ⊎ ((fault ≡ Stage Device) × (form ≢ None))
+
+-- A fault ended the run. Either no stage was opened and nothing was written; NoPoint is reported
+-- only if no slot is valid, BadFrame with the offset of the bad frame, never with `damaged`, and
+-- Full and Failed never. Or a prefix of the output was written, and the fault is a failed write or
+-- the device.
+pub data StopsShowing (read : List ℕ) (damaged : Bool) (form : Option Form)
+    (out written said says : Option (List ℕ)) (fault : ToolFault) : Type 0 where
+  unopened : (cause : StageFault) → fault ≡ Stage cause → (SaysNone cause → HoldsNone read)
+      → IsFaultOf read cause → OnBadFrame cause (λ place. damaged ≡ false)
+      → cause ≢ Full → cause ≢ Failed → Keeps out written → Keeps said says
+      → StopsShowing read damaged form out written said says fault
+  in_part : (generation : ℕ) (point : Point) (broken : Option ℕ) (parts : List Portion)
+      → Remains read generation point broken parts → (damaged ≡ false → broken ≡ None)
       → GivesFront point (ending_of point broken) form out written said says parts
-      → EndsInPart fault
-      → StopsSalvaging read form out written said says fault
+      → EndsInPart form fault
+      → StopsShowing read damaged form out written said says fault

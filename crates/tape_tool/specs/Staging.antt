@@ -8,13 +8,18 @@ use Rattle.tape_core.specs.declared.sink.PartSink as sinks
 use Rattle.tape_run.specs.CrashRuns.{IsResumed}
 use Rattle.tape_run.specs.Seen.{seen}
 use Rattle.tape_run.specs.SessionState.{SessionState}
+use Rattle.tape_core.specs.Known.{IsFileNumber}
+use Rattle.tape_core.specs.Weight.{Rose}
 use Rattle.tape_stage.specs.Faults.{SaysNone, IsNotDevice}
 use Rattle.tape_stage.specs.Found.{IsFaultOf}
 use Rattle.tape_stage.specs.Salvaged.{RemainsNone}
-use Rattle.tape_stage.specs.Staged.{Staged, HoldsNone, new_slots}
+use Rattle.tape_stage.specs.Moments.{Untouched}
+use Rattle.tape_stage.specs.Staged.{Staged, HoldsNone, KeepsStaged, new_slots}
 use Rattle.tape_stage.specs.Stages.{Holds, Returns, Survives, Returned, Survived, crashes_of}
+use Rattle.tape_stage.specs.Stages.{OpensOver, RefusesCreating, RefusesChange}
 use Rattle.tape_stage.specs.declared.disk.Disk.{Ghosts}
 use Rattle.tape_stage.specs.declared.stage.Stage.{Stage}
+use Rattle.tape_stage.specs.declared.stage.StageFault.TheVariants.{Device, Failed, Full}
 use Rattle.tape_tool.specs.declared.staging.StagingFault.{StagingFault}
 use Rattle.tape_tool.specs.declared.staging.StagingFault.TheVariants as faults
 
@@ -40,6 +45,7 @@ as_sink = record {
   holds = Holds;
   weighs = λ s. s.weight;
   refusals = λ s. s.refused;
+  refuses_change = RefusesChange;
   crashes = λ s. crashes_of s;
 }
 
@@ -79,7 +85,26 @@ abbrev pub IsUnopened : StagingFault → Type 0
 IsUnopened (faults.Stage fault) = IsNotDevice fault
 IsUnopened faults.OtherFile = ⊥
 
--- The fault says that the bytes are not a stage.
-abbrev pub SaysNoStage : StagingFault → Type 0
-SaysNoStage (faults.Stage fault) = SaysNone fault
-SaysNoStage faults.OtherFile = ⊥
+-- What is left of a disk over which no session was opened. What the fault says about its bytes is
+-- true, and the staged data are unchanged at any moment. Bytes that represent nothing were not
+-- changed.
+pub record RefusesSession {D : Type 0} (set_id : List ℕ) (file : ℕ) (disk : Ghosts D) (old : D)
+    (fault : StagingFault) (new : D) : Type 0 where
+  pub says : Says set_id file (disk.seen old) fault
+  pub any_moment : OpensOver disk old new
+  pub foreign : HoldsNone (disk.seen old) → Untouched disk old new
+  pub kept : KeepsStaged (disk.seen old) (disk.seen new)
+
+-- A stage that is opened or created is never full or failed, and Device is returned only if the
+-- disk failed, given its counts of failures before and after the call.
+abbrev pub FailsBy : ℕ → StagingFault → ℕ → Type 0
+FailsBy old (faults.Stage Full) new = ⊥
+FailsBy old (faults.Stage Failed) new = ⊥
+FailsBy old (faults.Stage Device) new = Rose old new
+FailsBy old _ new = Unit {0}
+
+-- Why no session was begun over an empty disk: no file can have the number, there was no memory, or
+-- the disk failed.
+abbrev pub RefusesBeginning : ℕ → ℕ → StagingFault → ℕ → Type 0
+RefusesBeginning file old (faults.Stage fault) new = RefusesCreating old fault new
+RefusesBeginning file old faults.OtherFile new = IsFileNumber file → ⊥

@@ -34,8 +34,6 @@ pub enum Kind {
     Number(u64, u64),
     /// One or more texts.
     Texts,
-    /// One or more texts, required unless the option with this name is present.
-    TextsOr(&'static str),
     /// Any number of texts, also none.
     AnyTexts,
     /// An option without a value.
@@ -80,7 +78,6 @@ fn argument<'a>(alloc: Global, word: &Word) -> Result<Arg<'a>, AllocError> {
     let Word(name, kind, help) = word;
     let arg = Arg::new(alloc, *name).help(*help);
     match *kind {
-        Kind::TextsOr(option) => arg.num_args(1..).required_unless_present(option),
         Kind::Flag => Ok(arg.long(*name).action(ArgAction::SetTrue)),
         Kind::FlagOf(option) => {
             let flag = arg.long(*name).action(ArgAction::SetTrue);

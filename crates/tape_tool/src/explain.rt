@@ -98,7 +98,10 @@ pub struct Explanation<'a> {
 
 impl fmt::Display for Explanation<'_> {
     fn fmt<W: fmt::Write>(&self, f: &mut fmt::Formatter<W>) -> fmt::Result {
-        let text = text_of(self.fault, self.site);
+        let text = match self.reason {
+            Some(reason) if is_folder(self.fault, reason) => A_FOLDER,
+            _ => text_of(self.fault, self.site),
+        };
         let site = site_of(self.fault, self.site);
         if text != NO_MEMORY && is_at(self.fault, site) && site != FaultSite::Unknown {
             write!(f, "{site}")?;
@@ -146,6 +149,11 @@ pub fn text_of(fault: ToolFault, site: FaultSite<'_>) -> &'static str {
         ToolFault::Stage(fault) => nth(STAGE, fault.number()),
         ToolFault::StageInUse => nth(STAGE, 7),
     }
+}
+
+/// Returns whether `fault` concerns an image that is a directory, given the system's message.
+fn is_folder(fault: ToolFault, reason: io::Error) -> bool {
+    matches!(fault, ToolFault::Image(_)) && reason.kind() == io::ErrorKind::IsADirectory
 }
 
 /// Returns the explanation of an image fault.
@@ -201,6 +209,11 @@ const NO_MEMORY: &str = "  Out of memory. What was written before it remains.
 /// The explanation for an image whose first bytes are not valid.
 const NO_IMAGE: &str = "  This does not look like a .tap image. Nothing was listed.
   Is it compressed (try 'zcat NAME | tape list'), or a different kind of file?
+";
+
+/// The explanation for a directory in place of an image.
+const A_FOLDER: &str = "  This is a directory, not an image. Nothing was listed.
+  Name an image in it.
 ";
 
 /// The explanation for a merged image that would be too long.
@@ -309,7 +322,7 @@ const STAGE: &[&str] = &[
 /// All explanations.
 #[cfg(test)]
 pub const TEXTS: &[&[&str]] = &[
-    &[NEVER, NO_MEMORY, NO_IMAGE, MERGED_TOO_LONG],
+    &[NEVER, NO_MEMORY, NO_IMAGE, A_FOLDER, MERGED_TOO_LONG],
     IMAGE,
     LABEL,
     WRITE,

@@ -2,8 +2,10 @@
 ghost use Rattle.std.specs.Prelude.{◌≡◌};
 ghost use Rattle.tape_writer.specs.declared.system.fault.FileFault.TheVariants as files;
 ghost use Rattle.tape_tool.specs.Fault.{file_number, write_number, of_system, of_engine, of_list};
+ghost use Rattle.tape_tool.specs.Fault.{no_memory};
 ghost use Rattle.tape_tool.specs.declared.fault.ToolFault.TheVariants.{Image, File};
 
+use std::alloc::AllocError;
 use tape_image::ImageFault;
 use tape_label::LabelFault;
 use tape_run::{EngineFault, ListFault, RunFault, WriteFailed};
@@ -79,6 +81,14 @@ impl From<FileFault> for ToolFault {
 
     fn from(fault: FileFault) -> ToolFault {
         ToolFault::File(fault)
+    }
+}
+
+impl From<AllocError> for ToolFault {
+    ghost from_gives = { λ _ e. e ≡ no_memory };
+
+    fn from(_error: AllocError) -> ToolFault {
+        OUT_OF_MEMORY
     }
 }
 

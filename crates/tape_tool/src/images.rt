@@ -6,14 +6,15 @@ ghost use Rattle.tape_tool.specs.Names.{end_byte, names_in};
 use crate::explain::FaultSite;
 use crate::fault::{FileFault, OUT_OF_MEMORY};
 use crate::help;
-use crate::host::Host;
+use crate::host::{Host, Progress};
 use crate::refusal::{Refusal, refused};
+use crate::shown::Shown;
 use crate::words::is_dash;
 use std::alloc::{AllocError, Global};
-use std::fs::{File, Files};
-use std::io;
+use std::fs::File;
 use std::io::{BufReader, ErrorKind, Read};
 use std::rt::Runtime;
+use std::{fmt, io};
 use tape_label::Field;
 use tape_run::{FoundFiles, ImageSource};
 
@@ -55,7 +56,10 @@ pub fn names_of<'t, 'a: 't, R: Runtime + AllocGlobal>(
         null = list.null;
     }
     match all_names(rt.alloc(), named.words.as_slice(), text.as_str(), null) {
-        Ok(names) if names.is_empty() => Err(Refusal::Words(help::NO_IMAGE)),
+        Ok(names) if names.is_empty() && named.list.is_none() => {
+            Err(Refusal::Words(help::NO_IMAGE))
+        }
+        Ok(names) if names.is_empty() => Err(Refusal::Words(help::EMPTY_LIST)),
         Ok(names) => Ok(names),
         Err(_) => Err(no_memory()),
     }
@@ -173,50 +177,7 @@ pub fn in_reading_order<'n>(
 }
 
 /// The size in bytes of the read buffer of an image.
-pub const READ_AHEAD: usize = 32_768;
-
-/// An open image, with a read buffer.
-pub type Image<R> = BufReader<<R as Files>::File>;
-
-/// The images of a run, by their names. Each is opened, with a read buffer, when it is mounted.
-#[derive(Drop)]
-pub struct Images<'a, R> {
-    rt: &'a R,
-    names: &'a [&'a str],
-}
-
-impl<'a, R: Runtime + AllocGlobal> Images<'a, R> {
-    /// Creates the source of the images named `names`. None is opened yet.
-    pub fn new(rt: &'a R, names: &'a [&'a str]) -> Images<'a, R> {
-        Images { rt, names }
-    }
-}
-
-impl<'a, R: Runtime + AllocGlobal> ImageSource<BufReader<<R as Files>::File>> for Images<'a, R> {
-    ghost size = { λ images. length images.names.now };
-
-    ghost gives = { λ _ _ _ _. ⊤ };
-
-    fn count(&self) -> usize {
-        self.names.len()
-    }
-
-    fn mount(
-        &mut self,
-        number: usize,
-    ) -> Result<Option<BufReader<<R as Files>::File>>, AllocError> {
-        let Some(name) = self.names.get(number) else {
-            return Ok(None);
-        };
-        let Ok(file) = File::open(self.rt, *name) else {
-            return Ok(None);
-        };
-        match BufReader::with_capacity(self.rt.alloc(), READ_AHEAD, file) {
-            Ok(reader) => Ok(Some(reader)),
-            Err(_) => Err(AllocError),
-        }
-    }
-}
+const READ_AHEAD: usize = 32_768;
 
 /// The bytes of an image: those of a file, or standard input.
 #[derive(Drop)]
@@ -234,40 +195,124 @@ impl<R: Host> Read for ImageBytes<R> {
     }
 }
 
-/// The images of a run, of which one may be standard input.
+/// The bytes of an image. As they are read, the system shows how many that were.
 #[derive(Drop)]
-pub struct ImagesOrInput<'a, R> {
+pub struct Watched<R, I> {
+    rt: R,
+    /// The number of the image, counted from 1.
+    image: usize,
+    /// The number of images.
+    count: usize,
+    /// The number of bytes that were read.
+    bytes: u64,
+    inner: I,
+}
+
+impl<R: Progress, I: Read> Read for Watched<R, I> {
+    ghost remaining = { λ watched. I.remaining watched.inner };
+
+    fn read(&mut self, buf: &mut [u8]) -> io::Result<usize> {
+        let read = self.inner.read(buf);
+        if let Ok(bytes) = &read {
+            self.bytes = self.bytes.saturating_add(*bytes as u64);
+            self.rt.show(self.image, self.count, self.bytes);
+        }
+        read
+    }
+}
+
+/// An open image, with a read buffer.
+pub type Image<R> = BufReader<Watched<R, ImageBytes<R>>>;
+
+/// Returns image `number`, counted from 0, of `count` images, with a read buffer.
+///
+/// # Errors
+///
+/// Returns `AllocError` if there is no memory for the buffer.
+pub fn image_of<R: Progress>(
+    rt: &R,
+    number: usize,
+    count: usize,
+    bytes: ImageBytes<R>,
+) -> Result<Image<R>, AllocError> {
+    let watched = Watched {
+        rt: rt.clone()?,
+        image: number.saturating_add(1),
+        count,
+        bytes: 0,
+        inner: bytes,
+    };
+    match BufReader::with_capacity(rt.alloc(), READ_AHEAD, watched) {
+        Ok(image) => Ok(image),
+        Err(_) => Err(AllocError),
+    }
+}
+
+/// The images of a run, by their names, of which one may be standard input. Each is opened when it
+/// is mounted.
+#[derive(Drop)]
+pub struct Images<'a, R> {
     rt: &'a R,
     names: &'a [&'a str],
     /// The number of the image that is standard input, if any.
     input: Option<usize>,
+    /// How many images were mounted, if each is named on standard error.
+    reels: Option<u64>,
 }
 
-impl<'a, R: Host> ImagesOrInput<'a, R> {
-    /// Creates the source of the images named `names`, the first `named` of which are arguments.
-    /// The first `-` among the arguments means standard input; in a list it is the name of a file.
-    pub fn new(rt: &'a R, names: &'a [&'a str], named: &Named<'_>) -> ImagesOrInput<'a, R> {
-        ImagesOrInput {
+/// The line that names the image which is mounted next.
+#[derive(Clone, Copy, Drop)]
+struct Reel<'a>(u64, &'a str);
+
+impl fmt::Display for Reel<'_> {
+    fn fmt<W: fmt::Write>(&self, f: &mut fmt::Formatter<W>) -> fmt::Result {
+        write!(f, "  REEL {}: {}\n", self.0, Shown(self.1))
+    }
+}
+
+impl<'a, R: Progress> Images<'a, R> {
+    /// Creates the source of the image files named `names`. None is opened yet.
+    pub fn new(rt: &'a R, names: &'a [&'a str]) -> Images<'a, R> {
+        Images {
+            rt,
+            names,
+            input: None,
+            reels: None,
+        }
+    }
+
+    /// Opens image `number`, named `name`, or standard input.
+    fn open(&self, number: usize, name: &str) -> Result<Option<Image<R>>, AllocError> {
+        let bytes = if self.input == Some(number) {
+            ImageBytes::Input(self.rt.reader())
+        } else {
+            match File::open(self.rt, name) {
+                Ok(file) => ImageBytes::Named(file),
+                Err(_) => return Ok(None),
+            }
+        };
+        Ok(Some(image_of(self.rt, number, self.names.len(), bytes)?))
+    }
+
+    /// From now on names each image on standard error when it is mounted, with its number in the
+    /// lines of `extract`.
+    pub fn name_reels(&mut self) {
+        self.reels = Some(0);
+    }
+
+    /// Creates the source of the images named `names`, which begin with the arguments `named`. The
+    /// first `-` among the arguments means standard input; in a list it is the name of a file.
+    pub fn or_input(rt: &'a R, names: &'a [&'a str], named: &Named<'_>) -> Images<'a, R> {
+        Images {
             rt,
             names,
             input: named.words.iter().position(|word| is_dash(*word)),
-        }
-    }
-
-    /// Opens image `number`, or standard input. Returns `None` if it cannot be opened.
-    fn open(&self, number: usize) -> Option<ImageBytes<R>> {
-        let name = self.names.get(number)?;
-        if self.input == Some(number) {
-            return Some(ImageBytes::Input(self.rt.reader()));
-        }
-        match File::open(self.rt, *name) {
-            Ok(file) => Some(ImageBytes::Named(file)),
-            Err(_) => None,
+            reels: None,
         }
     }
 }
 
-impl<'a, R: Host> ImageSource<BufReader<ImageBytes<R>>> for ImagesOrInput<'a, R> {
+impl<'a, R: Progress> ImageSource<Image<R>> for Images<'a, R> {
     ghost size = { λ images. length images.names.now };
 
     ghost gives = { λ _ _ _ _. ⊤ };
@@ -276,13 +321,16 @@ impl<'a, R: Host> ImageSource<BufReader<ImageBytes<R>>> for ImagesOrInput<'a, R>
         self.names.len()
     }
 
-    fn mount(&mut self, number: usize) -> Result<Option<BufReader<ImageBytes<R>>>, AllocError> {
-        let Some(bytes) = self.open(number) else {
+    fn mount(&mut self, number: usize) -> Result<Option<Image<R>>, AllocError> {
+        let Some(name) = self.names.get(number) else {
             return Ok(None);
         };
-        match BufReader::with_capacity(self.rt.alloc(), READ_AHEAD, bytes) {
-            Ok(reader) => Ok(Some(reader)),
-            Err(_) => Err(AllocError),
+        let image = self.open(number, *name)?;
+        if let Some(reels) = self.reels {
+            let reel = reels.saturating_add(1);
+            let _ = self.rt.eprint(Reel(reel, *name));
+            self.reels = Some(reel);
         }
+        Ok(image)
     }
 }

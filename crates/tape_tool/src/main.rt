@@ -34,14 +34,22 @@ mod laws;
 mod left;
 mod odd_word;
 mod refusal;
+mod screen;
 mod shown;
 mod staging;
 mod streams;
 #[cfg(test)]
 mod tests;
 
+use screen::{Line, Screen};
+use std::cell::Cell;
+use std::io::IsTerminal;
 use std::process::ExitCode;
 
 fn main(rt: HostRuntime) -> ExitCode {
-    ExitCode::from(program::run(&rt))
+    let line = Cell::new(Line::new(&rt, rt.stderr().is_terminal()));
+    let screen = Screen::new(&rt, &line);
+    let status = program::run(&screen);
+    screen.clear();
+    ExitCode::from(status)
 }

@@ -4,7 +4,7 @@ ghost use Rattle.std.specs.Prelude.{◌≡◌, ◌≢◌, Bool, true, false, Non
 ghost use Rattle.clap.specs.Words.{kind_of};
 ghost use Rattle.tape_tool.specs.Ends.{exit_status, no_words_end, words_end, IsRefusalEnd};
 ghost use Rattle.tape_tool.specs.Ends.{IsWrongWords, end_of, help_end, check_end, extract_end};
-ghost use Rattle.tape_tool.specs.Ends.{stage_end, damaged_end};
+ghost use Rattle.tape_tool.specs.Ends.{stage_end};
 ghost use Rattle.tape_tool.specs.Fault.{no_memory};
 
 use crate::check::check;
@@ -15,7 +15,7 @@ use crate::explain::{Explanation, FaultSite, explain_missing, reason_of};
 use crate::extract::extract;
 use crate::fault::{FileFault, OUT_OF_MEMORY, ToolFault};
 use crate::help;
-use crate::host::Host;
+use crate::host::{Host, Progress};
 use crate::init::init;
 use crate::list::list;
 use crate::merge::{compare, merge};
@@ -93,20 +93,9 @@ pub fn extract_end(answer: Result<Option<Want>, EngineFault>) -> End
     }
 }
 
-/// Returns how `stage` ends, given the part of the file that is still missing, if any.
-pub fn stage_end(answer: Result<Option<Want>, ToolFault>) -> End
+/// Returns how `stage` ends: with success only if nothing is missing or damaged.
+pub fn stage_end(answer: Result<StageEnding, ToolFault>) -> End
     ensures { result ≡ stage_end answer }
-{
-    match answer {
-        Ok(None) => End::Done,
-        Ok(Some(_want)) => End::Incomplete,
-        Err(fault) => end_of(Err(fault)),
-    }
-}
-
-/// Returns how `stage --damaged` ends: with success only if nothing is missing or damaged.
-pub fn damaged_end(answer: Result<StageEnding, ToolFault>) -> End
-    ensures { result ≡ damaged_end answer }
 {
     match answer {
         Ok(StageEnding::Whole(None)) => End::Done,
@@ -161,7 +150,7 @@ pub fn finish<R: Eprint>(rt: &R, end: End) -> u8
 }
 
 /// Runs the program, reports a fault, and returns the exit status.
-pub fn run<R: Host>(rt: &R) -> u8 {
+pub fn run<R: Progress>(rt: &R) -> u8 {
     // These files stay open until the run ends.
     let _kept = match keep_numbers(rt) {
         Ok(kept) => kept,
@@ -239,7 +228,7 @@ pub fn without_words<R: Eprint>(rt: &R, kind: io::ErrorKind) -> End
 }
 
 /// Executes a command line, whose first argument is the program's name.
-pub fn perform<'a, R: Host>(rt: &R, words: &'a [String]) -> Outcome<'a> {
+pub fn perform<'a, R: Progress>(rt: &R, words: &'a [String]) -> Outcome<'a> {
     match call_of(rt.alloc(), words) {
         Ok(mut call) => {
             call.explained = call.explained || is_asked(rt);
@@ -261,12 +250,12 @@ fn is_asked<R: Host>(rt: &R) -> bool {
 }
 
 /// Executes a parsed command line.
-fn follow<'a, R: Host>(rt: &R, call: &Call<'a>) -> Outcome<'a>
+fn follow<'a, R: Progress>(rt: &R, call: &Call<'a>) -> Outcome<'a>
     ensures plain { call.now.explained ≡ false → result.explained ≡ None }
     ensures explained { call.now.explained ≡ true → IsSome result.explained }
 {
     let mut site = FaultSite::Unknown;
-    let end = obey(rt, &call.order, &mut site);
+    let end = obey(rt, call, &mut site);
     if call.explained && end == End::Incomplete {
         explain_missing(rt, &call.order);
     }
@@ -276,15 +265,15 @@ fn follow<'a, R: Host>(rt: &R, call: &Call<'a>) -> Outcome<'a>
     }
 }
 
-/// Executes the command in `order`. On error, `site` says where it occurred.
-fn obey<'a, R: Host>(rt: &R, order: &Order<'a>, site: &mut FaultSite<'a>) -> End {
-    match order {
+/// Executes the command in `call`. On error, `site` says where it occurred.
+fn obey<'a, R: Progress>(rt: &R, call: &Call<'a>, site: &mut FaultSite<'a>) -> End {
+    match &call.order {
         Order::List(order) => list(rt, *order, site),
         Order::Init(order) => init(rt, order, site),
         Order::Check(named) => check(rt, named, site),
         Order::Survey(order) => survey(rt, order, site),
         Order::Write(order) => write(rt, order, site),
-        Order::Extract(order) => extract(rt, order, site),
+        Order::Extract(order) => extract(rt, order, call.explained, site),
         Order::Unpack(order) => unpack(rt, order, site),
         Order::Salvage(order) => salvage(rt, order, site),
         Order::Stage(order) => stage(rt, order, site),

@@ -3,25 +3,21 @@
 ghost use Rattle.std.specs.Prelude.{◌≡◌, ◌↔◌, ◌⊎◌, ◌<◌, ◌≤◌, ℕ, [], IfOk, IfErr, IsTrue};
 ghost use Rattle.std.specs.Prelude.{length, slice_index};
 ghost use Rattle.std.specs.Bool.{OnTrue};
-ghost use Rattle.tape_core.specs.Known.{IsFileNumber};
-ghost use Rattle.tape_core.specs.Weight.{Rose};
-ghost use Rattle.tape_stage.specs.Moments.{Untouched};
 ghost use Rattle.tape_stage.specs.OnlyReading.{OnlyReads};
-ghost use Rattle.tape_stage.specs.Staged.{HoldsNone, KeepsStaged};
 ghost use Rattle.tape_stage.specs.Stages.{OpensOver};
 ghost use Rattle.tape_run.specs.Headline.{IsStart};
 ghost use Rattle.tape_tool.specs.Guards.{locked_stage};
 ghost use Rattle.tape_run.specs.Seen.{seen};
-ghost use Rattle.tape_tool.specs.Staging.{IsOfFile, StandsAt, GoesOn, Says, IsUnmade, IsUnopened};
-ghost use Rattle.tape_tool.specs.Staging.{SaysNoStage, as_sink, first_point};
+ghost use Rattle.tape_tool.specs.Staging.{IsOfFile, StandsAt, GoesOn, IsUnmade, IsUnopened};
+ghost use Rattle.tape_tool.specs.Staging.{FailsBy, RefusesBeginning, RefusesSession};
+ghost use Rattle.tape_tool.specs.Staging.{as_sink, first_point};
 
 use crate::fault::{FileFault, ToolFault};
 use crate::host::Host;
 use std::alloc::Global;
 use std::fs::{File, OpenOptions, TryLockError};
 use tape_core::{Checkpoint, ReaderCore};
-use tape_label::Field;
-use tape_label::laws::same_field;
+use tape_label::{Field, same_field};
 use tape_run::{RunFault, Session};
 use tape_stage::{BufferedFile, Disk, Refused, Stage, StageFault, buffered_file, new_slots};
 use tape_writer::system::{LockFault, locked, sync_folder_of};
@@ -62,37 +58,23 @@ pub fn open_session<D: Disk + Drop>(
     // On any disk, the session is one of this file.
     ensures file { IfOk result (λ session.
         (session.core.set_id ≡ set_id) × (session.core.file ≡ file)) }
-    // Whatever a fault says about the bytes is true.
-    ensures says { D.is_honest disk → (D.length_of disk ≡ 0 → ⊥)
-        → IfErr result (λ refused. Says set_id file (D.seen disk) refused.fault) }
-    ensures number { D.length_of disk ≡ 0 → IfErr result
-        (λ refused. refused.fault ≡ StagingFault.OtherFile → IsFileNumber file → ⊥) }
-    // An empty disk is never reported as one without a stage, since a stage is created.
-    ensures not_none { D.length_of disk ≡ 0 → IfErr result
-        (λ refused. SaysNoStage refused.fault → ⊥) }
     // A crash at any moment of the call leaves a disk that is not empty with contents that were
     // possible before, or that represent the same.
     ensures any_moment { D.is_honest disk → (D.length_of disk ≡ 0 → ⊥)
         → IfOk result (λ session. OpensOver D.Disk disk session.sink.disk) }
-    ensures any_moment_err { D.is_honest disk → (D.length_of disk ≡ 0 → ⊥)
-        → IfErr result (λ refused. OpensOver D.Disk disk refused.disk) }
-    // A disk that is not empty and has no stage is unchanged, even if it failed.
-    ensures foreign { D.is_honest disk → (D.length_of disk ≡ 0 → ⊥) → HoldsNone (D.seen disk)
-        → IfErr result (λ refused. Untouched D.Disk disk refused.disk) }
-    // What is staged is unchanged; at most, the bytes after it were removed.
-    ensures kept { D.is_honest disk → (D.length_of disk ≡ 0 → ⊥)
-        → IfErr result (λ refused. KeepsStaged (D.seen disk) (D.seen refused.disk)) }
+    // What a fault says about the bytes of a disk that is not empty is true, and what is staged is
+    // unchanged.
+    ensures refused { D.is_honest disk → (D.length_of disk ≡ 0 → ⊥) → IfErr result
+        (λ refused. RefusesSession set_id file D.Disk disk refused.fault refused.disk) }
     // Even a dishonest disk that is not empty keeps its length if no stage was opened and the disk
     // did not fail.
     ensures same_length { (D.length_of disk ≡ 0 → ⊥) → IfErr result (λ refused.
         IsUnopened refused.fault → D.length_of refused.disk ≡ D.length_of disk) }
-    // Opening or creating a stage never fails because a stage is full or has failed before.
-    ensures not_full { IfErr result
-        (λ refused. refused.fault ≡ StagingFault.Stage StageFault.Full → ⊥) }
-    ensures not_failed { IfErr result
-        (λ refused. refused.fault ≡ StagingFault.Stage StageFault.Failed → ⊥) }
-    ensures cause { IfErr result (λ refused. refused.fault ≡ StagingFault.Stage StageFault.Device
-        → Rose (D.faults disk) (D.faults refused.disk)) }
+    // An empty disk is never reported as one without a stage, since a stage is created.
+    ensures empty { D.length_of disk ≡ 0 → IfErr result (λ refused.
+        RefusesBeginning file (D.faults disk) refused.fault (D.faults refused.disk)) }
+    ensures cause { IfErr result (λ refused.
+        FailsBy (D.faults disk) refused.fault (D.faults refused.disk)) }
 {
     let mut disk = disk;
     match disk.len() {
@@ -118,15 +100,8 @@ fn begin<D: Disk + Drop>(
         (λ session. IsStart set_id file (seen as_sink session [])) }
     ensures file { IfOk result (λ session.
         (session.core.set_id ≡ set_id) × (session.core.file ≡ file)) }
-    ensures number { IfErr result
-        (λ refused. refused.fault ≡ StagingFault.OtherFile → IsFileNumber file → ⊥) }
-    ensures not_none { IfErr result (λ refused. SaysNoStage refused.fault → ⊥) }
-    ensures not_full { IfErr result
-        (λ refused. refused.fault ≡ StagingFault.Stage StageFault.Full → ⊥) }
-    ensures not_failed { IfErr result
-        (λ refused. refused.fault ≡ StagingFault.Stage StageFault.Failed → ⊥) }
-    ensures cause { IfErr result (λ refused. refused.fault ≡ StagingFault.Stage StageFault.Device
-        → Rose (D.faults disk) (D.faults refused.disk)) }
+    ensures refused { IfErr result (λ refused.
+        RefusesBeginning file (D.faults disk) refused.fault (D.faults refused.disk)) }
 {
     let Ok(core) = ReaderCore::new(set_id, file) else {
         let fault = StagingFault::OtherFile;
@@ -157,24 +132,14 @@ fn resume<D: Disk>(
     ensures goes_on { D.is_honest disk → IfOk result (GoesOn set_id file (D.seen disk)) }
     ensures file { IfOk result (λ session.
         (session.core.set_id ≡ set_id) × (session.core.file ≡ file)) }
-    ensures says { D.is_honest disk
-        → IfErr result (λ refused. Says set_id file (D.seen disk) refused.fault) }
     ensures any_moment { D.is_honest disk
         → IfOk result (λ session. OpensOver D.Disk disk session.sink.disk) }
-    ensures any_moment_err { D.is_honest disk
-        → IfErr result (λ refused. OpensOver D.Disk disk refused.disk) }
-    ensures foreign { D.is_honest disk → HoldsNone (D.seen disk)
-        → IfErr result (λ refused. Untouched D.Disk disk refused.disk) }
-    ensures kept { D.is_honest disk
-        → IfErr result (λ refused. KeepsStaged (D.seen disk) (D.seen refused.disk)) }
+    ensures refused { D.is_honest disk → IfErr result
+        (λ refused. RefusesSession set_id file D.Disk disk refused.fault refused.disk) }
     ensures same_length { IfErr result (λ refused.
         IsUnopened refused.fault → D.length_of refused.disk ≡ D.length_of disk) }
-    ensures not_full { IfErr result
-        (λ refused. refused.fault ≡ StagingFault.Stage StageFault.Full → ⊥) }
-    ensures not_failed { IfErr result
-        (λ refused. refused.fault ≡ StagingFault.Stage StageFault.Failed → ⊥) }
-    ensures cause { IfErr result (λ refused. refused.fault ≡ StagingFault.Stage StageFault.Device
-        → Rose (D.faults disk) (D.faults refused.disk)) }
+    ensures cause { IfErr result (λ refused.
+        FailsBy (D.faults disk) refused.fault (D.faults refused.disk)) }
 {
     match Stage::open_disk(alloc, disk) {
         Ok((stage, point)) => {
@@ -207,18 +172,12 @@ fn open_or_make<D: Disk + Drop>(
         → IfOk result (StandsAt (first_point set_id file) []) }
     // No other disk is emptied. At any moment of the call, a stage is opened or unchanged, and
     // anything else on the disk is unchanged.
-    ensures says { D.is_honest disk → (IsUnmade set_id file (D.seen disk) → ⊥)
-        → IfErr result (λ refused. Says set_id file (D.seen disk) refused.fault) }
     ensures goes_on { D.is_honest disk → (IsUnmade set_id file (D.seen disk) → ⊥)
         → IfOk result (GoesOn set_id file (D.seen disk)) }
     ensures any_moment { D.is_honest disk → (IsUnmade set_id file (D.seen disk) → ⊥)
         → IfOk result (λ session. OpensOver D.Disk disk session.sink.disk) }
-    ensures any_moment_err { D.is_honest disk → (IsUnmade set_id file (D.seen disk) → ⊥)
-        → IfErr result (λ refused. OpensOver D.Disk disk refused.disk) }
-    ensures foreign { D.is_honest disk → (IsUnmade set_id file (D.seen disk) → ⊥)
-        → HoldsNone (D.seen disk) → IfErr result (λ refused. Untouched D.Disk disk refused.disk) }
-    ensures kept { D.is_honest disk → (IsUnmade set_id file (D.seen disk) → ⊥)
-        → IfErr result (λ refused. KeepsStaged (D.seen disk) (D.seen refused.disk)) }
+    ensures refused { D.is_honest disk → (IsUnmade set_id file (D.seen disk) → ⊥) → IfErr result
+        (λ refused. RefusesSession set_id file D.Disk disk refused.fault refused.disk) }
 {
     let mut disk = disk;
     if !is_unmade(&mut disk, set_id, file) {

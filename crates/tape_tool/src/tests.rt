@@ -11,6 +11,7 @@ mod image;
 mod init;
 mod merge_program;
 mod program;
+mod progress;
 mod salvage_program;
 mod seen;
 mod showing;

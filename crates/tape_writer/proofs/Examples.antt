@@ -60,8 +60,6 @@ cases_of_images = record {
   is_full = λ w full. inr (omega (arith, full));
   stopped = λ left image h. h;
   of_the_writer = λ t v h. (h.0, h.1.held);
-  room_for_the_lent = λ h. absurd (omega (arith, h.1));
-  kept_as_handed = λ kept images h. h.0;
 }
 
 pub cases_of_sets : CasesOfSets

@@ -19,7 +19,6 @@ no_volume plan cut given e h = subst (λ c. (length plan.volumes.items ≡ 0)
 
 pub cases_of_written : CasesOfWritten
 cases_of_written = record {
-  room_for_all = (refl, omega arith);
   as_of_a_device = λ n. (refl, refl);
   its_sections = λ capacity t f i. (i.is_file, i.labels);
   its_number = λ file x o. o.number;

@@ -29,8 +29,3 @@ pub mod ExamplesOfDrafts
 pub mod ExamplesOfHolding
 mod Mistakes
 mod MistakesOfBlanks
-mod MistakesOfRecords
-mod MistakesOfTapes
-mod MistakesOnVolumes
-mod MistakesOfCauses
-mod MistakesOfFronts

@@ -33,11 +33,6 @@ pub all_append : {A : Type 0} (P : A → Type 0) (xs ys : List A) → AllByRecur
 all_append P [] ys h k = k
 all_append P (x ∷ xs) ys h k = (h.0, all_append P xs ys h.1 k)
 
-pub all_back : {A : Type 0} (P : A → Type 0) (xs ys : List A) → AllByRecursion P (xs ++ ys)
-    → AllByRecursion P ys
-all_back P [] ys h = h
-all_back P (x ∷ xs) ys h = all_back P xs ys h.1
-
 pub chain_push : {A : Type 0} (R : A → A → Type 0) (xs : List A) (y : A) → Chain R xs
     → ((ys : List A) (x : A) → xs ≡ ys ++ x ∷ [] → R x y) → Chain R (xs ++ y ∷ [])
 chain_push R [] y c h = tt

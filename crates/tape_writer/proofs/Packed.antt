@@ -25,9 +25,10 @@ use Rattle.tape_writer.proofs.Lists.{all_push}
 
 -- ---- a block that is returned has bytes
 
-pub given_sized : (p : Packing) (text : List ℕ) → IsWritable p.shape → Given p text
-    → (0 < length text) × (length text ≤ 99999)
-given_sized p text w given = (given.some_bytes, omega (arith, given.within, w.most))
+pub given_sized : (p : Packing) (shape : Shape) (text : List ℕ) → p.shape ≡ shape
+    → IsWritable shape → Given p text → (0 < length text) × (length text ≤ 99999)
+given_sized p shape text same w given =
+    (given.some_bytes, omega (arith, given.within, w.most, ap (λ s. s.block_len) same))
 
 -- ---- the records of a file
 

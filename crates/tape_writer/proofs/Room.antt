@@ -19,8 +19,8 @@ use Rattle.tape_blocks.proofs.PackLaws.{size_push}
 use Rattle.tape_set.specs.Sizes.{item_size}
 use Rattle.tape_writer.specs.declared.course.Course.{Course}
 use Rattle.tape_writer.specs.declared.fault.WriteFault.{WriteFault}
-use Rattle.tape_writer.specs.Draft.{IsRoomy}
-use Rattle.tape_writer.specs.Room.{Passed, room_of}
+use Rattle.tape_writer.specs.Draft.{added_course, changed_course}
+use Rattle.tape_writer.specs.Room.{room_of}
 
 -- a block is at least as long as its parts
 given_size : (p : Packing) (text : List ℕ) → Given p text → size_of p.shape p.parts ≤ length text
@@ -45,28 +45,34 @@ volume_less vs v w m e few =
     let product : 1 * m ≡ m = omega arith in
     ap (λ k. k * m) one ∙ add-mul (vs - w) 1 m ∙ ap (λ k. (vs - w) * m + k) product
 
--- writing a block uses up room
-block_room : (vs cap : ℕ) (old new : Course) (p : Packing) (text : List ℕ) → Given p text
-    → Passed old (item_size (block text)) new → IsRoomy cap vs new
-    → room_of vs cap new (emptied p) ≤ room_of vs cap old p
-block_room vs cap old new p text given (inl (same, further)) roomy =
-    let m = cap + p.shape.block_len in
-    let product : (vs - new.volume) * m ≡ (vs - old.volume) * m = ap (λ v. (vs - v) * m) same in
-    omega (arith, product, further, roomy.room, given_size p text given, given.within)
-block_room vs cap old new p text given (inr next) roomy =
-    let product =
-    volume_less vs old.volume new.volume (cap + p.shape.block_len) next roomy.volume in
-    omega (arith, product)
-
--- the same for a call that writes a block
-pub flushed_room : (vs cap : ℕ) (old new : Course) (p q : Packing) (text : List ℕ)
+-- writing a block uses up room, in the current section
+pub flushed_here : (vs cap : ℕ) (old new : Course) (p q : Packing) (text : List ℕ)
     (r : Result (Unit {0}) WriteFault) → Given p text → q ≡ emptied p
-    → OnOk r (Passed old (item_size (block text)) new) → OnOk r (IsRoomy cap vs new)
+    → old.used + item_size (block text) + 192 ≤ cap
+    → OnOk r (new ≡ added_course old (item_size (block text)))
     → OnOk r (room_of vs cap new q ≤ room_of vs cap old p)
-flushed_room vs cap old new p q text (Err e) given is passed roomy = tt
-flushed_room vs cap old new p q text (Ok x) given is passed roomy =
+flushed_here vs cap old new p q text (Err e) given is fits course = tt
+flushed_here vs cap old new p q text (Ok x) given is fits course =
     subst (λ z. room_of vs cap new z ≤ room_of vs cap old p) (sym is)
-    (block_room vs cap old new p text given passed roomy)
+    (let m = cap + p.shape.block_len in
+    let product : (vs - new.volume) * m ≡ (vs - old.volume) * m
+    = ap (λ k. (vs - k.volume) * m) course in
+    let used : new.used ≡ old.used + item_size (block text) = ap (λ k. k.used) course in
+    omega (arith, product, used, fits, given_size p text given, given.within))
+
+-- and on the next volume
+pub flushed_next : (vs cap : ℕ) (old one new : Course) (p q : Packing) (text : List ℕ)
+    (r : Result (Unit {0}) WriteFault) → Given p text → q ≡ emptied p → old.volume < vs
+    → one ≡ changed_course old → OnOk r (new ≡ added_course one (item_size (block text)))
+    → OnOk r (room_of vs cap new q ≤ room_of vs cap old p)
+flushed_next vs cap old one new p q text (Err e) given is left changed course = tt
+flushed_next vs cap old one new p q text (Ok x) given is left changed course =
+    subst (λ z. room_of vs cap new z ≤ room_of vs cap old p) (sym is)
+    (let next : new.volume ≡ old.volume + 1
+    = ap (λ k. k.volume) course ∙ ap (λ k. k.volume) changed in
+    let product = volume_less vs old.volume new.volume (cap + p.shape.block_len) next
+    (omega (arith, next, left)) in
+    omega (arith, product))
 
 -- there was no current block
 pub none_room : (vs cap : ℕ) (course : Course) (p q : Packing) → p.parts ≡ [] → q ≡ emptied p

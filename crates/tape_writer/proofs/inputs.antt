@@ -1,5 +1,5 @@
 mod Ahead
-mod Splitting
+pub mod Splitting
 mod Pieces
 mod Cutting
 mod Putting

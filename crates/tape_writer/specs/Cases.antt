@@ -38,7 +38,6 @@ use Rattle.tape_writer.specs.Faults.{FailsByDevice, FailsWith, IsEnding}
 use Rattle.tape_writer.specs.Fields.{IsText, IsTextVolume, IsTextHead}
 use Rattle.tape_writer.specs.Images.{IsImageOf, IsImageSoFar, AreImagesOf, HandedOn, AreImages}
 use Rattle.tape_writer.specs.Images.{TakesNoMore, HasStopped, Images, Holds}
-use Rattle.tape_writer.specs.Kept.{HoldsImages}
 use Rattle.tape_writer.specs.Inside.{Continues, IsStuck}
 use Rattle.tape_writer.specs.Labels.{first_label, second_label, trailer_label, second_kind}
 use Rattle.tape_writer.specs.Lasting.{Lasts, Lasting, TapeLasts, StaysAsked}
@@ -165,10 +164,6 @@ pub record CasesOfImages : Type 0 where
   -- a writer of images has its own image, and the contents of its store
   pub of_the_writer : (t : Images ℕ) (v : List (List TapeItem))
       → Holds (λ n lent images. n ≡ 7) t (Ended v) → (t.image ≡ None) × (t.store ≡ 7)
-  -- images in memory also have room for the image whose device is lent
-  pub room_for_the_lent : HoldsImages [] 2 2 true [] → ⊥
-  pub kept_as_handed : (kept images : List (List ℕ)) → HoldsImages kept 5 1 false images
-      → kept ≡ images
 
 -- the files passed, and the set written
 pub record CasesOfSets : Type 0 where

@@ -16,7 +16,6 @@ use Rattle.tape_writer.specs.declared.inputs.cut.Cut.{Cut}
 use Rattle.tape_writer.specs.declared.inputs.cut.Cut.TheVariants.{Lines, Length, Whole}
 use Rattle.tape_writer.specs.declared.inputs.set.SetPlan.{SetPlan}
 use Rattle.tape_writer.specs.Images.{HandedOn, device_failures}
-use Rattle.tape_writer.specs.Kept.{HoldsImages}
 use Rattle.tape_writer.specs.NoVolume.{HasNoVolume, GaveUpSet}
 use Rattle.tape_writer.specs.RecordLaws.{IsLine, ended_line, LinesAreCut, PiecesAreCut, WholeIsOne}
 use Rattle.tape_writer.specs.Records.{records_of, last_record}
@@ -27,8 +26,6 @@ use Rattle.tape_writer.specs.WriteSet.{IsSetOfImages, cut_of}
 
 -- sets that are written, and why others are not
 pub record CasesOfWritten : Type 0 where
-  -- room for three images is enough for the one whose device is lent and two more
-  pub room_for_all : HoldsImages [] 3 2 true []
   -- failures of an image's device are counted as failures of a device
   pub as_of_a_device : (n : ℕ) → ((device_failures n).device ≡ n)
       × ((device_failures n).memory ≡ 0)

@@ -1,6 +1,5 @@
 -- The contents of tapes in memory.
-use Rattle.std.specs.Prelude.{◌≡◌, ◌≤◌, ℕ, ◌+◌, List, length, map, Bool, true, false, Option, Some}
-use Rattle.std.specs.Prelude.{None}
+use Rattle.std.specs.Prelude.{ℕ, List, map, Option, Some, None}
 use Rattle.tape_image.specs.Tape.{TapeItem, block, mark}
 use Rattle.tape_writer.specs.Tapes.{Tapes, Ended, UnderWay, Failures}
 use Rattle.tape_writer.specs.declared.memory.Kept.{Kept}
@@ -30,14 +29,3 @@ volume_of kept = map item_of kept
 abbrev pub tapes_of : List (List Kept) → Option (List Kept) → Tapes
 tapes_of ended None = Ended (map volume_of ended)
 tapes_of ended (Some current) = UnderWay (map volume_of ended) (volume_of current)
-
--- the number of devices lent, 0 or 1
-abbrev pub lent_count : Bool → ℕ
-lent_count true = 1
-lent_count false = 0
-
--- exactly the given images are stored, and there is room for those that may follow, including the
--- one whose device is lent
-abbrev pub HoldsImages : List (List ℕ) → ℕ → ℕ → Bool → List (List ℕ) → Type 0
-HoldsImages kept room left lent images =
-    (kept ≡ images) × (length kept + left + lent_count lent ≤ room)

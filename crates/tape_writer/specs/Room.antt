@@ -1,15 +1,10 @@
 -- How much data a writer can still accept.
-use Rattle.std.specs.Prelude.{◌≡◌, ◌⊎◌, ℕ, ◌+◌, ◌-◌, ◌*◌, length}
+use Rattle.std.specs.Prelude.{ℕ, ◌+◌, ◌-◌, ◌*◌, length}
 use Rattle.tape_blocks.specs.Packing.{Packing, size_of}
 use Rattle.tape_writer.specs.declared.course.Course.{Course}
 use Rattle.tape_writer.specs.declared.phase.Phase.{Phase}
 use Rattle.tape_writer.specs.declared.phase.Phase.TheVariants.{Filing}
 use Rattle.tape_writer.specs.State.{SetState}
-
--- the position `size` bytes later in the same volume, or on the next volume
-abbrev pub Passed : Course → ℕ → Course → Type 0
-Passed old size new =
-    ((new.volume ≡ old.volume) × (new.used ≡ old.used + size)) ⊎ (new.volume ≡ old.volume + 1)
 
 -- an upper bound of the bytes that can be accepted before no volume is left: the free bytes of the
 -- current block and the current volume, and for each further volume its capacity and a block

@@ -1,11 +1,10 @@
 //! The writer's position on the volumes.
 
 ghost use Rattle.std.specs.Prelude.{◌≡◌};
-ghost use Rattle.tape_set.specs.Tight.{second_of};
 ghost use Rattle.tape_writer.specs.Labels.{head_at as head_at_of};
 
 use tape_blocks::Shape;
-use tape_label::{Head1, Head2};
+use tape_label::Head1;
 
 /// A file that has begun: its head (with the set's identifier, section 1 and the file's number) and
 /// its shape.
@@ -30,37 +29,11 @@ pub struct Course {
     pub used: u32,
 }
 
-impl Course {
-    /// Returns the position before the first volume.
-    pub(crate) fn start() -> Course
-        ensures { result ≡ record { volume = 0; sect = 0; count = 0; used = 0 } }
-    {
-        Course {
-            volume: 0,
-            sect: 0,
-            count: 0,
-            used: 0,
-        }
-    }
-}
-
 impl Opened {
     /// Returns the fields of HDR1 in section number `sect`.
     pub(crate) fn head_at(&self, sect: u16) -> Head1
         ensures { result ≡ head_at_of self.now sect }
     {
         Head1 { sect, ..self.head }
-    }
-
-    /// Returns the fields of HDR2, which are the same in each section.
-    pub(crate) fn second(&self) -> Head2
-        ensures { result ≡ second_of self.now.shape }
-    {
-        Head2 {
-            format: self.shape.format,
-            block_len: self.shape.block_len,
-            rec_len: self.shape.rec_len,
-            offset: self.shape.offset,
-        }
     }
 }

@@ -1,6 +1,7 @@
 //! Laws about the definitions that the contracts cite, each as the contract of a function that does
 //! nothing.
 
+ghost use Rattle.tape_writer.specs.RecordLaws.{LinesAreCut, PiecesAreCut, WholeIsOne};
 ghost use Rattle.tape_writer.specs.Cases.{CasesOfTapes, CasesOfImages, CasesOfSets};
 ghost use Rattle.tape_writer.specs.Cases.{CasesOfRefusals};
 ghost use Rattle.tape_writer.specs.CasesOfInputs.{CasesOfInputs, CasesOfSetFaults};
@@ -8,6 +9,15 @@ ghost use Rattle.tape_writer.specs.CasesOfWritten.{CasesOfWritten, CasesOfRecord
 ghost use Rattle.tape_writer.specs.CasesOfFronts.{CasesOfFronts};
 ghost use Rattle.tape_writer.specs.CasesOfDrafts.{CasesOfDrafts, CasesOfInside};
 ghost use Rattle.tape_writer.specs.CasesOfHolding.{CasesOfHolding};
+
+/// An input is cut into lines at the line feeds, and the last line may have no line feed; an input
+/// that consists of pieces of a fixed length is cut into these pieces, and a shorter rest is the
+/// last record; a whole input is one record.
+pub fn inputs_are_cut()
+    ensures lines { LinesAreCut }
+    ensures pieces { PiecesAreCut }
+    ensures whole { WholeIsOne }
+{}
 
 /// Test cases for the definitions of tapes and images, of the files passed and written, of faults,
 /// of inputs, of unfinished images and of write buffers.

@@ -1,30 +1,45 @@
-//! Writes records into the blocks of a file.
+//! Begins files, writes records into their blocks, ends the files, each on the current volume if it
+//! has room and otherwise on the next volume, and ends the set.
 
-ghost use Rattle.std.specs.Prelude.{◌≡◌, ◌≢◌, ◌<◌, ◌≤◌, ◌++◌, ◌∷◌, [], length, OnOk};
-ghost use Rattle.std.specs.Prelude.{IfErr, Ok};
-ghost use Rattle.std.specs.Prelude.{Err, false};
+ghost use Rattle.std.specs.Prelude.{◌≡◌, ◌≢◌, ◌<◌, ◌≤◌, ◌+◌, ◌++◌, ◌∷◌, [], ℕ, List, length};
+ghost use Rattle.std.specs.Prelude.{OnOk, IfErr, Ok, Err, false};
 ghost use Rattle.std.specs.List.{AllByRecursion};
+ghost use Rattle.tape_image.specs.Tape.{TapeItem, mark as mark_item};
 ghost use Rattle.tape_blocks.specs.Packing.{emptied, HasRecordLength};
+ghost use Rattle.tape_label.specs.Widths.{IsWideVolume};
 ghost use Rattle.tape_set.specs.Tight.{least_capacity};
 ghost use Rattle.tape_writer.specs.declared.course.Course.{Course};
-ghost use Rattle.tape_writer.specs.Front.{HoldsFront, IsMidRecord};
+ghost use Rattle.tape_writer.specs.Front.{HoldsFront, IsEndingLast, IsMidRecord};
 ghost use Rattle.tape_writer.specs.Lasting.{TapeLasts, StaysAsked};
-ghost use Rattle.tape_writer.specs.Faults.{FailsWith, IsEnding};
-ghost use Rattle.tape_label.specs.Widths.{IsWideVolume};
+ghost use Rattle.tape_writer.specs.Faults.{FailsWith, IsEnding, IsOfOut};
 ghost use Rattle.tape_writer.specs.Labels.{IsReady};
 ghost use Rattle.tape_writer.specs.Draft.{IsRoomy};
-ghost use Rattle.tape_writer.specs.Inside.{IsInside, Flushed, IsStuck, IsLeftOut, IfInside};
-ghost use Rattle.tape_writer.specs.Inside.{IfOpen};
+ghost use Rattle.tape_writer.specs.Inside.{IsBetween, IsFiling, IsInside, IsStuck, IsLeftOut};
+ghost use Rattle.tape_writer.specs.Inside.{IsWaiting, Flushed, IfInside, IfNext, IfOpen};
 ghost use Rattle.tape_writer.specs.Room.{room_of};
+ghost use Rattle.tape_writer.specs.State.{IsSoundRest};
+ghost use Rattle.tape_writer.specs.Tapes.{Ended, UnderWay, Grows};
+ghost use Rattle.tape_writer.specs.Told.{Told, IsWrittenSet};
 
 use crate::course::Opened;
-use crate::fault::WriteFault;
+use crate::fault::{WriteFault, fault_of};
 use crate::out::TapeOut;
 use crate::tape::Tape;
 use tape_blocks::{Offer, Packer};
 use tape_label::Vol1;
 
-/// Writes the current block, if there is one.
+/// The size of the end of a volume inside a file: a mark, EOV1, EOV2, two marks and the
+/// end-of-medium marker.
+const VOLUME_END: u32 = 192;
+
+/// The size of the end of a file: a mark, EOF1, EOF2 and a mark.
+const FILE_END: u32 = 184;
+
+/// The size of the headers of one more file: HDR1, HDR2 and a mark.
+const HEADERS: u32 = 180;
+
+/// Writes the current block, if there is one, on the next volume if it does not fit on the current
+/// one.
 #[tactic(auto, using(crate::proofs::Last::kept))]
 pub(crate) fn flush<T: TapeOut>(
     tape: &mut Tape<T>,
@@ -59,10 +74,18 @@ pub(crate) fn flush<T: TapeOut>(
     ensures lasting { TapeLasts T.TapeOut tape.old tape.new }
     ensures cause { FailsWith (T.failures tape.old.out) result (T.failures tape.new.out) }
 {
-    match packer.take_block() {
-        None => Ok(()),
-        Some(block) => tape.write_block(file, volumes, capacity, block),
+    let Some(block) = packer.take_block() else {
+        return Ok(());
+    };
+    let size = (8 + block.len() + block.len() % 2) as u32;
+    if tape.has_room(capacity, size + VOLUME_END) {
+        return tape.add_block(block);
     }
+    let Some(volume) = volumes.get(usize::from(tape.course.volume)) else {
+        return Err(WriteFault::OutOfVolumes);
+    };
+    tape.change_to(file, volume)?;
+    tape.add_block(block)
 }
 
 /// Writes a record into the file. Each block is written when it is ready.
@@ -125,4 +148,123 @@ pub(crate) fn put_record<T: TapeOut>(
             }
         }
     }
+}
+
+impl<T: TapeOut> Tape<T> {
+    /// Writes the file's last block, and then ends the file, on the next volume if the end does not
+    /// fit on the current one.
+    #[tactic(auto, using(crate::proofs::Last::kept))]
+    pub(crate) fn end_file(
+        &mut self,
+        packer: &mut Packer,
+        file: &Opened,
+        volumes: &[Vol1],
+        capacity: u32,
+    ) -> Result<(), WriteFault>
+        requires ready { IsReady file.now }
+        requires wide { AllByRecursion IsWideVolume volumes.now }
+        requires roomy { IsRoomy capacity (length volumes.now) self.old.course }
+        requires volumes { length volumes.now ≤ 9999 }
+        requires capacity { least_capacity file.now.shape ≤ capacity }
+        requires shape { packer.old.shape ≡ file.now.shape }
+        ensures room { OnOk result ((self.new.course.used + 372 ≤ capacity)
+            × (self.new.course.volume ≤ length volumes.now) × (1 ≤ self.new.course.volume)) }
+        ensures filed { (set_id : List ℕ) (past : List Told) (records : List (List ℕ))
+            → IsFiling (T.holds self.old.out) volumes.now capacity set_id file.now
+            self.old.course packer.old past records
+            → OnOk result (IsBetween (T.holds self.new.out) volumes.now capacity set_id
+            self.new.course (past ++ record { file = file.now; records = records } ∷ [])) }
+        ensures front { (set_id : List ℕ) (past : List Told) (records : List (List ℕ))
+            → IsFiling (T.holds self.old.out) volumes.now capacity set_id file.now
+            self.old.course packer.old past records
+            → IfErr result (λ _. IsEndingLast (HoldsFront (T.holds self.new.out)) volumes.now
+            capacity set_id (past ++ record { file = file.now; records = records } ∷ [])) }
+        ensures asked { StaysAsked T.TapeOut volumes.now self.old result self.new }
+        ensures ending { IfErr result IsEnding }
+        ensures stuck { IfErr result (λ fault. fault ≡ WriteFault.OutOfVolumes
+            → IfInside T.TapeOut volumes.now capacity file.now self.old packer.old
+            (λ set_id fs records. IsStuck (T.holds self.new.out) volumes.now capacity set_id
+            file.now self.new.course fs records)) }
+        ensures lasting { TapeLasts T.TapeOut self.old self.new }
+        ensures cause { FailsWith (T.failures self.old.out) result (T.failures self.new.out) }
+    {
+        flush(self, packer, file, volumes, capacity)?;
+        if self.has_room(capacity, FILE_END + HEADERS + VOLUME_END) {
+            return self.end_section(file, true);
+        }
+        let Some(volume) = volumes.get(usize::from(self.course.volume)) else {
+            return Err(WriteFault::OutOfVolumes);
+        };
+        self.change_to(file, volume)?;
+        self.end_section(file, true)
+    }
+}
+
+/// Begins a file. Before the first file, begins the first volume.
+#[tactic(auto, using(crate::proofs::Last::kept))]
+pub(crate) fn begin<T: TapeOut>(
+    tape: &mut Tape<T>,
+    file: &Opened,
+    volumes: &[Vol1],
+    capacity: u32,
+) -> Result<(), WriteFault>
+    requires ready { IsReady file.now }
+    requires wide { AllByRecursion IsWideVolume volumes.now }
+    requires some { 1 ≤ length volumes.now }
+    requires rest { IsSoundRest volumes.now capacity tape.old.course }
+    requires capacity { 1024 ≤ capacity }
+    ensures roomy { OnOk result (IsRoomy capacity (length volumes.now) tape.new.course) }
+    ensures filing { IfNext file.now (λ set_id told p.
+        IsWaiting (T.holds tape.old.out) volumes.now capacity set_id tape.old.course told
+        → OnOk result (IsFiling (T.holds tape.new.out) volumes.now capacity set_id file.now
+        tape.new.course p told [])) }
+    ensures front { IfNext file.now (λ set_id told p.
+        IsWaiting (T.holds tape.old.out) volumes.now capacity set_id tape.old.course told
+        → IfErr result (λ _. (course : Course) × IsFiling (HoldsFront (T.holds tape.new.out))
+        volumes.now capacity set_id file.now course p told [])) }
+    ensures asked { StaysAsked T.TapeOut volumes.now tape.old result tape.new }
+    ensures out { IfErr result IsOfOut }
+    ensures lasting { TapeLasts T.TapeOut tape.old tape.new }
+    ensures cause { FailsWith (T.failures tape.old.out) result (T.failures tape.new.out) }
+{
+    if tape.course.volume == 0 {
+        tape.begin_volume(&volumes[0])?;
+    }
+    tape.begin_section(file, 1)
+}
+
+/// Ends the last volume: writes its second mark and the end-of-medium marker.
+#[tactic(auto, using(crate::proofs::Last::kept))]
+pub(crate) fn end_set<T: TapeOut>(
+    tape: &mut Tape<T>,
+    volumes: &[Vol1],
+    capacity: u32,
+) -> Result<(), WriteFault>
+    requires wide { AllByRecursion IsWideVolume volumes.now }
+    requires room { tape.old.course.used + 372 ≤ capacity }
+    ensures written { (set_id : List ℕ) (told : List Told) → told ≢ []
+        → IsBetween (T.holds tape.old.out) volumes.now capacity set_id tape.old.course told
+        → OnOk result (IsWrittenSet (T.holds tape.new.out) volumes.now capacity set_id told) }
+    ensures front { (set_id : List ℕ) (told : List Told) → told ≢ []
+        → IsBetween (T.holds tape.old.out) volumes.now capacity set_id tape.old.course told
+        → IsWrittenSet (HoldsFront (T.holds tape.new.out)) volumes.now capacity set_id told }
+    ensures closes { (past : List (List TapeItem)) (items : List TapeItem)
+        → T.holds tape.old.out (UnderWay past items)
+        → OnOk result (T.holds tape.new.out
+        (Ended (past ++ (items ++ mark_item ∷ []) ∷ []))) }
+    ensures used { OnOk result (tape.new.course ≡ record tape.old.course {
+      used = tape.old.course.used + 8;
+    }) }
+    ensures count { Grows (T.failures tape.old.out) (T.failures tape.new.out) }
+    ensures asked { StaysAsked T.TapeOut volumes.now tape.old result tape.new }
+    ensures out { IfErr result IsOfOut }
+    ensures lasting { IfErr result (λ _. TapeLasts T.TapeOut tape.old tape.new) }
+    ensures cause { FailsWith (T.failures tape.old.out) result (T.failures tape.new.out) }
+{
+    tape.mark()?;
+    if let Err(fault) = tape.out.close() {
+        return Err(fault_of(fault));
+    }
+    tape.course.used += 4;
+    Ok(())
 }

@@ -1,6 +1,6 @@
 //! The writer of a file set.
 
-ghost use Rattle.std.specs.Prelude.{◌≡◌, ◌<◌, ◌≤◌, [], length, IfOk, IfErr, IsOk, OnOk, Err};
+ghost use Rattle.std.specs.Prelude.{◌≡◌, ◌<◌, ◌≤◌, [], length, IfOk, IfErr, IsOk, Err};
 ghost use Rattle.std.specs.List.{AllByRecursion};
 ghost use Rattle.tape_writer.specs.Tapes.{Ended};
 ghost use Rattle.tape_writer.specs.Fields.{IsText, IsTextVolume};
@@ -115,47 +115,34 @@ impl<T: TapeOut + Drop> SetWriter<T> {
         ensures told { T.holds out (Ended []) → IfOk result (λ w. IsWriting (T.holds w.out) w []) }
         ensures asked { IfOk result (λ w. HasAsked T.TapeOut w) }
     {
-        if let Err(fault) = judge_set(&set_id, &volumes) {
+        if !is_text(set_id.bytes()) || !are_text_volumes(&volumes) {
+            let fault = WriteFault::BadField;
             return Err(RefusedWriter { fault, out });
         }
-        Ok(SetWriter::judged(alloc, set_id, volumes, capacity, out))
-    }
-
-    /// Creates a writer for the set `set_id` on `volumes`, after both were checked.
-    pub(crate) fn judged(
-        alloc: Global,
-        set_id: Field<6>,
-        volumes: Vec<Vol1>,
-        capacity: u32,
-        out: T,
-    ) -> Self
-        requires some { 0 < length volumes.items }
-        requires many { length volumes.items ≤ 9999 }
-        ensures made { result ≡ record {
-          out = out;
-          volumes = volumes.items;
-          capacity = capacity;
-          set_id = set_id;
-          files = [];
-          course = record { volume = 0; sect = 0; count = 0; used = 0 };
-          phase = Between;
-        } }
-        ensures told { T.holds out (Ended []) → IsWriting (T.holds result.out) result [] }
-        ensures asked { HasAsked T.TapeOut result }
-    {
+        if volumes.is_empty() {
+            let fault = WriteFault::OutOfVolumes;
+            return Err(RefusedWriter { fault, out });
+        }
+        if volumes.len() > MOST_VOLUMES {
+            let fault = WriteFault::TooMany;
+            return Err(RefusedWriter { fault, out });
+        }
         tell_all_widths(&volumes);
-        SetWriter {
+        let course = Course {
+            volume: 0,
+            sect: 0,
+            count: 0,
+            used: 0,
+        };
+        Ok(SetWriter {
             alloc,
             volumes,
             capacity,
             set_id,
             files: Vec::new(alloc),
             phase: Phase::Between,
-            tape: Tape {
-                out,
-                course: Course::start(),
-            },
-        }
+            tape: Tape { out, course },
+        })
     }
 
     /// Returns the size of the current or last volume as an image so far, in bytes. The size is 0
@@ -192,29 +179,4 @@ impl<T: TapeOut + Drop> SetWriter<T> {
         let Tape { out, .. } = tape;
         (out, volumes)
     }
-}
-
-/// Checks that the set `set_id` can be written on `volumes`.
-pub(crate) fn judge_set(set_id: &Field<6>, volumes: &[Vol1]) -> Result<(), WriteFault>
-    ensures field { (IsText set_id.now × AllByRecursion IsTextVolume volumes.now → ⊥)
-        → result ≡ Err WriteFault.BadField }
-    ensures none { IsText set_id.now → AllByRecursion IsTextVolume volumes.now
-        → length volumes.now ≡ 0 → result ≡ Err WriteFault.OutOfVolumes }
-    ensures many { IsText set_id.now → AllByRecursion IsTextVolume volumes.now
-        → 9999 < length volumes.now → result ≡ Err WriteFault.TooMany }
-    ensures ok { IsText set_id.now → AllByRecursion IsTextVolume volumes.now
-        → 0 < length volumes.now → length volumes.now ≤ 9999 → IsOk result }
-    ensures some { OnOk result ((0 < length volumes.now) × (length volumes.now ≤ 9999)) }
-    ensures due { IfErr result (IsNewFault set_id.now volumes.now) }
-{
-    if !is_text(set_id.bytes()) || !are_text_volumes(volumes) {
-        return Err(WriteFault::BadField);
-    }
-    if volumes.is_empty() {
-        return Err(WriteFault::OutOfVolumes);
-    }
-    if volumes.len() > MOST_VOLUMES {
-        return Err(WriteFault::TooMany);
-    }
-    Ok(())
 }

@@ -3,22 +3,27 @@ mod answers;
 mod bytes;
 mod fault;
 mod folder;
-mod host;
 mod image_file;
 mod image_files;
 mod input_file;
 mod opening;
-mod paths;
 mod write_behind;
 mod written;
 
 pub use answers::{LockFault, found, locked};
 pub use fault::{FileFault, SystemFault};
-pub use folder::{folder_of, is_unable, name_in_folder, sync_folder_of};
-pub use host::Host;
+pub use folder::{
+    folder_of, image_path, is_unable, name_in_folder, put_image_path, sync_folder_of,
+};
 pub use image_file::ImageFile;
 pub use image_files::{Ended, ImageFiles, VOLUMES};
 pub use input_file::InputFile;
 pub use opening::make_image;
-pub use paths::{image_path, put_image_path};
+use std::fs::{File, Files};
+use std::rt::Runtime;
 pub use written::{FolderPlan, write_in_folder};
+
+/// A system with memory, and with files that can be locked.
+pub trait Host: Runtime + AllocGlobal + Files<File = File> {}
+
+impl<R: Runtime + AllocGlobal + Files<File = File>> Host for R {}

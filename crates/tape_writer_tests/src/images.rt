@@ -1,11 +1,12 @@
 //! Images that were written, and expected images.
 
 use crate::calls::{Row, follow};
+use crate::memory_images::MemoryImages;
 use crate::sets::on_images;
 use std::alloc::{AllocError, Global};
 use std::process::Abort;
 use std::test::Fail;
-use tape_writer::{ImageTapes, MemoryImages};
+use tape_writer::ImageTapes;
 
 /// A piece of an image.
 #[derive(Clone, Copy)]

@@ -3,6 +3,7 @@
 
 use crate::devices::{Dribble, Endless, Narrow, Narrows};
 use crate::inputs::{COUNTED, one_file, payroll, plan};
+use crate::memory_images::MemoryImages;
 use crate::sets::{FIXED, head};
 use std::alloc::Global;
 use std::io::Read;
@@ -10,7 +11,7 @@ use std::test::Fail;
 use tape_blocks::{Form, Shape};
 use tape_image::ImageWriter;
 use tape_label::{Field, Format, Head1};
-use tape_writer::{ImageStore, Input, MemoryImages, SetFault, WriteFault, write_set};
+use tape_writer::{ImageStore, Input, SetFault, WriteFault, write_set};
 
 /// A shape with blocks that are too short.
 const THIN: Shape = Shape {

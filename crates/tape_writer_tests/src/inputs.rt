@@ -1,12 +1,13 @@
 //! Tests of sets written from inputs, compared with images written out from their formats.
 
+use crate::memory_images::MemoryImages;
 use crate::sets::{FIXED, head, volumes};
 use crate::volumes::{first_of_two, one_volume, second_of_two};
 use std::alloc::{AllocError, Global};
 use std::test::Fail;
 use tape_blocks::{Form, Shape};
 use tape_label::{Field, Format};
-use tape_writer::{Input, MemoryImages, SetFault, SetPlan, write_set};
+use tape_writer::{Input, SetFault, SetPlan, write_set};
 
 /// A shape with records of at most 14 bytes, in blocks of 18 bytes.
 pub(crate) const COUNTED: Shape = Shape {

@@ -20,7 +20,11 @@ mod input_faults;
 #[cfg(test)]
 mod inputs;
 #[cfg(test)]
+mod memory_images;
+#[cfg(test)]
 mod refusals;
+#[cfg(test)]
+mod refusing;
 #[cfg(test)]
 mod sets;
 #[cfg(test)]

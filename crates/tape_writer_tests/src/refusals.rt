@@ -2,6 +2,7 @@
 
 use crate::calls::Call::{Begin, BeginSpanned, EndFile, Finish, Put, Records};
 use crate::calls::{Row, follow, perform};
+use crate::refusing::Refusing;
 use crate::sets::{FIXED, head, on_images, spanned, volume, volumes};
 use std::alloc::Global;
 use std::test::Fail;
@@ -10,7 +11,7 @@ use tape_writer::WriteFault::{
     BadField, BadShape, CapacityTooSmall, Device, Failed, FileBegun, Finished, NoFile,
     OutOfVolumes, TooMany,
 };
-use tape_writer::{MemoryTapes, Refusing, SetWriter, WriteFault};
+use tape_writer::{MemoryTapes, SetWriter, WriteFault};
 
 const OUT_OF_TURN: &[Row] = &[
     (Put(80), Err(NoFile), 0),

@@ -1,10 +1,11 @@
 //! The parts of a set: labels, shapes and volumes.
 
+use crate::memory_images::MemoryImages;
 use std::alloc::{AllocError, Global};
 use std::test::Fail;
 use tape_blocks::Shape;
 use tape_label::{Field, Format, Head1, Vol1};
-use tape_writer::{ImageTapes, MemoryImages, MemoryTapes, RefusedWriter, SetWriter, TapeOut};
+use tape_writer::{ImageTapes, MemoryTapes, RefusedWriter, SetWriter, TapeOut};
 
 /// A shape with records of 80 bytes, in blocks of 800 bytes.
 pub(crate) const FIXED: Shape = Shape {

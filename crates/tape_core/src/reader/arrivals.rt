@@ -20,8 +20,7 @@ use crate::checkpoint::{Checkpoint, Known};
 use crate::event::{Answer, CoreFault, Event, Heading, Phase, Reason};
 use crate::reader::ReaderCore;
 use tape_blocks::{Parts, Shape, check_block};
-use tape_label::laws::same_field;
-use tape_label::{Format, LabelFault, is_volume_label, kind, read_head1, read_trail1};
+use tape_label::{Format, LabelFault, is_volume_label, kind, read_head1, read_trail1, same_field};
 use tape_set::Position;
 
 impl ReaderCore {

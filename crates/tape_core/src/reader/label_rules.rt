@@ -12,9 +12,8 @@ ghost use Rattle.tape_core.specs.Labels as Labels;
 use crate::checkpoint::Known;
 use crate::event::{Answer, Heading, Phase, Reason};
 use crate::reader::ReaderCore;
-use tape_label::laws::same_field;
 use tape_label::{
-    Field, Format, Head1, Head2, Kind, LabelFault, Trail1, kind, read_head1, read_head2,
+    Field, Format, Head1, Head2, Kind, LabelFault, Trail1, kind, read_head1, read_head2, same_field,
 };
 use tape_set::{Position, label_count};
 

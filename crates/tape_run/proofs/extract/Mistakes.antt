@@ -14,7 +14,7 @@ use Rattle.tape_run.proofs.Causes.{not_rose}
 use Rattle.tape_run.proofs.extract.has_note.Reads as has_note
 use Rattle.tape_run.specs.declared.fault.EngineFault.TheVariants.{Run}
 use Rattle.tape_run.specs.declared.fault.RunFault.TheVariants.{Sink}
-use Rattle.tape_run.specs.Causes.{ExtractFails}
+use Rattle.tape_run.specs.Causes.{ExtractFails, RefusesAny}
 use Rattle.tape_run.proofs.extract.extract_to.Reads as extract_to
 use Rattle.tape_run.proofs.extract.count_records.Reads as count_records
 use Rattle.tape_run.proofs.extract.write_records.Reads as write_records
@@ -37,7 +37,8 @@ begun_rest_counted S L g d g' d' κs a s l holds =
 heavy_sink_told_as_full : (S : _) (L : _) (g : _) (d : _) (g' : _) (d' : _) (κs : _) (a : _)
     (s : _) → count_records.Learnt-named S L g d g' d' κs a (Err Full) s
     → g'.refusals s.0.now ≡ g'.refusals a.0.now → g'.refusals a.0.now < 18446744073709551615 → ⊥
-heavy_sink_told_as_full S L g d g' d' κs a s l same few = not_rose _ _ same few l.cause
+heavy_sink_told_as_full S L g d g' d' κs a s l same few =
+    not_rose _ _ same few l.cause.counted
 
 -- full_told_at_once: the images are not read because the sink is full, but it refused no call
 full_told_at_once : (S : _) (R : _) (L : _) (W : _) (P : _) (LS : _) (LR : _) (LL : _) (LW : _)
@@ -50,8 +51,9 @@ full_told_at_once : (S : _) (R : _) (L : _) (W : _) (P : _) (LS : _) (LR : _) (L
 full_told_at_once S R L W P LS LR LL LW LP g d g' d' h e m n w f p i j κs a s l same few =
     by l.cause
   where
-    by : ExtractFails g' (goes_back a.0.now.notes) (Run (Sink Full)) a.0.now s.0.now → ⊥
-    by (inl rose) = not_rose _ _ same few rose
+    by : ExtractFails g' (RefusesAny g' g.refuses) (goes_back a.0.now.notes) (Run (Sink Full))
+        a.0.now s.0.now → ⊥
+    by (inl r) = not_rose _ _ same few r.counted
     by (inr (is, none)) = absurd (cc is)
 
 -- begun_rest_written: an unfinished record is written

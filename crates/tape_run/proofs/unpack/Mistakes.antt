@@ -21,6 +21,9 @@ use Rattle.tape_run.proofs.unpack.add_files.Reads as add_files
 use Rattle.tape_run.proofs.unpack.find_files.Reads as find_files
 use Rattle.tape_run.proofs.unpack.set_of.Reads as set_of
 use Rattle.tape_run.proofs.unpack.name.file_name.Reads as file_name
+use Rattle.tape_run.proofs.unpack.order.Order.add.Reads as add
+use Rattle.tape_run.proofs.unpack.order.Order.add_images.Reads as add_images
+use Rattle.tape_run.specs.ReadingOrder.{with_image, followed_by, images_of}
 use Rattle.tape_run.proofs.unpack.line.file_line.Reads as file_line
 use Rattle.tape_run.proofs.unpack.line.unpack_outcome_text.Reads as unpack_outcome_text
 use Rattle.tape_run.proofs.unpack.line.notice_line.Reads as notice_line
@@ -166,8 +169,8 @@ image_left_out R L LR LL g d h i j κs a met s l one none =
 unmarked : (sight : ImageSurvey) (c d : Found) (bytes : List ℕ) (items : List TapeItem) (end : ℕ)
     → IsViewed (Some (Some bytes)) (Some sight) c d → Begins 0 bytes items end (ends endings.Physical)
     → sight.stop ≡ Marked → ⊥
-unmarked sight c d bytes items end (None, v, whole, count, tally) begins marked = v.stop
-unmarked sight c d bytes items end (Some left, v, whole, count, tally) begins marked =
+unmarked sight c d bytes items end (None, v, whole, count) begins marked = v.stop
+unmarked sight c d bytes items end (Some left, v, whole, count) begins marked =
     let t : StopsBehind v.items Marked bytes left =
     subst (λ stop. StopsBehind v.items stop bytes left) marked v.stop in
     let e : ends endings.Physical ≡ ends endings.Marked
@@ -232,3 +235,26 @@ image_reported_as_not_opened : (R : _) (L : _) (LR : _) (LL : _) (g : _) (d : _)
     → met.images ≡ None ∷ more → ⊥
 image_reported_as_not_opened R L LR LL g d h i j κs a met s l more first is =
     let f = l.ok in first_opened _ _ _ _ met.images more f.found f.viewed.viewed is first
+
+-- image_read_again_for_a_section: an image on which two sections begin is read twice
+image_read_again_for_a_section : (κs : _) (a : _) (s : _) → add.Learnt-named κs a (Ok tt) s
+    → length a.0.now.taken.items ≡ 1 → a.0.now.numbers.items ≡ 0 ∷ [] → a.1.0 ≡ 0
+    → s.0.now.numbers.items ≡ 0 ∷ 0 ∷ [] → ⊥
+image_read_again_for_a_section κs a s l one first again twice =
+    let e : 0 ∷ 0 ∷ [] ≡ with_image 1 (0 ∷ []) 0 = sym twice ∙ l.ok
+    ∙ ap (λ n. with_image n a.0.now.numbers.items a.1.0) one
+    ∙ ap (λ l. with_image 1 l a.1.0) first ∙ ap (with_image 1 (0 ∷ [])) again in
+    absurd (let n : 2 ≡ 1 = ap length e in omega (arith, n))
+
+-- last_image_left_out: the only image is not read
+last_image_left_out : (κs : _) (a : _) (s : _) (image : _)
+    → add_images.Learnt-named κs a (Ok tt) s
+    → length a.0.now.taken.items ≡ 1 → a.0.now.numbers.items ≡ [] → a.1.0.now ≡ image ∷ []
+    → a.1.1.1.0 ≡ true → s.0.now.numbers.items ≡ [] → ⊥
+last_image_left_out κs a s image l one none only all empty =
+    let e : [] ≡ followed_by 1 [] (images_of true a.1.1.0 0 (image ∷ [])) = sym empty ∙ l.ok
+    ∙ ap (λ n. followed_by n a.0.now.numbers.items (images_of a.1.1.1.0 a.1.1.0 0 a.1.0.now)) one
+    ∙ ap (λ l. followed_by 1 l (images_of a.1.1.1.0 a.1.1.0 0 a.1.0.now)) none
+    ∙ ap (λ l. followed_by 1 [] (images_of a.1.1.1.0 a.1.1.0 0 l)) only
+    ∙ ap (λ b. followed_by 1 [] (images_of b a.1.1.0 0 (image ∷ []))) all in
+    absurd (let n : 0 ≡ 1 = ap length e in omega (arith, n))

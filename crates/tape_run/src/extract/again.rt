@@ -3,7 +3,7 @@
 ghost use Rattle.std.specs.Prelude.{◌≡◌, ◌≢◌, ◌⊎◌, None, OnOk, IfOk, OnErr, IfErr};
 ghost use Rattle.std.specs.Bool.{OnTrue, OnFalse};
 ghost use Rattle.tape_run.specs.ExtractingAgain.{ExtractsAgain, StopsAgain};
-ghost use Rattle.tape_run.specs.Causes.{ExtractFails, IsCalm};
+ghost use Rattle.tape_run.specs.Causes.{ExtractFails, ReadingFails, RefusesAny, IsCalm};
 ghost use Rattle.tape_run.specs.Reeling.{goes_back};
 ghost use Rattle.tape_run.specs.Rounds.{TakesRounds, StopsInRound};
 
@@ -46,7 +46,8 @@ pub fn extract_in_passes<S: PartWalk, R: Read + Drop, L: ImageSource<R>, W: Writ
     // The sink refused a call, or memory ran out, or a write failed; a session without a checkpoint
     // is not rolled back.
     ensures cause { IfErr result (λ fault. ExtractFails S.PartSink
-        (goes_back session.old.notes) fault session.old session.new) }
+        (RefusesAny S.PartSink S.refuses) (goes_back session.old.notes) fault
+        session.old session.new) }
     ensures calm { OnOk result (IsCalm S.PartSink session.old session.new) }
 {
     let back = has_note(session);
@@ -69,7 +70,7 @@ fn read_rounds<S: PartSink, R: Read + Drop, L: ImageSource<R>, P: Write>(
         session.old session.new images.old images.new
         (P.contents report.old) (P.contents report.new)) }
     ensures cause { IfErr result (λ fault.
-        ExtractFails S.PartSink back fault session.old session.new) }
+        ReadingFails S.PartSink back fault session.old session.new) }
     ensures calm { OnOk result (IsCalm S.PartSink session.old session.new) }
 {
     let count = images.count();

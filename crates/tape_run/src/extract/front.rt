@@ -4,12 +4,12 @@ ghost use Rattle.std.specs.Prelude.{◌≡◌, ◌++◌, List, length, OnOk, OnE
 ghost use Rattle.std.specs.Io.KnownBytes.{Appends};
 ghost use Rattle.tape_blocks.specs.Block.{Portion};
 ghost use Rattle.tape_blocks.specs.Spans.{join};
-ghost use Rattle.tape_core.specs.Weight.{Rose};
 ghost use Rattle.tape_run.specs.Causes.{WritingFails};
 ghost use Rattle.tape_run.specs.Crash.{BringsNoMore};
 ghost use Rattle.tape_image.specs.Written.{AppendsFront};
 ghost use Rattle.tape_run.specs.RecordText.{output_of};
 ghost use Rattle.tape_run.specs.RecordFront.{EachEnds, WritesFront};
+ghost use Rattle.tape_run.specs.Steps.{IsRefused};
 
 use crate::extract::{count_records, walk_fault, write_part, write_records};
 use crate::fault::EngineFault;
@@ -47,7 +47,7 @@ pub fn write_parts<S: PartWalk, W: Write>(
         → AppendsFront (W.contents out.old) (W.contents out.new) (output_of form parts)) }
     ensures kept { (parts : List Portion) → S.holds sink.old parts → S.holds sink.new parts }
     ensures crash { BringsNoMore S.PartSink sink.old sink.new }
-    ensures cause { IfErr result (WritingFails S.holds S.refusals sink.old sink.new) }
+    ensures cause { IfErr result (WritingFails S.holds S.refusals S.refuses sink.old sink.new) }
     ensures calm { OnOk result (S.refusals sink.new ≡ S.refusals sink.old) }
 {
     let front = write_front(sink, form, out)?;
@@ -70,7 +70,7 @@ fn write_front<S: PartWalk, W: Write>(
         → AppendsFront (W.contents out.old) (W.contents out.new) (output_of form parts)) }
     ensures kept { (parts : List Portion) → S.holds sink.old parts → S.holds sink.new parts }
     ensures crash { BringsNoMore S.PartSink sink.old sink.new }
-    ensures cause { IfErr result (WritingFails S.holds S.refusals sink.old sink.new) }
+    ensures cause { IfErr result (WritingFails S.holds S.refusals S.refuses sink.old sink.new) }
     ensures calm { OnOk result (S.refusals sink.new ≡ S.refusals sink.old) }
 {
     // A sink's weight is limited, so the count below stays far from the maximum of u64.
@@ -114,7 +114,7 @@ fn write_rest<S: PartWalk, W: Write>(
     ensures crash { BringsNoMore S.PartSink sink.old sink.new }
     ensures cause { IfErr result (λ fault. WritingFails (λ s rest. (first : List Portion)
         × S.holds s (first ++ rest) × (length first ≡ passed) × EachEnds first)
-        S.refusals sink.old sink.new fault) }
+        S.refusals S.refuses sink.old sink.new fault) }
     ensures calm { OnOk result (S.refusals sink.new ≡ S.refusals sink.old) }
 {
     let records = match count_records(sink) {
@@ -135,7 +135,8 @@ fn pass_parts<S: PartWalk>(sink: &mut S, count: u64) -> Result<(), SinkFault>
         → length first ≡ count → S.ahead sink.new rest) }
     ensures kept { (parts : List Portion) → S.holds sink.old parts → S.holds sink.new parts }
     ensures crash { BringsNoMore S.PartSink sink.old sink.new }
-    ensures cause { OnErr result (Rose (S.refusals sink.old) (S.refusals sink.new)) }
+    ensures cause { IfErr result (λ fault.
+        IsRefused S.refusals S.refuses sink.old fault sink.new) }
     ensures calm { OnOk result (S.refusals sink.new ≡ S.refusals sink.old) }
 {
     sink.rewind();

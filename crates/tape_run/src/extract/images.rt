@@ -3,7 +3,7 @@
 ghost use Rattle.std.specs.Prelude.{◌≡◌, ◌≢◌, ◌≤◌, ◌+◌, Some, Bool, OnOk, OnErr, true, false};
 ghost use Rattle.std.specs.Prelude.{ℕ, IfOk, IfErr, length};
 ghost use Rattle.tape_set.specs.declared.position.Position.TheVariants.{Finished};
-ghost use Rattle.tape_run.specs.Causes.{ExtractFails, IsCalm};
+ghost use Rattle.tape_run.specs.Causes.{ReadingFails, IsCalm};
 ghost use Rattle.tape_run.specs.Crash.{KeepsLast, LeavesStep};
 ghost use Rattle.tape_run.specs.Seen.{IsKept, IfSeen, IsSeen};
 ghost use Rattle.tape_run.specs.Reeling.{Takes, TakesAll, StopsReading, IsReported, counts_differ};
@@ -75,7 +75,7 @@ pub fn read_images<S: PartSink, R: Read + Drop, L: ImageSource<R>, P: Write>(
         back spares session.old session.new images.old images.new
         (P.contents report.old) (P.contents report.new)) }
     ensures cause { IfErr result (λ fault.
-        ExtractFails S.PartSink back fault session.old session.new) }
+        ReadingFails S.PartSink back fault session.old session.new) }
     ensures calm { OnOk result (IsCalm S.PartSink session.old session.new) }
 {
     let count = images.count();
@@ -100,7 +100,7 @@ pub fn read_round<S: PartSink, R: Read + Drop, L: ImageSource<R>, P: Write>(
         spares session.old session.new images.old images.new
         (P.contents report.old) (P.contents report.new)) }
     ensures cause { IfErr result (λ fault.
-        ExtractFails S.PartSink back fault session.old session.new) }
+        ReadingFails S.PartSink back fault session.old session.new) }
     ensures calm { OnOk result (IsCalm S.PartSink session.old session.new) }
 {
     for number in 0..count {
@@ -132,7 +132,7 @@ fn take_image<S: PartSink, R: Read + Drop, P: Write>(
     ensures left { OnErr result (IfSeen S.PartSink session.old (λ old. IsKeptFor back old
         → LeavesStep S.PartSink back session.old old.parts session.new)) }
     ensures cause { IfErr result (λ fault.
-        ExtractFails S.PartSink back fault session.old session.new) }
+        ReadingFails S.PartSink back fault session.old session.new) }
     ensures calm { OnOk result (IsCalm S.PartSink session.old session.new) }
 {
     match image {
@@ -164,7 +164,7 @@ fn take_reel<S: PartSink, R: Read, P: Write>(
     ensures left { OnErr result (IfSeen S.PartSink session.old (λ old. IsKeptFor back old
         → LeavesStep S.PartSink back session.old old.parts session.new)) }
     ensures cause { IfErr result (λ fault.
-        ExtractFails S.PartSink back fault session.old session.new) }
+        ReadingFails S.PartSink back fault session.old session.new) }
     ensures calm { OnOk result (IsCalm S.PartSink session.old session.new) }
 {
     let answer = session.reel(device)?;
@@ -188,7 +188,7 @@ fn settle<S: PartSink>(
     ensures left { IfSeen S.PartSink session.old (λ old. IsKeptFor back old
         → LeavesStep S.PartSink back session.old old.parts session.new) }
     ensures cause { IfErr result (λ fault.
-        ExtractFails S.PartSink back (EngineFault.Run fault) session.old session.new) }
+        ReadingFails S.PartSink back (EngineFault.Run fault) session.old session.new) }
     ensures calm { OnOk result (IsCalm S.PartSink session.old session.new) }
 {
     if back && counts_differ(answer) {
@@ -206,7 +206,7 @@ fn go_back<S: PartSink>(session: &mut Session<S>) -> Result<(), RunFault>
     ensures left { IfSeen S.PartSink session.old (λ old. IsKept old
         → LeavesStep S.PartSink true session.old old.parts session.new) }
     ensures cause { IfErr result (λ fault.
-        ExtractFails S.PartSink true (EngineFault.Run fault) session.old session.new) }
+        ReadingFails S.PartSink true (EngineFault.Run fault) session.old session.new) }
     ensures calm { OnOk result (IsCalm S.PartSink session.old session.new) }
 {
     let notes = session.notes();
@@ -232,7 +232,7 @@ fn note<S: PartSink>(
     ensures left { (back : Bool) → IfSeen S.PartSink session.old (λ old.
         LeavesStep S.PartSink back session.old old.parts session.new) }
     ensures cause { IfErr result (λ fault. (back : Bool) →
-        ExtractFails S.PartSink back (EngineFault.Run fault) session.old session.new) }
+        ReadingFails S.PartSink back (EngineFault.Run fault) session.old session.new) }
     ensures calm { OnOk result (IsCalm S.PartSink session.old session.new) }
 {
     if counts_differ(answer) {

@@ -1,10 +1,10 @@
 //! `unpack` of complete files: each image is read once for all of its files.
 
-ghost use Rattle.std.specs.Prelude.{◌≡◌, ◌≢◌, ◌<◌, List, Option, Some, None, ℕ, OnOk, IfOk};
-ghost use Rattle.std.specs.Prelude.{OnErr, IfErr, is_some};
+ghost use Rattle.std.specs.Prelude.{◌≡◌, ◌≢◌, ◌<◌, ◌⊎◌, List, Option, Some, None, ℕ, OnOk, IfOk};
+ghost use Rattle.std.specs.Prelude.{OnErr, IfErr, is_some, false};
 ghost use Rattle.std.specs.Bool.{OnTrue, OnFalse};
 ghost use Rattle.tape_set.specs.declared.position.Position.TheVariants.{Finished};
-ghost use Rattle.tape_run.specs.Causes.{IsExtractFault};
+ghost use Rattle.tape_run.specs.Causes.{ReadingFails, EndingFails, IsCalm};
 ghost use Rattle.tape_run.specs.ExtractingLocated.{IsHeld, ReadsPart, ReadsLocated};
 ghost use Rattle.tape_run.specs.ExtractingLocated.{ReadsSections, ExtractsLocated};
 ghost use Rattle.tape_run.specs.GoesBehind.{EndsSection};
@@ -39,7 +39,7 @@ pub struct Mounted<R> {
 /// writes the file's records as they come. If the file is complete, gives the output its name, and
 /// returns the number of records. Returns `None` exactly if the file is not complete: a section has
 /// no image in `locations`, or could not be read to its end from its image. Then the output's name
-/// is not touched, and the records already written are dropped with the session.
+/// is not touched; the session has the records already written.
 ///
 /// The image of the last section stays open. The session of a later file of the set continues
 /// there, as if it had read the image from its start. So each byte of an image is read once for all
@@ -49,9 +49,9 @@ pub struct Mounted<R> {
 ///
 /// Returns `Run` with the fault of a reel, with `OutOfMemory` if there was no memory to open an
 /// image, or with `Sink(Failed)` if a record is left unfinished; `WriteFailed` if the output could
-/// not be placed. A file that already has the output's name is unchanged.
+/// not be placed. A file that already has the output's name is unchanged, and no image stays open.
 pub fn extract_located<W: Write + Drop, R: Read + Drop, L: ImageSource<R>, O: Place<W>>(
-    session: Session<OutSink<W>>,
+    session: &mut Session<OutSink<W>>,
     images: &mut L,
     mounted: &mut Option<Mounted<R>>,
     locations: &Locations,
@@ -62,20 +62,29 @@ pub fn extract_located<W: Write + Drop, R: Read + Drop, L: ImageSource<R>, O: Pl
     ensures ok { IfOk result (λ records. (whole : Option (List ℕ))
         → IsHeld R.remaining mounted.old whole
         → ExtractsLocated ⟦<OutSink<W> as PartSink>⟧ L.gives R.remaining locations.now.entries
-        session images.old images.new (is_some mounted.old) whole mounted.new form
+        session.old images.old images.new (is_some mounted.old) whole mounted.new form
         (TellsAlways W.contents) (O.stands out.new) records) }
     ensures untouched { IfOk result (λ records. records ≡ None → out.new ≡ out.old) }
     ensures err { OnErr result (O.stands out.new ≡ O.stands out.old) }
-    ensures cause { IfErr result IsExtractFault }
+    ensures let_go { OnErr result (mounted.new ≡ None) }
+    // While the images were read the sink refused a call, or memory ran out; or the output could
+    // not be ended, in the state in which the session is left; or a write failed.
+    ensures cause { IfErr result (λ fault.
+        ReadingFails ⟦<OutSink<W> as PartSink>⟧ false fault session.old session.new
+        ⊎ EndingFails (is_some session.new.sink.out) session.new.sink.begun
+        session.new.sink.form form fault) }
 {
-    let mut session = session;
-    let complete = read_sections(&mut session, images, mounted, locations)?;
-    if complete {
-        let (written, records) = session.into_sink().finish(form)?;
-        out.place(written)?;
-        return Ok(Some(records));
+    let complete = read_sections(session, images, mounted, locations)?;
+    if !complete {
+        return Ok(None);
     }
-    Ok(None)
+    match session.place_output(form, out) {
+        Ok(records) => Ok(Some(records)),
+        Err(fault) => {
+            *mounted = None;
+            Err(fault)
+        }
+    }
 }
 
 /// Reads the sections of the session's file, each from the image on which it begins. Returns
@@ -90,7 +99,10 @@ fn read_sections<S: PartSink, R: Read + Drop, L: ImageSource<R>>(
         → IsHeld R.remaining mounted.old whole
         → ReadsSections S.PartSink L.gives R.remaining locations.now.entries complete
         session.old session.new images.old images.new (is_some mounted.old) whole mounted.new) }
-    ensures cause { IfErr result IsExtractFault }
+    ensures let_go { OnErr result (mounted.new ≡ None) }
+    ensures cause { IfErr result (λ fault.
+        ReadingFails S.PartSink false fault session.old session.new) }
+    ensures calm { OnOk result (IsCalm S.PartSink session.old session.new) }
 {
     let mut next = 0u32;
     'sections: while let Some(want) = session.want() {
@@ -129,7 +141,9 @@ fn read_section<S: PartSink, R: Read + Drop, L: ImageSource<R>>(
         × (session.new.core.file ≡ session.old.core.file) }
     ensures unfinished { IfOk result (λ after. after ≡ None
         → session.new.core.position ≢ Finished) }
-    ensures cause { IfErr result IsExtractFault }
+    ensures cause { IfErr result (λ fault.
+        ReadingFails S.PartSink false fault session.old session.new) }
+    ensures calm { OnOk result (IsCalm S.PartSink session.old session.new) }
 {
     let key = session.file_key();
     match held {
@@ -163,7 +177,9 @@ fn read_front<S: PartSink, R: Read + Drop>(
         × (session.new.core.file ≡ session.old.core.file) }
     ensures unfinished { IfOk result (λ after. after ≡ None
         → session.new.core.position ≢ Finished) }
-    ensures cause { IfErr result (λ fault. IsExtractFault (engine.Run fault)) }
+    ensures cause { IfErr result (λ fault.
+        ReadingFails S.PartSink false (engine.Run fault) session.old session.new) }
+    ensures calm { OnOk result (IsCalm S.PartSink session.old session.new) }
 {
     let mut device = device;
     let answer = session.reel(&mut device)?;
@@ -193,7 +209,9 @@ fn read_on<S: PartSink, R: Read + Drop>(
         × (session.new.core.file ≡ session.old.core.file) }
     ensures unfinished { IfOk result (λ after. after ≡ None
         → session.new.core.position ≢ Finished) }
-    ensures cause { IfErr result (λ fault. IsExtractFault (engine.Run fault)) }
+    ensures cause { IfErr result (λ fault.
+        ReadingFails S.PartSink false (engine.Run fault) session.old session.new) }
+    ensures calm { OnOk result (IsCalm S.PartSink session.old session.new) }
 {
     let number = held.number;
     let mut device = held.device;

@@ -1,7 +1,8 @@
 //! `extract` without a stage: writes the records while it reads the images.
 
-ghost use Rattle.std.specs.Prelude.{◌≡◌, ◌≢◌, ℕ, List, Option, None, OnOk, IfOk, OnErr, IfErr};
-ghost use Rattle.tape_run.specs.Causes.{IsExtractFault};
+ghost use Rattle.std.specs.Prelude.{◌≡◌, ◌≢◌, ◌⊎◌, ℕ, List, Option, None, OnOk, IfOk, OnErr};
+ghost use Rattle.std.specs.Prelude.{IfErr, is_some, false};
+ghost use Rattle.tape_run.specs.Causes.{ReadingFails, EndingFails};
 ghost use Rattle.tape_run.specs.OutSinks.{TellsAlways};
 ghost use Rattle.tape_run.specs.ExtractingNow.{ExtractsNow, StopsNow};
 
@@ -32,8 +33,8 @@ pub trait Place<W: Write> {
 
 /// Reads a file from its images, in their order, until it is complete, prints a line for each, and
 /// writes the file's records as they come. If the file is complete, they get the output's name.
-/// Otherwise a file with that name is not touched, the records already written are dropped with the
-/// session, and the missing part is returned.
+/// Otherwise a file with that name is not touched, and the missing part is returned: the session has
+/// the records already written, and can continue with other images.
 ///
 /// Allocates only for the session, a buffer while a reel is read, checkpoints, and what opening
 /// takes.
@@ -46,32 +47,34 @@ pub trait Place<W: Write> {
 /// a report. A file that has the output's name is unchanged, or the file is complete, and its
 /// records have the name.
 pub fn extract_streaming<W: Write + Drop, R: Read + Drop, L: ImageSource<R>, O: Place<W>, P: Write>(
-    session: Session<OutSink<W>>,
+    session: &mut Session<OutSink<W>>,
     images: &mut L,
     form: Form,
     out: &mut O,
     report: &mut P,
 ) -> Result<Option<Want>, EngineFault>
     ensures ok { IfOk result (ExtractsNow ⟦<OutSink<W> as PartSink>⟧ L.size L.gives R.remaining
-        session images.old images.new form (TellsAlways W.contents) (O.stands out.new)
+        session.old images.old images.new form (TellsAlways W.contents) (O.stands out.new)
         (P.contents report.old) (P.contents report.new)) }
     // While something of the file is missing, the output's name is not touched at all.
     ensures untouched { IfOk result (λ want. want ≢ None → out.new ≡ out.old) }
     ensures err { OnErr result (StopsNow ⟦<OutSink<W> as PartSink>⟧ L.size L.gives R.remaining
-        session images.old images.new form (TellsAlways W.contents) O.stands out.old out.new
+        session.old images.old images.new form (TellsAlways W.contents) O.stands out.old out.new
         (P.contents report.old) (P.contents report.new)) }
-    // The sink refused, or memory ran out, or a write failed: no other fault is possible.
-    ensures cause { IfErr result IsExtractFault }
+    // While the images were read the sink refused a call, or memory ran out; or the output could
+    // not be ended, in the state in which the session is left; or a write failed.
+    ensures cause { IfErr result (λ fault.
+        ReadingFails ⟦<OutSink<W> as PartSink>⟧ false fault session.old session.new
+        ⊎ EndingFails (is_some session.new.sink.out) session.new.sink.begun
+        session.new.sink.form form fault) }
 {
-    let mut session = session;
     // What was written remains: this session does not roll back.
-    read_images(&mut session, images, false, false, report)?;
+    read_images(session, images, false, false, report)?;
     if let Some(want) = session.want() {
         end_report(report, Some(want), 0)?;
         return Ok(Some(want));
     }
-    let (written, records) = session.into_sink().finish(form)?;
-    out.place(written)?;
+    let records = session.place_output(form, out)?;
     end_report(report, None, records)?;
     Ok(None)
 }

@@ -1,7 +1,8 @@
 //! A sink that writes the records of a file as its parts come, and stores none of them.
 
-ghost use Rattle.std.specs.Prelude.{◌≡◌, ◌≢◌, ◌≤◌, ◌<◌, ◌+◌, ◌++◌, ◌∷◌, [], List, Some, length};
-ghost use Rattle.std.specs.Prelude.{OnOk, OnErr, IfOk, IfErr, Ok, Err, true, false};
+ghost use Rattle.std.specs.Prelude.{◌≡◌, ◌≢◌, ◌≤◌, ◌<◌, ◌+◌, ◌++◌, ◌∷◌, [], List, Some, None};
+ghost use Rattle.std.specs.Prelude.{is_some, length};
+ghost use Rattle.std.specs.Prelude.{OnOk, OnErr, IfOk, IfErr, Ok, Err};
 ghost use Rattle.std.specs.Io.KnownBytes.{Appends};
 ghost use Rattle.tape_blocks.specs.Block.{Portion};
 ghost use Rattle.tape_blocks.specs.Packing.{longest_block};
@@ -13,7 +14,7 @@ ghost use Rattle.tape_core.specs.Stands.{weight_of};
 ghost use Rattle.tape_core.specs.Weight.{Rose};
 ghost use Rattle.tape_run.specs.Causes.{EndingFails};
 ghost use Rattle.tape_run.specs.RecordText.{part_text, output_of};
-ghost use Rattle.tape_run.specs.OutSinks.{TellsAlways, with_end, HasTaken};
+ghost use Rattle.tape_run.specs.OutSinks.{TellsAlways, with_end, HasTaken, RefusesText};
 
 use crate::extract::{walk_fault, write_part};
 use crate::fault::EngineFault;
@@ -27,11 +28,11 @@ const MOST_STAGED: u64 = 999_999_999_999_999;
 
 /// Writes the records of a file as its parts come. Does not allocate, and nothing survives a crash.
 ///
-/// After a failed write every call is refused.
+/// After a failed write, and after the output was finished, every call is refused.
 #[derive(Drop)]
 pub struct OutSink<W> {
-    /// The writer of the records.
-    out: W,
+    /// The writer of the records, until a write fails or the output is finished.
+    out: Option<W>,
     /// The form in which records are terminated.
     form: Form,
     /// The weight of the parts.
@@ -40,8 +41,6 @@ pub struct OutSink<W> {
     records: u64,
     /// Whether a record is unfinished.
     begun: bool,
-    /// Whether a write failed.
-    failed: bool,
     /// The number of calls that were refused.
     refused: u64,
     ghost light: { weight ≤ most_staged },
@@ -61,54 +60,60 @@ impl<W: Write> OutSink<W> {
     /// Creates a sink without parts, over a writer to which nothing was written.
     pub fn new(out: W, form: Form) -> OutSink<W>
         ensures empty { (TellsAlways W.contents → W.contents out ≡ Some [])
-            → HasTaken W.contents form result.out result.weight result.records result.begun
-            result.failed [] }
+            → HasTaken W.contents form result.out result.weight result.records result.begun [] }
         ensures form { result.form ≡ form }
-        ensures out { result.out ≡ out }
+        ensures out { result.out ≡ Some out }
         ensures calm { result.refused ≡ 0 }
     {
         OutSink {
-            out,
+            out: Some(out),
             form,
             weight: 0,
             records: 0,
             begun: false,
-            failed: false,
             refused: 0,
         }
     }
 }
 
 impl<W: Write + Drop> OutSink<W> {
-    /// Ends the output: flushes the writer, and returns it with the number of records.
+    /// Ends the output: flushes the writer, and gives it up, with the number of records.
     ///
     /// # Errors
     ///
     /// Returns `Run(Sink(Failed))` if a write failed before, a record is unfinished, or the records
     /// cannot be written in this `form`; `WriteFailed`.
-    pub fn finish(self, form: Form) -> Result<(W, u64), EngineFault>
-        ensures ok { IfOk result (λ given. (parts : List Portion) → HasTaken W.contents self.form
-            self.out self.weight self.records self.begun self.failed parts
+    pub fn finish(&mut self, form: Form) -> Result<(W, u64), EngineFault>
+        ensures ok { IfOk result (λ given. (parts : List Portion) → HasTaken W.contents
+            self.old.form self.old.out self.old.weight self.old.records self.old.begun parts
             → (given.1 ≡ length (join parts).records)
             × (TellsAlways W.contents → W.contents given.0 ≡ Some (output_of form parts))) }
-        ensures cause { IfErr result (EndingFails self.failed self.begun self.form form) }
+        ensures cause { IfErr result
+            (EndingFails (is_some self.old.out) self.old.begun self.old.form form) }
+        ensures calm { self.new.refused ≡ self.old.refused }
+        ensures stays { IfErr result (λ fault. fault ≢ EngineFault.WriteFailed
+            → self.new ≡ self.old) }
     {
-        let mut sink = self;
-        if sink.failed || sink.begun || sink.form != form {
+        if self.begun || self.form != form {
             return Err(walk_fault(SinkFault::Failed));
         }
-        flush(&mut sink.out)?;
-        Ok((sink.out, sink.records))
+        let Some(mut out) = self.out.take() else {
+            return Err(walk_fault(SinkFault::Failed));
+        };
+        flush(&mut out)?;
+        Ok((out, self.records))
     }
 }
 
-impl<W: Write> PartSink for OutSink<W> {
-    ghost holds = { λ s parts. HasTaken W.contents s.form s.out s.weight s.records s.begun s.failed
-        parts };
+impl<W: Write + Drop> PartSink for OutSink<W> {
+    ghost holds = { λ s parts. HasTaken W.contents s.form s.out s.weight s.records s.begun parts };
 
     ghost weighs = { λ s. s.weight };
 
     ghost refusals = { λ s. s.refused };
+
+    ghost refuses_change = { λ s fault t.
+        RefusesText (is_some s.out) s.weight fault (is_some t.out) };
 
     ghost crashes = { λ s. lost };
 
@@ -121,14 +126,14 @@ impl<W: Write> PartSink for OutSink<W> {
         requires { length part.bytes.now ≤ longest_block }
         ensures ok { OnOk result ((parts : List Portion)
             → HasTaken W.contents self.old.form self.old.out self.old.weight self.old.records
-            self.old.begun self.old.failed parts
+            self.old.begun parts
             → HasTaken W.contents self.new.form self.new.out self.new.weight self.new.records
-            self.new.begun self.new.failed (parts ++ view part.entry ∷ [])) }
+            self.new.begun (parts ++ view part.entry ∷ [])) }
         ensures err { OnErr result ((parts : List Portion)
             → HasTaken W.contents self.old.form self.old.out self.old.weight self.old.records
-            self.old.begun self.old.failed parts
+            self.old.begun parts
             → HasTaken W.contents self.new.form self.new.out self.new.weight self.new.records
-            self.new.begun self.new.failed parts) }
+            self.new.begun parts) }
         ensures weight { OnOk result
             (self.new.weight ≡ self.old.weight + (5 + length part.entry.bytes.now)) }
         ensures same_weight { OnErr result (self.new.weight ≡ self.old.weight) }
@@ -136,22 +141,21 @@ impl<W: Write> PartSink for OutSink<W> {
             → most_staged < self.old.weight + (5 + length part.entry.bytes.now) }
         ensures cause { OnErr result (Rose self.old.refused self.new.refused) }
         ensures calm { OnOk result (self.new.refused ≡ self.old.refused) }
+        ensures why { IfErr result (λ fault.
+            RefusesText (is_some self.old.out) self.old.weight fault (is_some self.new.out)) }
         // A put is refused only because of the weight, or because a write failed now or before.
-        ensures device { result ≡ Err SinkFault.Device
-            → (self.old.failed ≡ false) × (self.new.failed ≡ true) }
-        ensures failed { result ≡ Err SinkFault.Failed → self.old.failed ≡ true }
-        ensures memory { result ≡ Err SinkFault.OutOfMemory → ⊥ }
+        ensures failed { result ≡ Err SinkFault.Failed → self.old.out ≡ None }
     {
-        if self.failed {
+        let Some(out) = &mut self.out else {
             self.refused = self.refused.saturating_add(1);
             return Err(SinkFault::Failed);
-        }
+        };
         let heavy = 5 + part.bytes.len() as u64;
         if heavy > MOST_STAGED - self.weight {
             self.refused = self.refused.saturating_add(1);
             return Err(SinkFault::Full);
         }
-        match write_part(&mut self.out, part, self.form) {
+        match write_part(out, part, self.form) {
             Ok(()) => {
                 self.records = with_end(part.span, self.records);
                 self.begun = part.span.leaves();
@@ -159,7 +163,7 @@ impl<W: Write> PartSink for OutSink<W> {
                 Ok(())
             }
             Err(_) => {
-                self.failed = true;
+                self.out = None;
                 self.refused = self.refused.saturating_add(1);
                 Err(SinkFault::Device)
             }
@@ -172,20 +176,22 @@ impl<W: Write> PartSink for OutSink<W> {
         requires { point.now.staged ≤ self.old.weight }
         ensures ok { OnOk result ((front rest : List Portion)
             → HasTaken W.contents self.old.form self.old.out self.old.weight self.old.records
-            self.old.begun self.old.failed (front ++ rest) → weight_of front ≡ point.now.staged
+            self.old.begun (front ++ rest) → weight_of front ≡ point.now.staged
             → HasTaken W.contents self.new.form self.new.out self.new.weight self.new.records
-            self.new.begun self.new.failed front) }
+            self.new.begun front) }
         ensures weight { OnOk result (self.new.weight ≤ point.now.staged) }
         ensures calm { OnOk result (self.new.refused ≡ self.old.refused) }
         ensures refused { IfErr result (λ fault. (fault ≡ SinkFault.Failed)
             × (point.now.staged ≢ self.old.weight)) }
         ensures err { OnErr result ((parts : List Portion)
             → HasTaken W.contents self.old.form self.old.out self.old.weight self.old.records
-            self.old.begun self.old.failed parts
+            self.old.begun parts
             → HasTaken W.contents self.new.form self.new.out self.new.weight self.new.records
-            self.new.begun self.new.failed parts) }
+            self.new.begun parts) }
         ensures same_weight { self.new.weight ≡ self.old.weight }
         ensures cause { OnErr result (Rose self.old.refused self.new.refused) }
+        ensures why { IfErr result (λ fault.
+            RefusesText (is_some self.old.out) self.old.weight fault (is_some self.new.out)) }
     {
         if point.staged == self.weight {
             return Ok(());

@@ -1,12 +1,17 @@
 //! `merge` and `compare` over images: they are read in parallel, and the merged image gets its
 //! name.
 
-ghost use Rattle.std.specs.Prelude.{◌≡◌, map, IfOk, OnOk, IfErr};
-ghost use Rattle.std.specs.Io.KnownBytes.{Appends, Keeps};
+ghost use Rattle.std.specs.Prelude.{◌≡◌, ◌<◌, ◌+◌, map, length, IfOk, OnOk, IfErr, OnErr};
+ghost use Rattle.std.specs.Io.KnownBytes.{Appends};
+ghost use Rattle.tape_image.specs.declared.item.ImageWriteFault.TheVariants.{TooLong};
+ghost use Rattle.tape_image.specs.Begins.{image_limit};
 ghost use Rattle.tape_image.specs.Written.{AppendsFront};
 ghost use Rattle.tape_run.specs.MergeLines.{lines_from, reading_line, has_line};
-ghost use Rattle.tape_run.specs.MergeNow.{MountsAll, IsMissing, Misses, MergesNow, LeavesPlace};
-ghost use Rattle.tape_run.specs.MergeNow.{ReadingsComeTo, EndsAs, FitsEnd, end_bytes};
+ghost use Rattle.tape_run.specs.MergeCalls.{IfImages};
+ghost use Rattle.tape_run.specs.MergeNow.{MountsAll, IsMissing, Misses, IfMounted, LeavesPlace};
+ghost use Rattle.tape_run.specs.MergeNow.{ReportsNoImage, ComesTo, IsTooLong, EndsAs, FitsEnd};
+ghost use Rattle.tape_run.specs.MergeNow.{end_bytes};
+ghost use Rattle.tape_run.specs.declared.merge.line.MergedEnd.TheVariants.{Marked};
 ghost use Rattle.tape_run.specs.declared.merge.now.MergeEnd.{MergeEnd};
 ghost use Rattle.tape_run.specs.declared.merge.now.MergeEnd.TheVariants.{Differs};
 ghost use Rattle.tape_run.specs.declared.merge.now.MergeStop.TheVariants as stops;
@@ -72,7 +77,7 @@ impl From<WriteFailed> for MergeStop {
 
 /// Returns why no more of the merged image was written, given its size so far.
 fn write_stop(fault: ImageWriteFault, size: u64) -> MergeStop
-    ensures { Misses (λ _. ⊥) result }
+    ensures { Misses (λ _. ⊥) (λ n. (fault ≡ TooLong) × (n ≡ size)) result }
 {
     match fault {
         ImageWriteFault::TooLong => MergeStop::TooLong(size),
@@ -91,8 +96,9 @@ fn write_stop(fault: ImageWriteFault, size: u64) -> MergeStop
 /// # Errors
 ///
 /// `NotOpened` before anything is read; `OutOfMemory`; `WriteFailed` if `out`, its place or the
-/// report failed; `LogFailed`; `TooLong`. The place was not touched, unless placing `out` failed,
-/// which changes nothing there, or the last line could not be written.
+/// report failed; `LogFailed`; `TooLong` with the size up to the item, or the end-of-medium marker,
+/// that does not fit. The place was not touched and the report has no line about the merged image,
+/// unless placing `out` failed, which changes nothing there, or that line could not be written.
 pub fn merge_now<
     R: Read + Drop,
     L: ImageSource<R>,
@@ -109,17 +115,21 @@ pub fn merge_now<
     log: &mut G,
     report: &mut P,
 ) -> Result<MergeEnd, MergeStop>
-    ensures ok { IfOk result (MergesNow L.size L.gives R.remaining images.old images.new
-        (map (λ n. n.now) names.now) (W.contents out) (O.stands place.new)
-        (Appends (G.contents log.old) (G.contents log.new))
-        (Appends (P.contents report.old) (P.contents report.new))) }
+    ensures ok { IfOk result (λ end. IfMounted L.size L.gives R.remaining images.old images.new
+        (λ known. ComesTo R known (map (λ n. n.now) names.now) (W.contents out)
+        (O.stands place.new) (Appends (G.contents log.old) (G.contents log.new))
+        (Appends (P.contents report.old) (P.contents report.new)) end)) }
     ensures untouched { IfOk result (λ end. end ≡ Differs → place.new ≡ place.old) }
-    ensures err { IfErr result (LeavesPlace O.stands place.old place.new
-        (IsMissing L.gives images.old images.new) ((end : MergeEnd)
-        × MergesNow L.size L.gives R.remaining images.old images.new
-        (map (λ n. n.now) names.now) (W.contents out) (O.stands place.new)
-        (Appends (G.contents log.old) (G.contents log.new))
-        (AppendsFront (P.contents report.old) (P.contents report.new)) end)) }
+    ensures cause { IfErr result (Misses (IsMissing L.gives images.old images.new)
+        (λ size. IfMounted L.size L.gives R.remaining images.old images.new
+        (λ known. IsTooLong R known size))) }
+    ensures left { IfErr result (LeavesPlace O.stands place.old place.new
+        (ReportsNoImage R (map (λ n. n.now) names.now) (P.contents report.old)
+        (P.contents report.new)) ((end : MergeEnd)
+        × IfMounted L.size L.gives R.remaining images.old images.new
+        (λ known. ComesTo R known (map (λ n. n.now) names.now) (W.contents out)
+        (O.stands place.new) (Appends (G.contents log.old) (G.contents log.new))
+        (AppendsFront (P.contents report.old) (P.contents report.new)) end))) }
 {
     let mut devices = mount_all(alloc, images)?;
     let mut readings = open_all(alloc, devices.as_mut_slice())?;
@@ -141,7 +151,7 @@ fn mount_all<R: Read + Drop, L: ImageSource<R>>(
 ) -> Result<Vec<R>, MergeStop>
     ensures ok { IfOk result (λ devices. MountsAll L.size L.gives images.old images.new
         devices.items) }
-    ensures err { IfErr result (Misses (IsMissing L.gives images.old images.new)) }
+    ensures err { IfErr result (Misses (IsMissing L.gives images.old images.new) (λ _. ⊥)) }
 {
     let mut devices = Vec::new(alloc);
     for number in 0..images.count() {
@@ -165,24 +175,33 @@ fn merge_readings<R: Read, W: Write + Drop, O: Place<W>, G: Write, P: Write>(
     log: &mut G,
     report: &mut P,
 ) -> Result<MergeEnd, MergeStop>
-    ensures ok { IfOk result (ReadingsComeTo readings.old (map (λ n. n.now) names.now)
-        (W.contents out) (O.stands place.new) (Appends (G.contents log.old) (G.contents log.new))
-        (Appends (P.contents report.old) (P.contents report.new))) }
+    ensures ok { IfOk result (λ end. IfImages readings.old (λ known.
+        ComesTo R known (map (λ n. n.now) names.now) (W.contents out) (O.stands place.new)
+        (Appends (G.contents log.old) (G.contents log.new))
+        (Appends (P.contents report.old) (P.contents report.new)) end)) }
     ensures untouched { IfOk result (λ end. end ≡ Differs → place.new ≡ place.old) }
-    ensures err { IfErr result (LeavesPlace O.stands place.old place.new (λ _. ⊥) ((end : MergeEnd)
-        × ReadingsComeTo readings.old (map (λ n. n.now) names.now) (W.contents out)
-        (O.stands place.new) (Appends (G.contents log.old) (G.contents log.new))
-        (AppendsFront (P.contents report.old) (P.contents report.new)) end)) }
+    ensures cause { IfErr result (Misses (λ _. ⊥) (λ size. IfImages readings.old (λ known.
+        IsTooLong R known size))) }
+    ensures left { IfErr result (LeavesPlace O.stands place.old place.new
+        (ReportsNoImage R (map (λ n. n.now) names.now) (P.contents report.old)
+        (P.contents report.new)) ((end : MergeEnd) × IfImages readings.old (λ known.
+        ComesTo R known (map (λ n. n.now) names.now) (W.contents out) (O.stands place.new)
+        (Appends (G.contents log.old) (G.contents log.new))
+        (AppendsFront (P.contents report.old) (P.contents report.new)) end))) }
 {
     let mut image = ImageWriter::new(out);
     let head = log_head(alloc, names)?;
-    write_log(log, head.as_slice())?;
+    let Ok(()) = write_text(log, head.as_slice()) else {
+        return Err(MergeStop::LogFailed);
+    };
     match merge_to(alloc, readings, &mut image, log) {
         Ok(merged) => {
             let end = end_of(readings, merged.items);
             report_readings(alloc, readings, names, report)?;
             let written = end_image(image, end)?;
-            flush_log(log)?;
+            let Ok(()) = flush(log) else {
+                return Err(MergeStop::LogFailed);
+            };
             place.place(written)?;
             pass_on(report, &merged_line(&merged, end))?;
             Ok(whole_or_partial(&merged, end))
@@ -199,33 +218,12 @@ fn merge_readings<R: Read, W: Write + Drop, O: Place<W>, G: Write, P: Write>(
     }
 }
 
-/// Writes a text to the log.
-fn write_log<G: Write>(log: &mut G, text: &[u8]) -> Result<(), MergeStop>
-    ensures ok { OnOk result (Appends (G.contents log.old) (G.contents log.new) text.now) }
-    ensures err { IfErr result (Misses (λ _. ⊥)) }
-{
-    match write_text(log, text) {
-        Ok(()) => Ok(()),
-        Err(WriteFailed) => Err(MergeStop::LogFailed),
-    }
-}
-
-/// Flushes the log.
-fn flush_log<G: Write>(log: &mut G) -> Result<(), MergeStop>
-    ensures kept { Keeps (G.contents log.old) (G.contents log.new) }
-    ensures err { IfErr result (Misses (λ _. ⊥)) }
-{
-    match flush(log) {
-        Ok(()) => Ok(()),
-        Err(WriteFailed) => Err(MergeStop::LogFailed),
-    }
-}
-
 /// Writes the end-of-medium marker, if the image ends with one, and flushes the device.
 fn end_image<W: Write + Drop>(image: ImageWriter<W>, end: MergedEnd) -> Result<W, MergeStop>
     ensures ok { IfOk result (λ device. Appends image.contents (W.contents device)
         (end_bytes end)) }
-    ensures err { IfErr result (Misses (λ _. ⊥)) }
+    ensures err { IfErr result (Misses (λ _. ⊥) (λ size. (end ≡ Marked) × (size ≡ image.size)
+        × (image_limit < size + length (end_bytes end)))) }
 {
     let mut image = image;
     match end {
@@ -285,7 +283,9 @@ fn report_readings<R: Read, P: Write>(
 ) -> Result<(), MergeStop>
     ensures ok { OnOk result (Appends (P.contents report.old) (P.contents report.new)
         (lines_from (reading_line (map (λ n. n.now) names.now)) 0 readings.now)) }
-    ensures err { IfErr result (Misses (λ _. ⊥)) }
+    ensures front { OnErr result (AppendsFront (P.contents report.old) (P.contents report.new)
+        (lines_from (reading_line (map (λ n. n.now) names.now)) 0 readings.now)) }
+    ensures err { IfErr result (Misses (λ _. ⊥) (λ _. ⊥)) }
 {
     for number in 0..readings.len() {
         let text = reading_text(number + 1, &line_of(&readings[number]));
@@ -304,7 +304,9 @@ fn report_items<R: Read, P: Write>(
 ) -> Result<(), MergeStop>
     ensures ok { OnOk result (Appends (P.contents report.old) (P.contents report.new)
         (lines_from (has_line (map (λ n. n.now) names.now)) 0 readings.now)) }
-    ensures err { IfErr result (Misses (λ _. ⊥)) }
+    ensures front { OnErr result (AppendsFront (P.contents report.old) (P.contents report.new)
+        (lines_from (has_line (map (λ n. n.now) names.now)) 0 readings.now)) }
+    ensures err { IfErr result (Misses (λ _. ⊥) (λ _. ⊥)) }
 {
     for number in 0..readings.len() {
         match has_of(&readings[number]) {

@@ -1,8 +1,8 @@
 //! Readings of images on devices.
 
-ghost use Rattle.std.specs.Prelude.{◌≡◌, ℕ, List, Some, IfOk, IfErr, map};
+ghost use Rattle.std.specs.Prelude.{◌≡◌, IfOk, IfErr, map};
 ghost use Rattle.tape_image.specs.Writer.{writing};
-ghost use Rattle.tape_run.specs.MergeCalls.{AreAtFront};
+ghost use Rattle.tape_run.specs.MergeCalls.{AreAtFront, IfImages};
 ghost use Rattle.tape_run.specs.MergedImages.{MergesImages, FaultsImages};
 
 use super::candidate::Candidate;
@@ -50,13 +50,11 @@ pub fn merge_to<R: Read, W: Write + Drop, G: Write>(
     log: &mut G,
 ) -> Result<Merged, MergeFault>
     requires { out.old.standing ≡ writing }
-    ensures ok { IfOk result (λ merged. (images : List (List ℕ))
-        → AreAtFront (map Some images) readings.old
-        → MergesImages images readings.new merged out.old out.new
-        (G.contents log.old) (G.contents log.new)) }
-    ensures fault { IfErr result (λ fault. (images : List (List ℕ))
-        → AreAtFront (map Some images) readings.old
-        → FaultsImages images readings.new fault) }
+    ensures ok { IfOk result (λ merged. IfImages readings.old (λ images.
+        MergesImages images readings.new merged out.old out.new
+        (G.contents log.old) (G.contents log.new))) }
+    ensures fault { IfErr result (λ fault. IfImages readings.old (λ images.
+        FaultsImages images readings.new out.old out.new fault)) }
 {
     let mut best = Candidate::new(alloc)?;
     let mut other = Candidate::new(alloc)?;

@@ -1,11 +1,12 @@
 //! The copies of a file's sections on images, and how much of each is reliable.
 
-ghost use Rattle.std.specs.Prelude.{◌≡◌, ◌++◌, ◌∷◌, max, [], List, OnOk, IfErr, None, Some};
+ghost use Rattle.std.specs.Prelude.{◌≡◌, ◌++◌, ◌∷◌, max, min, [], List, OnOk, IfErr, None, Some};
 ghost use Rattle.tape_image.specs.Reader.{going};
 ghost use Rattle.tape_run.specs.Checked.{IsCheckFault};
 ghost use Rattle.tape_run.specs.SalvageWalk.{in_list};
 ghost use Rattle.tape_run.specs.SalvageCopies.{FindsCopies, believed, of_file, is_of};
 ghost use Rattle.tape_run.specs.SalvageCopies.{wrong_count, rank, start_of, skip_of};
+ghost use Rattle.tape_run.specs.SalvageCopies.{is_complete};
 ghost use Rattle.tape_run.specs.SalvageChoice.{IsBest, IsChoice, firsts, is_considered};
 ghost use Rattle.tape_run.specs.SalvageChoice.{last_section, form_of_file};
 ghost use Rattle.tape_run.specs.declared.salvage.copies.SectionCopy.{SectionCopy};
@@ -44,6 +45,14 @@ impl SectionCopy {
         }
     }
 
+    /// Returns how many of its blocks are recovered if `read` of its data items are read again.
+    pub fn recovered(&self, read: u32) -> u32
+        ensures { result ≡ min read (believed self.now) }
+    {
+        let believed = self.believed();
+        if read < believed { read } else { believed }
+    }
+
     /// Returns what is expected at the first item of the image if the section is read from it. If
     /// its HDR1 was not read, its data are found by their place.
     pub fn start(&self) -> Expected
@@ -73,6 +82,14 @@ impl SectionCopy {
         }
     }
 
+    /// Returns whether the copy is complete: it closes, all of it was readable, and its trailer
+    /// label counts its blocks.
+    pub fn is_complete(&self) -> bool
+        ensures { result ≡ is_complete self.now }
+    {
+        self.closed.is_some() && self.section.certain.is_none() && self.wrong_count().is_none()
+    }
+
     /// Returns a number that is greater for a better copy: complete ones are best, then those with
     /// more readable blocks.
     pub fn rank(&self) -> u64
@@ -82,10 +99,7 @@ impl SectionCopy {
             Some(_) => self.section.blocks.saturating_sub(self.section.unreadable),
             None => self.believed(),
         };
-        let complete = self.closed.is_some()
-            && self.section.certain.is_none()
-            && self.wrong_count().is_none();
-        if complete {
+        if self.is_complete() {
             return 4_294_967_296 + u64::from(read);
         }
         u64::from(read)

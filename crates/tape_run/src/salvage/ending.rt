@@ -1,12 +1,12 @@
 //! The end of a section, and the report on missing blocks there.
 
-ghost use Rattle.std.specs.Prelude.{◌≡◌, ◌≢◌, ◌&&◌, true, false, Some, OnOk, IfOk, IfErr};
+ghost use Rattle.std.specs.Prelude.{◌≡◌, ◌≢◌, ◌&&◌, true, false, Some, None, OnOk, IfOk, IfErr};
 ghost use Rattle.std.specs.Io.KnownBytes.{Appends};
 ghost use Rattle.tape_run.specs.Checked.{IsCheckFault};
 ghost use Rattle.tape_run.specs.SalvageBlocks.{Recovers, torn_text};
 ghost use Rattle.tape_run.specs.SalvageEnds.{without_rest, no_section_text, no_form_text};
 ghost use Rattle.tape_run.specs.SalvageEnds.{open_text, ended, ended_text, unsure_text, with_end};
-ghost use Rattle.tape_run.specs.SalvageEnds.{stopped, stopped_text, read_again, read_again_text};
+ghost use Rattle.tape_run.specs.SalvageEnds.{end_from, end_text, read_again, read_again_text};
 ghost use Rattle.tape_run.specs.SalvageTaking.{end_by};
 ghost use Rattle.tape_run.specs.declared.salvage.ending.SectionEnd.TheVariants.{FileEnds};
 
@@ -39,6 +39,17 @@ impl SectionEnd {
             SectionEnd::FileEnds => true,
             SectionEnd::Continues | SectionEnd::Unknown => false,
         }
+    }
+}
+
+/// Returns how a section ended that closed, or did not close, like this.
+fn end_by(closed: &Option<Closing>) -> SectionEnd
+    ensures { result ≡ end_by closed.now }
+{
+    match closed {
+        None => SectionEnd::Unknown,
+        Some(closed) if closed.eof => SectionEnd::FileEnds,
+        Some(_) => SectionEnd::Continues,
     }
 }
 
@@ -82,16 +93,31 @@ impl<W: Write> Recovery<W> {
         Ok(())
     }
 
+    /// Reports that the blocks of a section from `first` on are missing.
+    fn miss_rest<P: Write>(
+        &mut self,
+        sect: u16,
+        first: u32,
+        report: &mut P,
+    ) -> Result<(), EngineFault>
+        ensures ok { OnOk result (Recovers W.contents self.old self.new (P.contents report.old)
+            (P.contents report.new) without_rest (open_text sect first)) }
+        ensures fault { IfErr result IsCheckFault }
+    {
+        self.tear(sect, first, report)?;
+        write_text(report, &open_gap_line(sect, first, self.mender.records()))?;
+        Ok(())
+    }
+
     /// Reports the missing blocks at the end of a section that did not close.
     fn end_open<P: Write>(&mut self, copy: &SectionCopy, report: &mut P) -> Result<(), EngineFault>
         ensures ok { OnOk result (Recovers W.contents self.old self.new (P.contents report.old)
-            (P.contents report.new) without_rest (open_text copy.now)) }
+            (P.contents report.new) (ended copy.now None) (ended_text copy.now None)) }
         ensures fault { IfErr result IsCheckFault }
     {
         let sect = copy.section.key.sect;
         let first = copy.believed();
-        self.tear(sect, first, report)?;
-        write_text(report, &open_gap_line(sect, first, self.mender.records()))?;
+        self.miss_rest(sect, first, report)?;
         write_unsure(report, sect, first, copy.section.blocks)?;
         Ok(())
     }
@@ -115,7 +141,7 @@ impl<W: Write> Recovery<W> {
         Ok(())
     }
 
-    /// Reports the missing blocks at the end of a section that closed.
+    /// Reports what is wrong at the end of a section that closed.
     fn end_closed<P: Write>(
         &mut self,
         copy: &SectionCopy,
@@ -129,30 +155,12 @@ impl<W: Write> Recovery<W> {
     {
         let sect = copy.section.key.sect;
         let blocks = copy.section.blocks;
-        self.end_gap(sect, blocks, report)?;
         self.take_count(sect, copy.wrong_count(), blocks, report)?;
         self.end_record(closed.eof, sect, blocks, report)?;
         Ok(())
     }
 
-    /// Reports that the blocks of a section from `first` on were not read again.
-    fn end_stopped<P: Write>(
-        &mut self,
-        sect: u16,
-        first: u32,
-        report: &mut P,
-    ) -> Result<(), EngineFault>
-        ensures ok { OnOk result (Recovers W.contents self.old self.new (P.contents report.old)
-            (P.contents report.new) stopped (stopped_text sect first)) }
-        ensures fault { IfErr result IsCheckFault }
-    {
-        self.end_gap(sect, first, report)?;
-        self.tear(sect, first, report)?;
-        write_text(report, &open_gap_line(sect, first, self.mender.records()))?;
-        Ok(())
-    }
-
-    /// Reports the missing blocks at the end of a section, of which `read` were read again.
+    /// Reports what is missing after the blocks of a section, of which `read` were read again.
     fn end_blocks<P: Write>(
         &mut self,
         copy: &SectionCopy,
@@ -160,11 +168,11 @@ impl<W: Write> Recovery<W> {
         report: &mut P,
     ) -> Result<(), EngineFault>
         ensures ok { OnOk result (Recovers W.contents self.old self.new (P.contents report.old)
-            (P.contents report.new) (read_again read copy.now) (read_again_text read copy.now)) }
+            (P.contents report.new) (end_from read copy.now) (end_text read copy.now)) }
         ensures fault { IfErr result IsCheckFault }
     {
         if read < copy.believed() {
-            return self.end_stopped(copy.section.key.sect, read, report);
+            return self.miss_rest(copy.section.key.sect, read, report);
         }
         match copy.closed {
             None => self.end_open(copy, report),
@@ -185,11 +193,8 @@ impl<W: Write> Recovery<W> {
             (read_again read copy.now) (read_again_text read copy.now)) }
         ensures fault { IfErr result IsCheckFault }
     {
+        self.end_gap(copy.section.key.sect, copy.recovered(read), report)?;
         self.end_blocks(copy, read, report)?;
-        Ok(match copy.closed {
-            None => SectionEnd::Unknown,
-            Some(closed) if closed.eof => SectionEnd::FileEnds,
-            Some(_) => SectionEnd::Continues,
-        })
+        Ok(end_by(&copy.closed))
     }
 }

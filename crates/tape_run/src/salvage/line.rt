@@ -6,7 +6,7 @@ ghost use Rattle.tape_run.specs.SalvageLine.{gap_line, open_gap_line, no_section
 ghost use Rattle.tape_run.specs.SalvageLine.{refused_line};
 ghost use Rattle.tape_run.specs.SalvageLine.{torn_line, count_line, unsure_line, section_line};
 ghost use Rattle.tape_run.specs.SalvageLine.{last_line, number_text, no_form_line};
-ghost use Rattle.tape_run.specs.SalvageLine.{not_opened_line};
+ghost use Rattle.tape_run.specs.SalvageLine.{not_opened_line, conflict_line};
 
 use crate::text::{put, put_decimal};
 use arrayvec::ArrayVec;
@@ -51,6 +51,20 @@ pub fn open_gap_line(sect: u16, first: u32, records: u64) -> Line
     put_number(&mut line, u64::from(first));
     put(&mut line, b" -");
     put_number(&mut line, records);
+    put(&mut line, b"\n");
+    line
+}
+
+/// Returns the line about a section of which images `used` and `other`, counted from 1, have
+/// complete copies with different blocks.
+pub fn conflict_line(sect: u16, used: usize, other: usize) -> Line
+    ensures { result.items ≡ conflict_line sect used other }
+{
+    let mut line = Line::new();
+    put(&mut line, b"CONFLICT");
+    put_number(&mut line, u64::from(sect));
+    put_number(&mut line, used as u64);
+    put_number(&mut line, other as u64);
     put(&mut line, b"\n");
     line
 }

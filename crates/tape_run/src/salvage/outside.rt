@@ -25,6 +25,7 @@ fn section_by(head: Head1) -> OpenSection
         certain: None,
         unreadable: 0,
         after: None,
+        digest: 0,
     }
 }
 

@@ -8,6 +8,7 @@ ghost use Rattle.tape_run.specs.SalvageWalk as Walk;
 
 use crate::salvage::outside::{begun_by, outside_by, unnamed_after};
 use crate::section::SectionKey;
+use crate::survey::digest::digest_with;
 use tape_core::Known;
 use tape_image::Item;
 use tape_label::{
@@ -32,6 +33,8 @@ pub struct OpenSection {
     pub unreadable: u32,
     /// If its HDR1 was not read: how many items follow its data so far.
     pub after: Option<u32>,
+    /// The digest of its readable data blocks so far.
+    pub digest: u64,
 }
 
 /// Items after a tape mark outside of sections, which may be the data of a section whose first
@@ -94,6 +97,15 @@ impl OpenSection {
             blocks: self.blocks.saturating_add(1),
             ..self
         }
+    }
+
+    /// Counts one more data block that was read, and includes it in the digest.
+    fn with_data(self, block: &[u8]) -> OpenSection
+        ensures { result ≡ Walk.with_data block.now self }
+    {
+        let digest = digest_with(self.digest, block);
+        let counted = self.with_item();
+        OpenSection { digest, ..counted }
     }
 
     /// Records an unreadable item: what follows is reliable only if the section closes.
@@ -224,7 +236,7 @@ fn block_step(expected: Expected, bytes: &[u8]) -> (Expected, Option<FoundSectio
         Expected::Outside(marks) => (outside_by(marks, kind(bytes), read_head1(bytes)), None),
         Expected::Second(section) => (second_by(section, kind(bytes), read_head2(bytes)), None),
         Expected::Headers(section) => (Expected::Headers(section), None),
-        Expected::Data(section) => (Expected::Data(section.with_item()), None),
+        Expected::Data(section) => (Expected::Data(section.with_data(bytes)), None),
         Expected::Trailer(section) => closed_by(section, read_trail1(bytes), read_head1(bytes)),
         Expected::Trailers(section, closed) => {
             let section = section.with_trailer(read_head2(bytes));

@@ -1,14 +1,16 @@
 //! Writes the parts that a session contains as records.
-ghost use Rattle.std.specs.Prelude.{◌≡◌, List, None, OnOk, OnErr, IfOk, IfErr};
+ghost use Rattle.std.specs.Prelude.{◌≡◌, ◌≢◌, List, None, OnOk, OnErr, IfOk, IfErr, is_some};
+ghost use Rattle.tape_run.specs.OutSinks.{TellsAlways, HasTaken};
 ghost use Rattle.tape_blocks.specs.Block.{Portion};
-ghost use Rattle.tape_run.specs.Causes.{WritingFails};
+ghost use Rattle.tape_run.specs.Causes.{WritingFails, EndingFails};
 ghost use Rattle.tape_run.specs.Crash.{IsWalked};
 ghost use Rattle.tape_run.specs.Extracting.{IsWritten};
+ghost use Rattle.tape_run.specs.ExtractingNow.{IsPut};
 ghost use Rattle.tape_image.specs.Written.{AppendsFront};
 ghost use Rattle.tape_run.specs.RecordText.{output_of};
 
 use super::Session;
-use crate::extract::write_file;
+use crate::extract::{OutSink, Place, write_file};
 use crate::fault::EngineFault;
 use std::io::Write;
 use tape_blocks::Form;
@@ -29,9 +31,39 @@ impl<S: PartWalk> Session<S> {
         // In any case: the session's position is unchanged, and a crash afterwards leaves nothing
         // that no crash before it could.
         ensures same { IsWalked S.PartSink self.old self.new }
-        ensures cause { IfErr result (WritingFails S.holds S.refusals self.old.sink self.new.sink) }
+        ensures cause { IfErr result
+            (WritingFails S.holds S.refusals S.refuses self.old.sink self.new.sink) }
         ensures calm { OnOk result (S.refusals self.new.sink ≡ S.refusals self.old.sink) }
     {
         write_file(&mut self.reel_reader.sink, form, out)
+    }
+}
+
+impl<W: Write + Drop> Session<OutSink<W>> {
+    /// Ends the output of the sink, gives it its name, and returns the number of its records. Gives
+    /// up the writer, and changes nothing else of the session.
+    ///
+    /// # Errors
+    ///
+    /// The errors of `OutSink::finish`, and `WriteFailed` if the output did not get its name. The
+    /// file that had the name still has it.
+    pub(crate) fn place_output<O: Place<W>>(
+        &mut self,
+        form: Form,
+        out: &mut O,
+    ) -> Result<u64, EngineFault>
+        ensures ok { IfOk result (λ records. (parts : List Portion) → HasTaken W.contents
+            self.old.sink.form self.old.sink.out self.old.sink.weight self.old.sink.records
+            self.old.sink.begun parts
+            → IsPut None (TellsAlways W.contents) records form (O.stands out.new) parts) }
+        ensures err { OnErr result (O.stands out.new ≡ O.stands out.old) }
+        ensures cause { IfErr result (λ fault. fault ≢ EngineFault.WriteFailed
+            → (self.new ≡ self.old) × EndingFails (is_some self.old.sink.out) self.old.sink.begun
+            self.old.sink.form form fault) }
+        ensures calm { self.new.sink.refused ≡ self.old.sink.refused }
+    {
+        let (written, records) = self.reel_reader.sink.finish(form)?;
+        out.place(written)?;
+        Ok(records)
     }
 }

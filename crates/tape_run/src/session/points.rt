@@ -7,7 +7,7 @@ ghost use Rattle.tape_run.specs.Seen.{IfSeen};
 
 use super::Session;
 use tape_core::{Checkpoint, Known, PartSink};
-use tape_label::laws::same_field;
+use tape_label::same_field;
 
 impl<S: PartSink> Session<S> {
     /// Returns whether the last checkpoint has the session's position.

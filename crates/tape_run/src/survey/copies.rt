@@ -1,9 +1,9 @@
 //! The complete copies of sections, compared by their data blocks.
 ghost use Rattle.std.specs.Result.{IsOkUnless};
-ghost use Rattle.std.specs.Prelude.{◌≡◌, OnOk, is_some};
+ghost use Rattle.std.specs.Prelude.{◌≡◌, ◌∷◌, [], ◌++◌, OnOk, IfOk, is_some};
 ghost use Rattle.tape_run.specs.SurveyCopies.{no_copies, copy_note, noted_at, with_conflict};
-ghost use Rattle.tape_run.specs.SurveyCopies.{with_good, with_told, dispute_at};
-ghost use Rattle.tape_run.specs.SurveyCopies.{is_agreed};
+ghost use Rattle.tape_run.specs.SurveyCopies.{with_good, with_told, dispute_at, is_agreed};
+ghost use Rattle.tape_run.specs.SurveyCopies.{differs, disputed_by, disputed, disputed_on};
 ghost use Rattle.tape_run.specs.SurveyFiles.{same_file, file_key};
 ghost use Rattle.tape_run.specs.declared.fault.RunFault.TheVariants as faults;
 ghost use Rattle.std.specs.Map.{lookup};
@@ -14,7 +14,7 @@ use crate::fault::RunFault;
 use crate::met::Told;
 use crate::section::SectionKey;
 use indexmap::IndexMap;
-use std::alloc::Global;
+use std::alloc::{AllocError, Global};
 use std::marker::Model;
 use tape_label::Field;
 
@@ -39,14 +39,19 @@ pub(crate) type CopyNotes = IndexMap<SectionKey, CopyNote>;
 /// The files with a section whose copies differ, and the number of one such section of each.
 pub(crate) type Conflicts = IndexMap<FileKey, u16>;
 
+/// The number of an image, and a section of which it has a complete copy.
+pub(crate) type Held = (usize, SectionKey);
+
 /// The complete copies that were found.
 #[derive(Drop)]
 pub(crate) struct Copies {
     pub(crate) notes: CopyNotes,
     pub(crate) conflicts: Conflicts,
+    /// Each copy, in the order in which they were found.
+    held: Vec<Held>,
 }
 
-// Contracts see copies as what is known of each section, and the files in conflict.
+// Contracts see copies as what is known of each section, the files in conflict, and the copies.
 impl Model for Copies {
     ghost use Rattle.tape_run.specs.SurveyCopies.{Copied};
 
@@ -55,6 +60,7 @@ impl Model for Copies {
     ghost view = { λ c. record {
       notes = c.notes.entries;
       conflicts = c.conflicts.entries;
+      held = c.held.items;
     } };
 }
 
@@ -66,6 +72,7 @@ impl Copies {
         Copies {
             notes: CopyNotes::new(alloc),
             conflicts: Conflicts::new(alloc),
+            held: Vec::new(alloc),
         }
     }
 
@@ -100,10 +107,24 @@ impl Copies {
         ensures fault { IsOkUnless result faults.OutOfMemory }
         ensures ok { OnOk result (self.new ≡ with_good self.old image key blocks digest) }
     {
+        self.note_held(image, key)?;
         let note = self.note_of(image, &key, blocks, digest);
         self.note_conflict(&key, note.other.is_some())?;
         match self.notes.insert(key, note) {
             Ok(_) => Ok(()),
+            Err(_) => Err(RunFault::OutOfMemory),
+        }
+    }
+
+    /// Adds a section of which an image has a complete copy.
+    fn note_held(&mut self, image: usize, key: SectionKey) -> Result<(), RunFault>
+        ensures fault { IsOkUnless result faults.OutOfMemory }
+        ensures notes { self.new.notes ≡ self.old.notes }
+        ensures conflicts { self.new.conflicts ≡ self.old.conflicts }
+        ensures ok { OnOk result (self.new.held ≡ self.old.held ++ (image, key) ∷ []) }
+    {
+        match self.held.push((image, key)) {
+            Ok(()) => Ok(()),
             Err(_) => Err(RunFault::OutOfMemory),
         }
     }
@@ -135,6 +156,7 @@ impl Copies {
     fn note_conflict(&mut self, key: &SectionKey, differs: bool) -> Result<(), RunFault>
         ensures fault { IsOkUnless result faults.OutOfMemory }
         ensures notes { self.new.notes ≡ self.old.notes }
+        ensures held { self.new.held ≡ self.old.held }
         ensures ok { OnOk result (self.new.conflicts
             ≡ with_conflict self.old.conflicts key.now differs) }
     {
@@ -163,5 +185,54 @@ impl Copies {
         ensures { result ≡ is_agreed self.now.conflicts }
     {
         self.conflicts.is_empty()
+    }
+
+    /// Returns whether complete copies of a section differ.
+    fn differs(&self, key: &SectionKey) -> bool
+        ensures { result ≡ differs (noted_at self.now.notes key.now) }
+    {
+        match self.notes.get(key) {
+            Some(note) => note.other.is_some(),
+            None => false,
+        }
+    }
+
+    /// Appends a copy if complete copies of its section differ.
+    fn add_disputed(&self, copies: &mut Vec<Held>, held: &Held) -> Result<(), AllocError>
+        ensures { OnOk result (copies.new.items
+            ≡ copies.old.items ++ disputed_by self.now.notes held.now) }
+    {
+        if self.differs(&held.1) {
+            copies.push(*held)?;
+        }
+        Ok(())
+    }
+
+    /// Returns the complete copies of sections whose complete copies differ, in the order in which
+    /// they were found.
+    pub(crate) fn disputed(&self, alloc: Global) -> Result<Vec<Held>, AllocError>
+        ensures { IfOk result (λ copies. copies.items ≡ disputed self.now) }
+    {
+        let mut copies = Vec::new(alloc);
+        for held in self.held.as_slice() {
+            self.add_disputed(&mut copies, held)?;
+        }
+        Ok(copies)
+    }
+}
+
+/// Returns the section of the first of these copies that is on image number `image`.
+pub(crate) fn disputed_on(copies: &[Held], image: usize) -> Option<SectionKey>
+    ensures { result ≡ disputed_on copies.now image }
+{
+    let mut left = copies;
+    'copies: loop {
+        let [(number, key), rest @ ..] = left else {
+            return None;
+        };
+        if *number == image {
+            return Some(*key);
+        }
+        left = rest;
     }
 }

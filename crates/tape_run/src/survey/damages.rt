@@ -1,9 +1,10 @@
 //! The part of a survey about the damaged sections on an image.
 ghost use Rattle.std.specs.Prelude.{◌≡◌, Some};
 ghost use Rattle.tape_run.specs.SurveyLine.{damage_text, damaged_text, more_text, damages_text};
+ghost use Rattle.tape_run.specs.SurveyLine.{dispute_text};
 
 use super::glance::ImageSummary;
-use crate::section::{SectionLine, SectionState};
+use crate::section::{SectionKey, SectionLine, SectionState};
 use std::fmt;
 
 /// Returns the fault of a section in the given state.
@@ -71,5 +72,27 @@ impl fmt::Display for DamagesText<'_> {
         let more = MoreText(between, glance.more);
         let unfinished = DamagedText(between, glance.unfinished);
         write!(f, "{damage}{more}{unfinished}")
+    }
+}
+
+/// A section on the image whose complete copies differ, if any.
+#[derive(Clone, Copy)]
+pub(super) struct DisputeText(pub(super) &'static str, pub(super) Option<SectionKey>);
+
+impl fmt::Display for DisputeText {
+    ghost output = { λ text. Some (dispute_text text.0.now text.1) };
+
+    fn fmt<W: fmt::Write>(&self, f: &mut fmt::Formatter<W>) -> fmt::Result {
+        let between = self.0;
+        match self.1 {
+            Some(key) => {
+                let (file, sect) = (key.file, key.sect);
+                write!(
+                    f,
+                    "{between}section {sect} of file {file}: good copies differ"
+                )
+            }
+            None => Ok(()),
+        }
     }
 }

@@ -43,15 +43,31 @@ fn next_chains(chains: Chains, word: u64) -> Chains
     }
 }
 
-/// Returns the chains after words of eight bytes.
+/// Returns the chains after words of eight bytes. Four words are taken at once, one by each chain,
+/// so that the chains need not change places.
 fn chains_of_words(chains: Chains, words: &[[u8; 8]]) -> Chains
     ensures { in_turn result ≡ side_over (in_turn chains) (map (from_le_bytes w64) words.now) }
 {
     let mut all = chains;
-    for word in words {
-        all = next_chains(all, u64::from_le_bytes(*word));
+    let mut left = words;
+    'words: loop {
+        match left {
+            [a, b, c, d, rest @ ..] => {
+                all = Chains {
+                    a: digest_by(all.a, u64::from_le_bytes(*a)),
+                    b: digest_by(all.b, u64::from_le_bytes(*b)),
+                    c: digest_by(all.c, u64::from_le_bytes(*c)),
+                    d: digest_by(all.d, u64::from_le_bytes(*d)),
+                };
+                left = rest;
+            }
+            [word, rest @ ..] => {
+                all = next_chains(all, u64::from_le_bytes(*word));
+                left = rest;
+            }
+            [] => return all,
+        }
     }
-    all
 }
 
 /// Returns the chains after single bytes.
@@ -59,10 +75,14 @@ fn chains_of_bytes(chains: Chains, bytes: &[u8]) -> Chains
     ensures { in_turn result ≡ side_over (in_turn chains) bytes.now }
 {
     let mut all = chains;
-    for byte in bytes {
+    let mut left = bytes;
+    'bytes: loop {
+        let [byte, rest @ ..] = left else {
+            return all;
+        };
         all = next_chains(all, u64::from(*byte));
+        left = rest;
     }
-    all
 }
 
 /// Returns the chains of a block: of its words of eight bytes, and of the bytes after them.

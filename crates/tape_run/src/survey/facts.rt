@@ -8,10 +8,10 @@ ghost use Rattle.tape_run.specs.SurveyLine.{guess_text, fault_at, fault_text, st
 ghost use Rattle.tape_run.specs.SurveyLine.{course_shown, glance_text, seen_text};
 
 use super::course::{ExpectedItem, LabelOrder};
-use super::damages::DamagesText;
+use super::damages::{DamagesText, DisputeText};
 use super::glance::{First, ImageSummary};
 use super::view::ImageSurvey;
-use crate::section::ImageStop;
+use crate::section::{ImageStop, SectionKey};
 use crate::text::{Trimmed, trimmed_len};
 use std::fmt;
 use tape_image::ImageFault;
@@ -321,12 +321,17 @@ impl fmt::Display for GlanceText<'_> {
     }
 }
 
-/// The description of an image, with a text between two facts.
+/// The description of an image, with a text between two facts, and with a section whose complete
+/// copies differ, if any.
 #[derive(Clone, Copy)]
-pub(super) struct SeenText<'a>(pub(super) &'static str, pub(super) &'a ImageSurvey);
+pub(super) struct SeenText<'a>(
+    pub(super) &'static str,
+    pub(super) &'a ImageSurvey,
+    pub(super) Option<SectionKey>,
+);
 
 impl fmt::Display for SeenText<'_> {
-    ghost output = { λ text. Some (seen_text text.0.now text.1.now) };
+    ghost output = { λ text. Some (seen_text text.0.now text.1.now text.2) };
 
     fn fmt<W: fmt::Write>(&self, f: &mut fmt::Formatter<W>) -> fmt::Result {
         let (between, sight) = (self.0, self.1);
@@ -334,6 +339,7 @@ impl fmt::Display for SeenText<'_> {
         let course = CourseText(between, course_shown(&sight.glance), sight.stop);
         let stop = StopText(between, sight.stop);
         let damages = DamagesText(between, &sight.glance);
-        write!(f, "{glance}{course}{stop}{damages}")
+        let dispute = DisputeText(between, self.2);
+        write!(f, "{glance}{course}{stop}{damages}{dispute}")
     }
 }

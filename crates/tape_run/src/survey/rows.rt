@@ -34,35 +34,35 @@ fn put_count(text: &mut Text, number: u32)
 }
 
 /// Returns the columns of an image between its name and the words at the end.
-pub(crate) fn middle_cells(sight: &Option<ImageSurvey>) -> Text
-    ensures { result.items ≡ middle_cells sight.now }
+pub(crate) fn middle_cells(sight: &Option<ImageSurvey>, disputed: bool) -> Text
+    ensures { result.items ≡ middle_cells sight.now disputed }
 {
     let mut text = Text::new();
     put_tab(&mut text);
-    put_sight(&mut text, sight);
+    put_sight(&mut text, sight, disputed);
     put_tab(&mut text);
     text
 }
 
 /// Appends the description of an image, or the text that it was not opened.
-fn put_sight(text: &mut Text, sight: &Option<ImageSurvey>)
+fn put_sight(text: &mut Text, sight: &Option<ImageSurvey>, disputed: bool)
     requires room { array_vec_len text.old ≤ 1 }
-    ensures items { text.new.items ≡ text.old.items ++ sight_cells sight.now }
+    ensures items { text.new.items ≡ text.old.items ++ sight_cells sight.now disputed }
     ensures len { array_vec_len text.new ≤ 900 }
 {
     match sight {
-        Some(sight) => put_seen(text, sight),
+        Some(sight) => put_seen(text, sight, disputed),
         None => put(text, b"NOT OPENED\t\t\t\t\t\t\t"),
     }
 }
 
 /// Appends what an image is.
-fn put_seen(text: &mut Text, sight: &ImageSurvey)
+fn put_seen(text: &mut Text, sight: &ImageSurvey, disputed: bool)
     requires room { array_vec_len text.old ≤ 1 }
-    ensures items { text.new.items ≡ text.old.items ++ seen_cells sight.now }
+    ensures items { text.new.items ≡ text.old.items ++ seen_cells sight.now disputed }
     ensures len { array_vec_len text.new ≤ 900 }
 {
-    put(text, whole_cell(sight.is_sound()));
+    put(text, whole_cell(disputed, sight.is_sound()));
     put_tab(text);
     put_volume(text, &sight.glance.first);
     put_tab(text);
@@ -73,12 +73,19 @@ fn put_seen(text: &mut Text, sight: &ImageSurvey)
     put(text, &stop_text(&sight.stop));
 }
 
-/// Appends whether it was read completely.
-fn whole_cell(whole: bool) -> &'static [u8]
-    ensures text { result.now ≡ whole_cell whole }
+/// Returns the state of an image: whether it has a copy that differs from another, or else was read
+/// completely without damage.
+fn whole_cell(disputed: bool, sound: bool) -> &'static [u8]
+    ensures text { result.now ≡ whole_cell disputed sound }
     ensures short { length result.now ≤ 9 }
 {
-    if whole { b"WHOLE" } else { b"PARTIAL" }
+    if disputed {
+        b"CONFLICT"
+    } else if sound {
+        b"WHOLE"
+    } else {
+        b"PARTIAL"
+    }
 }
 
 /// Appends the volume, if the first item is a volume label.

@@ -12,6 +12,7 @@ pub(crate) struct Tally {
     pub(crate) images: u32,
     pub(crate) ok: u32,
     pub(crate) blank: u32,
+    pub(crate) conflict: u32,
     pub(crate) damaged: u32,
     pub(crate) unsupported: u32,
     pub(crate) empty: u32,
@@ -24,6 +25,7 @@ pub(crate) const NO_IMAGES: Tally = Tally {
     images: 0,
     ok: 0,
     blank: 0,
+    conflict: 0,
     damaged: 0,
     unsupported: 0,
     empty: 0,
@@ -40,6 +42,7 @@ pub(crate) fn with_state(tally: Tally, state: Option<ImageState>) -> Tally
     match state {
         Some(ImageState::Ok) => next.ok = next.ok.saturating_add(1),
         Some(ImageState::Blank) => next.blank = next.blank.saturating_add(1),
+        Some(ImageState::Conflict) => next.conflict = next.conflict.saturating_add(1),
         Some(ImageState::Damaged) => next.damaged = next.damaged.saturating_add(1),
         Some(ImageState::Unsupported) => next.unsupported = next.unsupported.saturating_add(1),
         Some(ImageState::Empty) => next.empty = next.empty.saturating_add(1),
@@ -107,6 +110,7 @@ impl fmt::Display for CountsText {
 
     fn fmt<W: fmt::Write>(&self, f: &mut fmt::Formatter<W>) -> fmt::Result {
         let blank = CountText(self.0.blank, "blank");
+        let conflict = CountText(self.0.conflict, "in conflict");
         let damaged = CountText(self.0.damaged, "damaged");
         let unsupported = CountText(self.0.unsupported, "unsupported");
         let empty = CountText(self.0.empty, "empty");
@@ -114,7 +118,7 @@ impl fmt::Display for CountsText {
         let unopened = CountText(self.0.not_opened, "not opened");
         write!(
             f,
-            "{blank}{damaged}{unsupported}{empty}{not_tapes}{unopened}"
+            "{blank}{conflict}{damaged}{unsupported}{empty}{not_tapes}{unopened}"
         )
     }
 }

@@ -1,12 +1,12 @@
 //! Reading one image of a survey.
 ghost use Rattle.std.specs.Result.{IsOkUnless};
-ghost use Rattle.std.specs.Prelude.{◌≡◌, ◌<◌, IfOk, OnOk, option_map};
+ghost use Rattle.std.specs.Prelude.{◌≡◌, ◌<◌, length, IfOk, OnOk, option_map};
 ghost use Rattle.tape_image.specs.Reader.{going, tape_item};
 ghost use Rattle.tape_set.specs.Lawful.{most_blocks};
 ghost use Rattle.tape_run.specs.Noted.{noted_all};
 ghost use Rattle.tape_run.specs.Passing.{step, in_list, under_way, blocks_of};
 ghost use Rattle.tape_run.specs.declared.fault.RunFault.TheVariants as faults;
-ghost use Rattle.tape_run.specs.SurveyRead.{ViewsItems, IsViewed, nothing_found};
+ghost use Rattle.tape_run.specs.SurveyRead.{ViewsItems, IsViewed, AreViewed, nothing_found};
 ghost use Rattle.tape_run.specs.SurveyTally.{is_whole_sight, is_sound, is_ended, is_none, is_end};
 
 use super::copies::Copies;
@@ -14,10 +14,9 @@ use super::course::LabelOrder;
 use super::digest::digest_in;
 use super::files::{Files, note_met};
 use super::glance::{ImageSummary, blank_glance, head_in, look};
-use super::line::state_of;
 use super::locations::{Locations, note_location};
-use super::tally::{NO_IMAGES, Tally, with_state};
 use crate::catalogue::stop_at;
+use crate::extract::images::ImageSource;
 use crate::fault::RunFault;
 use crate::passing::{Phase, step};
 use crate::section::ImageStop;
@@ -48,13 +47,10 @@ pub(crate) struct Findings {
     pub(crate) copies: Copies,
     /// The number of images.
     images: usize,
-    /// The number of images in each state.
-    pub(crate) tally: Tally,
 }
 
 // Contracts see findings as the sections and files found, whether all images were read completely,
-// the image of each section, its complete copies, and the number of images, in all and in each
-// state.
+// the image of each section, its complete copies, and the number of images.
 impl Model for Findings {
     ghost use Rattle.tape_run.specs.SurveyRead.{Found};
 
@@ -67,7 +63,6 @@ impl Model for Findings {
       locations = f.locations.entries;
       copies = f.copies;
       images = f.images;
-      tally = f.tally;
     } };
 }
 
@@ -131,7 +126,6 @@ impl Findings {
             locations: Locations::new(alloc),
             copies: Copies::new(alloc),
             images: 0,
-            tally: NO_IMAGES,
         }
     }
 
@@ -147,14 +141,12 @@ impl Findings {
         let Some(mut reader) = image else {
             self.whole = false;
             self.images = self.images.saturating_add(1);
-            self.tally = with_state(self.tally, None);
             return Ok(None);
         };
         let sight = self.read_items(&mut reader)?;
         let whole = sight.is_whole();
         self.whole = self.whole && whole;
         self.images = self.images.saturating_add(1);
-        self.tally = with_state(self.tally, Some(state_of(&sight)));
         Ok(Some(sight))
     }
 
@@ -167,7 +159,6 @@ impl Findings {
             self.new.locations self.new.copies) }
         ensures same { OnOk result (self.new.whole ≡ self.old.whole) }
         ensures count { OnOk result (self.new.images ≡ self.old.images) }
-        ensures tally { OnOk result (self.new.tally ≡ self.old.tally) }
     {
         let Ok(mut image) = ImageReader::new(self.alloc, reader) else {
             return Err(RunFault::OutOfMemory);
@@ -184,6 +175,31 @@ impl Findings {
         image.into_device();
         viewed
     }
+}
+
+/// Opens the first `count` images, reads each to its end or to a fault, and returns what each is.
+pub(crate) fn read_images<R: Read + Drop, L: ImageSource<R>>(
+    findings: &mut Findings,
+    images: &mut L,
+    count: usize,
+) -> Result<Vec<Option<ImageSurvey>>, RunFault>
+    requires { findings.old ≡ nothing_found }
+    ensures each { IfOk result (λ sights. length sights.items ≡ count) }
+    ensures viewed { IfOk result (λ sights. AreViewed L.gives R.remaining images.old 0 sights.items
+        nothing_found images.new findings.new) }
+    ensures fault { IsOkUnless result faults.OutOfMemory }
+{
+    let mut sights = Vec::new(findings.alloc);
+    for number in 0..count {
+        let Ok(image) = images.mount(number) else {
+            return Err(RunFault::OutOfMemory);
+        };
+        let sight = findings.read(image)?;
+        let Ok(()) = sights.push(sight) else {
+            return Err(RunFault::OutOfMemory);
+        };
+    }
+    Ok(sights)
 }
 
 /// Processes the items of an unread image, and adds its sections and labels.

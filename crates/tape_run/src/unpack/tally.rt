@@ -83,6 +83,9 @@ pub fn report_file<P: Write>(
     ensures ok { OnOk result (Appends (P.contents report.old) (P.contents report.new)
         (file_line file.now.set_id file.now.file outcome details.now path.now)) }
     ensures counted { OnOk result (tally.new ≡ counted tally.old outcome 1) }
+    ensures front { OnErr result (AppendsFront (P.contents report.old) (P.contents report.new)
+        (file_line file.now.set_id file.now.file outcome details.now path.now)) }
+    ensures uncounted { OnErr result (tally.new ≡ tally.old) }
     ensures fault { IfErr result IsCheckFault }
 {
     let Ok(line) = file_line(alloc, file, outcome, details, path) else {
@@ -111,7 +114,10 @@ pub fn report_numbers<P: Write>(
         (numbers_line set_id.now first file)) }
     ensures counted { OnOk result
         (tally.new ≡ counted tally.old UnpackOutcome.NotFound (file - first)) }
-    ensures fault { IfErr result IsCheckFault }
+    ensures front { OnErr result (AppendsFront (P.contents report.old) (P.contents report.new)
+        (numbers_line set_id.now first file)) }
+    ensures uncounted { OnErr result (tally.new ≡ tally.old) }
+    ensures fault { IfErr result (λ fault. fault ≡ EngineFault.WriteFailed) }
 {
     write_text(report, &numbers_line(set_id, first, file))?;
     tally.count(UnpackOutcome::NotFound, u64::from(file - first));

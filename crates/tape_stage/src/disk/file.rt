@@ -74,69 +74,6 @@ impl<F> FileDisk<F> {
     }
 }
 
-impl<F: Read + Write + Seek + OpenFile> FileDisk<F> {
-    /// Fills the buffer with the bytes at offset `place`.
-    fn look(&mut self, place: u64, buf: &mut [u8]) -> Result<(), DiskFault>
-        ensures same_size { length buf.new ≡ length buf.old }
-        ensures same_length { self.new.len ≡ self.old.len }
-        ensures same_count { self.new.failed ≡ self.old.failed }
-        ensures alive { OnOk result (self.old.lost ≡ false) }
-        ensures lost { self.new.lost ≡ self.old.lost }
-    {
-        if self.lost {
-            return Err(DiskFault::Device);
-        }
-        read_from(&mut self.file, place, buf)
-    }
-
-    /// Writes `bytes` at offset `place`.
-    fn put(&mut self, place: u64, bytes: &[u8]) -> Result<(), DiskFault>
-        ensures same_length { self.new.len ≡ self.old.len }
-        ensures same_count { self.new.failed ≡ self.old.failed }
-        ensures alive { OnOk result (self.old.lost ≡ false) }
-        ensures lost { self.new.lost ≡ self.old.lost }
-    {
-        if self.lost {
-            return Err(DiskFault::Device);
-        }
-        write_from(&mut self.file, place, bytes)
-    }
-
-    /// Truncates the file.
-    fn cut_file(&mut self, len: u64) -> Result<(), DiskFault>
-        ensures same_length { self.new.len ≡ self.old.len }
-        ensures same_count { self.new.failed ≡ self.old.failed }
-        ensures alive { OnOk result (self.old.lost ≡ false) }
-        ensures lost { self.new.lost ≡ self.old.lost }
-    {
-        if self.lost {
-            return Err(DiskFault::Device);
-        }
-        match self.file.set_len(len) {
-            Ok(()) => Ok(()),
-            Err(_) => Err(DiskFault::Device),
-        }
-    }
-
-    /// Syncs the file.
-    fn sync_file(&mut self) -> Result<(), DiskFault>
-        ensures same_length { self.new.len ≡ self.old.len }
-        ensures same_count { self.new.failed ≡ self.old.failed }
-        ensures alive { OnOk result (self.old.lost ≡ false) }
-        ensures lost { OnErr result (self.new.lost ≡ true) }
-        ensures kept { OnOk result (self.new.lost ≡ false) }
-    {
-        if self.lost {
-            return Err(DiskFault::Device);
-        }
-        self.lost = self.file.sync_all().is_err();
-        if self.lost {
-            return Err(DiskFault::Device);
-        }
-        Ok(())
-    }
-}
-
 impl<F: Read + Write + Seek + OpenFile> Disk for FileDisk<F> {
     ghost is_honest = { λ _. ⊥ };
 
@@ -174,7 +111,10 @@ impl<F: Read + Write + Seek + OpenFile> Disk for FileDisk<F> {
         ensures alive { OnOk result (self.old.lost ≡ false) }
         ensures lost { self.new.lost ≡ self.old.lost }
     {
-        match self.look(place, buf) {
+        if self.lost {
+            return Err(self.fail());
+        }
+        match read_from(&mut self.file, place, buf) {
             Ok(()) => Ok(()),
             Err(_) => Err(self.fail()),
         }
@@ -189,10 +129,13 @@ impl<F: Read + Write + Seek + OpenFile> Disk for FileDisk<F> {
         ensures alive { OnOk result (self.old.lost ≡ false) }
         ensures lost { self.new.lost ≡ self.old.lost }
     {
+        if self.lost {
+            return Err(self.fail());
+        }
         let Some(end) = place.checked_add(bytes.len() as u64) else {
             return Err(self.fail());
         };
-        match self.put(place, bytes) {
+        match write_from(&mut self.file, place, bytes) {
             Ok(()) => {
                 self.len = self.len.max(end);
                 Ok(())
@@ -209,7 +152,10 @@ impl<F: Read + Write + Seek + OpenFile> Disk for FileDisk<F> {
         ensures alive { OnOk result (self.old.lost ≡ false) }
         ensures lost { self.new.lost ≡ self.old.lost }
     {
-        match self.cut_file(len) {
+        if self.lost {
+            return Err(self.fail());
+        }
+        match self.file.set_len(len) {
             Ok(()) => {
                 self.len = len;
                 Ok(())
@@ -227,31 +173,26 @@ impl<F: Read + Write + Seek + OpenFile> Disk for FileDisk<F> {
         ensures lost { OnErr result (self.new.lost ≡ true) }
         ensures kept { OnOk result (self.new.lost ≡ false) }
     {
-        match self.sync_file() {
+        if self.lost {
+            return Err(self.fail());
+        }
+        match self.file.sync_all() {
             Ok(()) => Ok(()),
-            Err(_) => Err(self.fail()),
+            Err(_) => {
+                self.lost = true;
+                Err(self.fail())
+            }
         }
     }
 }
 
 /// Fills the buffer with the bytes at offset `place`. An early end or an interruption is a failure.
-pub(crate) fn read_from<R: Read + Seek>(
-    file: &mut R,
-    place: u64,
-    buf: &mut [u8],
-) -> Result<(), DiskFault>
+fn read_from<R: Read + Seek>(file: &mut R, place: u64, buf: &mut [u8]) -> Result<(), DiskFault>
     ensures same_size { length buf.new ≡ length buf.old }
 {
-    match file.seek(SeekFrom::Start(place)) {
-        Ok(_) => read_whole(file, buf),
-        Err(_) => Err(DiskFault::Device),
+    if file.seek(SeekFrom::Start(place)).is_err() {
+        return Err(DiskFault::Device);
     }
-}
-
-/// Reads until the buffer is full.
-fn read_whole<R: Read>(file: &mut R, buf: &mut [u8]) -> Result<(), DiskFault>
-    ensures same_size { length buf.new ≡ length buf.old }
-{
     let mut at = 0;
     'reads: while at < buf.len() {
         match file.read(&mut buf[at..]) {
@@ -263,20 +204,11 @@ fn read_whole<R: Read>(file: &mut R, buf: &mut [u8]) -> Result<(), DiskFault>
     Ok(())
 }
 
-/// Writes all of `bytes` at offset `place`.
-pub(crate) fn write_from<W: Write + Seek>(
-    file: &mut W,
-    place: u64,
-    bytes: &[u8],
-) -> Result<(), DiskFault> {
-    match file.seek(SeekFrom::Start(place)) {
-        Ok(_) => write_whole(file, bytes),
-        Err(_) => Err(DiskFault::Device),
+/// Writes all of `bytes` at offset `place`. A write of no bytes or an interruption is a failure.
+fn write_from<W: Write + Seek>(file: &mut W, place: u64, bytes: &[u8]) -> Result<(), DiskFault> {
+    if file.seek(SeekFrom::Start(place)).is_err() {
+        return Err(DiskFault::Device);
     }
-}
-
-/// Writes all bytes. A write of no bytes or an interruption is an error.
-fn write_whole<W: Write>(file: &mut W, bytes: &[u8]) -> Result<(), DiskFault> {
     let mut rest = bytes;
     'writes: while !rest.is_empty() {
         match file.write(rest) {

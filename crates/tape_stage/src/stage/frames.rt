@@ -1,7 +1,7 @@
 //! Frames (the header and content of a part): walking, reading and truncating them.
 
-ghost use Rattle.std.specs.Prelude.{◌≡◌, ◌+◌, ◌-◌, ◌≤◌, ◌<◌, ◌^◌, ◌∷◌, List, length, min, OnOk};
-ghost use Rattle.std.specs.Prelude.{OnErr, IfOk, MatchOption, ℕ, take, IsErrOf, true, false, IfErr};
+ghost use Rattle.std.specs.Prelude.{◌≡◌, ◌+◌, ◌≤◌, ◌<◌, ◌∷◌, List, length, OnOk};
+ghost use Rattle.std.specs.Prelude.{OnErr, IfOk, MatchOption, take, IsErrOf, true, false, IfErr};
 ghost use Rattle.std.specs.Prelude.{◌⊎◌};
 ghost use Rattle.std.specs.Int.{to_be_bytes};
 ghost use Rattle.std.proofs.Common.{w32};
@@ -11,7 +11,7 @@ ghost use Rattle.tape_core.specs.Weight.{Rose};
 ghost use Rattle.tape_core.specs.Known.{most_staged};
 ghost use Rattle.tape_stage.specs.Body.{most_generation};
 ghost use Rattle.tape_stage.specs.Staged.{IsNoHeader, StagedIn, IsEither};
-ghost use Rattle.tape_stage.specs.Salvaged.{FramedTo, WalkedIn};
+ghost use Rattle.tape_stage.specs.Salvaged.{WalkedIn, WalkedOver};
 ghost use Rattle.tape_stage.specs.OnlyReading.{OnlyReads};
 ghost use Rattle.tape_stage.specs.Parts.{longest_part, IsFront};
 ghost use Rattle.tape_stage.specs.Moments.{Passes};
@@ -55,66 +55,55 @@ pub(crate) fn header_of(header: &[u8; 5]) -> Option<(Span, u64)>
     Some((span, u64::from(size)))
 }
 
-/// Returns the size of the part that follows a header, if the header is valid.
-fn part_size(header: &[u8; 5]) -> Option<u64>
-    ensures { MatchOption result (IsNoHeader header.now)
-        (λ size. (size ≤ longest_part) × ((span : Span)
-        × (header.now ≡ indicator span ∷ to_be_bytes w32 size))) }
-{
-    match header_of(header) {
-        Some((_, size)) => Some(size),
-        None => None,
-    }
+/// The result of a walk over the frames of a stage.
+#[derive(Clone, Copy)]
+pub(crate) struct Walked {
+    /// The offset of the first damaged frame, if there is one.
+    pub(crate) broken: Option<u64>,
+    /// The number of records that end in the intact frames.
+    pub(crate) records: u64,
 }
 
-/// Walks over frames of total weight `staged`, up to the offset `limit`. Returns the first offset
-/// without a frame that ends within that weight, or `None` if all frames are valid.
-pub(crate) fn walk<D: Disk>(disk: &mut D, staged: u64, limit: u64) -> Result<Option<u64>, DiskFault>
-    requires low { 256 ≤ limit }
-    requires there { limit ≡ min (256 + staged) (D.length_of disk.old) }
-    requires fits { staged ≤ most_staged }
-    ensures within { IfOk result (λ broken. WalkedIn staged limit broken) }
-    ensures framed { D.is_honest disk.old → IfOk result
-        (λ broken. (parts : List Portion) × FramedTo staged broken parts (D.seen disk.old)) }
-    ensures cause { OnErr result (Rose (D.faults disk.old) (D.faults disk.new)) }
-    ensures calm { OnOk result (D.faults disk.new ≡ D.faults disk.old) }
-    ensures reads { OnlyReads D.Disk disk.old disk.new }
-    ensures honest { D.is_honest disk.old → D.is_honest disk.new }
-{
-    let end = 256 + staged;
-    let mut place: u64 = 256;
-    while place < end {
-        if limit - place < 5 {
-            return Ok(Some(place));
-        }
-        let mut header = [0; 5];
-        disk.read(place, &mut header)?;
-        let Some(size) = part_size(&header) else {
-            return Ok(Some(place));
-        };
-        if size > limit - place - 5 {
-            return Ok(Some(place));
-        }
-        place += 5 + size;
-    }
-    Ok(None)
-}
-
-/// Returns the offset at which the frames of total weight `staged` are damaged, or `None` if they
-/// are intact.
-pub(crate) fn break_of<D: Disk>(disk: &mut D, staged: u64) -> Result<Option<u64>, DiskFault>
+/// Walks over frames of total weight `staged`, reading only their headers. A frame that does not
+/// end within that weight and the disk is damaged; the walk ends there.
+pub(crate) fn walk<D: Disk>(disk: &mut D, staged: u64) -> Result<Walked, DiskFault>
     requires long { 256 ≤ D.length_of disk.old }
     requires fits { staged ≤ most_staged }
-    ensures within { IfOk result (λ broken. WalkedIn staged (D.length_of disk.new) broken) }
+    ensures within { IfOk result (λ walked. WalkedIn staged (D.length_of disk.new) walked.broken) }
     ensures framed { D.is_honest disk.old → IfOk result
-        (λ broken. (parts : List Portion) × FramedTo staged broken parts (D.seen disk.old)) }
+        (λ walked. WalkedOver staged walked.broken walked.records (D.seen disk.old)) }
     ensures cause { OnErr result (Rose (D.faults disk.old) (D.faults disk.new)) }
     ensures calm { OnOk result (D.faults disk.new ≡ D.faults disk.old) }
     ensures reads { OnlyReads D.Disk disk.old disk.new }
     ensures honest { D.is_honest disk.old → D.is_honest disk.new }
 {
     let len = disk.len()?;
-    walk(disk, staged, (256 + staged).min(len))
+    let end = 256 + staged;
+    let limit = end.min(len);
+    let mut place: u64 = 256;
+    let mut records: u64 = 0;
+    while place < end {
+        let broken = Some(place);
+        if limit - place < 5 {
+            return Ok(Walked { broken, records });
+        }
+        let mut header = [0; 5];
+        disk.read(place, &mut header)?;
+        let Some((span, size)) = header_of(&header) else {
+            return Ok(Walked { broken, records });
+        };
+        if size > limit - place - 5 {
+            return Ok(Walked { broken, records });
+        }
+        if !span.leaves() {
+            records += 1;
+        }
+        place += 5 + size;
+    }
+    Ok(Walked {
+        broken: None,
+        records,
+    })
 }
 
 /// Reads the frame at offset `place` into `buffer`, and returns its span and the length of its
@@ -195,6 +184,7 @@ impl<D: Disk> Stage<D> {
             }
             Err(_) => {
                 self.failed = true;
+                self.readable = false;
                 Err(StageFault::Device)
             }
         }

@@ -3,16 +3,14 @@
 ghost use Rattle.std.specs.Prelude.{◌≡◌, ◌+◌, ◌≤◌, ◌∷◌, ◌++◌, [], ℕ, List, length, false};
 ghost use Rattle.std.specs.Prelude.{take, max, IfOk, IfErr, OnOk, OnErr, ◌<◌, ◌^◌, IfSome};
 ghost use Rattle.tape_blocks.specs.Block.{Portion};
-ghost use Rattle.tape_core.specs.Weight.{Rose};
 ghost use Rattle.tape_core.specs.Point.{Point};
 ghost use Rattle.tape_core.specs.Known.{most_staged};
 ghost use Rattle.tape_stage.specs.Disk.{Holds as HoldsBytes, Torn, CutShort};
-ghost use Rattle.tape_stage.specs.Moments.{Untouched, After, EndsSynced, IsDurable, Passes};
-ghost use Rattle.tape_stage.specs.Staged.{Staged, HoldsNone, KeepsStaged, Ready, new_slots};
-ghost use Rattle.tape_stage.specs.Faults.{SaysNone, IsNotDevice};
-ghost use Rattle.tape_stage.specs.Found.{IsFaultOf};
-ghost use Rattle.tape_stage.specs.Stages.{IsStage, IsOpened, OpensOver, Holds, Survives, Returns};
-ghost use Rattle.tape_stage.specs.Stages.{EndsFinding};
+ghost use Rattle.tape_stage.specs.Moments.{After, EndsSynced, IsDurable, Passes};
+ghost use Rattle.tape_stage.specs.Staged.{Staged, Ready, new_slots};
+ghost use Rattle.tape_stage.specs.Faults.{SaysNone};
+ghost use Rattle.tape_stage.specs.Stages.{IsStage, OpensOver, Holds, Survives, Returns};
+ghost use Rattle.tape_stage.specs.Stages.{EndsFinding, RefusesCreating, RefusesOpening};
 ghost use Rattle.tape_stage.specs.Body.{body_text, FitBody, most_generation, body_of};
 ghost use Rattle.tape_stage.specs.Parts.{longest_part};
 
@@ -20,7 +18,7 @@ use crate::disk::{Disk, DiskFault};
 use crate::point::text::{put, whole};
 use crate::point::{read_point, write_point};
 use crate::stage::opening::look;
-use crate::stage::{CLOSED, Found, OPEN, Stage, StageFault};
+use crate::stage::{CLOSED, OPEN, Stage, StageFault};
 use arrayvec::ArrayVec;
 use std::alloc::{AllocError, Global};
 use tape_core::Checkpoint;
@@ -97,38 +95,6 @@ pub(crate) fn cut_kept<D: Disk>(disk: &mut D, end: u64) -> Result<(), DiskFault>
     disk.sync()
 }
 
-/// Finds the staged data, allocates the buffer, and removes the bytes after the staged data.
-fn recover<D: Disk>(alloc: Global, disk: &mut D) -> Result<(Found, Vec<u8>), StageFault>
-    ensures found { D.is_honest disk.old → IfOk result
-        (λ opened. IsOpened D.Disk opened.0 disk.old disk.new) }
-    ensures room { IfOk result (λ opened. longest_part ≤ length opened.1.items) }
-    ensures long { IfOk result (λ opened. 256 + opened.0.point.staged ≤ D.length_of disk.new) }
-    ensures generation { IfOk result (λ opened. opened.0.generation ≤ most_generation) }
-    ensures staged { IfOk result (λ opened. opened.0.point.staged ≤ most_staged) }
-    ensures none { D.is_honest disk.old → IfErr result
-        (λ fault. SaysNone fault → HoldsNone (D.seen disk.old)) }
-    ensures says { D.is_honest disk.old → IfErr result (IsFaultOf (D.seen disk.old)) }
-    ensures any_moment { D.is_honest disk.old → OpensOver D.Disk disk.old disk.new }
-    ensures cut { D.is_honest disk.old → IfOk result (λ opened.
-        D.seen disk.new ≡ take (256 + opened.0.point.staged) (D.seen disk.old)) }
-    ensures untouched { D.is_honest disk.old → IfErr result (λ fault. IsNotDevice fault
-        → Untouched D.Disk disk.old disk.new) }
-    ensures foreign { D.is_honest disk.old → HoldsNone (D.seen disk.old)
-        → OnErr result (Untouched D.Disk disk.old disk.new) }
-    ensures kept { D.is_honest disk.old
-        → OnErr result (KeepsStaged (D.seen disk.old) (D.seen disk.new)) }
-    ensures same_length { IfErr result (λ fault. IsNotDevice fault
-        → D.length_of disk.new ≡ D.length_of disk.old) }
-    ensures ends { EndsFinding D.Disk disk.old result disk.new }
-{
-    // The buffer is allocated before the disk is truncated, so a failed allocation leaves the disk
-    // unchanged.
-    let found = look(disk)?;
-    let buffer = buffer_of(alloc)?;
-    cut_kept(disk, 256 + found.staged())?;
-    Ok((found, buffer))
-}
-
 /// Returns the slots of a new stage before its first gate is opened: the first slot has generation
 /// 1 and the checkpoint, and both gates are closed.
 pub fn new_slots(point: &Checkpoint) -> [u8; 256]
@@ -179,8 +145,6 @@ impl<D: Disk> Stage<D> {
         alloc: Global,
         disk: D,
     ) -> Result<(Stage<D>, Checkpoint), Refused<D, StageFault>>
-        ensures not_full { IfErr result (λ refused. refused.fault ≡ StageFault.Full → ⊥) }
-        ensures not_failed { IfErr result (λ refused. refused.fault ≡ StageFault.Failed → ⊥) }
         ensures ok { D.is_honest disk → IfOk result (λ opened. (parts : List Portion)
             × Staged (D.seen disk) opened.0.generation opened.1 parts
             × (opened.0.acknowledged ≡ opened.1) × IsStage opened.0 parts parts) }
@@ -194,50 +158,46 @@ impl<D: Disk> Stage<D> {
         ensures calm { IfOk result (λ opened. opened.0.refused ≡ 0) }
         ensures any_moment { D.is_honest disk
             → IfOk result (λ opened. OpensOver D.Disk disk opened.0.disk) }
-        ensures cause { IfErr result (λ refused. refused.fault ≡ StageFault.Device
-            → Rose (D.faults disk) (D.faults refused.disk)) }
-        ensures none { D.is_honest disk → IfErr result
-            (λ refused. SaysNone refused.fault → HoldsNone (D.seen disk)) }
-        ensures says { D.is_honest disk
-            → IfErr result (λ refused. IsFaultOf (D.seen disk) refused.fault) }
-        ensures any_moment_err { D.is_honest disk
-            → IfErr result (λ refused. OpensOver D.Disk disk refused.disk) }
         // The opened stage lost at most the bytes after its staged end.
         ensures cut { D.is_honest disk → IfOk result (λ opened.
             D.seen opened.0.disk ≡ take (256 + opened.1.staged) (D.seen disk)) }
-        // Unless the disk failed, nothing was written if the stage is refused.
-        ensures untouched { D.is_honest disk → IfErr result (λ refused. IsNotDevice refused.fault
-            → Untouched D.Disk disk refused.disk) }
-        // A disk without a stage is never written to, even if the disk failed.
-        ensures foreign { D.is_honest disk → HoldsNone (D.seen disk)
-            → IfErr result (λ refused. Untouched D.Disk disk refused.disk) }
-        // Even if the disk failed, the staged data are unchanged.
-        ensures kept { D.is_honest disk
-            → IfErr result (λ refused. KeepsStaged (D.seen disk) (D.seen refused.disk)) }
-        // This holds on any disk, even if it is not honest.
-        ensures same_length { IfErr result (λ refused. IsNotDevice refused.fault
-            → D.length_of refused.disk ≡ D.length_of disk) }
+        ensures refused { IfErr result
+            (λ refused. RefusesOpening D.Disk disk refused.fault refused.disk) }
     {
         let mut disk = disk;
-        match recover(alloc, &mut disk) {
-            Ok((found, buffer)) => {
-                let stage = Stage {
-                    disk,
-                    generation: found.generation,
-                    in_second: found.in_second,
-                    other_open: found.other_open,
-                    acknowledged: found.point,
-                    pending: None,
-                    weight: found.staged(),
-                    failed: false,
-                    buffer,
-                    walked: 0,
-                    refused: 0,
-                };
-                Ok((stage, found.point))
-            }
-            Err(fault) => Err(Refused { disk, fault }),
+        let (found, walked) = match look(&mut disk) {
+            Ok(looked) => looked,
+            Err(fault) => return Err(Refused { disk, fault }),
+        };
+        if let Some(place) = walked.broken {
+            let fault = StageFault::BadFrame(place);
+            return Err(Refused { disk, fault });
         }
+        // The buffer is allocated before the disk is truncated, so a failed allocation leaves the
+        // disk unchanged.
+        let Ok(buffer) = buffer_of(alloc) else {
+            let fault = StageFault::OutOfMemory;
+            return Err(Refused { disk, fault });
+        };
+        let Ok(()) = cut_kept(&mut disk, 256 + found.staged()) else {
+            let fault = StageFault::Device;
+            return Err(Refused { disk, fault });
+        };
+        let stage = Stage {
+            disk,
+            generation: found.generation,
+            in_second: found.in_second,
+            other_open: found.other_open,
+            acknowledged: found.point,
+            pending: None,
+            weight: found.staged(),
+            failed: false,
+            readable: true,
+            buffer,
+            walked: 0,
+            refused: 0,
+        };
+        Ok((stage, found.point))
     }
 
     /// Creates a stage on an empty disk.
@@ -252,8 +212,6 @@ impl<D: Disk> Stage<D> {
     ) -> Result<Stage<D>, Refused<D, StageFault>>
         requires empty { D.length_of disk ≡ 0 }
         requires none { point.now.staged ≡ 0 }
-        ensures cause { IfErr result (λ refused. refused.fault ≡ StageFault.Device
-            → Rose (D.faults disk) (D.faults refused.disk)) }
         ensures ok { D.is_honest disk → IfOk result
             (λ stage. (stage.acknowledged ≡ point.now) × IsStage stage [] []) }
         ensures holds { D.is_honest disk → IfOk result (λ stage. Holds stage []) }
@@ -262,15 +220,15 @@ impl<D: Disk> Stage<D> {
         ensures returns { D.is_honest disk
             → IfOk result (λ stage. (back : Point) (there : List Portion) → Returns stage back there
             → (back ≡ point.now) × (there ≡ [])) }
-        ensures not_full { IfErr result (λ refused. refused.fault ≡ StageFault.Full → ⊥) }
-        ensures not_failed { IfErr result (λ refused. refused.fault ≡ StageFault.Failed → ⊥) }
-        // No fault says that the disk contains no stage.
-        ensures not_none { IfErr result (λ refused. SaysNone refused.fault → ⊥) }
+        ensures refused { IfErr result
+            (λ refused. RefusesCreating (D.faults disk) refused.fault (D.faults refused.disk)) }
     {
         let mut disk = disk;
         let Ok(buffer) = buffer_of(alloc) else {
-            let fault = StageFault::OutOfMemory;
-            return Err(Refused { disk, fault });
+            return Err(Refused {
+                disk,
+                fault: StageFault::OutOfMemory,
+            });
         };
         let first = *point;
         if let Err(fault) = make(&mut disk, first) {
@@ -286,6 +244,7 @@ impl<D: Disk> Stage<D> {
             pending: None,
             weight: 0,
             failed: false,
+            readable: true,
             buffer,
             walked: 0,
             refused: 0,

@@ -1,21 +1,20 @@
 //! Finds a stage on a disk.
 
-ghost use Rattle.std.specs.Prelude.{◌≡◌, ◌+◌, ◌≤◌, ◌==◌, ◌⊎◌, ℕ, List, length, OnOk};
+ghost use Rattle.std.specs.Prelude.{◌≡◌, ◌≤◌, ◌==◌, ◌⊎◌, length, OnOk};
 ghost use Rattle.std.specs.Prelude.{IfOk, IfErr, IfSome, MatchOption, None, Some, false};
 ghost use Rattle.std.specs.Prelude.{true, not};
-ghost use Rattle.tape_blocks.specs.Block.{Portion};
 ghost use Rattle.tape_core.specs.Known.{most_staged};
 ghost use Rattle.tape_stage.specs.Moments.{IsDurable};
-ghost use Rattle.tape_stage.specs.Staged.{read_slot, slot_at, HoldsNone, Holding, Loses};
-ghost use Rattle.tape_stage.specs.Found.{IsFound, IsFaultOf};
-ghost use Rattle.tape_stage.specs.Salvaged.{RemainsNone};
+ghost use Rattle.tape_stage.specs.Staged.{read_slot, slot_at, Loses};
+ghost use Rattle.tape_stage.specs.Found.{IsFound};
+ghost use Rattle.tape_stage.specs.Salvaged.{RemainsNone, WalkedIn, WalkedOver};
 ghost use Rattle.tape_stage.specs.Stages.{EndsFinding};
 ghost use Rattle.tape_stage.specs.Faults.{SaysNone, OnBadFrame};
 ghost use Rattle.tape_stage.specs.OnlyReading.{OnlyReads};
 ghost use Rattle.tape_stage.specs.Body.{most_generation};
 
 use crate::disk::Disk;
-use crate::stage::frames::break_of;
+use crate::stage::frames::{Walked, walk};
 use crate::stage::open_disk::read_body;
 use crate::stage::{Found, OPEN, StageFault};
 use tape_core::Checkpoint;
@@ -92,12 +91,17 @@ fn find(bytes: &[u8]) -> Option<Found>
     }
 }
 
-/// Syncs, then reads both slots.
-pub(crate) fn find_on<D: Disk>(disk: &mut D) -> Result<Found, StageFault>
-    ensures found { D.is_honest disk.old → IfOk result (λ found. IsFound found (D.seen disk.old)) }
-    ensures long { IfOk result (λ found. 256 ≤ D.length_of disk.new) }
-    ensures generation { IfOk result (λ found. found.generation ≤ most_generation) }
-    ensures staged { IfOk result (λ found. found.point.staged ≤ most_staged) }
+/// Finds the staged data: the current slot, and the frames that its checkpoint counts. The disk is
+/// only read.
+pub(crate) fn look<D: Disk>(disk: &mut D) -> Result<(Found, Walked), StageFault>
+    ensures found { D.is_honest disk.old → IfOk result
+        (λ looked. IsFound looked.0 (D.seen disk.old)) }
+    ensures framed { D.is_honest disk.old → IfOk result (λ looked. WalkedOver
+        looked.0.point.staged looked.1.broken looked.1.records (D.seen disk.old)) }
+    ensures within { IfOk result (λ looked.
+        WalkedIn looked.0.point.staged (D.length_of disk.new) looked.1.broken) }
+    ensures generation { IfOk result (λ looked. looked.0.generation ≤ most_generation) }
+    ensures staged { IfOk result (λ looked. looked.0.point.staged ≤ most_staged) }
     ensures none { D.is_honest disk.old → IfErr result
         (λ fault. SaysNone fault → RemainsNone (D.seen disk.old)) }
     ensures no_frame { IfErr result (λ fault. OnBadFrame fault (λ place. ⊥)) }
@@ -115,31 +119,9 @@ pub(crate) fn find_on<D: Disk>(disk: &mut D) -> Result<Found, StageFault>
     }
     let mut bytes = [0; 256];
     disk.read(0, &mut bytes)?;
-    match find(&bytes) {
-        Some(found) => Ok(found),
-        None => Err(StageFault::NoPoint),
-    }
-}
-
-/// Finds the staged data, by reading only.
-pub(crate) fn look<D: Disk>(disk: &mut D) -> Result<Found, StageFault>
-    ensures found { D.is_honest disk.old → IfOk result (λ found. IsFound found (D.seen disk.old)) }
-    ensures parts { D.is_honest disk.old → IfOk result
-        (λ found. (parts : List Portion) × Holding found.point.staged parts (D.seen disk.old)) }
-    ensures long { IfOk result (λ found. 256 + found.point.staged ≤ D.length_of disk.new) }
-    ensures generation { IfOk result (λ found. found.generation ≤ most_generation) }
-    ensures staged { IfOk result (λ found. found.point.staged ≤ most_staged) }
-    ensures none { D.is_honest disk.old → IfErr result
-        (λ fault. SaysNone fault → HoldsNone (D.seen disk.old)) }
-    ensures says { D.is_honest disk.old → IfErr result (IsFaultOf (D.seen disk.old)) }
-    ensures durable { D.is_honest disk.old → OnOk result (IsDurable D.Disk disk.new) }
-    ensures calm { OnOk result (D.faults disk.new ≡ D.faults disk.old) }
-    ensures reads { OnlyReads D.Disk disk.old disk.new }
-    ensures ends { EndsFinding D.Disk disk.old result disk.new }
-{
-    let found = find_on(disk)?;
-    match break_of(disk, found.staged())? {
-        None => Ok(found),
-        Some(place) => Err(StageFault::BadFrame(place)),
-    }
+    let Some(found) = find(&bytes) else {
+        return Err(StageFault::NoPoint);
+    };
+    let walked = walk(disk, found.staged())?;
+    Ok((found, walked))
 }

@@ -1,7 +1,7 @@
 //! A stage as a sink: appending parts, saving and walking.
 
 ghost use Rattle.std.specs.Prelude.{◌≡◌, ◌+◌, ◌≤◌, ◌<◌, ◌^◌, ◌∷◌, ◌++◌, [], List, length};
-ghost use Rattle.std.specs.Prelude.{OnOk, OnErr, IsErrOf, ◌-◌, Err, true};
+ghost use Rattle.std.specs.Prelude.{OnOk, OnErr, IsErrOf, ◌-◌, Err, true, false};
 ghost use Rattle.std.specs.Int.{to_be_bytes};
 ghost use Rattle.std.proofs.Common.{w32, inr};
 ghost use Rattle.tape_blocks.specs.Block.{Portion, indicator};
@@ -15,6 +15,7 @@ ghost use Rattle.tape_core.specs.Known.{most_staged};
 ghost use Rattle.tape_stage.specs.Moments.{Passes};
 ghost use Rattle.tape_stage.specs.Staged.{StagedIn, IsPut, FrontOf, KeepsFront};
 ghost use Rattle.tape_stage.specs.Stages.{IsStage, EndsCall, Holds, IsAhead, LendsNone, crashes_of};
+ghost use Rattle.tape_stage.specs.Stages.{RefusesChange};
 ghost use Rattle.tape_stage.specs.Disk.{SameFact};
 ghost use Rattle.tape_stage.specs.Parts.{longest_part};
 ghost use Rattle.tape_stage.specs.Faults.{sink_fault_of};
@@ -108,6 +109,7 @@ impl<D: Disk> Stage<D> {
             }
             Err(_) => {
                 self.failed = true;
+                self.readable = false;
                 Err(StageFault::Device)
             }
         }
@@ -133,6 +135,8 @@ impl<D: Disk> PartSink for Stage<D> {
 
     ghost refusals = { λ s. s.refused };
 
+    ghost refuses_change = { λ s fault t. RefusesChange s fault t };
+
     ghost crashes = { λ s. crashes_of s };
 
     ghost returned_now = { λ s t back there now. (now.0, inr now.1, now.2) };
@@ -141,6 +145,7 @@ impl<D: Disk> PartSink for Stage<D> {
 
     fn put(&mut self, part: Part<'_>) -> Result<(), SinkFault>
         requires { length part.bytes.now ≤ longest_part }
+        ensures alive { OnOk result (self.old.failed ≡ false) }
         ensures ok { OnOk result ((parts : List Portion) → Holds self.old parts
             → Holds self.new (parts ++ view part.entry ∷ [])) }
         ensures err { OnErr result ((parts : List Portion) → Holds self.old parts
@@ -154,10 +159,7 @@ impl<D: Disk> PartSink for Stage<D> {
         ensures calm { OnOk result (self.new.refused ≡ self.old.refused) }
         ensures crash { (parts : List Portion) → Holds self.old parts
             → AddsNothing (crashes_of self.old) (crashes_of self.new) }
-        ensures device { result ≡ Err SinkFault.Device
-            → Rose (D.faults self.old.disk) (D.faults self.new.disk) }
-        ensures failed { result ≡ Err SinkFault.Failed → self.old.failed ≡ true }
-        ensures memory { result ≡ Err SinkFault.OutOfMemory → ⊥ }
+        ensures why { IfErr result (λ fault. RefusesChange self.old fault self.new) }
         ensures rewinds { OnOk result (self.new.walked ≡ 0) }
     {
         match self.put_part(part) {
@@ -174,6 +176,7 @@ impl<D: Disk> PartSink for Stage<D> {
 
     fn keep(&mut self, point: &Checkpoint) -> Result<(), SinkFault>
         requires { point.now.staged ≡ self.old.weight }
+        ensures alive { OnOk result (self.old.failed ≡ false) }
         ensures same_weight { self.new.weight ≡ self.old.weight }
         ensures same { (parts : List Portion) → Holds self.old parts → Holds self.new parts }
         ensures cause { OnErr result (Rose self.old.refused self.new.refused) }
@@ -182,10 +185,7 @@ impl<D: Disk> PartSink for Stage<D> {
             → AddsOnly (IsThis point.now parts) (crashes_of self.old) (crashes_of self.new) }
         ensures kept { OnOk result ((parts : List Portion) → Holds self.old parts
             → ThisAlone point.now parts (crashes_of self.new)) }
-        ensures device { result ≡ Err SinkFault.Device
-            → Rose (D.faults self.old.disk) (D.faults self.new.disk) }
-        ensures failed { result ≡ Err SinkFault.Failed → self.old.failed ≡ true }
-        ensures memory { result ≡ Err SinkFault.OutOfMemory → ⊥ }
+        ensures why { IfErr result (λ fault. RefusesChange self.old fault self.new) }
         ensures full { result ≡ Err SinkFault.Full → most_generation ≤ self.old.generation }
     {
         match self.save(point) {
@@ -199,6 +199,7 @@ impl<D: Disk> PartSink for Stage<D> {
 
     fn cut_to(&mut self, point: &Checkpoint) -> Result<(), SinkFault>
         requires { point.now.staged ≤ self.old.weight }
+        ensures alive { OnOk result (self.old.failed ≡ false) }
         ensures weight { OnOk result (self.new.weight ≤ point.now.staged) }
         ensures same_weight { OnErr result (self.new.weight ≡ self.old.weight) }
         ensures ok { OnOk result ((front rest : List Portion) → Holds self.old (front ++ rest)
@@ -210,10 +211,7 @@ impl<D: Disk> PartSink for Stage<D> {
         ensures crash { (front rest : List Portion) → Holds self.old (front ++ rest)
             → weight_of front ≡ point.now.staged
             → AddsOnly (IsThis point.now front) (crashes_of self.old) (crashes_of self.new) }
-        ensures device { result ≡ Err SinkFault.Device
-            → Rose (D.faults self.old.disk) (D.faults self.new.disk) }
-        ensures failed { result ≡ Err SinkFault.Failed → self.old.failed ≡ true }
-        ensures memory { result ≡ Err SinkFault.OutOfMemory → ⊥ }
+        ensures why { IfErr result (λ fault. RefusesChange self.old fault self.new) }
         ensures full { result ≡ Err SinkFault.Full → most_generation ≤ self.old.generation }
         ensures rewinds { OnOk result (self.new.walked ≡ 0) }
     {
@@ -240,14 +238,14 @@ impl<D: Disk> PartWalk for Stage<D> {
     ghost left = { λ s. s.weight - s.walked };
 
     ghost refuses = { λ s fault t.
-        LendsNone D.Disk s.failed s.walked s.weight s.disk fault t.disk };
+        LendsNone D.Disk s.readable s.walked s.weight s.disk fault t.disk };
 
     fn rewind(&mut self) {
         self.walked = 0;
     }
 
     fn next_part(&mut self) -> Result<Option<Part<'_>>, SinkFault> {
-        if self.failed {
+        if !self.readable {
             self.refused = self.refused.saturating_add(1);
             return Err(SinkFault::Failed);
         }

@@ -1,44 +1,91 @@
-//! The readable parts of a damaged stage.
+//! Opening a stage, intact or damaged, for reading only.
 
-ghost use Rattle.std.specs.Prelude.{◌≡◌, ◌+◌, ◌≤◌, length};
-ghost use Rattle.tape_core.specs.Known.{most_staged};
-ghost use Rattle.tape_stage.specs.Parts.{longest_part};
+ghost use Rattle.std.specs.Prelude.{◌≡◌, ◌≤◌, ℕ, List, length, IfOk, IfErr, IfSome, true};
+ghost use Rattle.tape_blocks.specs.Block.{Portion};
+ghost use Rattle.tape_blocks.specs.Spans.{join};
+ghost use Rattle.tape_stage.specs.OnlyReading.{OnlyReads};
+ghost use Rattle.tape_stage.specs.Salvaged.{Remains, standing};
+ghost use Rattle.tape_stage.specs.Stages.{Holds, RefusesReading};
 
 use crate::disk::Disk;
+use crate::stage::open_disk::{Refused, buffer_of};
+use crate::stage::opening::look;
+use crate::stage::{Stage, StageFault};
+use std::alloc::Global;
+use tape_core::Checkpoint;
 
-/// The parts of a stage before the first damaged frame. The stage is only read.
+/// A stage that was opened for reading only, with the parts before the first damaged frame.
 #[derive(Drop)]
 pub struct Salvage<D: Disk> {
-    pub(crate) disk: D,
-    /// The byte offset of the damage, if there is any.
-    pub(crate) broken: Option<u64>,
-    /// The weight of the remaining parts.
-    pub(crate) weight: u64,
-    /// A buffer for the part that is returned.
-    pub(crate) buffer: Vec<u8>,
-    /// The weight of the parts that a walk has returned.
-    pub(crate) walked: u64,
-    /// The number of refused calls to this type as a sink.
-    pub(crate) refused: u64,
-    ghost long: { 256 + weight ≤ D.length_of disk },
-    ghost behind: { walked ≤ weight },
-    ghost room: { longest_part ≤ length buffer.items },
-    ghost bounded: { weight ≤ most_staged },
+    /// Refuses each change with `Failed`.
+    pub stage: Stage<D>,
+    /// The last acknowledged checkpoint. It also counts the parts after the damage.
+    pub point: Checkpoint,
+    /// The byte offset of the first damaged frame, counted from 0, or `None` if all frames that
+    /// the checkpoint counts are intact.
+    pub broken: Option<u64>,
+    /// The number of complete records in the parts.
+    pub records: u64,
 }
 
-impl<D: Disk> Salvage<D> {
-    /// Returns the byte offset of the first damaged frame, counted from 0, or `None` if all frames
-    /// that the checkpoint counts are intact.
-    pub fn broken(&self) -> Option<u64>
-        ensures value { result ≡ self.now.broken }
-    {
-        self.broken
+/// Returns the weight of the intact frames, given the full weight and the offset of the damage.
+fn standing(staged: u64, broken: Option<u64>) -> u64
+    requires low { IfSome broken (λ place. 256 ≤ place) }
+    ensures { result ≡ standing staged broken }
+{
+    match broken {
+        None => staged,
+        Some(place) => place - 256,
     }
+}
 
-    /// Returns the disk.
-    pub fn into_disk(self) -> D
-        ensures { result ≡ self.disk }
+impl<D: Disk> Stage<D> {
+    /// Opens a stage for reading only: the last acknowledged checkpoint, and its parts, or the
+    /// parts before the first damaged frame. Nothing is written or removed. A changed byte inside a
+    /// part is not detected.
+    ///
+    /// # Errors
+    ///
+    /// Returns `NoPoint` if no slot is valid; `OutOfMemory`; `Device`. Each returns the disk.
+    pub fn open_read_only(alloc: Global, disk: D) -> Result<Salvage<D>, Refused<D, StageFault>>
+        ensures remains { D.is_honest disk → IfOk result (λ opened. (g : ℕ)
+            × (parts : List Portion) × Remains (D.seen disk) g opened.point opened.broken parts
+            × Holds opened.stage parts × (opened.records ≡ length (join parts).records)) }
+        ensures sealed { IfOk result (λ opened. opened.stage.failed ≡ true) }
+        ensures calm { IfOk result (λ opened. opened.stage.refused ≡ 0) }
+        // Nothing is written to the disk, honest or not, and its length does not change.
+        ensures reads { IfOk result (λ opened. OnlyReads D.Disk disk opened.stage.disk) }
+        ensures refused { IfErr result
+            (λ refused. RefusesReading D.Disk disk refused.fault refused.disk) }
     {
-        self.disk
+        let mut disk = disk;
+        let (found, walked) = match look(&mut disk) {
+            Ok(looked) => looked,
+            Err(fault) => return Err(Refused { disk, fault }),
+        };
+        let Ok(buffer) = buffer_of(alloc) else {
+            let fault = StageFault::OutOfMemory;
+            return Err(Refused { disk, fault });
+        };
+        let stage = Stage {
+            disk,
+            generation: found.generation,
+            in_second: found.in_second,
+            other_open: found.other_open,
+            acknowledged: found.point,
+            pending: None,
+            weight: standing(found.staged(), walked.broken),
+            failed: true,
+            readable: true,
+            buffer,
+            walked: 0,
+            refused: 0,
+        };
+        Ok(Salvage {
+            stage,
+            point: found.point,
+            broken: walked.broken,
+            records: walked.records,
+        })
     }
 }

@@ -80,6 +80,7 @@ impl<D: Disk> Stage<D> {
             }
             Err(_) => {
                 self.failed = true;
+                self.readable = false;
                 let kept = *point;
                 self.pending = Some(kept);
                 Err(StageFault::Device)

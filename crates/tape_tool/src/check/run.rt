@@ -2,8 +2,8 @@
 
 use super::words::CHECK;
 use crate::explain::FaultSite;
-use crate::host::Host;
-use crate::images::{ImagesOrInput, Named, names_of};
+use crate::host::Progress;
+use crate::images::{Images, Named, names_of};
 use crate::program::{End, check_end, end_refused};
 use std::io;
 use std::io::BufWriter;
@@ -11,7 +11,7 @@ use tape_run::{EngineFault, RunFault, check_to};
 
 /// Reports the sections on the images that the arguments name. On error, `site` says where it
 /// occurred.
-pub fn check<'a, R: Host>(rt: &R, named: &Named<'a>, site: &mut FaultSite<'a>) -> End {
+pub fn check<'a, R: Progress>(rt: &R, named: &Named<'a>, site: &mut FaultSite<'a>) -> End {
     let mut text = String::new(rt.alloc());
     match names_of(rt, named, &mut text, site) {
         Ok(names) => {
@@ -23,10 +23,14 @@ pub fn check<'a, R: Host>(rt: &R, named: &Named<'a>, site: &mut FaultSite<'a>) -
 }
 
 /// Reports the sections on the images named `names`. Returns whether all sections were found.
-fn check_files<R: Host>(rt: &R, named: &Named<'_>, names: &[&str]) -> Result<bool, EngineFault> {
+fn check_files<R: Progress>(
+    rt: &R,
+    named: &Named<'_>,
+    names: &[&str],
+) -> Result<bool, EngineFault> {
     let Ok(mut report) = BufWriter::new(rt.alloc(), io::writer(rt)) else {
         return Err(EngineFault::Run(RunFault::OutOfMemory));
     };
-    let images = &mut ImagesOrInput::new(rt, names, named);
+    let images = &mut Images::or_input(rt, names, named);
     check_to(rt.alloc(), images, &mut report)
 }

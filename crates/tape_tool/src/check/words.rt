@@ -18,7 +18,7 @@ pub const CHECK: CommandSpec = CommandSpec {
     after_help: help::AFTER_CHECK,
     usage: None,
     words: &[
-        Word("IMAGE", Kind::TextsOr("files-from"), help::IMAGES),
+        Word("IMAGE", Kind::AnyTexts, help::IMAGES),
         Word("files-from", Kind::TextOption("LIST"), help::FROM),
         Word("null", Kind::FlagOf("files-from"), help::NULL),
     ],

@@ -1,7 +1,7 @@
 //! What is missing when a command ends with exit status 3, and where to look for it.
 use super::{FaultSite, NEVER};
 use crate::extract::are_files;
-use crate::host::Host;
+use crate::host::Progress;
 use crate::images::{Images, names_of};
 use crate::unpack::words::Unpack;
 use crate::words::{Order, set_id_of};
@@ -13,7 +13,7 @@ use tape_run::{FoundFiles, SectionKey, SetFile, find_files, means, name_text, vo
 const MOST: usize = 8;
 
 /// Explains on standard error what is missing after this command.
-pub fn explain_missing<R: Host>(rt: &R, order: &Order<'_>) {
+pub fn explain_missing<R: Progress>(rt: &R, order: &Order<'_>) {
     let _ = match text_by_images(rt, order) {
         Some(text) => rt.eprint(text.as_str()),
         None => rt.eprint(general_text(order)),
@@ -22,7 +22,7 @@ pub fn explain_missing<R: Host>(rt: &R, order: &Order<'_>) {
 
 /// The explanation by what the images of the command contain, which are read again. `None` if a
 /// command has none, or if they cannot be read twice.
-fn text_by_images<R: Host>(rt: &R, order: &Order<'_>) -> Option<String> {
+fn text_by_images<R: Progress>(rt: &R, order: &Order<'_>) -> Option<String> {
     let named = match order {
         Order::Extract(order) => &order.images,
         Order::Salvage(order) => &order.images,

@@ -5,9 +5,9 @@ use crate::extract::draft::Draft;
 use crate::extract::out::{Way, way_of};
 use crate::extract::out_file::OutFile;
 use crate::fault::{FileFault, OUT_OF_MEMORY, ToolFault};
-use crate::host::Host;
+use crate::host::{Host, Progress};
 use crate::images::{Image, Images, in_reading_order, names_of};
-use crate::program::{End, end_of, end_refused, extract_end};
+use crate::program::{End, end_refused, extract_end};
 use crate::staging::session_in;
 use crate::words::{EXTRACT, Extract, Task};
 use std::alloc::Global;
@@ -15,7 +15,7 @@ use std::io::{BufWriter, Write};
 use std::{fs, io};
 use tape_core::{MemorySink, PartWalk, SinkFault};
 use tape_run::{
-    EngineFault, Locations, Mounted, OutSink, RunFault, Session, WriteFailed, extract_in_passes,
+    EngineFault, Locations, Mounted, OutSink, RunFault, Session, extract_in_passes,
     extract_located, extract_streaming, extract_to, find_files, last_line, write_text,
 };
 use tape_set::Want;
@@ -23,40 +23,38 @@ use tape_set::Want;
 /// The maximum number of output bytes that are buffered.
 pub const HELD: usize = 65_536;
 
-/// Recovers the file that the arguments name. On error, `site` says where it occurred.
-pub fn extract<'a, R: Host>(rt: &R, order: &Extract<'a>, site: &mut FaultSite<'a>) -> End {
-    let mut text = String::new(rt.alloc());
-    match names_of(rt, &order.images, &mut text, site) {
-        Ok(names) => {
-            *site = FaultSite::Out(order.task.out);
-            extract_from(rt, order, names.as_slice(), site)
-        }
-        Err(refusal) => end_refused(rt, &EXTRACT, refusal),
-    }
-}
-
-/// Recovers the file from the images named `names`.
-fn extract_from<'a, R: Host>(
+/// Recovers the file that the arguments name. If `explained`, names each image on standard error
+/// before it is read. On error, `site` says where it occurred.
+pub fn extract<'a, R: Progress>(
     rt: &R,
     order: &Extract<'a>,
-    names: &[&str],
+    explained: bool,
     site: &mut FaultSite<'a>,
 ) -> End {
-    let way = match way_of(rt, order, names) {
+    let mut text = String::new(rt.alloc());
+    let named = match names_of(rt, &order.images, &mut text, site) {
+        Ok(named) => named,
+        Err(refusal) => return end_refused(rt, &EXTRACT, refusal),
+    };
+    *site = FaultSite::Out(order.task.out);
+    let way = match way_of(rt, order, named.as_slice()) {
         Ok(way) => way,
         Err(refusal) => return end_refused(rt, &EXTRACT, refusal),
     };
-    let names = match names_to_read(rt, &order.task, names) {
+    let names = match names_to_read(rt, &order.task, named.as_slice()) {
         Ok(names) => names,
-        Err(fault) => return end_of(Err(ToolFault::Run(fault))),
+        Err(fault) => return End::Faulted(ToolFault::Run(fault)),
     };
     let images = &mut Images::new(rt, names.as_slice());
+    if explained {
+        images.name_reels();
+    }
     extract_file(rt, &order.task, images, way, &mut io::writer(rt), site)
 }
 
 /// Returns the names in the order in which the images are read. If they may be read again, and each
 /// is a file, they are surveyed first, and those on which a section of the file begins come first.
-fn names_to_read<'n, R: Host>(
+fn names_to_read<'n, R: Progress>(
     rt: &'n R,
     task: &Task<'_>,
     names: &'n [&'n str],
@@ -85,8 +83,10 @@ pub fn are_files<R: Host>(rt: &R, names: &[&str]) -> bool {
     true
 }
 
-/// Recovers the file that `task` names. On error, `site` says where it occurred.
-pub fn extract_file<'a, R: Host, P: Write>(
+/// Recovers the file that `task` names, saving the data in the stage if it names one. Without a
+/// stage, and if images are read once, writes the records as they are read if there is a draft.
+/// On error, `site` says where it occurred.
+pub fn extract_file<'a, R: Progress, P: Write>(
     rt: &R,
     task: &Task<'a>,
     images: &mut Images<'_, R>,
@@ -94,34 +94,27 @@ pub fn extract_file<'a, R: Host, P: Write>(
     report: &mut P,
     site: &mut FaultSite<'a>,
 ) -> End {
-    match task.stage {
-        Some(path) => on_stage(rt, task, images, way, path, report, site),
-        None if task.again => in_memory(rt, task, images, way, report),
-        None => at_once(rt, task, images, way, report),
-    }
-}
-
-/// Recovers the file, saving the data in the stage at `path`.
-fn on_stage<'a, R: Host, P: Write>(
-    rt: &R,
-    task: &Task<'a>,
-    images: &mut Images<'_, R>,
-    way: Way,
-    path: &'a str,
-    report: &mut P,
-    site: &mut FaultSite<'a>,
-) -> End {
-    let end = match session_in(rt, path, task.set_id, task.file) {
-        Ok(mut session) => gather(rt, task, images, way, report, &mut session),
-        Err(fault) => {
+    if let Some(path) = task.stage {
+        let end = match session_in(rt, path, task.set_id, task.file) {
+            Ok(mut session) => gather(rt, task, images, way, report, &mut session),
+            Err(fault) => {
+                *site = FaultSite::Stage(path);
+                return End::Faulted(fault);
+            }
+        };
+        if let End::Faulted(ToolFault::Run(_)) = end {
             *site = FaultSite::Stage(path);
-            return end_of(Err(fault));
         }
-    };
-    if let End::Faulted(ToolFault::Run(_)) = end {
-        *site = FaultSite::Stage(path);
+        return end;
     }
-    end
+    if task.again {
+        return in_memory(rt, task, images, way, report);
+    }
+    match draft_of(rt, task.out, way) {
+        Ok(Some(draft)) => into_draft(rt, task, images, report, draft),
+        Ok(None) => in_memory(rt, task, images, Way::InPlace(way.before()), report),
+        Err(end) => end,
+    }
 }
 
 /// Returns a draft of the output, or `None` if the output is written in place: because of its kind,
@@ -143,12 +136,11 @@ pub fn draft_of<'a, R: Host>(
     }
 }
 
-/// Recovers the file without a stage, but with images that may be read repeatedly. The data is held
-/// in memory, where the data of a suspect reel can be dropped again, since the session has a
-/// checkpoint at its start.
-fn in_memory<'a, R: Host, P: Write>(
-    rt: &'a R,
-    task: &Task<'a>,
+/// Recovers the file without a stage, and holds its data in memory. If images are read repeatedly,
+/// the data of a suspect reel can be dropped again: the session has a checkpoint at its start.
+fn in_memory<R: Progress, P: Write>(
+    rt: &R,
+    task: &Task<'_>,
     images: &mut Images<'_, R>,
     way: Way,
     report: &mut P,
@@ -157,45 +149,14 @@ fn in_memory<'a, R: Host, P: Write>(
     let Ok(mut session) = Session::new(rt.alloc(), task.set_id, task.file, sink) else {
         return End::WrongWords;
     };
-    match session.note() {
-        Ok(()) => gather(rt, task, images, way, report, &mut session),
-        Err(_) => End::Faulted(OUT_OF_MEMORY),
+    if task.again && session.note().is_err() {
+        return End::Faulted(OUT_OF_MEMORY);
     }
-}
-
-/// Recovers the file without a stage: writes its records as they are read if there is a draft, and
-/// otherwise keeps them in memory.
-fn at_once<'a, R: Host, P: Write>(
-    rt: &'a R,
-    task: &Task<'a>,
-    images: &mut Images<'_, R>,
-    way: Way,
-    report: &mut P,
-) -> End {
-    match draft_of(rt, task.out, way) {
-        Ok(Some(draft)) => into_draft(rt, task, images, report, draft),
-        Ok(None) => from_memory(rt, task, images, way, report),
-        Err(end) => end,
-    }
-}
-
-/// Recovers the file in memory, and writes it in place.
-fn from_memory<R: Host, P: Write>(
-    rt: &R,
-    task: &Task<'_>,
-    images: &mut Images<'_, R>,
-    way: Way,
-    report: &mut P,
-) -> End {
-    let sink = MemorySink::new(rt.alloc());
-    match Session::new(rt.alloc(), task.set_id, task.file, sink) {
-        Ok(mut session) => in_place(rt, task, images, way, report, &mut session),
-        Err(_) => End::WrongWords,
-    }
+    gather(rt, task, images, way, report, &mut session)
 }
 
 /// Reads the images and writes the file's records to the draft as they are read.
-fn into_draft<R: Host, P: Write>(
+fn into_draft<R: Progress, P: Write>(
     rt: &R,
     task: &Task<'_>,
     images: &mut Images<'_, R>,
@@ -204,7 +165,8 @@ fn into_draft<R: Host, P: Write>(
 ) -> End {
     let Draft { mut name, file } = draft;
     let end = match session_into(rt.alloc(), task, file) {
-        Ok(session) => {
+        Ok(mut session) => {
+            let session = &mut session;
             end_as_written(extract_streaming(session, images, task.form, &mut name, report))
         }
         Err(end) => end,
@@ -237,32 +199,21 @@ fn end_as_written(answer: Result<Option<Want>, EngineFault>) -> End {
     }
 }
 
-/// Reads the images into the session, and writes the recovered file if it is complete.
-fn gather<'a, R: Host, S: PartWalk + Drop, P: Write>(
-    rt: &'a R,
-    task: &Task<'a>,
+/// Reads the images into the session, and writes the recovered file if it is complete: to a draft
+/// if there is one, and otherwise in place.
+fn gather<R: Progress, S: PartWalk + Drop, P: Write>(
+    rt: &R,
+    task: &Task<'_>,
     images: &mut Images<'_, R>,
     way: Way,
     report: &mut P,
     session: &mut Session<S>,
 ) -> End {
-    match draft_of(rt, task.out, way) {
-        Ok(Some(draft)) => drafted(rt, task, images, report, session, draft),
-        Ok(None) => in_place(rt, task, images, way, report, session),
-        Err(end) => end,
-    }
-}
-
-/// Reads the images into the session, and writes the recovered file to the draft if it is complete.
-fn drafted<R: Host, S: PartWalk + Drop, P: Write>(
-    rt: &R,
-    task: &Task<'_>,
-    images: &mut Images<'_, R>,
-    report: &mut P,
-    session: &mut Session<S>,
-    draft: Draft<'_, R>,
-) -> End {
-    let mut draft = draft;
+    let mut draft = match draft_of(rt, task.out, way) {
+        Ok(Some(draft)) => draft,
+        Ok(None) => return in_place(rt, task, images, way, report, session),
+        Err(end) => return end,
+    };
     let end = match BufWriter::with_capacity(rt.alloc(), HELD, &mut draft) {
         Ok(mut out) => written_to(task, images, report, session, &mut out),
         Err(_) => End::Faulted(OUT_OF_MEMORY),
@@ -271,7 +222,7 @@ fn drafted<R: Host, S: PartWalk + Drop, P: Write>(
 }
 
 /// Reads the images into the session, and writes the recovered file in place if it is complete.
-fn in_place<R: Host, S: PartWalk + Drop, P: Write>(
+fn in_place<R: Progress, S: PartWalk + Drop, P: Write>(
     rt: &R,
     task: &Task<'_>,
     images: &mut Images<'_, R>,
@@ -291,7 +242,7 @@ fn in_place<R: Host, S: PartWalk + Drop, P: Write>(
 }
 
 /// Reads the images into the session, and writes the recovered file to `out` if it is complete.
-fn written_to<R: Host, S: PartWalk + Drop, W: Write, P: Write>(
+fn written_to<R: Progress, S: PartWalk + Drop, W: Write, P: Write>(
     task: &Task<'_>,
     images: &mut Images<'_, R>,
     report: &mut P,
@@ -308,7 +259,7 @@ fn written_to<R: Host, S: PartWalk + Drop, W: Write, P: Write>(
 
 /// Recovers a file from the images that contain its sections, and prints the last line if it is
 /// complete. The last image stays open, so that the next file can continue there.
-pub fn extract_whole<'a, R: Host, P: Write>(
+pub fn extract_whole<'a, R: Progress, P: Write>(
     rt: &'a R,
     task: &Task<'a>,
     images: &mut Images<'_, R>,
@@ -323,10 +274,14 @@ pub fn extract_whole<'a, R: Host, P: Write>(
     };
     let Draft { mut name, file } = draft;
     let end = match session_into(rt.alloc(), task, file) {
-        Ok(session) => {
+        Ok(mut session) => {
+            let session = &mut session;
             match extract_located(session, images, mounted, locations, task.form, &mut name) {
                 Ok(Some(records)) => {
-                    end_reported(write_text(report, last_line(None, records).as_bytes()))
+                    match write_text(report, last_line(None, records).as_bytes()) {
+                        Ok(()) => End::Done,
+                        Err(fault) => End::Faulted(ToolFault::from(fault)),
+                    }
                 }
                 Ok(None) => End::Incomplete,
                 Err(fault) => end_as_written(Err(fault)),
@@ -335,12 +290,4 @@ pub fn extract_whole<'a, R: Host, P: Write>(
         Err(end) => end,
     };
     name.ended(end)
-}
-
-/// Returns how the run ends if the file is complete, given whether the last line was printed.
-fn end_reported(reported: Result<(), WriteFailed>) -> End {
-    match reported {
-        Ok(()) => End::Done,
-        Err(WriteFailed) => End::Faulted(ToolFault::File(FileFault::WriteFailed)),
-    }
 }

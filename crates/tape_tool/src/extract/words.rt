@@ -45,7 +45,7 @@ pub const EXTRACT: CommandSpec = CommandSpec {
         Word("SET", Kind::Text, help::SET),
         Word("FILE", Kind::Number(1, 9_999), help::FILE),
         Word("OUT", Kind::Text, help::OUT),
-        Word("IMAGE", Kind::TextsOr("files-from"), help::REELS),
+        Word("IMAGE", Kind::AnyTexts, help::REELS),
         Word("files-from", Kind::TextOption("LIST"), help::FROM),
         Word("null", Kind::FlagOf("files-from"), help::NULL),
         Word(

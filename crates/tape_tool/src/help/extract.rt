@@ -53,10 +53,12 @@ pub const OUT_IS_IMAGE: &str =
 /// The help text after the arguments of `extract`.
 pub const AFTER_EXTRACT: &str =
     "Name every image you have of the set, good or damaged. Images of other sets do
-no harm. With --again the order does not matter: a block that is unreadable on
-one copy is taken from another. Without it images are read once, in order, each
-only as far as needed; images after the one that completes the file are not
-read. Names from LIST come after the IMAGEs; empty lines are ignored.
+no harm. Give --again whenever you name several: their order does not matter,
+and a block that is unreadable on one copy is taken from another. Give --stage
+too if more reels may turn up: otherwise an incomplete recovery keeps nothing.
+Without --again images are read once, in order, each only as far as needed;
+images after the one that completes the file are not read. Names from LIST come
+after the IMAGEs; empty lines are ignored.
 
 One line per image:
   REEL n COMPLETE                 file complete
@@ -86,13 +88,17 @@ FILE SECTION BLOCK', the first block that is missing, counted from 0, and the
 part of it if some of its parts were read.
 
 With --again the numbering continues: the second pass over three images is
-REEL 4 to REEL 6. With --again or --stage the data of an image that answers
-BLOCK COUNT is discarded. With --again and without --stage the records are kept
-in memory until the file is complete.
+REEL 4 to REEL 6. With --explain the name of each image precedes its line, on
+standard error:
+  REEL 4: one.tap
+With --again or --stage the data of an image that answers BLOCK COUNT is
+discarded. With --again and without --stage the records are kept in memory until
+the file is complete.
 
 With --stage the recovered data is saved after each image, and the next run
 continues from it. If a run is interrupted at any moment, the stage has the data
-that was saved last, or the data that was being saved.
+that was saved last, or the data that was being saved. When the file is
+complete, OUT contains all that the stage has, and you may delete the stage.
 
 The records go to .tape-1.part in OUT's directory. It becomes OUT when the file
 is complete, and is removed otherwise; the next run removes one that a killed

@@ -16,8 +16,11 @@ pub const FROM: &str = "More names, one per line ('-': standard input)";
 /// The description of `--null`.
 pub const NULL: &str = "Names in LIST end with NUL, as of 'find -print0'";
 
+/// The error if no image is named.
+pub const NO_IMAGE: &str = "name at least one image, or a list of names with --files-from";
+
 /// The error if no image is named, and the list is empty.
-pub const NO_IMAGE: &str = "the list contains no image names";
+pub const EMPTY_LIST: &str = "the list contains no image names";
 
 /// The error if standard input is named twice.
 pub const INPUT_TWICE: &str = "standard input can be read only once: '-' is named twice.

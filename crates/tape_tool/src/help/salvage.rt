@@ -29,6 +29,8 @@ read the record format or the volume has no HDR2.
 The lines give a section (counted from 1), its blocks (from 0) and the number
 of records written so far:
   IMAGE 2 NOT OPENED    the second image could not be opened
+  CONFLICT 1 1 3        the first and the third image have complete copies of
+                        section 1 that differ; the first one is used
   SECTION 1 2 40        section 1 is read from the second image, which has 40
                         data blocks of it, unreadable ones included
   GAP 1 5 7 120         blocks 5 to 7 of section 1 are missing, after record
@@ -42,11 +44,12 @@ of records written so far:
   UNSURE 1 30 38        items 30 to 38 may be blocks or labels, and are left
                         out
   COUNT 1 40 39         the trailer label counts 40 blocks, but there are 39
-The last line is COMPLETE and the number of records if nothing is missing, and
-otherwise SALVAGED and their number. OUT is written in both cases. Keep the
-lines with it: OUT itself does not show where something is missing.
+The last line is COMPLETE and the number of records if nothing is missing and
+no copies differ, and otherwise SALVAGED and their number. OUT is written in
+both cases. Keep the lines with it: OUT itself does not show where something is
+missing.
 
 Each image is opened twice, so a pipe such as '<(zcat NAME)' does not work.
 
-Exit status: 0 nothing is missing, 1 error, 2 usage error, 3 something is
-missing";
+Exit status: 0 nothing is missing and no copies differ, 1 error, 2 usage error,
+3 something is missing, or copies differ";

@@ -12,8 +12,8 @@ pub const ROWS: &str = "Print tab-separated values, for scripts";
 
 /// The help text after the arguments of `survey`.
 pub const AFTER_SURVEY: &str =
-    "Each image as soon as it is read: its name, its state in a word, and what was
-found on it.
+    "When all images have been read, each of them: its name, its state in a word, and
+what was found on it.
   one.tap                   ok           volume ABC001, 2 sections
   two.tap                   damaged      volume ABC002, 1 section
       2 unreadable blocks
@@ -24,6 +24,8 @@ found on it.
   fmt.tap                   unsupported  volume VMS001, 1 section
       file 1 has an unsupported record format
   new.tap                   blank        volume NEW001
+  old.tap                   conflict     volume OLD001, 1 section
+      section 1 of file 1: good copies differ
   raw.tap                   unsupported  no labels; its first block has 10240
                                          bytes
   zip.tap                   not a tape   no items
@@ -57,7 +59,8 @@ the exit status and the columns of --tsv will not.
 
 With --tsv these rows; a column whose value is not known is empty:
   IMAGE name state volume set system items files bad end words
-           state: WHOLE, PARTIAL or NOT OPENED; end as in check
+           state: WHOLE, PARTIAL, CONFLICT (good copies of a section on it
+           differ) or NOT OPENED; end as in check
   SECTION set file section volume blocks state EOF
            state as in check; EOF if its trailer label ends the file
   FILE set file identifier created state section volume CONFLICT sections

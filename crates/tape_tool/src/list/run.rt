@@ -2,12 +2,12 @@
 use super::words::Listing;
 use crate::explain::FaultSite;
 use crate::fault::{FileFault, ToolFault};
-use crate::images::READ_AHEAD;
+use crate::host::Progress;
+use crate::images::{ImageBytes, image_of};
 use crate::program::{End, end_of};
 use std::fs::File;
 use std::io;
-use std::io::{BufReader, BufWriter, Read};
-use std::rt::Runtime;
+use std::io::BufWriter;
 use tape_image::{ImageCause, ImageFault};
 use tape_run::{list_places_to, list_to};
 
@@ -18,13 +18,12 @@ const NO_MEMORY: ToolFault = ToolFault::Image(ImageFault {
 });
 
 /// Lists the image at the path in `order`, or the one on standard input.
-pub fn list<'a, R: Runtime + AllocGlobal>(
-    rt: &R,
-    order: Listing<'a>,
-    site: &mut FaultSite<'a>,
-) -> End {
+pub fn list<'a, R: Progress>(rt: &R, order: Listing<'a>, site: &mut FaultSite<'a>) -> End {
     let (listed, read) = match order.image {
-        None => (list_input(rt, rt.reader(), order.offsets), FaultSite::Stdin),
+        None => {
+            let input = ImageBytes::Input(rt.reader());
+            (list_bytes(rt, input, order.offsets), FaultSite::Stdin)
+        }
         Some(path) => (list_file(rt, path, order.offsets), FaultSite::Image(path)),
     };
     *site = match listed {
@@ -35,38 +34,25 @@ pub fn list<'a, R: Runtime + AllocGlobal>(
 }
 
 /// Lists the image at `path`.
-fn list_file<R: Runtime + AllocGlobal>(rt: &R, path: &str, offsets: bool) -> Result<(), ToolFault> {
+fn list_file<R: Progress>(rt: &R, path: &str, offsets: bool) -> Result<(), ToolFault> {
     match File::open(rt, path) {
-        Ok(file) => list_input(rt, file, offsets),
+        Ok(file) => list_bytes(rt, ImageBytes::Named(file), offsets),
         Err(_) => Err(ToolFault::File(FileFault::NotOpened)),
     }
 }
 
-/// Lists the image in `input` to standard output. Both are buffered.
-fn list_input<R: Print + AllocGlobal, I: Read + Drop>(
-    rt: &R,
-    input: I,
-    offsets: bool,
-) -> Result<(), ToolFault> {
-    let Ok(mut reader) = BufReader::with_capacity(rt.alloc(), READ_AHEAD, input) else {
+/// Lists an image to standard output. Both are buffered.
+fn list_bytes<R: Progress>(rt: &R, bytes: ImageBytes<R>, offsets: bool) -> Result<(), ToolFault> {
+    let Ok(mut image) = image_of(rt, 0, 1, bytes) else {
         return Err(NO_MEMORY);
     };
-    list_from(rt, &mut reader, offsets)
-}
-
-/// Lists the rest of the image in `reader`.
-fn list_from<R: Print + AllocGlobal, I: Read>(
-    rt: &R,
-    reader: &mut I,
-    offsets: bool,
-) -> Result<(), ToolFault> {
     let Ok(mut writer) = BufWriter::new(rt.alloc(), io::writer(rt)) else {
         return Err(NO_MEMORY);
     };
     let listed = if offsets {
-        list_places_to(rt.alloc(), reader, &mut writer)
+        list_places_to(rt.alloc(), &mut image, &mut writer)
     } else {
-        list_to(rt.alloc(), reader, &mut writer)
+        list_to(rt.alloc(), &mut image, &mut writer)
     };
     Ok(listed?)
 }

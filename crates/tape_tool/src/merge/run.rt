@@ -5,7 +5,7 @@ use crate::explain::FaultSite;
 use crate::extract::{Draft, DraftFile, HELD, OutName, Way, draft_of};
 use crate::fault::{FileFault, OUT_OF_MEMORY, ToolFault};
 use crate::help;
-use crate::host::Host;
+use crate::host::{Host, Progress};
 use crate::images::{Images, Named, names_of};
 use crate::program::{End, end_refused};
 use crate::refusal::Refusal;
@@ -17,7 +17,7 @@ use tape_writer::system::found;
 
 /// Merges the readings named in the arguments into a new image, and creates its log if one is
 /// requested. On error, `site` says where it occurred.
-pub fn merge<'a, R: Host>(rt: &R, order: &Merge<'a>, site: &mut FaultSite<'a>) -> End {
+pub fn merge<'a, R: Progress>(rt: &R, order: &Merge<'a>, site: &mut FaultSite<'a>) -> End {
     let mut text = String::new(rt.alloc());
     let names = match readings_of(rt, &order.images, &mut text, site) {
         Ok(names) => names,
@@ -53,7 +53,7 @@ pub fn merge<'a, R: Host>(rt: &R, order: &Merge<'a>, site: &mut FaultSite<'a>) -
 
 /// Merges the images named `names`, and creates the log. The log gets its name before the merged
 /// image does, and loses it again if the merged image cannot get its own.
-fn merge_logged<'a, R: Host>(
+fn merge_logged<'a, R: Progress>(
     rt: &R,
     order: &Merge<'a>,
     log: &'a str,
@@ -102,7 +102,7 @@ fn new_draft<'a, R: Host>(rt: &'a R, path: &'a str) -> Result<Draft<'a, R>, End>
 }
 
 /// Compares the readings named in the arguments. On error, `site` says where it occurred.
-pub fn compare<'a, R: Host>(rt: &R, named: &Named<'a>, site: &mut FaultSite<'a>) -> End {
+pub fn compare<'a, R: Progress>(rt: &R, named: &Named<'a>, site: &mut FaultSite<'a>) -> End {
     let mut text = String::new(rt.alloc());
     match readings_of(rt, named, &mut text, site) {
         Ok(names) => {
@@ -152,7 +152,7 @@ fn readings_of<'t, 'a: 't, R: Host>(
 
 /// Merges the images named `names`, and writes the rows of the log. If the error is in an image or
 /// the log, `site` says in which.
-fn merge_files<'a, R: Host, W: Write + Drop, O: Place<W>, G: Write>(
+fn merge_files<'a, R: Progress, W: Write + Drop, O: Place<W>, G: Write>(
     rt: &R,
     named: &Named<'a>,
     names: &[&str],

@@ -32,7 +32,7 @@ pub const MERGE: CommandSpec = CommandSpec {
     words: &[
         Word("OUT", Kind::Text, help::MERGED_OUT),
         Word("log", Kind::TextOption("LOG"), help::LOG),
-        Word("IMAGE", Kind::TextsOr("files-from"), help::READINGS),
+        Word("IMAGE", Kind::AnyTexts, help::READINGS),
         Word("files-from", Kind::TextOption("LIST"), help::FROM),
         Word("null", Kind::FlagOf("files-from"), help::NULL),
     ],
@@ -46,7 +46,7 @@ pub const COMPARE: CommandSpec = CommandSpec {
     after_help: help::AFTER_COMPARE,
     usage: None,
     words: &[
-        Word("IMAGE", Kind::TextsOr("files-from"), help::READINGS),
+        Word("IMAGE", Kind::AnyTexts, help::READINGS),
         Word("files-from", Kind::TextOption("LIST"), help::FROM),
         Word("null", Kind::FlagOf("files-from"), help::NULL),
     ],

@@ -4,7 +4,7 @@ use super::words::{SALVAGE, SalvageOrder};
 use crate::explain::FaultSite;
 use crate::extract::{Draft, HELD, Way, draft_of};
 use crate::fault::{FileFault, OUT_OF_MEMORY, ToolFault};
-use crate::host::Host;
+use crate::host::Progress;
 use crate::images::{Images, names_of};
 use crate::program::{End, check_end, end_refused};
 use crate::refusal::refused;
@@ -15,7 +15,7 @@ use tape_writer::system::found;
 
 /// Recovers the readable parts of the file that the arguments name. On error, `site` says where it
 /// occurred.
-pub fn salvage<'a, R: Host>(rt: &R, order: &SalvageOrder<'a>, site: &mut FaultSite<'a>) -> End {
+pub fn salvage<'a, R: Progress>(rt: &R, order: &SalvageOrder<'a>, site: &mut FaultSite<'a>) -> End {
     let mut text = String::new(rt.alloc());
     match names_of(rt, &order.images, &mut text, site) {
         Ok(names) => {
@@ -28,7 +28,7 @@ pub fn salvage<'a, R: Host>(rt: &R, order: &SalvageOrder<'a>, site: &mut FaultSi
 
 /// Recovers the file from the images named `names`. An existing file is never overwritten: it may
 /// contain more of the file than can be read now.
-fn salvage_images<R: Host>(rt: &R, order: &SalvageOrder<'_>, names: &[&str]) -> End {
+fn salvage_images<R: Progress>(rt: &R, order: &SalvageOrder<'_>, names: &[&str]) -> End {
     match found(fs::symlink_metadata(rt, order.out)) {
         Ok(None) => {}
         Ok(Some(_)) => return end_refused(rt, &SALVAGE, refused(FileFault::Exists)),

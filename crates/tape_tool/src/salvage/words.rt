@@ -38,7 +38,7 @@ pub const SALVAGE: CommandSpec = CommandSpec {
         Word("SET", Kind::Text, help::SET),
         Word("FILE", Kind::Number(1, 9_999), help::FILE),
         Word("OUT", Kind::Text, help::OUT_OF_SALVAGE),
-        Word("IMAGE", Kind::TextsOr("files-from"), help::SHELF),
+        Word("IMAGE", Kind::AnyTexts, help::SHELF),
         Word("files-from", Kind::TextOption("LIST"), help::FROM),
         Word("null", Kind::FlagOf("files-from"), help::NULL),
         Word(

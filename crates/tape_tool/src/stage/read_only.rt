@@ -3,9 +3,8 @@ use std::fs::{Metadata, OpenFile};
 use std::io;
 use std::io::{Error, ErrorKind, Read, Seek, SeekFrom, Write};
 
-/// A file that is never changed. Truncating and syncing do nothing and report success, so that a
-/// stage in it can be opened like a writable one: truncating only hides the bytes from later reads.
-/// Writes fail.
+/// A file that is never changed: writing and truncating fail. Syncing does nothing and reports
+/// success, since a stage is synced when it is opened.
 #[derive(Drop)]
 pub struct ReadOnly<F> {
     pub file: F,
@@ -39,7 +38,7 @@ impl<F: OpenFile> OpenFile for ReadOnly<F> {
     }
 
     fn set_len(&self, _size: u64) -> io::Result<()> {
-        Ok(())
+        Err(Error::from(ErrorKind::Unsupported))
     }
 
     fn sync_all(&self) -> io::Result<()> {

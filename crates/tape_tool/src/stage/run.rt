@@ -1,18 +1,19 @@
 //! The `stage` command: opens the file of the stage, and writes the output.
 
 use super::read_only::ReadOnly;
-use super::show::{show_damaged, show_stage};
+use super::show::show_stage;
 use super::words::{STAGE, StageOrder};
 use crate::explain::FaultSite;
 use crate::extract::{Draft, HELD, OutFile, Way, draft_of, way_to_out};
 use crate::fault::{FileFault, OUT_OF_MEMORY, ToolFault};
 use crate::host::Host;
-use crate::program::{End, damaged_end, end_of, end_refused, stage_end};
+use crate::program::{End, end_of, end_refused, stage_end};
 use crate::refusal::Refusal;
 use crate::staging::locked_stage;
 use std::fs::File;
 use std::io;
 use std::io::{BufWriter, Write};
+use tape_blocks::Form;
 use tape_stage::{BufferedFile, buffered_file};
 
 /// The disk of a stage: a file that is only read.
@@ -71,7 +72,7 @@ fn show_disk<'a, R: Host>(
     disk: StageDisk,
 ) -> End {
     let (Some(out), Some(way)) = (order.out, way) else {
-        return show_to(rt, order, disk, &mut io::sink());
+        return show_to(rt, order, None, disk, &mut io::sink());
     };
     match draft_of(rt, out, way) {
         Ok(Some(draft)) => show_drafted(rt, order, disk, draft),
@@ -89,7 +90,7 @@ fn show_drafted<R: Host>(
 ) -> End {
     let mut draft = draft;
     let end = match BufWriter::with_capacity(rt.alloc(), HELD, &mut draft) {
-        Ok(mut file) => show_to(rt, order, disk, &mut file),
+        Ok(mut file) => show_to(rt, order, Some(order.form), disk, &mut file),
         Err(_) => End::Faulted(OUT_OF_MEMORY),
     };
     draft.name.ended(end)
@@ -107,18 +108,21 @@ fn show_in_place<R: Host>(
     let Ok(mut file) = BufWriter::with_capacity(rt.alloc(), HELD, file) else {
         return End::Faulted(OUT_OF_MEMORY);
     };
-    let end = show_to(rt, order, disk, &mut file);
+    let end = show_to(rt, order, Some(order.form), disk, &mut file);
     match file.get_ref().refused() {
         Some(fault) => End::Faulted(ToolFault::File(fault)),
         None => end,
     }
 }
 
-/// Shows the stage on `disk`, and writes its records to `out`.
-fn show_to<R: Host, W: Write>(rt: &R, order: &StageOrder<'_>, disk: StageDisk, out: &mut W) -> End {
+/// Shows the stage on `disk`, and writes its records to `out` if `form` is `Some`.
+fn show_to<R: Host, W: Write>(
+    rt: &R,
+    order: &StageOrder<'_>,
+    form: Option<Form>,
+    disk: StageDisk,
+    out: &mut W,
+) -> End {
     let mut report = io::writer(rt);
-    if order.damaged {
-        return damaged_end(show_damaged(rt.alloc(), disk, order.form, out, &mut report));
-    }
-    stage_end(show_stage(rt.alloc(), disk, order.form, out, &mut report))
+    stage_end(show_stage(rt.alloc(), disk, order.damaged, form, out, &mut report))
 }

@@ -1,16 +1,13 @@
 //! Reports on stages: the contents of a stage, and its records.
-ghost use Rattle.std.specs.Prelude.{◌≡◌, ◌≤◌, ◌++◌, List};
-ghost use Rattle.std.specs.Prelude.{IfOk, IfErr, OnOk, OnErr, None};
+ghost use Rattle.std.specs.Prelude.{◌≡◌, ◌≤◌, ◌⊎◌, ◌++◌, ℕ, List, length, IfOk, IfErr, OnOk};
+ghost use Rattle.std.specs.Prelude.{OnErr, Some, None, false};
 ghost use Rattle.std.specs.Io.KnownBytes.{Appends};
 ghost use Rattle.arrayvec.specs.ArrayVec.{array_vec_len};
 ghost use Rattle.tape_blocks.specs.Block.{Portion};
+ghost use Rattle.tape_blocks.specs.Spans.{join};
 ghost use Rattle.tape_image.specs.Written.{AppendsFront};
-ghost use Rattle.tape_set.specs.Position.{want_at};
-ghost use Rattle.tape_stage.specs.Salvaged.{HoldsRest};
 ghost use Rattle.tape_tool.specs.StageReport.{stage_line, told_with, ending_of, ending_line};
-ghost use Rattle.tape_tool.specs.StageReport.{EndsInPart, break_line};
-ghost use Rattle.tape_tool.specs.StageReport.{Gives, GivesFront, Shows, StopsShowing};
-ghost use Rattle.tape_tool.specs.StageReport.{ShowsDamaged, StopsSalvaging};
+ghost use Rattle.tape_tool.specs.StageReport.{EndsInPart, Shows, StopsShowing, output_in};
 
 use super::ending::StageEnding;
 use crate::fault::{FileFault, ToolFault};
@@ -21,15 +18,18 @@ use tape_blocks::Form;
 use tape_core::{Checkpoint, PartWalk};
 use tape_run::text::{put, put_decimal, put_identifier};
 use tape_run::{EngineFault, WriteFailed, flush, last_line, write_file, write_text};
-use tape_set::Want;
 use tape_stage::{Disk, Salvage, Stage, StageFault};
 
 /// Prints the file and the number of complete records of the stage on `disk`, and the last line
-/// that `extract` would print. The records, from the beginning of the file, are written to `out`
-/// and flushed before anything is printed. Returns the missing part of the file, if any.
+/// that `extract` would print. If `form` is `Some`, the records, from the beginning of the file,
+/// are written to `out` and flushed before anything is printed. Returns the missing part of the
+/// file, if any.
 ///
-/// Opening a stage truncates the disk after the staged end, and syncs. To leave a stage unchanged,
-/// pass a disk that only simulates this.
+/// With `damaged`, a damaged stage is accepted: its complete records before the damage are used,
+/// and the offset of the damage is printed in place of the missing part.
+///
+/// The disk is only read. The stage is walked once when it is opened, which reads the headers of
+/// its frames and counts the records; to write the records, it is walked again.
 ///
 /// # Errors
 ///
@@ -39,138 +39,94 @@ use tape_stage::{Disk, Salvage, Stage, StageFault};
 pub fn show_stage<D: Disk + Drop, W: Write, P: Write>(
     alloc: Global,
     disk: D,
-    form: Form,
+    damaged: bool,
+    form: Option<Form>,
     out: &mut W,
     report: &mut P,
-) -> Result<Option<Want>, ToolFault>
-    ensures ok { D.is_honest disk → IfOk result (Shows (D.seen disk) form
+) -> Result<StageEnding, ToolFault>
+    ensures ok { D.is_honest disk → IfOk result (Shows (D.seen disk) damaged form
         (W.contents out.old) (W.contents out.new) (P.contents report.old) (P.contents report.new)) }
-    ensures err { D.is_honest disk → IfErr result (StopsShowing (D.seen disk) form
+    ensures err { D.is_honest disk → IfErr result (StopsShowing (D.seen disk) damaged form
         (W.contents out.old) (W.contents out.new) (P.contents report.old) (P.contents report.new)) }
 {
-    match Stage::open_disk(alloc, disk) {
-        Ok((stage, point)) => show_opened(stage, &point, form, out, report),
-        Err(refused) => Err(ToolFault::Stage(refused.fault)),
-    }
-}
-
-/// Prints the file and the number of records of a sink that was saved at checkpoint `point`, and
-/// writes its records.
-fn show_opened<S: PartWalk + Drop, W: Write, P: Write>(
-    sink: S,
-    point: &Checkpoint,
-    form: Form,
-    out: &mut W,
-    report: &mut P,
-) -> Result<Option<Want>, ToolFault>
-    ensures wanted { IfOk result (λ want. want ≡ want_at point.now.file point.now.position) }
-    ensures ok { OnOk result ((parts : List Portion) → S.holds sink parts
-        → Gives point.now (ending_of point.now None) form (W.contents out.old) (W.contents out.new)
-        (P.contents report.old) (P.contents report.new) parts) }
-    ensures err { OnErr result ((parts : List Portion) → S.holds sink parts
-        → GivesFront point.now (ending_of point.now None) form (W.contents out.old)
-        (W.contents out.new) (P.contents report.old) (P.contents report.new) parts) }
-    ensures fault { IfErr result EndsInPart }
-{
-    let mut sink = sink;
-    let want = point.position.want(point.file);
-    show_parts(
-        &mut sink,
+    let opened = match Stage::open_read_only(alloc, disk) {
+        Ok(opened) => opened,
+        Err(refused) => return Err(ToolFault::Stage(refused.fault)),
+    };
+    let Salvage {
+        stage,
         point,
-        StageEnding::Whole(want),
-        form,
-        out,
-        report,
-    )?;
-    Ok(want)
-}
-
-/// Shows a damaged stage: writes its complete records before the damage, and prints the offset of
-/// the damage in place of the missing part. For an intact stage this function is the same as
-/// `show_stage`. The disk is only read.
-///
-/// # Errors
-///
-/// The errors are those of `show_stage`, except `BadFrame`.
-pub fn show_damaged<D: Disk + Drop, W: Write, P: Write>(
-    alloc: Global,
-    disk: D,
-    form: Form,
-    out: &mut W,
-    report: &mut P,
-) -> Result<StageEnding, ToolFault>
-    ensures ok { D.is_honest disk → IfOk result (ShowsDamaged (D.seen disk) form
-        (W.contents out.old) (W.contents out.new) (P.contents report.old) (P.contents report.new)) }
-    ensures err { D.is_honest disk → IfErr result (StopsSalvaging (D.seen disk) form
-        (W.contents out.old) (W.contents out.new) (P.contents report.old) (P.contents report.new)) }
-{
-    match Salvage::open_disk(alloc, disk) {
-        Ok((salvage, point)) => show_rest(salvage, &point, form, out, report),
-        Err(refused) => Err(ToolFault::Stage(refused.fault)),
+        broken,
+        records,
+    } = opened;
+    let mut stage = stage;
+    let ending = match ending_at(&point, broken, damaged) {
+        Ok(ending) => ending,
+        Err(fault) => return Err(fault),
+    };
+    let records = match write_in(&mut stage, records, form, out) {
+        Ok(records) => records,
+        Err(fault) => return Err(fault),
+    };
+    match tell(report, &point, ending, records) {
+        Ok(()) => Ok(ending),
+        Err(_) => Err(ToolFault::File(FileFault::WriteFailed)),
     }
 }
 
-/// Prints the file and the number of records of the remaining parts, up to checkpoint `point`, and
-/// writes the records.
-fn show_rest<D: Disk + Drop, W: Write, P: Write>(
-    salvage: Salvage<D>,
+/// Returns the end of a stage that is damaged at offset `broken`, or intact. Without `damaged`, a
+/// damaged stage is refused.
+fn ending_at(
     point: &Checkpoint,
-    form: Form,
-    out: &mut W,
-    report: &mut P,
+    broken: Option<u64>,
+    damaged: bool,
 ) -> Result<StageEnding, ToolFault>
-    ensures ending { IfOk result (λ ending. ending ≡ ending_of point.now salvage.broken) }
-    ensures ok { OnOk result ((parts : List Portion) → HoldsRest salvage parts
-        → Gives point.now (ending_of point.now salvage.broken) form (W.contents out.old)
-        (W.contents out.new) (P.contents report.old) (P.contents report.new) parts) }
-    ensures err { OnErr result ((parts : List Portion) → HoldsRest salvage parts
-        → GivesFront point.now (ending_of point.now salvage.broken) form (W.contents out.old)
-        (W.contents out.new) (P.contents report.old) (P.contents report.new) parts) }
-    ensures fault { IfErr result EndsInPart }
-{
-    let mut salvage = salvage;
-    let ending = ending_at(point, salvage.broken());
-    show_parts(&mut salvage, point, ending, form, out, report)?;
-    Ok(ending)
-}
-
-/// Returns the end of a stage that is damaged at offset `broken`, or intact.
-fn ending_at(point: &Checkpoint, broken: Option<u64>) -> StageEnding
-    ensures { result ≡ ending_of point.now broken }
+    ensures ok { IfOk result (λ ending.
+        (ending ≡ ending_of point.now broken) × (damaged ≡ false → broken ≡ None)) }
+    ensures err { IfErr result (λ fault. (place : ℕ) × (broken ≡ Some place)
+        × (damaged ≡ false) × (fault ≡ ToolFault.Stage (StageFault.BadFrame place))) }
 {
     match broken {
-        None => StageEnding::Whole(point.position.want(point.file)),
-        Some(place) => StageEnding::Broken(place),
+        None => Ok(StageEnding::Whole(point.position.want(point.file))),
+        Some(place) => {
+            if damaged {
+                return Ok(StageEnding::Broken(place));
+            }
+            Err(ToolFault::Stage(StageFault::BadFrame(place)))
+        }
     }
 }
 
-/// Writes the records of the parts of `sink`, and prints both lines.
-fn show_parts<S: PartWalk, W: Write, P: Write>(
+/// Writes the records of the parts of `sink` if `form` is `Some`, and returns their number, which
+/// is `counted`.
+fn write_in<S: PartWalk, W: Write>(
     sink: &mut S,
-    point: &Checkpoint,
-    ending: StageEnding,
-    form: Form,
+    counted: u64,
+    form: Option<Form>,
     out: &mut W,
-    report: &mut P,
-) -> Result<(), ToolFault>
-    ensures ok { OnOk result ((parts : List Portion) → S.holds sink.old parts
-        → Gives point.now ending form (W.contents out.old) (W.contents out.new)
-        (P.contents report.old) (P.contents report.new) parts) }
+) -> Result<u64, ToolFault>
+    ensures ok { IfOk result (λ records. (parts : List Portion) → S.holds sink.old parts
+        → counted ≡ length (join parts).records
+        → (records ≡ length (join parts).records)
+        × Appends (W.contents out.old) (W.contents out.new) (output_in form parts)) }
     ensures err { OnErr result ((parts : List Portion) → S.holds sink.old parts
-        → GivesFront point.now ending form (W.contents out.old) (W.contents out.new)
-        (P.contents report.old) (P.contents report.new) parts) }
-    ensures fault { IfErr result EndsInPart }
+        → AppendsFront (W.contents out.old) (W.contents out.new) (output_in form parts)) }
+    ensures fault { IfErr result (EndsInPart form) }
 {
-    match write_file(sink, form, out) {
-        Ok(records) => Ok(tell(report, point, ending, records)?),
-        Err(fault) => Err(as_read(fault)),
+    match form {
+        None => Ok(counted),
+        Some(form) => match write_file(sink, form, out) {
+            Ok(records) => Ok(records),
+            Err(fault) => Err(as_read(fault)),
+        },
     }
 }
 
 /// Returns the program's fault if writing the records failed. If the parts could not be read, it is
 /// a fault of the stage.
 fn as_read(fault: EngineFault) -> ToolFault
-    ensures ends { EndsInPart result }
+    ensures ends { (result ≡ ToolFault.File FileFault.WriteFailed)
+        ⊎ (result ≡ ToolFault.Stage StageFault.Device) }
     ensures written { fault ≡ EngineFault.WriteFailed
         → result ≡ ToolFault.File FileFault.WriteFailed }
     ensures read { result ≡ ToolFault.File FileFault.WriteFailed
@@ -220,18 +176,12 @@ fn put_ending(lines: &mut Lines, ending: StageEnding, records: u64)
 {
     match ending {
         StageEnding::Whole(want) => put(lines, last_line(want, records).as_bytes()),
-        StageEnding::Broken(place) => put_break(lines, place),
+        StageEnding::Broken(place) => {
+            put(lines, b"TRUNCATED AT ");
+            put_decimal(lines, place);
+            put(lines, b"\n");
+        }
     }
-}
-
-/// Appends the line about damage at offset `place`.
-fn put_break(lines: &mut Lines, place: u64)
-    requires { array_vec_len lines.old ≤ 200 }
-    ensures { lines.new.items ≡ lines.old.items ++ break_line place }
-{
-    put(lines, b"TRUNCATED AT ");
-    put_decimal(lines, place);
-    put(lines, b"\n");
 }
 
 /// Appends the line about a stage: its set, file, and number of complete records.

@@ -26,7 +26,7 @@ pub const SURVEY: CommandSpec = CommandSpec {
     after_help: help::AFTER_SURVEY,
     usage: None,
     words: &[
-        Word("IMAGE", Kind::TextsOr("files-from"), help::IMAGES),
+        Word("IMAGE", Kind::AnyTexts, help::IMAGES),
         Word("files-from", Kind::TextOption("LIST"), help::FROM),
         Word("null", Kind::FlagOf("files-from"), help::NULL),
         Word("tsv", Kind::Flag, help::ROWS),

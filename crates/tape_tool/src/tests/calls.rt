@@ -5,7 +5,7 @@ use super::image::payroll;
 use super::volumes::{damaged, lost, worked};
 use super::words::words_of;
 use crate::fault::ToolFault;
-use crate::host::Host;
+use crate::host::Progress;
 use crate::program::{End, perform};
 use std::alloc::{AllocError, Global};
 use std::fs;
@@ -17,26 +17,31 @@ use std::process::Abort;
 use std::rt::Runtime;
 use std::test::Fail;
 
+/// The system itself shows nothing.
+impl Progress for HostRuntime {
+    fn show(&self, _image: usize, _count: usize, _bytes: u64) {}
+}
+
 /// Runs the program with the arguments in `line`, and returns how it ends.
-pub fn end_of<H: Host>(rt: &H, line: &str) -> Result<End, Fail> {
+pub fn end_of<H: Progress>(rt: &H, line: &str) -> Result<End, Fail> {
     let words = words_of(rt.alloc(), line)?;
     Ok(perform(rt, words.as_slice()).end)
 }
 
 /// Fails unless the run with the arguments in `line` ends with `wanted`.
-pub fn ends<H: Host + Abort>(rt: &H, line: &str, wanted: End) -> Result<(), Fail> {
+pub fn ends<H: Progress + Abort>(rt: &H, line: &str, wanted: End) -> Result<(), Fail> {
     let end = end_of(rt, line)?;
     assert!(rt; end == wanted, "{line}: {end:?}");
     Ok(())
 }
 
 /// Fails unless the run with the arguments in `line` ends with `fault`.
-fn fails<H: Host + Abort>(rt: &H, line: &str, fault: ToolFault) -> Result<(), Fail> {
+fn fails<H: Progress + Abort>(rt: &H, line: &str, fault: ToolFault) -> Result<(), Fail> {
     ends(rt, line, End::Faulted(fault))
 }
 
 /// Fails unless each run ends as its row says.
-pub fn each_ends<H: Host + Abort>(rt: &H, cases: &[(&str, End)]) -> Result<(), Fail> {
+pub fn each_ends<H: Progress + Abort>(rt: &H, cases: &[(&str, End)]) -> Result<(), Fail> {
     for (line, wanted) in cases {
         ends(rt, line, *wanted)?;
     }
@@ -44,7 +49,7 @@ pub fn each_ends<H: Host + Abort>(rt: &H, cases: &[(&str, End)]) -> Result<(), F
 }
 
 /// Fails unless each run ends with the fault in its row.
-pub fn each_fails<H: Host + Abort>(rt: &H, cases: &[(&str, ToolFault)]) -> Result<(), Fail> {
+pub fn each_fails<H: Progress + Abort>(rt: &H, cases: &[(&str, ToolFault)]) -> Result<(), Fail> {
     for (line, fault) in cases {
         fails(rt, line, *fault)?;
     }
@@ -52,7 +57,7 @@ pub fn each_fails<H: Host + Abort>(rt: &H, cases: &[(&str, ToolFault)]) -> Resul
 }
 
 /// Fails unless each of `lines`, which name no existing file, is a usage error.
-pub fn each_is_wrong<H: Host + Abort>(rt: &H, lines: &[&str]) -> Result<(), Fail> {
+pub fn each_is_wrong<H: Progress + Abort>(rt: &H, lines: &[&str]) -> Result<(), Fail> {
     for line in lines {
         ends(rt, line, End::WrongWords)?;
     }
@@ -101,7 +106,7 @@ pub enum Step<'a> {
 }
 
 /// Executes `steps` in order, and fails unless each has its expected result.
-pub fn take_all<H: Host + Abort>(rt: &H, steps: &[Step<'_>]) -> Result<(), Fail> {
+pub fn take_all<H: Progress + Abort>(rt: &H, steps: &[Step<'_>]) -> Result<(), Fail> {
     for (number, step) in steps.iter().enumerate() {
         assert!(rt; take(rt, step)?, "the step behind {number} others");
     }
@@ -110,7 +115,10 @@ pub fn take_all<H: Host + Abort>(rt: &H, steps: &[Step<'_>]) -> Result<(), Fail>
 
 /// Executes the steps of each of `scripts`, and fails unless each step has its expected result. The
 /// message names the script.
-pub fn follow_all<H: Host + Abort>(rt: &H, scripts: &[(&str, &[Step<'_>])]) -> Result<(), Fail> {
+pub fn follow_all<H: Progress + Abort>(
+    rt: &H,
+    scripts: &[(&str, &[Step<'_>])],
+) -> Result<(), Fail> {
     for (name, steps) in scripts {
         for (number, step) in steps.iter().enumerate() {
             assert!(rt; take(rt, step)?, "{name}: the step behind {number} others");
@@ -120,7 +128,7 @@ pub fn follow_all<H: Host + Abort>(rt: &H, scripts: &[(&str, &[Step<'_>])]) -> R
 }
 
 /// Executes a step, and returns whether it had its expected result.
-fn take<H: Host>(rt: &H, step: &Step<'_>) -> Result<bool, Fail> {
+fn take<H: Progress>(rt: &H, step: &Step<'_>) -> Result<bool, Fail> {
     match *step {
         Step::Ends(line, wanted) => Ok(end_of(rt, line)? == wanted),
         Step::Fails(line, fault) => Ok(end_of(rt, line)? == End::Faulted(fault)),

@@ -6,7 +6,7 @@ use super::volumes::{first_of_two, second_of_two};
 use super::words::words_of;
 use crate::explain::{Explanation, FaultSite, MISSING_TEXTS, TEXTS};
 use crate::fault::{FileFault, ToolFault};
-use crate::host::Host;
+use crate::host::Progress;
 use crate::program::{End, perform};
 use std::process::Abort;
 use std::test::Fail;
@@ -98,7 +98,7 @@ const SITES: &[(&str, Option<FaultSite<'_>>)] = &[
 ];
 
 /// Fails unless the run with the arguments in `line` ends with a fault at `site`.
-fn is_at<H: Host + Abort>(rt: &H, line: &str, site: Option<FaultSite<'_>>) -> Result<(), Fail> {
+fn is_at<H: Progress + Abort>(rt: &H, line: &str, site: Option<FaultSite<'_>>) -> Result<(), Fail> {
     let words = words_of(rt.alloc(), line)?;
     let outcome = perform(rt, words.as_slice());
     assert!(rt;
@@ -222,22 +222,25 @@ fn faults_are_told_in_words(rt: HostRuntime) -> Result<(), Fail> {
 const MISSING: &[(&str, &str)] = &[
     (
         "extract DEF001 1 missing.txt missing1.tap --explain",
-        "  No label of set DEF001 was found on these images.\n  \
+        "  REEL 1: missing1.tap\n  No label of set DEF001 was found on these images.\n  \
             Sets found: ABC001.\n  \
             Give one of them as SET, or add the images of set DEF001.\n",
     ),
     (
         "extract ABC001 1 missing.txt missing_noise.txt --explain",
-        "  No file of any set was found on these images.\n  'tape survey' says what they are.\n",
+        "  REEL 1: missing_noise.txt\n  \
+            No file of any set was found on these images.\n  \
+            'tape survey' says what they are.\n",
     ),
     (
         "extract ABC001 2 missing.txt missing1.tap --explain",
-        "  No label of this file was found. Files of set ABC001 on these images:\n  \
+        "  REEL 1: missing1.tap\n  \
+            No label of this file was found. Files of set ABC001 on these images:\n  \
             1.\n  'tape survey' prints their names.\n",
     ),
     (
         "extract ABC001 1 missing.txt missing1.tap --explain",
-        "  Section 2 of file 1 is on no image. It follows section 1 on\n  \
+        "  REEL 1: missing1.tap\n  Section 2 of file 1 is on no image. It follows section 1 on\n  \
             volume ABC001, image missing1.tap.\n  \
             Look for the reel that comes after that one.\n",
     ),
@@ -248,7 +251,8 @@ const MISSING: &[(&str, &str)] = &[
     ),
     (
         "extract ABC001 1 missing.txt missing2.tap missing1.tap --explain",
-        "  Each section of the file is complete on some image. With --again, tape reads\n  \
+        "  REEL 1: missing2.tap\n  REEL 2: missing1.tap\n  \
+            Each section of the file is complete on some image. With --again, tape reads\n  \
             the images until they yield nothing more, and their order does not matter.\n",
     ),
     (

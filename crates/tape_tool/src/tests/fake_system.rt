@@ -2,8 +2,9 @@
 //! output and the files that it opens. Files and memory are those of the real system.
 use super::words::words_of;
 use crate::program::run;
+use crate::screen::{Line, Screen};
 use std::alloc::{Allocator, Global};
-use std::cell::RefCell;
+use std::cell::{Cell, RefCell};
 use std::env::{Env, FillError};
 use std::fmt::Display;
 use std::fs::{File, Files, Metadata, OpenOptions};
@@ -35,6 +36,8 @@ pub enum Odd<'a> {
     Remove,
     /// When the first name is opened, a file appears under the second.
     Comes(&'a str, &'a str),
+    /// Standard error is a terminal, and is full after this number of texts.
+    Terminal(usize),
 }
 
 /// A system with arguments and streams of its own.
@@ -50,6 +53,10 @@ struct FakeSystem<'a> {
     /// The paths that were opened, each followed by a space, or by a question mark and a space if
     /// opening it failed.
     opened: &'a RefCell<String>,
+    /// The time in seconds, which advances when the clock is read.
+    time: &'a Cell<u64>,
+    /// The number of texts that standard error got.
+    texts: &'a Cell<usize>,
 }
 
 /// The contents of a file that appears during a run.
@@ -179,7 +186,9 @@ impl Env for FakeSystem<'_> {
 
 impl Clock for FakeSystem<'_> {
     fn monotonic(&self) -> io::Result<Duration> {
-        self.rt.monotonic()
+        let time = self.time.get().saturating_add(1);
+        self.time.set(time);
+        Ok(Duration::from_secs(time))
     }
 
     fn since_1970(&self) -> io::Result<Duration> {
@@ -211,7 +220,13 @@ impl Print for FakeSystem<'_> {
 
 impl Eprint for FakeSystem<'_> {
     fn eprint<D: Display + Drop>(&self, value: D) -> io::Result<()> {
-        note(self.told, value)
+        self.texts.set(self.texts.get().saturating_add(1));
+        match self.odd {
+            Odd::Terminal(most) if self.texts.get() > most => {
+                Err(io::Error::from(ErrorKind::StorageFull))
+            }
+            _ => note(self.told, value),
+        }
     }
 
     fn eprintln<D: Display + Drop>(&self, value: D) -> io::Result<()> {
@@ -273,13 +288,23 @@ pub fn called(rt: &HostRuntime, line: &str, takes: bool) -> Result<Seen, Fail> {
     called_oddly(rt, line, takes, Odd::Nothing)
 }
 
+/// Runs the program on the system, with the line of progress if its standard error is a terminal.
+fn run_on(system: &FakeSystem<'_>) -> u8 {
+    let line = Cell::new(Line::new(system, matches!(system.odd, Odd::Terminal(_))));
+    let screen = Screen::new(system, &line);
+    let status = run(&screen);
+    screen.clear();
+    status
+}
+
 /// Runs the program with the arguments in `line`, on a system with the peculiarity `odd`.
 pub fn called_oddly(rt: &HostRuntime, line: &str, takes: bool, odd: Odd<'_>) -> Result<Seen, Fail> {
     let words = words_of(rt.alloc(), line)?;
     let out = RefCell::new(String::new(rt.alloc()));
     let told = RefCell::new(String::new(rt.alloc()));
     let opened = RefCell::new(String::new(rt.alloc()));
-    let status = run(&FakeSystem {
+    let (time, texts) = (Cell::new(0), Cell::new(0));
+    let system = FakeSystem {
         rt: *rt,
         words: words.as_slice(),
         takes,
@@ -287,7 +312,10 @@ pub fn called_oddly(rt: &HostRuntime, line: &str, takes: bool, odd: Odd<'_>) -> 
         out: &out,
         told: &told,
         opened: &opened,
-    });
+        time: &time,
+        texts: &texts,
+    };
+    let status = run_on(&system);
     let opened = opened.into_inner();
     // The numbers of the standard streams are checked first.
     let Some(opened) = opened.as_str().strip_prefix("/ ") else {

@@ -1,7 +1,7 @@
 //! Tests of the lines that report faults.
 use crate::diagnostics::FaultLine;
 use crate::fault::{FileFault, ToolFault};
-use crate::host::Host;
+use crate::host::Progress;
 use crate::program::{End, end_of};
 use std::process::Abort;
 use tape_core::SinkFault;
@@ -58,7 +58,7 @@ const OTHER_FAULTS: &[(ToolFault, &str)] = &[
 ];
 
 /// Fails unless a command with the fault `fault` ends with it, and prints `line`.
-fn prints<H: Host + Abort>(rt: &H, fault: ToolFault, line: &str) {
+fn prints<H: Progress + Abort>(rt: &H, fault: ToolFault, line: &str) {
     let ends = end_of(Err(fault)) == End::Faulted(fault);
     let printed = format!(in rt.alloc(); "{}", FaultLine(fault));
     let same = matches!(&printed, Ok(text) if text.as_str() == line);

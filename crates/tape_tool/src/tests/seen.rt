@@ -40,6 +40,24 @@ const ROWS: &[Row<'_>] = &[
             Usage: tape [OPTIONS] <COMMAND>\n\nFor more information, try '--help'.\n",
         Some(""),
     ),
+    // A list of names is enough, but something has to be named.
+    (
+        "check",
+        2,
+        "",
+        "error: name at least one image, or a list of names with --files-from\n\n\
+            Usage: tape check [OPTIONS] [IMAGE]...\n\nFor more information, try '--help'.\n",
+        Some(""),
+    ),
+    (
+        "extract ABC001 1 a.txt",
+        2,
+        "",
+        "error: name at least one image, or a list of names with --files-from\n\n\
+            Usage: tape extract [OPTIONS] <SET> <FILE> <OUT> [IMAGE]...\n\n\
+            For more information, try '--help'.\n",
+        Some(""),
+    ),
     // Each image is opened once, in the order of the arguments.
     (
         "check seen2.tap lost.tap seen1.tap",

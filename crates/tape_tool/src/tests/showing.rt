@@ -2,8 +2,9 @@
 use super::calls::{Step, take_all};
 use super::volumes::damaged;
 use crate::fault::{FileFault, ToolFault};
-use crate::program::{End, damaged_end};
-use crate::stage::show::{show_damaged, show_stage};
+use crate::program::{End, stage_end};
+use crate::stage::StageEnding;
+use crate::stage::show::show_stage;
 use crate::staging::open_session;
 use std::alloc::{AllocError, Global};
 use std::fs::File;
@@ -48,8 +49,15 @@ fn is_told<H: Abort + AllocGlobal>(
         return Err(Fail::from("a stage"));
     };
     let (mut out, mut report) = (Vec::new(rt.alloc()), Vec::new(rt.alloc()));
-    let answer = show_stage(rt.alloc(), disk, Form::Lines, &mut out, &mut report);
-    let done = matches!(answer, Ok(want) if want.is_none() == (bad == 9));
+    let answer = show_stage(
+        rt.alloc(),
+        disk,
+        false,
+        Some(Form::Lines),
+        &mut out,
+        &mut report,
+    );
+    let done = matches!(answer, Ok(StageEnding::Whole(want)) if want.is_none() == (bad == 9));
     let told = report.as_slice() == lines.as_bytes();
     assert!(rt; done && told && out.len() == length, "{bad}: {answer:?}");
     Ok(())
@@ -82,10 +90,17 @@ fn is_told_torn<H: Abort + AllocGlobal>(
 ) -> Result<(), Fail> {
     let disk = MemoryDisk::from_bytes(rt.alloc(), bytes.to_vec(rt.alloc())?);
     let (mut out, mut report) = (Vec::new(rt.alloc()), Vec::new(rt.alloc()));
-    let answer = show_damaged(rt.alloc(), disk, Form::Lines, &mut out, &mut report);
+    let answer = show_stage(
+        rt.alloc(),
+        disk,
+        true,
+        Some(Form::Lines),
+        &mut out,
+        &mut report,
+    );
     let size = bytes.len();
     let told = report.as_slice() == lines.as_bytes() && out.len() == length;
-    let ends = (damaged_end(answer) == End::Done) == (size == 2381);
+    let ends = (stage_end(answer) == End::Done) == (size == 2381);
     assert!(rt; told && ends, "{size}: {answer:?}");
     Ok(())
 }

@@ -70,7 +70,6 @@ const SAID: &[(&str, i32, &str)] = &[
     ("init '' ABC 2", 2, "DIR is empty: write '.'"),
     ("write '' ABC 100000 A=B", 2, "DIR is empty: write '.'"),
     ("check --null a.tap", 2, "--files-from <LIST>"),
-    ("extract ABC001 1 a.txt", 2, "<IMAGE>..."),
     (
         "extract ABC001 1 - a.tap",
         2,

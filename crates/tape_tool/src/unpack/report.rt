@@ -4,20 +4,17 @@ use super::last_line::LastLine;
 use super::paths::Paths;
 use super::words::Unpack;
 use crate::diagnostics::FaultLine;
-use crate::fault::{FileFault, OUT_OF_MEMORY, ToolFault};
+use crate::fault::{FileFault, ToolFault};
 use crate::host::Host;
 use crate::program::End;
 use std::fs;
 use std::io::Write;
 use tape_label::Field;
 use tape_run::{
-    FileChoice, FoundFiles, Notice, SetFile, Tally, UnpackOutcome, WriteFailed, file_line,
-    is_of_set, is_read, means, notice_line, report_file, report_numbers, total_line, write_text,
+    FileChoice, FoundFiles, Notice, SetFile, Tally, UnpackOutcome, file_line, is_of_set, is_read,
+    means, notice_line, report_file, report_numbers, total_line, write_text,
 };
 use tape_writer::system::found;
-
-/// The report could not be written.
-pub const NOT_REPORTED: End = End::Faulted(ToolFault::File(FileFault::WriteFailed));
 
 /// The lines of the report, and how many files they were about.
 #[derive(Drop)]
@@ -26,8 +23,8 @@ pub struct Lines<P> {
     pub tally: Tally,
 }
 
-/// How the unpacking of a file ends or, as an error, how the run ends with it.
-pub type Ended = Result<End, End>;
+/// How the unpacking of a file ends or, as an error, the fault that ends the run.
+pub type Ended = Result<End, ToolFault>;
 
 /// Returns the number after that of the previous file, if both belong to the same set, otherwise 1.
 fn number_after(before: Option<(Field<6>, u16)>, set_id: &Field<6>) -> u16 {
@@ -44,17 +41,15 @@ pub fn report_gap<P: Write>(
     before: Option<(Field<6>, u16)>,
     file: &SetFile,
     lines: &mut Lines<P>,
-) -> Result<bool, End> {
+) -> Result<bool, ToolFault> {
     let first = number_after(before, &file.set_id);
     let is_asked = choice.words.is_empty() && is_of_set(choice.set_id, file);
     if !is_asked || first >= file.file {
         return Ok(true);
     }
     let Lines { out, tally } = lines;
-    match report_numbers(out, tally, &file.set_id, first, file.file) {
-        Ok(()) => Ok(false),
-        Err(fault) => Err(End::Faulted(ToolFault::from(fault))),
-    }
+    report_numbers(out, tally, &file.set_id, first, file.file)?;
+    Ok(false)
 }
 
 /// Reports what was chosen and not found, the images that were not read completely, and the counts.
@@ -66,17 +61,15 @@ pub fn end_report<R: Host, P: Write>(
     names: &[&str],
     met: &FoundFiles,
     lines: &mut Lines<P>,
-) -> Result<bool, End> {
+) -> Result<bool, ToolFault> {
     let found = report_absent(rt, order, choice, met.files.as_slice(), lines)?;
     for (at, image) in met.images.as_slice().iter().enumerate() {
         if let (false, Some(name)) = (is_read(image), names.get(at)) {
             notify(rt, Notice::Unread, *name, lines)?;
         }
     }
-    match write_text(&mut lines.out, &total_line(&lines.tally)) {
-        Ok(()) => Ok(found),
-        Err(WriteFailed) => Err(NOT_REPORTED),
-    }
+    write_text(&mut lines.out, &total_line(&lines.tally))?;
+    Ok(found)
 }
 
 /// Reports the set and the words of the choice for which no file was found, and counts them.
@@ -87,7 +80,7 @@ fn report_absent<R: Host, P: Write>(
     choice: &FileChoice<'_>,
     files: &[SetFile],
     lines: &mut Lines<P>,
-) -> Result<bool, End> {
+) -> Result<bool, ToolFault> {
     let set_id = choice.set_id;
     if let Some(set) = order.set {
         if !files.iter().any(|file| is_of_set(set_id, file)) {
@@ -116,14 +109,9 @@ fn notify<R: Host, P: Write>(
     notice: Notice,
     name: &str,
     lines: &mut Lines<P>,
-) -> Result<(), End> {
-    let Ok(line) = notice_line(rt.alloc(), notice, name) else {
-        return Err(End::Faulted(OUT_OF_MEMORY));
-    };
-    match write_text(&mut lines.out, line.as_slice()) {
-        Ok(()) => Ok(()),
-        Err(WriteFailed) => Err(NOT_REPORTED),
-    }
+) -> Result<(), ToolFault> {
+    let line = notice_line(rt.alloc(), notice, name)?;
+    Ok(write_text(&mut lines.out, line.as_slice())?)
 }
 
 /// Prints the outcome of a file with any details, and ends like this.
@@ -137,10 +125,8 @@ pub fn tell<R: Host, P: Write>(
     lines: &mut Lines<P>,
 ) -> Ended {
     let Lines { out, tally } = lines;
-    match report_file(rt.alloc(), out, tally, file, outcome, details, path) {
-        Ok(()) => Ok(end),
-        Err(fault) => Err(End::Faulted(ToolFault::from(fault))),
-    }
+    report_file(rt.alloc(), out, tally, file, outcome, details, path)?;
+    Ok(end)
 }
 
 /// Prints another line about a file that was counted before, and ends like this.
@@ -153,13 +139,9 @@ pub fn tell_more<R: Host, P: Write>(
     end: End,
     lines: &mut Lines<P>,
 ) -> Ended {
-    let Ok(line) = file_line(rt.alloc(), file, outcome, details, path) else {
-        return Err(End::Faulted(OUT_OF_MEMORY));
-    };
-    match write_text(&mut lines.out, line.as_slice()) {
-        Ok(()) => Ok(end),
-        Err(WriteFailed) => Err(NOT_REPORTED),
-    }
+    let line = file_line(rt.alloc(), file, outcome, details, path)?;
+    write_text(&mut lines.out, line.as_slice())?;
+    Ok(end)
 }
 
 /// Reports that a file failed, and with which fault.
@@ -170,9 +152,7 @@ pub fn tell_failed<R: Host, P: Write>(
     fault: ToolFault,
     lines: &mut Lines<P>,
 ) -> Ended {
-    let Ok(line) = format!(in rt.alloc(); "{}", FaultLine(fault)) else {
-        return Err(End::Faulted(OUT_OF_MEMORY));
-    };
+    let line = format!(in rt.alloc(); "{}", FaultLine(fault))?;
     // The fault's line without the program's name and the line feed.
     let text = line.as_str();
     let reason = text.strip_prefix("tape:").unwrap_or(text).trim_end();

@@ -3,8 +3,7 @@
 use super::last_line::LastLine;
 use super::paths::{Paths, paths_of};
 use super::report::{
-    Ended, Lines, NOT_REPORTED, after_word, end_report, listed, report_gap, tell, tell_failed,
-    tell_more,
+    Ended, Lines, after_word, end_report, listed, report_gap, tell, tell_failed, tell_more,
 };
 use super::salvaged::Salvaged;
 use super::words::{UNPACK, Unpack};
@@ -13,16 +12,16 @@ use crate::extract::words::{Task, set_id_of};
 use crate::extract::{Way, extract_file, extract_whole};
 use crate::fault::{FileFault, OUT_OF_MEMORY, ToolFault};
 use crate::help;
-use crate::host::Host;
+use crate::host::{Host, Progress};
 use crate::images::{Image, Images, in_reading_order, names_of};
 use crate::left::remove;
-use crate::program::{End, check_end, end_of, end_refused};
+use crate::program::{End, check_end, end_refused};
 use crate::refusal::{Refusal, refused};
 use std::io::{BufWriter, Write};
 use std::{fs, io};
 use tape_run::{
     Content, FileChoice, FoundFiles, Mounted, SalvageTask, SetFile, Tally, UnpackOutcome,
-    WriteFailed, file_name, find_files, flush, set_of,
+    file_name, find_files, flush, set_of,
 };
 use tape_writer::system::found;
 
@@ -40,7 +39,7 @@ struct Source<'n, D> {
 
 /// Recovers every file on the images that the arguments name. On error, `site` says where it
 /// occurred.
-pub fn unpack<'a, R: Host>(rt: &R, order: &Unpack<'a>, site: &mut FaultSite<'a>) -> End {
+pub fn unpack<'a, R: Progress>(rt: &R, order: &Unpack<'a>, site: &mut FaultSite<'a>) -> End {
     let mut text = String::new(rt.alloc());
     match names_of(rt, &order.images, &mut text, site) {
         Ok(names) => {
@@ -52,7 +51,7 @@ pub fn unpack<'a, R: Host>(rt: &R, order: &Unpack<'a>, site: &mut FaultSite<'a>)
 }
 
 /// Recovers every file on the images named `names`.
-fn unpack_images<R: Host>(rt: &R, order: &Unpack<'_>, names: &[&str]) -> End {
+fn unpack_images<R: Progress>(rt: &R, order: &Unpack<'_>, names: &[&str]) -> End {
     if let Err(refusal) = is_folder(rt, order.folder) {
         return end_refused(rt, &UNPACK, refusal);
     }
@@ -65,11 +64,14 @@ fn unpack_images<R: Host>(rt: &R, order: &Unpack<'_>, names: &[&str]) -> End {
     };
     let met = match find_files(rt.alloc(), &mut Images::new(rt, names)) {
         Ok(met) => met,
-        Err(fault) => return end_of(Err(ToolFault::Run(fault))),
+        Err(fault) => return End::Faulted(ToolFault::Run(fault)),
     };
-    let end = unpack_all(rt, order, names, &met, &mut lines);
+    let end = match unpack_all(rt, order, names, &met, &mut lines) {
+        Ok(end) => end,
+        Err(fault) => End::Faulted(fault),
+    };
     match (end, flush(&mut lines.out)) {
-        (End::Done | End::Incomplete, Err(WriteFailed)) => NOT_REPORTED,
+        (End::Done | End::Incomplete, Err(fault)) => End::Faulted(ToolFault::from(fault)),
         (end, _) => end,
     }
 }
@@ -85,13 +87,13 @@ fn is_folder<R: Host>(rt: &R, path: &str) -> Result<(), Refusal> {
 
 /// Unpacks the chosen files, and reports the images that were not read to their end, and counts. If
 /// a file fails, the others are still tried: the run ends with the first such fault.
-fn unpack_all<'n, R: Host, P: Write>(
+fn unpack_all<'n, R: Progress, P: Write>(
     rt: &R,
     order: &'n Unpack<'n>,
     names: &'n [&'n str],
     met: &'n FoundFiles,
     lines: &mut Lines<P>,
-) -> End {
+) -> Ended {
     let files = met.files.as_slice();
     let choice = FileChoice {
         set_id: order.set.and_then(set_id_of),
@@ -106,26 +108,20 @@ fn unpack_all<'n, R: Host, P: Write>(
     let mut failed = None;
     let mut before = None;
     for file in files {
-        match report_gap(&choice, before, file, lines) {
-            Ok(none) => all = all && none,
-            Err(end) => return end,
-        }
-        match unpack_file(rt, order, &choice, shelf, file, lines) {
-            Ok(End::Done) => {}
-            Ok(End::Incomplete) => all = false,
-            Ok(end) => failed = failed.or(Some(end)),
-            Err(end) => return end,
+        all = report_gap(&choice, before, file, lines)? && all;
+        match unpack_file(rt, order, &choice, shelf, file, lines)? {
+            End::Done => {}
+            End::Incomplete => all = false,
+            end => failed = failed.or(Some(end)),
         }
         before = Some((file.set_id, file.file));
     }
-    match end_report(rt, order, &choice, names, met, lines) {
-        Ok(found) => failed.unwrap_or(check_end(Ok(all && found))),
-        Err(end) => end,
-    }
+    let found = end_report(rt, order, &choice, names, met, lines)?;
+    Ok(failed.unwrap_or(check_end(Ok(all && found))))
 }
 
 /// Unpacks `file` if it is chosen, or only looks what would become of it, and prints the outcome.
-fn unpack_file<R: Host, P: Write>(
+fn unpack_file<R: Progress, P: Write>(
     rt: &R,
     order: &Unpack<'_>,
     choice: &FileChoice<'_>,
@@ -148,14 +144,12 @@ fn unpack_file<R: Host, P: Write>(
         );
     }
     let name = file_name(&file.set_id, file.file, &file.file_id);
-    match paths_of(rt.alloc(), order.folder, &name) {
-        Ok(paths) => unpack_to(rt, order, shelf, file, &paths, lines),
-        Err(_) => Err(End::Faulted(OUT_OF_MEMORY)),
-    }
+    let paths = paths_of(rt.alloc(), order.folder, &name)?;
+    unpack_to(rt, order, shelf, file, &paths, lines)
 }
 
 /// Unpacks a file to `paths`, unless a file with its name exists.
-fn unpack_to<R: Host, P: Write>(
+fn unpack_to<R: Progress, P: Write>(
     rt: &R,
     order: &Unpack<'_>,
     shelf: &mut Source<'_, Image<R>>,
@@ -177,7 +171,7 @@ fn unpack_to<R: Host, P: Write>(
         (Ok(end), true) => (UnpackOutcome::Lacks, stage, end),
         // It existed before, or was created meanwhile.
         (Err(ToolFault::File(FileFault::Exists)), _) => (UnpackOutcome::Exists, out, End::Done),
-        (Err(OUT_OF_MEMORY), _) => return Err(End::Faulted(OUT_OF_MEMORY)),
+        (Err(OUT_OF_MEMORY), _) => return Err(OUT_OF_MEMORY),
         (Err(fault), _) => return tell_failed(rt, file, out, fault, lines),
     };
     let end = tell(rt, file, outcome, after_word(last.text()), path, end, lines)?;
@@ -189,7 +183,7 @@ fn unpack_to<R: Host, P: Write>(
 
 /// Recovers a file, unless something has its name, and removes the stage of a complete one, since
 /// the file then contains all that the stage had.
-fn unpacked<R: Host>(
+fn unpacked<R: Progress>(
     rt: &R,
     order: &Unpack<'_>,
     shelf: &mut Source<'_, Image<R>>,
@@ -212,7 +206,7 @@ fn unpacked<R: Host>(
             if end == End::Done {
                 remove(rt, stage);
                 if order.salvage {
-                    salvaged_at(rt, paths.out.as_str())?.remove(rt)?;
+                    Salvaged::of(rt.alloc(), paths.out.as_str())?.remove(rt)?;
                 }
             }
             Ok(end)
@@ -222,7 +216,7 @@ fn unpacked<R: Host>(
 
 /// Writes the readable records of an incomplete file and a report of its gaps, and prints a line
 /// about them. Reads the images that may have blocks of its set.
-fn salvage_file<R: Host, P: Write>(
+fn salvage_file<R: Progress, P: Write>(
     rt: &R,
     order: &Unpack<'_>,
     shelf: &Source<'_, Image<R>>,
@@ -231,14 +225,11 @@ fn salvage_file<R: Host, P: Write>(
     end: End,
     lines: &mut Lines<P>,
 ) -> Ended {
-    let salvaged = match salvaged_at(rt, out) {
-        Ok(salvaged) => salvaged,
-        Err(fault) => return Err(End::Faulted(fault)),
-    };
+    let salvaged = Salvaged::of(rt.alloc(), out)?;
     let mut names = Vec::new(rt.alloc());
     for (name, image) in shelf.names.iter().zip(shelf.met.images.as_slice()) {
         if set_of(image).is_none_or(|set_id| set_id == file.set_id) && names.push(*name).is_err() {
-            return Err(End::Faulted(OUT_OF_MEMORY));
+            return Err(OUT_OF_MEMORY);
         }
     }
     let task = SalvageTask {
@@ -260,7 +251,7 @@ fn salvage_file<R: Host, P: Write>(
                 lines,
             )
         }
-        End::Faulted(OUT_OF_MEMORY) => Err(End::Faulted(OUT_OF_MEMORY)),
+        End::Faulted(OUT_OF_MEMORY) => Err(OUT_OF_MEMORY),
         End::Faulted(fault) => tell_failed(rt, file, salvaged.path(), fault, lines),
         _ => {
             let outcome = if last.text().starts_with(b"COMPLETE") {
@@ -274,15 +265,10 @@ fn salvage_file<R: Host, P: Write>(
     }
 }
 
-/// Returns the paths of the salvaged records of the file at `out`, and of their report.
-fn salvaged_at<R: Host>(rt: &R, out: &str) -> Result<Salvaged, ToolFault> {
-    Salvaged::of(rt.alloc(), out).map_err(|_| OUT_OF_MEMORY)
-}
-
 /// Recovers a file. If all its sections are intact, reads the images that have them once. Any other
 /// file, or one that is still incomplete then, is recovered on its stage, in passes. `last`
 /// remembers the last line of either.
-fn gather<R: Host>(
+fn gather<R: Progress>(
     rt: &R,
     order: &Unpack<'_>,
     shelf: &mut Source<'_, Image<R>>,

@@ -7,10 +7,10 @@ ghost use Rattle.std.specs.Prelude.{None};
 use super::last_line::LastLine;
 use crate::extract::{Draft, DraftFile, HELD};
 use crate::fault::{FileFault, OUT_OF_MEMORY, ToolFault};
-use crate::host::Host;
+use crate::host::{Host, Progress};
 use crate::images::Images;
 use crate::left::remove;
-use crate::program::{End, check_end};
+use crate::program::End;
 use crate::refusal::FileId;
 use hex::encode;
 use sha2::{Digest, Sha256};
@@ -54,14 +54,14 @@ struct Summed {
 
 impl Summed {
     /// Creates a buffered writer to `file`, which also computes the checksum of the bytes.
-    fn new(alloc: Global, file: DraftFile) -> Result<Summed, End> {
+    fn new(alloc: Global, file: DraftFile) -> Result<Summed, ToolFault> {
         match BufWriter::with_capacity(alloc, HELD, file) {
             Ok(out) => Ok(Summed {
                 out,
                 sum: Sha256::new(),
                 last: LastLine::new(),
             }),
-            Err(_) => Err(End::Faulted(OUT_OF_MEMORY)),
+            Err(_) => Err(OUT_OF_MEMORY),
         }
     }
 }
@@ -111,7 +111,7 @@ impl Salvaged {
     /// Writes the readable records of a file on the images named `names`; `last` remembers the last
     /// line of `salvage`. Ends with `Exists` if one of the paths has a file other than those that
     /// an earlier run wrote, unchanged.
-    pub fn write<R: Host>(
+    pub fn write<R: Progress>(
         &self,
         rt: &R,
         task: &SalvageTask,
@@ -139,7 +139,7 @@ impl Salvaged {
                     Ok((records, report)) => end_placed(
                         of_report.place(report).and_then(|()| name.place(records)),
                     ),
-                    Err(end) => end,
+                    Err(fault) => End::Faulted(fault),
                 };
                 of_report.ended(end)
             }
@@ -184,10 +184,8 @@ impl Salvaged {
         let mut last = [0; SUMS];
         read_all(&mut file, &mut last)?;
         let of_records = sum_of(&mut opened(rt, self.records.as_str())?, records)?;
-        match sums_line(rt.alloc(), &of_records, &of_lines) {
-            Ok(line) => Ok(last.as_slice() == line.as_bytes()),
-            Err(_) => Err(OUT_OF_MEMORY),
-        }
+        let line = sums_line(rt.alloc(), &of_records, &of_lines)?;
+        Ok(last.as_slice() == line.as_bytes())
     }
 }
 
@@ -205,30 +203,25 @@ fn draft<'a, R: Host>(
 
 /// Writes the records, and the report, which begins with the names of the images and ends with the
 /// checksums. Returns both files. Neither has its name yet.
-fn written<R: Host>(
+fn written<R: Progress>(
     rt: &R,
     task: &SalvageTask,
     names: &[&str],
     records: DraftFile,
     lines: DraftFile,
     last: &mut LastLine,
-) -> Result<(BufWriter<DraftFile>, BufWriter<DraftFile>), End> {
+) -> Result<(BufWriter<DraftFile>, BufWriter<DraftFile>), ToolFault> {
     let alloc = rt.alloc();
     let mut report = Summed::new(alloc, lines)?;
     for (number, name) in names.iter().enumerate() {
-        let Ok(line) = image_line(alloc, number, *name) else {
-            return Err(End::Faulted(OUT_OF_MEMORY));
-        };
-        write_text(&mut report, line.as_slice()).map_err(|_| NOT_WRITTEN)?;
+        write_text(&mut report, image_line(alloc, number, *name)?.as_slice())?;
     }
     let mut kept = Kept(None);
     let images = &mut Images::new(rt, names);
     let out = Summed::new(alloc, records)?;
-    if let Err(fault) = salvage_to(alloc, task, images, out, &mut kept, &mut report) {
-        return Err(check_end(Err(fault)));
-    }
+    salvage_to(alloc, task, images, out, &mut kept, &mut report)?;
     let Some(records) = kept.0 else {
-        return Err(NOT_WRITTEN);
+        return Err(ToolFault::File(FileFault::WriteFailed));
     };
     let Summed {
         mut out,
@@ -236,23 +229,18 @@ fn written<R: Host>(
         last: told,
     } = report;
     *last = told;
-    let Ok(line) = sums_line(alloc, &records.sum.finalize(), &sum.finalize()) else {
-        return Err(End::Faulted(OUT_OF_MEMORY));
-    };
-    write_text(&mut out, line.as_bytes()).map_err(|_| NOT_WRITTEN)?;
-    flush(&mut out).map_err(|_| NOT_WRITTEN)?;
+    let line = sums_line(alloc, &records.sum.finalize(), &sum.finalize())?;
+    write_text(&mut out, line.as_bytes())?;
+    flush(&mut out)?;
     Ok((records.out, out))
 }
-
-/// The end of a run that could not write a file.
-const NOT_WRITTEN: End = End::Faulted(ToolFault::File(FileFault::WriteFailed));
 
 /// Returns how unpacking an incomplete file ends, given whether its records and their report got
 /// their names.
 fn end_placed(placed: Result<(), WriteFailed>) -> End {
     match placed {
         Ok(()) => End::Incomplete,
-        Err(WriteFailed) => NOT_WRITTEN,
+        Err(fault) => End::Faulted(ToolFault::from(fault)),
     }
 }
 

@@ -37,7 +37,7 @@ pub const UNPACK: CommandSpec = CommandSpec {
     usage: None,
     words: &[
         Word("DIR", Kind::Text, help::FOLDER_OF_FILES),
-        Word("IMAGE", Kind::TextsOr("files-from"), help::SHELF),
+        Word("IMAGE", Kind::AnyTexts, help::SHELF),
         Word("files-from", Kind::TextOption("LIST"), help::FROM),
         Word("null", Kind::FlagOf("files-from"), help::NULL),
         Word(

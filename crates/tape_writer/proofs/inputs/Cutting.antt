@@ -1,13 +1,12 @@
 -- The records of the bytes read so far.
-use Rattle.std.proofs.Common.{◌≡◌, ℕ, List, [], ◌∷◌, ◌++◌, Bool, true, false, Option, Some, None}
+use Rattle.std.proofs.Common.{◌≡◌, ℕ, List, [], ◌++◌, Bool, true, false, Option, Some, None}
 use Rattle.std.proofs.Common.{take, drop, refl, sym, ap, subst, ◌∙◌, append_assoc}
 use Rattle.std.proofs.Common.{take-append-drop}
-use Rattle.std.specs.Io.KnownBytes.{Consumes, Keeps, IsAtEnd, prepend_known}
+use Rattle.std.specs.Io.KnownBytes.{Consumes, Keeps, prepend_known}
 use Rattle.std.proofs.KnownBytes.{Consumes-trans, Consumes-nil, Consumes-kept}
-use Rattle.std.specs.Prelude.{MatchBool}
 use Rattle.tape_image.specs.Reader.{IfKnown}
 use Rattle.tape_writer.specs.declared.inputs.cut.Cut.{Cut}
-use Rattle.tape_writer.specs.Records.{records_from, records_of, last_record, to_come, given, Adds}
+use Rattle.tape_writer.specs.Records.{records_from, records_of, to_come, given, Adds}
 
 -- The bytes read from the input are the beginning of a record.
 pub record SoFar (cut : Cut) (all left : Option (List ℕ)) (r : List ℕ) : Type 0 where
@@ -34,12 +33,6 @@ pub used : (known : Option (List ℕ)) (old new piece : List ℕ) → old ≡ pi
 used None old new piece is = tt
 used (Some xs) old new piece is = ap (λ l. l ++ xs) is ∙ append_assoc piece new xs
 
--- nothing is left
-pub none_left : (known : Option (List ℕ)) (ahead : List ℕ) → ahead ≡ [] → IsAtEnd known
-    → IsAtEnd (prepend_known ahead known)
-none_left None ahead none end = tt
-none_left (Some xs) ahead none end = ap (λ l. l ++ xs) none ∙ end
-
 -- one piece more
 pub one_piece : (cut : Cut) (all left next : Option (List ℕ)) (r new piece : List ℕ)
     → SoFar cut all left r → Consumes left next piece → new ≡ r ++ piece
@@ -51,29 +44,27 @@ one_piece cut all left next r new piece s c grown adds = record {
       ∙ ap (records_from cut []) (append_assoc r piece ys) ∙ s.same (piece ++ ys) ∙ adds ys;
 }
 
-last_given : (cut : Cut) (r : List ℕ) (more : Bool)
-    → MatchBool more (last_record cut r ≡ r ∷ []) (last_record cut r ≡ [])
-    → last_record cut r ≡ given more r []
-last_given cut r true e = e
-last_given cut r false e = e
-
-known_last : (cut : Cut) (r front : List ℕ) (more : Bool) (all next : Option (List ℕ))
-    → ((ys : List ℕ) → records_from cut [] (front ++ ys) ≡ records_from cut r ys)
-    → last_record cut r ≡ given more r []
-    → Consumes all next front → IsAtEnd next
-    → IfKnown all next (λ xs ys. to_come cut false xs ≡ given more r (to_come cut true ys))
-known_last cut r front more None next same last c e = tt
-known_last cut r front more (Some xs) None same last c e = absurd c
-known_last cut r front more (Some xs) (Some ys) same last c e =
-    ap (records_of cut) (c ∙ ap (λ l. front ++ l) e) ∙ same [] ∙ last
-
--- the input has ended, and the bytes read are its last record
-pub last_of : (cut : Cut) (all next : Option (List ℕ)) (r : List ℕ) (more : Bool)
-    → SoFar cut all next r → IsAtEnd next
-    → MatchBool more (last_record cut r ≡ r ∷ []) (last_record cut r ≡ [])
-    → IfKnown all next (λ xs ys. to_come cut false xs ≡ given more r (to_come cut true ys))
-last_of cut all next r more s end last =
-    known_last cut r r more all next s.same (last_given cut r more last) s.consumed end
+-- the next piece ends the record
+pub next_given : (cut here : Cut) (a b : Bool) (all left next : Option (List ℕ))
+    (r new piece : List ℕ) → SoFar cut all left r → Consumes left next piece → here ≡ cut
+    → a ≡ false → b ≡ false → Adds here r piece new true
+    → IfKnown all next (λ xs ys. to_come cut a xs ≡ given true new (to_come here b ys))
+next_given cut here a b all left next r new piece s c is one two adds =
+    subst (λ x. IfKnown all next (λ xs ys.
+    to_come cut x xs ≡ given true new (to_come here b ys))) (sym one)
+    (subst (λ x. IfKnown all next (λ xs ys.
+    to_come cut false xs ≡ given true new (to_come here x ys))) (sym two)
+    (subst (λ h. IfKnown all next (λ xs ys.
+    to_come cut false xs ≡ given true new (to_come h false ys))) (sym is)
+    (go all next (Consumes-trans all left next r piece s.consumed c))))
+  where
+    go : (k m : Option (List ℕ)) → Consumes k m (r ++ piece)
+        → IfKnown k m (λ xs ys. to_come cut false xs ≡ given true new (to_come cut false ys))
+    go None m e = tt
+    go (Some xs) None e = absurd e
+    go (Some xs) (Some ys) e =
+        ap (records_of cut) (e ∙ append_assoc r piece ys) ∙ s.same (piece ++ ys)
+        ∙ subst (λ h. Adds h r piece new true) is adds ys
 
 -- a piece was moved from the bytes read ahead
 pub piece_taken : (cut : Cut) (old new bytes ahead rest : List ℕ) (content taken : ℕ) (ended : Bool)

@@ -6,27 +6,40 @@ use Rattle.std.specs.Prelude.{Option, Some, None, Err, IfSome, Bool, false, map}
 use Rattle.std.specs.List.{AllByRecursion}
 use Rattle.tape_image.specs.Writer.{Writer}
 use Rattle.tape_image.specs.Writer as standings
+use Rattle.tape_label.specs.declared.values.Vol1.{Vol1}
 use Rattle.tape_label.specs.declared.values.Head1.{Head1}
 use Rattle.tape_blocks.specs.declared.parts.Shape.{Shape}
+use Rattle.tape_set.specs.Layout.{Section}
 use Rattle.tape_writer.specs.declared.course.Opened.{Opened}
 use Rattle.tape_writer.specs.declared.fault.WriteFault.TheVariants.{OutOfVolumes, Device}
 use Rattle.tape_writer.specs.declared.fault.SetFault.TheVariants.{Write, ReadFailed}
 use Rattle.tape_writer.specs.declared.inputs.cut.Cut.{Cut}
 use Rattle.tape_writer.specs.declared.inputs.set.SetPlan.{SetPlan}
-use Rattle.tape_writer.specs.Tapes.{Tapes, Rose}
+use Rattle.tape_writer.specs.Tapes.{Tapes}
 use Rattle.tape_writer.specs.Images.{Holds, IsUnderWay, TakesNoMore, HasStopped}
 use Rattle.tape_writer.specs.Told.{Told, labelled}
 use Rattle.tape_writer.specs.Draft.{Draft, IsOpen, open_items}
-use Rattle.tape_writer.specs.State.{SetState, IsWriting}
+use Rattle.tape_writer.specs.declared.course.Course.{Course}
+use Rattle.tape_writer.specs.Front.{IsPartly}
+use Rattle.tape_writer.specs.State.{SetState}
 use Rattle.tape_writer.specs.ToldFiles.{IfAllKnown}
 use Rattle.tape_writer.specs.NoVolume.{GaveUpIn, GaveUpSet, HasNoVolume}
 use Rattle.tape_writer.specs.Fields.{IsTextHead}
 use Rattle.tape_writer.specs.LeftOf.{IsLeftOfAll, IsLeftSet}
 use Rattle.tape_writer.specs.WriteFaults.{IsOfInput}
 use Rattle.tape_writer.specs.WriteSet.{cut_of}
-use Rattle.tape_writer.proofs.MistakesOfFronts.{open_of}
-use Rattle.tape_writer.proofs.inputs.files.write_files.Reads as write_files
 use Rattle.tape_writer.proofs.inputs.set.write_set.Reads as write_set
+
+-- a file of which a part was written is open
+open_of : (H : Tapes → Type 0) (vs : List Vol1) (capacity : ℕ) (set_id : List ℕ) (file : Opened)
+    (course : Course) (fs : List (List Section)) (records : List (List ℕ))
+    → IsPartly H vs capacity set_id file course fs records
+    → (d : Draft) × IsOpen H vs capacity set_id file course d × (d.files ≡ fs)
+open_of H vs capacity set_id file course fs records (inl k) = (k.1.draft, k.1.is_open, k.1.files)
+open_of H vs capacity set_id file course fs records (inr (inl k)) =
+    (k.packing.draft, k.packing.is_open, k.packing.files)
+open_of H vs capacity set_id file course fs records (inr (inr k)) =
+    (k.draft, k.is_open, k.files)
 
 -- the bytes of each input are known
 abbrev AreKnown : List (Head1 × Option (List ℕ)) → Type 0
@@ -62,35 +75,6 @@ on_last H w set_id told shape cut inputs g known =
       is_open = k.2.out.stuck.is_open;
       none_left = k.2.out.stuck.none_left;
     }
-
--- third_file_has_no_volume: the second of three volumes is current, but files are refused because
--- no volume is left
-third_file_has_no_volume : (T : _) (R : _) (LT : _) (LR : _) (g : _) (d : _) (e : _) (h : _)
-    (f : _) (κs : _) (a : _) (s : _) (told : List Told)
-    → write_files.Learnt-named T R LT LR g d e h f κs a (Err (Write OutOfVolumes)) s
-    → IsWriting (g.holds a.1.0.now.out) a.1.0.now told
-    → AreKnown (map {B = Head1 × Option (List ℕ)} (λ v. (v.head, e.remaining v.reader))
-    a.1.1.0.now)
-    → length s.1.0.now.volumes ≡ 3 → s.1.0.now.course.volume ≡ 2 → ⊥
-third_file_has_no_volume T R LT LR g d e h f κs a s told l writing known three two =
-    let k = on_last (g.holds s.1.0.now.out) s.1.0.now a.1.0.now.set_id told _ _ _
-    (l.stuck refl told writing) known in
-    absurd (omega (arith, k.none_left, three, two))
-
-not_rose : Rose 3 3 → ⊥
-not_rose (inl e) = absurd (omega (arith, e))
-not_rose (inr e) = absurd (omega (arith, e))
-
--- read_failure_told_as_device: an input fails, but the fault says that the device of the tapes
--- failed
-read_failure_told_as_device : (T : _) (R : _) (LT : _) (LR : _) (g : _) (d : _) (e : _) (h : _)
-    (f : _) (κs : _) (a : _) (s : _)
-    → write_files.Learnt-named T R LT LR g d e h f κs a (Err (Write Device)) s
-    → g.failures a.1.0.now.out ≡ record { device = 3; memory = 3 }
-    → g.failures s.1.0.now.out ≡ record { device = 3; memory = 3 } → ⊥
-read_failure_told_as_device T R LT LR g d e h f κs a s l was is =
-    not_rose (subst (λ v. Rose 3 v.device) is
-    (subst (λ v. Rose v.device (g.failures s.1.0.now.out).device) was (l.cause refl)))
 
 -- image tapes of a writer without a volume left have a current image
 under_way : {S : Type 0} (H : S → Bool → List (List ℕ) → Type 0) (store : S) (plan : SetPlan)

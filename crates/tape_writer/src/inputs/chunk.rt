@@ -1,7 +1,7 @@
 //! Bytes that were read ahead.
-ghost use Rattle.std.specs.Prelude.{◌≡◌, ◌≤◌, ◌<◌, [], ◌∷◌, drop, length, vec_len, take, IfOk};
-ghost use Rattle.std.specs.Prelude.{OnOk, OnErr, IsOkUnless, MatchBool};
-ghost use Rattle.std.specs.Io.KnownBytes.{Keeps, Consumes, IsAtEnd, prepend_known};
+ghost use Rattle.std.specs.Prelude.{◌≡◌, ◌<◌, [], drop, length, IfOk, OnOk, OnErr, IsOkUnless};
+ghost use Rattle.std.specs.Prelude.{MatchBool};
+ghost use Rattle.std.specs.Io.KnownBytes.{Keeps, IsAtEnd, prepend_known};
 
 use crate::inputs::records::InputFault;
 use std::alloc::{AllocError, Global};
@@ -79,30 +79,13 @@ impl Chunk {
         }
         self.start = 0;
         self.end = 0;
-        match read_over(reader, &mut self.bytes) {
+        match reader.read(self.bytes.as_mut_slice()) {
             Ok(count) => {
                 self.end = count;
                 Ok(())
             }
-            Err(fault) => Err(fault),
+            // An interruption is also a failure.
+            Err(_) => Err(InputFault::ReadFailed),
         }
-    }
-}
-
-/// Reads once, and replaces `bytes`.
-fn read_over<R: Read>(reader: &mut R, bytes: &mut Vec<u8>) -> Result<usize, InputFault>
-    ensures len { vec_len bytes.new ≡ vec_len bytes.old }
-    ensures within { IfOk result (λ n. n ≤ vec_len bytes.new) }
-    ensures ok { IfOk result (λ n. Consumes (R.remaining reader.old) (R.remaining reader.new)
-        (take n bytes.new.items)) }
-    ensures end { IfOk result (λ n. n ≡ 0 → 0 < vec_len bytes.old
-        → IsAtEnd (R.remaining reader.new)) }
-    ensures err { OnErr result (Keeps (R.remaining reader.old) (R.remaining reader.new)) }
-    ensures kind { IsOkUnless result InputFault.ReadFailed }
-{
-    match reader.read(bytes.as_mut_slice()) {
-        Ok(count) => Ok(count),
-        // An interruption is also a failure.
-        Err(_) => Err(InputFault::ReadFailed),
     }
 }

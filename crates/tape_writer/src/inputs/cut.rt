@@ -1,9 +1,12 @@
-//! The cutting of an input into records.
+//! The cutting of an input into records, and the maximum length of a record.
 ghost use Rattle.std.specs.Prelude.{◌≡◌, ◌<◌, ◌≤◌, ◌++◌, ◌∷◌, [], ℕ, List, take, false, MatchBool};
 ghost use Rattle.std.specs.Prelude.{length as count};
-ghost use Rattle.tape_writer.specs.Records.{Adds, last_record};
+ghost use Rattle.tape_writer.specs.Records.{Adds, last_record, longest as longest_of};
+ghost use Rattle.tape_writer.specs.WriteSet.{cut_of as cut_by};
 
 use memchr::memchr;
+use tape_blocks::{Form, Shape};
+use tape_label::Format;
 
 /// The way in which an input is cut into records.
 #[derive(Clone, Copy)]
@@ -37,10 +40,38 @@ impl Cut {
         ensures adds { (r : List ℕ) → count r ≡ held → Adds self r (take result.taken bytes.now)
             (r ++ take result.content bytes.now) result.ended }
     {
+        let all = Piece {
+            content: bytes.len(),
+            taken: bytes.len(),
+            ended: false,
+        };
         match self {
-            Cut::Lines => line_piece(bytes),
-            Cut::Length(length) => length_piece(length, held, bytes),
-            Cut::Whole => Piece::inside(bytes.len()),
+            Cut::Lines => match memchr(b'\n', bytes) {
+                Some(place) => Piece {
+                    content: place,
+                    taken: place + 1,
+                    ended: true,
+                },
+                None => all,
+            },
+            Cut::Length(length) => {
+                let length = length as usize;
+                if held >= length {
+                    // A record that is already this long never ends. This happens only if the
+                    // length is 0.
+                    return all;
+                }
+                let wanted = length - held;
+                if bytes.len() < wanted {
+                    return all;
+                }
+                Piece {
+                    content: wanted,
+                    taken: wanted,
+                    ended: true,
+                }
+            }
+            Cut::Whole => all,
         }
     }
 
@@ -56,59 +87,28 @@ impl Cut {
     }
 }
 
-impl Piece {
-    /// Returns a piece of `length` bytes, all of them inside a record.
-    fn inside(length: usize) -> Piece
-        ensures { result ≡ record { content = length; taken = length; ended = false } }
-    {
-        Piece {
-            content: length,
-            taken: length,
-            ended: false,
-        }
-    }
-}
-
-/// Returns the bytes up to the line feed, or all bytes if none is a line feed.
-fn line_piece(bytes: &[u8]) -> Piece
-    ensures within { (result.content ≤ result.taken) × (result.taken ≤ count bytes.now) }
-    ensures some { 0 < count bytes.now → 0 < result.taken }
-    ensures all { result.ended ≡ false → result.content ≡ result.taken }
-    ensures adds { (r : List ℕ) → Adds Cut.Lines r (take result.taken bytes.now)
-        (r ++ take result.content bytes.now) result.ended }
+/// Returns how inputs of form `form` are cut for files of shape `shape`, or `None` for raw inputs
+/// in format D, which cannot be cut.
+pub fn cut_of(form: Form, shape: &Shape) -> Option<Cut>
+    ensures { result ≡ cut_by form shape.now }
 {
-    match memchr(b'\n', bytes) {
-        Some(place) => Piece {
-            content: place,
-            taken: place + 1,
-            ended: true,
+    match form {
+        Form::Lines => Some(Cut::Lines),
+        Form::Raw => match shape.format {
+            Format::Fixed => Some(Cut::Length(shape.rec_len)),
+            Format::Counted => None,
+            Format::Spanned => Some(Cut::Whole),
         },
-        None => Piece::inside(bytes.len()),
     }
 }
 
-/// Returns the bytes up to the length of the record, or all bytes if there are fewer.
-fn length_piece(length: u32, held: usize, bytes: &[u8]) -> Piece
-    ensures within { (result.content ≤ result.taken) × (result.taken ≤ count bytes.now) }
-    ensures some { 0 < count bytes.now → 0 < result.taken }
-    ensures all { result.ended ≡ false → result.content ≡ result.taken }
-    ensures adds { (r : List ℕ) → count r ≡ held
-        → Adds (Cut.Length length) r (take result.taken bytes.now)
-        (r ++ take result.content bytes.now) result.ended }
+/// Returns the maximum length of a record in a file of shape `shape`.
+pub fn longest(shape: &Shape) -> u32
+    ensures { result ≡ longest_of shape.now }
 {
-    let all = Piece::inside(bytes.len());
-    let length = length as usize;
-    if held >= length {
-        // A record that is already this long never ends. This happens only if the length is 0.
-        return all;
-    }
-    let wanted = length - held;
-    if bytes.len() < wanted {
-        return all;
-    }
-    Piece {
-        content: wanted,
-        taken: wanted,
-        ended: true,
+    match shape.format {
+        Format::Fixed => shape.rec_len,
+        Format::Counted => shape.rec_len.saturating_sub(4),
+        Format::Spanned => u32::MAX,
     }
 }

@@ -18,8 +18,7 @@ ghost use Rattle.tape_writer.specs.WriteFaults.{OneIsOther, IsInputFault, IsFile
 ghost use Rattle.tape_writer.specs.WriteFaults.{IsFilesFault, told_as, StopsByDevice};
 
 use crate::fault::{SetFault, WriteFault};
-use crate::inputs::cut::Cut;
-use crate::inputs::form::longest;
+use crate::inputs::cut::{Cut, longest};
 use crate::inputs::records::{InputFault, Records};
 use crate::out::TapeOut;
 use crate::set::SetWriter;

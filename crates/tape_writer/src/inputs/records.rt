@@ -1,9 +1,9 @@
 //! The records of an input, one after another.
-ghost use Rattle.std.specs.Prelude.{◌≡◌, ◌≤◌, ◌<◌, ◌++◌, [], ℕ, List, length, IfOk, IfErr, OnOk};
+ghost use Rattle.std.specs.Prelude.{◌≡◌, ◌≤◌, ◌++◌, [], length, IfOk, IfErr};
 ghost use Rattle.std.specs.Prelude.{OnErr, vec_capacity};
 ghost use Rattle.std.specs.Prelude.{IfSome, true, false};
 ghost use Rattle.tape_image.specs.Reader.{IfKnown};
-ghost use Rattle.tape_writer.specs.Records.{to_come, given, Adds, left_of, IsFirstLong, GrowsLong};
+ghost use Rattle.tape_writer.specs.Records.{to_come, given, left_of, IsFirstLong};
 
 use crate::inputs::chunk::Chunk;
 use crate::inputs::cut::Cut;
@@ -106,49 +106,18 @@ impl<R: Read + Drop> Records<R> {
                 self.over = true;
                 return Ok(self.cut.is_last(self.record.len()));
             }
-            let ended = take_piece(self.cut, self.limit, &mut self.record, &mut self.ahead)?;
-            if ended {
+            let bytes = self.ahead.as_slice();
+            let piece = self.cut.piece(self.record.len(), bytes);
+            if piece.content > self.limit as usize - self.record.len() {
+                return Err(InputFault::TooLong);
+            }
+            match self.record.extend_from_slice(&bytes[..piece.content]) {
+                Ok(()) => self.ahead.skip(piece.taken),
+                Err(_) => return Err(InputFault::OutOfMemory),
+            }
+            if piece.ended {
                 return Ok(true);
             }
         }
-    }
-}
-
-/// Appends the next piece of a record from the bytes that were read ahead. Returns whether the
-/// record ends with the piece.
-fn take_piece(
-    cut: Cut,
-    limit: u32,
-    held: &mut Vec<u8>,
-    ahead: &mut Chunk,
-) -> Result<bool, InputFault>
-    requires within { length held.old.items ≤ limit }
-    requires some { 0 < length ahead.old }
-    ensures taken { IfOk result (λ ended. (piece : List ℕ) × (ahead.old ≡ piece ++ ahead.new)
-        × Adds cut held.old.items piece held.new.items ended
-        × (ended ≡ false → held.new.items ≡ held.old.items ++ piece)) }
-    ensures grew { IfOk result (λ ended. ended ≡ false
-        → length held.old.items < length held.new.items) }
-    ensures within { length held.new.items ≤ limit }
-    ensures err { OnErr result ((held.new.items ≡ held.old.items) × (ahead.new ≡ ahead.old)) }
-    ensures room { (vec_capacity held.old ≤ vec_capacity held.new)
-        × (length held.new.items ≤ vec_capacity held.new) }
-    ensures kind { IfErr result (λ fault. fault ≡ InputFault.ReadFailed → ⊥) }
-    ensures memory { IfErr result (λ fault. fault ≡ InputFault.OutOfMemory
-        → GrowsLong (vec_capacity held.old) cut held.old.items ahead.old) }
-    ensures long { IfErr result (λ fault. fault ≡ InputFault.TooLong
-        → GrowsLong limit cut held.old.items ahead.old) }
-{
-    let bytes = ahead.as_slice();
-    let piece = cut.piece(held.len(), bytes);
-    if piece.content > limit as usize - held.len() {
-        return Err(InputFault::TooLong);
-    }
-    match held.extend_from_slice(&bytes[..piece.content]) {
-        Ok(()) => {
-            ahead.skip(piece.taken);
-            Ok(piece.ended)
-        }
-        Err(_) => Err(InputFault::OutOfMemory),
     }
 }

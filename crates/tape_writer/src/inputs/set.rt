@@ -6,24 +6,18 @@ ghost use Rattle.tape_blocks.specs.Packing.{IsWritable};
 ghost use Rattle.tape_set.specs.Tight.{least_capacity};
 ghost use Rattle.tape_writer.specs.Fields.{IsText, IsTextVolume, IsTextHead};
 ghost use Rattle.tape_writer.specs.Images.{Holds, HasStopped};
-ghost use Rattle.tape_writer.specs.Tapes.{Rose};
-ghost use Rattle.tape_writer.specs.Told.{Told};
-ghost use Rattle.tape_writer.specs.State.{IsWriting, SameSet};
-ghost use Rattle.tape_writer.specs.declared.phase.Phase.TheVariants.{Between, Finished};
 ghost use Rattle.tape_writer.specs.ToldFiles.{IfAllKnown, told_files};
-ghost use Rattle.tape_writer.specs.NoVolume.{GaveUpIn, HasNoVolume};
-ghost use Rattle.tape_writer.specs.LeftOf.{IsLeftOfAll, IsLeftSet};
+ghost use Rattle.tape_writer.specs.NoVolume.{HasNoVolume};
+ghost use Rattle.tape_writer.specs.LeftOf.{IsLeftSet};
 ghost use Rattle.tape_writer.specs.WriteSet.{IsSetOfImages, cut_of as cut_by};
-ghost use Rattle.tape_writer.specs.WriteFaults.{IsSetFault, IsWholeFault, IsOfInput, StopsByDevice};
+ghost use Rattle.tape_writer.specs.WriteFaults.{IsSetFault, IsOfInput};
 
 use crate::fault::{SetFault, WriteFault};
 use crate::fields::is_text_head;
 use crate::images::ImageTapes;
-use crate::inputs::cut::Cut;
+use crate::inputs::cut::cut_of;
 use crate::inputs::files::{Input, write_files};
-use crate::inputs::form::cut_of;
-use crate::out::TapeOut;
-use crate::set::{SetWriter, judge_set};
+use crate::set::SetWriter;
 use crate::store::ImageStore;
 use std::alloc::Global;
 use std::io::Read;
@@ -131,21 +125,30 @@ pub fn write_set<R: Read, S: ImageStore + Drop>(
         shape,
         form,
     } = plan;
+    let tapes = ImageTapes::new(images);
     let Some(cut) = cut_of(form, &shape) else {
-        return Err(refused(WriteFault::BadShape, images));
+        return Err(left(SetFault::Write(WriteFault::BadShape), tapes));
     };
-    if let Err(fault) = judge_set(&set_id, &volumes) {
-        return Err(refused(fault, images));
-    }
+    let mut writer = match SetWriter::new(alloc, set_id, volumes, capacity, tapes) {
+        Ok(writer) => writer,
+        Err(refused) => return Err(left(SetFault::Write(refused.fault), refused.out)),
+    };
     if !are_text_heads(files) {
-        return Err(refused(WriteFault::BadField, images));
+        return Err(left(SetFault::Write(WriteFault::BadField), writer.into_out()));
     }
-    let count = files.len();
-    let mut writer = SetWriter::judged(alloc, set_id, volumes, capacity, ImageTapes::new(images));
-    match write_whole(alloc, &mut writer, files, shape, cut) {
-        Ok(()) => Ok(written(count, writer)),
-        Err(fault) => Err(left(fault, writer)),
+    if let Err(fault) = write_files(alloc, &mut writer, files, shape, cut) {
+        return Err(left(fault, writer.into_out()));
     }
+    if let Err(fault) = writer.finish() {
+        return Err(left(SetFault::Write(fault), writer.into_out()));
+    }
+    let (tapes, volumes) = writer.into_parts();
+    let (images, _) = tapes.into_parts();
+    Ok(WrittenSet {
+        files: files.len(),
+        volumes,
+        images,
+    })
 }
 
 /// Returns true if the fields of all heads are a-characters.
@@ -160,85 +163,17 @@ fn are_text_heads<R>(files: &[Input<R>]) -> bool
     true
 }
 
-/// Returns a refusal with the store `images`, before anything was written.
-fn refused<S: ImageStore + Drop>(fault: WriteFault, images: S) -> RefusedSet<S>
-    ensures fault { result.fault ≡ SetFault.Write fault }
-    ensures images { result.images ≡ images }
-    ensures under_way { result.under_way ≡ None }
-{
-    RefusedSet {
-        fault: SetFault::Write(fault),
-        images,
-        under_way: None,
-    }
-}
-
-/// Returns the parts of a writer whose set is not complete, and the fault.
-fn left<S: ImageStore + Drop>(fault: SetFault, writer: SetWriter<ImageTapes<S>>) -> RefusedSet<S>
+/// Returns the fault, and the parts of the tapes that were written up to it.
+fn left<S: ImageStore + Drop>(fault: SetFault, tapes: ImageTapes<S>) -> RefusedSet<S>
     ensures fault { result.fault ≡ fault }
-    ensures images { result.images ≡ writer.out.store }
-    ensures under_way { result.under_way ≡ writer.out.image }
-    ensures stopped { 0 < writer.out.failed
-        → HasStopped (S.left result.images) result.under_way }
+    ensures images { result.images ≡ tapes.store }
+    ensures under_way { result.under_way ≡ tapes.image }
+    ensures stopped { 0 < tapes.failed → HasStopped (S.left result.images) result.under_way }
 {
-    let (images, under_way) = writer.into_out().into_parts();
+    let (images, under_way) = tapes.into_parts();
     RefusedSet {
         fault,
         images,
         under_way,
-    }
-}
-
-/// Returns the parts of a writer whose set is complete.
-fn written<S: ImageStore + Drop>(files: usize, writer: SetWriter<ImageTapes<S>>) -> WrittenSet<S>
-    ensures files { result.files ≡ files }
-    ensures volumes { result.volumes.items ≡ writer.volumes }
-    ensures images { result.images ≡ writer.out.store }
-{
-    let (tapes, volumes) = writer.into_parts();
-    let (images, _) = tapes.into_parts();
-    WrittenSet {
-        files,
-        volumes,
-        images,
-    }
-}
-
-/// Writes all files, and ends the set.
-fn write_whole<T: TapeOut + Drop, R: Read>(
-    alloc: Global,
-    writer: &mut SetWriter<T>,
-    files: &mut [Input<R>],
-    shape: Shape,
-    cut: Cut,
-) -> Result<(), SetFault>
-    ensures same { SameSet writer.old writer.new }
-    ensures told { (told : List Told) → IsWriting (T.holds writer.old.out) writer.old told
-        → OnOk result (IfAllKnown (map (λ f. (f.head, R.remaining f.reader)) files.old) (λ fs.
-        IsWriting (T.holds writer.new.out) writer.new
-        (told ++ told_files writer.old.set_id shape cut (length told + 1) fs))) }
-    ensures end { OnOk result (writer.new.phase ≡ Finished) }
-    ensures due { writer.old.phase ≡ Between → writer.old.files ≡ []
-        → IfErr result (IsWholeFault writer.old.capacity shape cut
-        (map (λ f. (f.head, R.remaining f.reader)) files.old)) }
-    ensures stuck { writer.old.phase ≡ Between
-        → IfErr result (λ fault. fault ≡ SetFault.Write WriteFault.OutOfVolumes
-        → (told : List Told) → IsWriting (T.holds writer.old.out) writer.old told
-        → GaveUpIn (T.holds writer.new.out) writer.new writer.old.set_id told shape cut
-        (map (λ f. (f.head, R.remaining f.reader)) files.old)) }
-    ensures front { writer.old.phase ≡ Between
-        → (told : List Told) → IsWriting (T.holds writer.old.out) writer.old told
-        → IfErr result (λ fault. IsLeftOfAll (T.holds writer.new.out) writer.new
-        (Rose (T.failures writer.old.out).memory (T.failures writer.new.out).memory) fault
-        writer.old.set_id told shape cut (map (λ f. (f.head, R.remaining f.reader)) files.old)) }
-    ensures unfit { writer.old.phase ≡ Between
-        → (IsWritable shape → least_capacity shape ≤ writer.old.capacity → ⊥)
-        → 0 < length files.old → (writer.new ≡ writer.old) × OnOk result ⊥ }
-    ensures cause { StopsByDevice (T.failures writer.old.out) result (T.failures writer.new.out) }
-{
-    write_files(alloc, writer, files, shape, cut)?;
-    match writer.finish() {
-        Ok(()) => Ok(()),
-        Err(fault) => Err(SetFault::Write(fault)),
     }
 }

@@ -18,9 +18,9 @@ ghost use Rattle.tape_writer.specs.declared.phase.Phase.TheVariants.{Between, Fa
 use crate::course::Opened;
 use crate::fault::WriteFault;
 use crate::fields::is_text_head;
-use crate::files::begin;
 use crate::out::TapeOut;
 use crate::phase::{OpenFile, Phase};
+use crate::records::begin;
 use crate::set::SetWriter;
 use tape_blocks::{Packer, Shape};
 use tape_label::Head1;

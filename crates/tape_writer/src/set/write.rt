@@ -15,10 +15,9 @@ ghost use Rattle.tape_writer.specs.declared.course.Opened.{Opened};
 ghost use Rattle.tape_writer.specs.declared.phase.Phase.TheVariants.{Between, Failed, Finished};
 
 use crate::fault::WriteFault;
-use crate::files::end_set;
 use crate::out::TapeOut;
 use crate::phase::Phase;
-use crate::records::put_record;
+use crate::records::{end_set, put_record};
 use crate::set::SetWriter;
 
 impl<T: TapeOut + Drop> SetWriter<T> {

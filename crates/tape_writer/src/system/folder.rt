@@ -1,7 +1,9 @@
-//! Makes the names of files durable.
+//! The paths of files, and directories whose names are made durable.
+use crate::blank::Prefix;
+use std::alloc::{AllocError, Global};
 use std::fs::{File, Files, OpenFile};
 use std::io;
-use std::io::ErrorKind;
+use std::io::{ErrorKind, Write};
 
 /// Syncs the directory of `path`. If the directory may not be read, or the file system cannot sync
 /// it (as with some network file systems), the names become durable when the system chooses.
@@ -41,4 +43,33 @@ pub fn name_in_folder(path: &str) -> &str {
 /// Returns true if a file system reports this kind of error when it cannot sync.
 pub fn is_unable(kind: ErrorKind) -> bool {
     matches!(kind, ErrorKind::InvalidInput | ErrorKind::Unsupported)
+}
+
+/// Returns the path of the image of volume `number` in directory `folder`: its identifier followed
+/// by `.tap`.
+pub fn image_path(
+    alloc: Global,
+    folder: &str,
+    prefix: Prefix,
+    number: u16,
+) -> Result<String, AllocError> {
+    let mut path = String::new(alloc);
+    put_image_path(&mut path, folder, prefix, number)?;
+    Ok(path)
+}
+
+/// Appends the path of the image of volume `number` in directory `folder` to `path`.
+pub fn put_image_path(
+    path: &mut String,
+    folder: &str,
+    prefix: Prefix,
+    number: u16,
+) -> Result<(), AllocError> {
+    path.push_str(folder)?;
+    path.push_str("/")?;
+    for byte in prefix.characters {
+        path.push(char::from(byte))?;
+    }
+    write!(path, "{number:03}.tap")?;
+    Ok(())
 }

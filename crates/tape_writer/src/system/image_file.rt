@@ -8,11 +8,10 @@ ghost use Rattle.tape_writer.specs.Holding.{Opens, FileTakes, FilePasses};
 
 use crate::blank::Prefix;
 use crate::fault::WriteFault;
+use crate::system::Host;
 use crate::system::fault::{FileFault, SystemFault};
-use crate::system::folder::sync_folder_of;
-use crate::system::host::Host;
+use crate::system::folder::{image_path, sync_folder_of};
 use crate::system::opening::open_image;
-use crate::system::paths::image_path;
 use crate::system::write_behind::{ROOM, WriteBehind};
 use std::fs::File;
 use std::io;

@@ -3,7 +3,7 @@ ghost use Rattle.std.specs.Prelude.{◌-◌};
 
 use crate::blank::{Prefix, blank_volume};
 use crate::store::ImageStore;
-use crate::system::host::Host;
+use crate::system::Host;
 use crate::system::image_file::ImageFile;
 use std::alloc::{AllocError, Global};
 use tape_label::{Field, Vol1};

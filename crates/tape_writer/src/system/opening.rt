@@ -3,11 +3,11 @@ ghost use Rattle.std.specs.Prelude.{◌≡◌, ◌↔◌, min, IfOk, IfSome, IsO
 ghost use Rattle.tape_writer.specs.Blank.{blank_image, blank_volume};
 
 use crate::blank::{BLANK, BlankImage, Prefix, blank_image, blank_volume};
+use crate::system::Host;
 use crate::system::answers::{LockFault, locked};
 use crate::system::bytes::put_all;
 use crate::system::fault::FileFault;
 use crate::system::folder::sync_folder_of;
-use crate::system::host::Host;
 use std::fs::{File, OpenOptions};
 use std::io::{ErrorKind, Read, Seek, SeekFrom};
 use tape_image::fill;

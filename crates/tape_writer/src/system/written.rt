@@ -6,8 +6,8 @@ ghost use Rattle.tape_writer.specs.System.{of_set};
 use crate::blank::{Prefix, blank_volume};
 use crate::fault::{SetFault, WriteFault};
 use crate::inputs::{Input, RefusedSet, SetPlan, write_set};
+use crate::system::Host;
 use crate::system::fault::{FileFault, SystemFault};
-use crate::system::host::Host;
 use crate::system::image_file::NO_MEMORY;
 use crate::system::image_files::{Ended, ImageFiles, VOLUMES};
 use std::alloc::{AllocError, Global};
@@ -45,7 +45,14 @@ pub fn write_in_folder<R: Host, I: Read>(
     let Ok(images) = ImageFiles::new(rt, plan.folder, plan.prefix) else {
         return Err(NO_MEMORY);
     };
-    match write_set(rt.alloc(), set_plan(plan, volumes), files, images) {
+    let set = SetPlan {
+        set_id: set_id(plan.prefix),
+        volumes,
+        capacity: plan.capacity,
+        shape: plan.shape,
+        form: plan.form,
+    };
+    match write_set(rt.alloc(), set, files, images) {
         Ok(done) => Ok(done.images.into_ended()),
         Err(refused) => Err(told(refused)),
     }
@@ -58,17 +65,6 @@ fn volumes_of(alloc: Global, prefix: Prefix) -> Result<Vec<Vol1>, AllocError> {
         volumes.push(blank_volume(prefix, number))?;
     }
     Ok(volumes)
-}
-
-/// Returns the plan of the set on `volumes`.
-fn set_plan(plan: &FolderPlan<'_>, volumes: Vec<Vol1>) -> SetPlan {
-    SetPlan {
-        set_id: set_id(plan.prefix),
-        volumes,
-        capacity: plan.capacity,
-        shape: plan.shape,
-        form: plan.form,
-    }
 }
 
 /// Returns the set's identifier, which is that of its first volume.

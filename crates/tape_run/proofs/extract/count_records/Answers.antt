@@ -1,6 +1,7 @@
 use Rattle.std.proofs.Common.{Ok, ap, subst, ◌∙◌}
 use Rattle.tape_core.specs.Walks.{GivesPart}
 use Rattle.tape_run.proofs.Streams.{count_starts, count_ended}
+use Rattle.tape_run.proofs.Walked.{walk_refused}
 use Rattle.tape_run.proofs.extract.count_records.Goals as goal
 
 pub parts-init : goal.parts-init
@@ -21,3 +22,8 @@ returns-in-Ok-None-clause-count g c = λ parts was.
     (c.parts.invariant.1 parts was)
     (λ xs is. subst (λ r. GivesPart r xs (g.S.PartWalk.ahead next)) (c.in-Ok-None.is
     ∙ ap Ok c.in-Ok-None.field-0-is) (c.next_part.follows.holds-at-none.gives xs is))
+
+pub returns-in-Err-clause-cause : goal.returns-in-Err-clause-cause
+returns-in-Err-clause-cause g c =
+    walk_refused _ _ _ _ c.in-Err.fault c.in-Err.is c.parts.invariant.0
+    c.next_part.follows.holds-at-none

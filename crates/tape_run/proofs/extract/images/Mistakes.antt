@@ -1,7 +1,7 @@
 -- Wrong answers that the contracts of a pass exclude, and those of the calls after a reel.
 use Rattle.std.proofs.Common.{◌≡◌, ◌+◌, length, ap, ◌∙◌, sym, arith, subst, true, false, Bool}
 use Rattle.std.proofs.Common.{ℕ, List, [], ◌∷◌, ◌++◌, refl, codes}
-use Rattle.std.specs.Prelude.{Ok, Option, Some, None, map, slice_get, slice_index, ◌<◌}
+use Rattle.std.specs.Prelude.{Ok, Err, Option, Some, None, map, slice_get, slice_index, ◌<◌}
 use Rattle.std.specs.Fmt.{digits}
 use Rattle.std.specs.Io.KnownBytes.{Appends}
 use Rattle.tape_set.specs.declared.position.Position.{Position}
@@ -24,6 +24,8 @@ use Rattle.tape_run.proofs.Headline.{took_so_many}
 use Rattle.tape_run.proofs.extract.images.note.Reads as note
 use Rattle.tape_run.proofs.extract.images.read_round.Reads as read_round
 use Rattle.tape_run.proofs.extract.images.settle.Reads as settle
+use Rattle.tape_run.proofs.extract.images.take_reel.Reads as take_reel
+use Rattle.tape_run.specs.declared.fault.EngineFault.TheVariants.{Run}
 
 -- saved_behind_a_wrong_count: a checkpoint is made after a reel whose trailer label has another
 -- count
@@ -140,3 +142,13 @@ numbers_begin_anew S R L P LS LR LL LP g d h e m n p i k κs a s text l one behi
     (subst (λ v. Appends v (p.contents s.1.1.1.1.1.1.0.now) lines) old told) in
     absurd (let n : 49 ≡ 50 = ap (λ v. slice_index v 5) (r ∙ ap (reel_lines 2) answers) in
     omega arith)
+
+-- reel_reported_before_it_is_saved: a reel that could not be saved is reported
+reel_reported_before_it_is_saved : (S : _) (R : _) (P : _) (LS : _) (LR : _) (LP : _) (g : _)
+    (d : _) (h : _) (e : _) (p : _) (i : _) (κs : _) (a : _) (fault : _) (s : _) (text : List ℕ)
+    → take_reel.Learnt-named S R P LS LR LP g d h e p i κs a (Err (Run fault)) s
+    → p.contents a.1.1.1.1.1.0.now ≡ Some []
+    → p.contents s.1.1.1.1.1.0.now ≡ Some (82 ∷ text) → ⊥
+reel_reported_before_it_is_saved S R P LS LR LP g d h e p i κs a fault s text l old new =
+    absurd (let none : Some (82 ∷ text) ≡ Some [] =
+    sym new ∙ l.silent (λ is. absurd (cc is)) ∙ old in cc none)

@@ -1,10 +1,10 @@
-use Rattle.std.proofs.Common.{rules, ◌≡◌, Ok, true, false, ap, subst, ◌∙◌, arith, ◌-◌, ◌<◌}
+use Rattle.std.proofs.Common.{rules, ◌≡◌, Ok, true, false, ap, subst, ◌∙◌, arith, ◌-◌, ◌<◌, inl}
 use Rattle.tape_blocks.specs.Spans.{leaves}
 use Rattle.tape_core.specs.Walks.{GivesPart}
 use Rattle.tape_image.proofs.Pieces.{on_err}
 use Rattle.tape_run.proofs.Streams.{with_end, stream_starts, stream_goes_on, stream_ended}
 use Rattle.tape_run.proofs.Streams.{stream_failed}
-use Rattle.tape_run.proofs.Walked.{walked_same, walk_on}
+use Rattle.tape_run.proofs.Walked.{walked_same, walk_on, walk_refused}
 use Rattle.tape_run.proofs.extract.write_records.Goals as goal
 
 pub parts-init : goal.parts-init
@@ -64,3 +64,8 @@ pub returns-clause-ok : goal.returns-clause-ok
 returns-clause-ok g c = λ parts was e.
     stream_ended c.args.form _ c.parts.left _ _ parts (c.parts.invariant.0 parts was e)
     (omega (arith, c.parts-test.false))
+
+pub returns-in-Err-clause-cause : goal.returns-in-Err-clause-cause
+returns-in-Err-clause-cause g c = rw c.walk_fault-in-Err.ensures (inl
+    (walk_refused _ _ _ _ c.in-Err.fault c.in-Err.is c.parts.invariant.1
+    c.next_part.follows.holds-at-none))

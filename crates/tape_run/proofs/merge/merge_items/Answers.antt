@@ -73,7 +73,8 @@ pub returns-in_err-put-clause-fault : goal.returns-in_err-put-clause-fault
 returns-in_err-put-clause-fault g c = refused_now c.from_residual-in_err-put.result _ _ _
     c.items.merged c.items.phase c.args.out.now c.items.out c.put.new.out _ _ c.ask_all.new.best
     c.ask_all.new.other c.in_err-put.field-0.0 (search rules) c.items.invariant.so_far
-    c.in_ok-witnesses.ensures.asked c.items.invariant.stands c.in_err-put.ensures.err
+    c.in_ok-witnesses.ensures.asked (sym c.is_some.ensures ∙ c.if-is_some.false)
+    c.items.invariant.stands c.in_err-put.ensures.err
 
 pub returns-in_err-log_item-clause-fault : goal.returns-in_err-log_item-clause-fault
 returns-in_err-log_item-clause-fault g c = row_refused _ _ _ _ c.items.merged c.items.phase

@@ -7,9 +7,11 @@ use Rattle.tape_blocks.specs.PartsLeft.{parts_left}
 use Rattle.tape_blocks.specs.Judged.{begun_behind}
 use Rattle.tape_blocks.proofs.SizeLaws.{few_parts, short_part}
 use Rattle.tape_run.proofs.Blocks.{number_of, front_is, none_put, one_passed, one_put, stands_here}
+use Rattle.tape_run.proofs.Causes.{refused_at}
 use Rattle.tape_run.proofs.Crashes.{adds_then}
 use Rattle.tape_run.proofs.reel_reader.put_parts.Given.{Over}
-use Rattle.tape_run.proofs.reel_reader.put_parts.Goals.{In-Some, then-first-seen+in-Ok, else-first-seen}
+use Rattle.tape_run.proofs.reel_reader.put_parts.Goals.{In-Some, then-first-seen+in-Ok}
+use Rattle.tape_run.proofs.reel_reader.put_parts.Goals.{else-first-seen}
 use Rattle.tape_run.proofs.reel_reader.put_parts.Goals as goal
 
 -- the index of the part among those of the block
@@ -104,3 +106,7 @@ returns-clause-ok g c = λ held parts h was.
     subst (λ l. g.S.PartSink.holds c.loop-part.sink (held ++ drop c.args.first l))
     (sym (all ∙ append-nil (map view c.loop-part.yielded)))
     (c.loop-part.invariant.held_now held was)
+
+pub returns-in-Err-clause-cause : goal.returns-in-Err-clause-cause
+returns-in-Err-clause-cause g c = refused_at g.S.PartSink.refusals g.S.PartSink.refuses_change _ _ _
+    c.in-Err.cause c.loop-part.invariant.calm c.in-Err.ensures.why c.in-Err.ensures.cause

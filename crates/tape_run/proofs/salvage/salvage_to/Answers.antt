@@ -7,6 +7,10 @@ pub returns-in_err-copies-clause-err : goal.returns-in_err-copies-clause-err
 returns-in_err-copies-clause-err g c =
     on_err c.from_residual.result _ (inl refl)
 
+pub returns-in_err-conflict-clause-err : goal.returns-in_err-conflict-clause-err
+returns-in_err-conflict-clause-err g c =
+    on_err c.from_residual-in_err-conflict.result _ (inl refl)
+
 pub returns-in_err-recover_sections-clause-err : goal.returns-in_err-recover_sections-clause-err
 returns-in_err-recover_sections-clause-err g c =
     on_err c.from_residual-in_err-recover_sections.result _ (inl refl)
@@ -22,31 +26,40 @@ returns-in_err-place-clause-err g c =
 pub returns-in_err-write_text-clause-err : goal.returns-in_err-write_text-clause-err
 returns-in_err-write_text-clause-err g c =
     on_err c.from_residual-in_err-write_text.result _ (inr (file_placed g.W.Write.contents
-    g.L.ImageSource.size g.L.ImageSource.gives g.R.Read.remaining c.args.task.now c.args.out _ _ _ _ _ _ _
-    c.into_out-written.result c.flush.new.writer _ _ _ _ _ c.records-records.result
-    c.deref.result.now c.in_ok-copies.ensures.ok c.in_ok-recover_sections.ensures.ok
-    c.as_slice.ensures.value c.new-recovery.ensures c.into_out-written.ensures
+    g.L.ImageSource.size g.L.ImageSource.gives g.R.Read.remaining c.args.task.now c.args.out
+    _ _ _ _ _ _ _ _
+    c.into_out-written.result c.flush.new.writer _ _ _ _ _ _ _ c.is_complete-complete.result
+    c.records-records.result
+    c.deref.result.now c.in_ok-copies.ensures.ok c.in_ok-conflict.ensures.ok
+    c.as_slice.ensures.value c.in_ok-recover_sections.ensures.ok c.as_slice-2.ensures.value
+    c.new-recovery.ensures c.into_out-written.ensures
     c.in_ok-flush.ensures.kept c.in_ok-place.ensures.ok c.records-records.ensures
-    (c.deref.ensures.0 ∙ c.last_line.ensures)
+    c.is_complete-complete.ensures (c.deref.ensures.0 ∙ c.last_line.ensures)
     c.in_err-write_text.ensures.err))
 
 pub returns-in_err-flush-2-clause-err : goal.returns-in_err-flush-2-clause-err
 returns-in_err-flush-2-clause-err g c =
     on_err c.from_residual-in_err-flush-2.result _ (inr (file_placed g.W.Write.contents
-    g.L.ImageSource.size g.L.ImageSource.gives g.R.Read.remaining c.args.task.now c.args.out _ _ _ _ _ _ _
-    c.into_out-written.result c.flush.new.writer _ _ _ _ _ c.records-records.result
-    c.deref.result.now c.in_ok-copies.ensures.ok c.in_ok-recover_sections.ensures.ok
-    c.as_slice.ensures.value c.new-recovery.ensures c.into_out-written.ensures
+    g.L.ImageSource.size g.L.ImageSource.gives g.R.Read.remaining c.args.task.now c.args.out
+    _ _ _ _ _ _ _ _
+    c.into_out-written.result c.flush.new.writer _ _ _ _ _ _ _ c.is_complete-complete.result
+    c.records-records.result
+    c.deref.result.now c.in_ok-copies.ensures.ok c.in_ok-conflict.ensures.ok
+    c.as_slice.ensures.value c.in_ok-recover_sections.ensures.ok c.as_slice-2.ensures.value
+    c.new-recovery.ensures c.into_out-written.ensures
     c.in_ok-flush.ensures.kept c.in_ok-place.ensures.ok c.records-records.ensures
-    (c.deref.ensures.0 ∙ c.last_line.ensures)
+    c.is_complete-complete.ensures (c.deref.ensures.0 ∙ c.last_line.ensures)
     (wrote_all _ _ _ _ c.in_ok-write_text.ensures.ok c.in_err-flush-2.ensures.kept)))
 
 pub returns-clause-ok : goal.returns-clause-ok
 returns-clause-ok g c =
     file_salvaged g.W.Write.contents g.L.ImageSource.size g.L.ImageSource.gives g.R.Read.remaining
-    c.args.task.now c.args.out _ _ _ _ _ _ _ c.into_out-written.result c.flush.new.writer _ _ _ _
-    _ _ c.records-records.result c.deref.result.now c.in_ok-copies.ensures.ok
-    c.in_ok-recover_sections.ensures.ok c.as_slice.ensures.value c.new-recovery.ensures
+    c.args.task.now c.args.out _ _ _ _ _ _ _ _ c.into_out-written.result c.flush.new.writer _ _ _ _
+    _ _ _ _ c.is_complete-complete.result c.records-records.result c.deref.result.now
+    c.in_ok-copies.ensures.ok
+    c.in_ok-conflict.ensures.ok c.as_slice.ensures.value c.in_ok-recover_sections.ensures.ok
+    c.as_slice-2.ensures.value c.new-recovery.ensures
     c.into_out-written.ensures c.in_ok-flush.ensures.kept c.in_ok-place.ensures.ok
-    c.records-records.ensures (c.deref.ensures.0 ∙ c.last_line.ensures)
+    c.records-records.ensures c.is_complete-complete.ensures
+    (c.deref.ensures.0 ∙ c.last_line.ensures)
     c.in_ok-write_text.ensures.ok c.in_ok-flush-2.ensures.kept

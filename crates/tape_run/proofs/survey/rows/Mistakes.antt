@@ -13,7 +13,8 @@ row_with_a_tab_too_few : (κs : _) (a : _) (z : _) (s : _) → put_sight.Learnt-
     → s.0.now.items ≡ codes "NOT OPENED\t\t\t\t\t\t" → ⊥
 row_with_a_tab_too_few κs a z s l e none w =
     absurd (let n : 16 ≡ 17 = ap length (sym w ∙ l.items
-    ∙ ap (λ v. v ++ sight_cells a.1.0.now) e ∙ ap sight_cells none) in omega arith)
+    ∙ ap (λ v. v ++ sight_cells a.1.0.now a.1.1.0) e
+    ∙ ap (λ s. sight_cells s a.1.1.0) none) in omega arith)
 
 -- wanted_row_told_as_complete: section 2 of a file was not found, but its row says COMPLETE
 wanted_row_told_as_complete : (κs : _) (a : _) (z : _) (s : _)

@@ -1,15 +1,21 @@
+use Rattle.std.proofs.Common.{◌∙◌, sym}
+use Rattle.std.proofs.lemmas.List.{length-map}
 use Rattle.tape_run.proofs.Reporting.{if_ok, if_err}
 use Rattle.tape_run.proofs.SurveyTexts.{surveyed, surveyed_in_part}
 use Rattle.tape_run.proofs.survey.survey_to.Goals as goal
 
 pub returns-clause-ok : goal.returns-clause-ok
 returns-clause-ok g c =
-    if_ok c.sum_up.result _ _ c.sum_up.ensures.ok
+    if_ok c.write_survey.result _ _ c.write_survey.ensures.ok
     (λ all h. surveyed c.args.wording g.L.ImageSource.gives g.R.Read.remaining _ _ _
-    c.survey_images.new.findings _ _ _ all c.in_ok-survey_images.ensures.ok h.0 h.1)
+    c.in-Ok.sights.items _ c.read_images.new.findings _ _ all
+    (c.in-Ok.ensures.each ∙ sym (length-map c.args.names.now (λ x. x.now)))
+    c.in-Ok.ensures.viewed c.as_slice.ensures.value h.0 h.1)
 
 pub returns-clause-front : goal.returns-clause-front
 returns-clause-front g c =
-    if_err c.sum_up.result _ _ c.sum_up.ensures.front
+    if_err c.write_survey.result _ _ c.write_survey.ensures.front
     (λ h. surveyed_in_part c.args.wording g.L.ImageSource.gives g.R.Read.remaining _ _ _
-    c.survey_images.new.findings _ _ _ c.in_ok-survey_images.ensures.ok h)
+    c.in-Ok.sights.items _ c.read_images.new.findings _ _
+    (c.in-Ok.ensures.each ∙ sym (length-map c.args.names.now (λ x. x.now)))
+    c.in-Ok.ensures.viewed c.as_slice.ensures.value h)

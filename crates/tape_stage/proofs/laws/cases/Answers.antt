@@ -23,4 +23,4 @@ pub returns-clause-laws : goal.returns-clause-laws
 returns-clause-laws g c = cases_of_laws
 
 pub returns-clause-salvage : goal.returns-clause-salvage
-returns-clause-salvage g c = cases_of_salvage g.D.Disk
+returns-clause-salvage g c = cases_of_salvage

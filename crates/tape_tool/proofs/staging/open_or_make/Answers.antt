@@ -1,12 +1,10 @@
-use Rattle.std.proofs.Common.{ℕ, List, sym, subst, ⊎_elim}
+use Rattle.std.proofs.Common.{ℕ, List, subst, ⊎_elim}
 use Rattle.std.proofs.lemmas.Bool.Decides.{eqb_tells}
-use Rattle.tape_stage.specs.Staged.{HoldsNone, KeepsStaged, Staged}
-use Rattle.tape_stage.proofs.Openings.{look_untouched}
-use Rattle.tape_stage.proofs.Refusals.{untouched_then}
+use Rattle.tape_stage.specs.Staged.{Staged}
 use Rattle.tape_stage.proofs.Remaining.{none_staged}
 use Rattle.tape_stage.proofs.Results.{if_err, if_ok}
-use Rattle.tape_tool.specs.Staging.{GoesOn, Says}
-use Rattle.tape_tool.proofs.Unmade.{not_empty, read_opens}
+use Rattle.tape_tool.specs.Staging.{GoesOn}
+use Rattle.tape_tool.proofs.Unmade.{not_empty, read_opens, read_then}
 use Rattle.tape_tool.proofs.staging.open_or_make.Goals as goal
 
 pub returns-then-not-is_unmade-clause-begins : goal.returns-then-not-is_unmade-clause-begins
@@ -19,16 +17,6 @@ returns-then-not-is_unmade-clause-begins g c honest made =
     (subst (λ (read : List ℕ). Staged read goes.generation goes.point goes.parts)
     (reads.same honest) goes.staged))) (c.open_session.ensures.goes_on h1 some.1))
     (eqb_tells (g.D.Disk.length_of c.is_unmade.new.disk) 0)
-
-pub returns-then-not-is_unmade-clause-says : goal.returns-then-not-is_unmade-clause-says
-returns-then-not-is_unmade-clause-says g c honest made =
-    let reads = c.is_unmade.ensures.reads in
-    let h1 = c.is_unmade.ensures.honest honest in
-    let some = not_empty g.D.Disk c.args.disk c.is_unmade.new.disk reads honest c.args.set_id
-    c.args.file made (g.met.D.Disk.long_as_seen c.is_unmade.new.disk h1) in
-    if_err c.open_session.result (λ refused says. subst
-    (λ (read : List ℕ). Says c.args.set_id c.args.file read refused.fault) (reads.same honest) says)
-    (c.open_session.ensures.says h1 some)
 
 pub returns-then-not-is_unmade-clause-goes_on : goal.returns-then-not-is_unmade-clause-goes_on
 returns-then-not-is_unmade-clause-goes_on g c honest made =
@@ -50,34 +38,12 @@ returns-then-not-is_unmade-clause-any_moment g c honest made =
     c.is_unmade.new.disk reads honest session.sink.disk opens)
     (c.open_session.ensures.any_moment h1 some)
 
-pub returns-then-not-is_unmade-clause-any_moment_err :
-    goal.returns-then-not-is_unmade-clause-any_moment_err
-returns-then-not-is_unmade-clause-any_moment_err g c honest made =
+pub returns-then-not-is_unmade-clause-refused : goal.returns-then-not-is_unmade-clause-refused
+returns-then-not-is_unmade-clause-refused g c honest made =
     let reads = c.is_unmade.ensures.reads in
     let h1 = c.is_unmade.ensures.honest honest in
     let some = not_empty g.D.Disk c.args.disk c.is_unmade.new.disk reads honest c.args.set_id
     c.args.file made (g.met.D.Disk.long_as_seen c.is_unmade.new.disk h1) in
-    if_err c.open_session.result (λ refused opens. read_opens g.D.Disk c.args.disk
-    c.is_unmade.new.disk reads honest refused.disk opens)
-    (c.open_session.ensures.any_moment_err h1 some)
-
-pub returns-then-not-is_unmade-clause-foreign : goal.returns-then-not-is_unmade-clause-foreign
-returns-then-not-is_unmade-clause-foreign g c honest made none =
-    let reads = c.is_unmade.ensures.reads in
-    let h1 = c.is_unmade.ensures.honest honest in
-    let some = not_empty g.D.Disk c.args.disk c.is_unmade.new.disk reads honest c.args.set_id
-    c.args.file made (g.met.D.Disk.long_as_seen c.is_unmade.new.disk h1) in
-    if_err c.open_session.result (λ refused then. untouched_then g.D.Disk c.args.disk
-    c.is_unmade.new.disk refused.disk (look_untouched g.D.Disk c.args.disk c.is_unmade.new.disk
-    reads honest) then)
-    (c.open_session.ensures.foreign h1 some (subst HoldsNone (sym (reads.same honest)) none))
-
-pub returns-then-not-is_unmade-clause-kept : goal.returns-then-not-is_unmade-clause-kept
-returns-then-not-is_unmade-clause-kept g c honest made =
-    let reads = c.is_unmade.ensures.reads in
-    let h1 = c.is_unmade.ensures.honest honest in
-    let some = not_empty g.D.Disk c.args.disk c.is_unmade.new.disk reads honest c.args.set_id
-    c.args.file made (g.met.D.Disk.long_as_seen c.is_unmade.new.disk h1) in
-    if_err c.open_session.result (λ refused keeps. subst
-    (λ (old : List ℕ). KeepsStaged old (g.D.Disk.seen refused.disk)) (reads.same honest) keeps)
-    (c.open_session.ensures.kept h1 some)
+    if_err c.open_session.result (λ refused refuses. read_then g.D.Disk c.args.disk
+    c.is_unmade.new.disk reads honest c.args.set_id c.args.file refused.fault refused.disk refuses)
+    (c.open_session.ensures.refused h1 some)

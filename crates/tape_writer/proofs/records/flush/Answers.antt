@@ -1,58 +1,186 @@
--- The current block is written.
-use Rattle.std.proofs.Common.{refl, sym, subst, length}
+-- The current block is written, in the current section or after a change of the volume.
+use Rattle.std.proofs.Common.{rules, arith, ap, refl, ◌∷◌, [], length}
 use Rattle.std.specs.Prelude.{Ok}
+use Rattle.std.proofs.lemmas.Result.{err_from_is_err_and}
+use Rattle.tape_image.specs.Tape.{block}
+use Rattle.tape_label.specs.Widths.{IsWideVolume}
 use Rattle.tape_blocks.specs.Tight.{Filled}
-use Rattle.tape_blocks.specs.Packing.{IsWritable}
+use Rattle.tape_set.specs.Sizes.{item_size}
+use Rattle.tape_set.proofs.Everywhere.{every_at}
+use Rattle.tape_writer.specs.Draft.{added_course, changed_course}
 use Rattle.tape_writer.specs.Front.{HoldsFront}
+use Rattle.tape_writer.proofs.Fronts.{took, front_items, err_any}
+use Rattle.tape_writer.proofs.Held.{got, write_here, write_next}
 use Rattle.tape_writer.proofs.Last.{lasting_self}
-use Rattle.tape_writer.proofs.Packed.{given_sized, flushed_by, err_map}
+use Rattle.tape_writer.proofs.Packed.{given_sized, flushed_by}
 use Rattle.tape_writer.proofs.Stuck.{left_out}
-use Rattle.tape_writer.proofs.Room.{flushed_room, none_room}
+use Rattle.tape_writer.proofs.Room.{flushed_here, flushed_next, none_room}
 use Rattle.tape_writer.proofs.records.flush.Goals as goal
 
-pub write_block-requires-clause-sized : goal.write_block-requires-clause-sized
-write_block-requires-clause-sized g c = given_sized c.args.packer.now c.in-Some.block.now
-    (subst IsWritable (sym c.requires.shape) c.requires.ready.writable) c.in-Some.ensures.found
+pub add_block-requires-clause-sized : goal.add_block-requires-clause-sized
+add_block-requires-clause-sized g c =
+    given_sized c.args.packer.now _ c.in-Some.block.now c.requires.shape
+    c.requires.ready.writable c.in-Some.ensures.found
 
-pub returns-in-Some-clause-flushed : goal.returns-in-Some-clause-flushed
-returns-in-Some-clause-flushed g c = λ some set_id d o.
-    flushed_by (g.T.TapeOut.holds c.write_block.new.self.out) c.args.volumes.now c.args.capacity
-    set_id c.args.file.now c.write_block.new.self.course d c.args.packer.now c.in-Some.block.now
-    c.write_block.result
-    c.in-Some.ensures.found (c.write_block.ensures.grew set_id d _ refl o)
+pub add_block-requires-2-clause-sized : goal.add_block-requires-2-clause-sized
+add_block-requires-2-clause-sized g c =
+    given_sized c.args.packer.now _ c.in-Some.block.now c.requires.shape
+    c.requires.ready.writable c.in-Some.ensures.found
 
-pub returns-in-None-clause-lasting : goal.returns-in-None-clause-lasting
-returns-in-None-clause-lasting g c = lasting_self _ _ _
+pub returns-in_default-clause-lasting : goal.returns-in_default-clause-lasting
+returns-in_default-clause-lasting g c = lasting_self _ _ _
 
-pub returns-in-Some-clause-stuck : goal.returns-in-Some-clause-stuck
-returns-in-Some-clause-stuck g c =
-    err_map c.write_block.result _ _ (λ f p e.
-    let q = p e in (
-      q.0,
-      left_out (length c.args.volumes.now) c.args.capacity c.args.tape.now.course
-          c.args.packer.now c.in-Some.block.now c.in-Some.ensures.found q.1 q.2,
-    ))
-    c.write_block.ensures.none
+pub returns-in_default-get-clause-lasting : goal.returns-in_default-get-clause-lasting
+returns-in_default-get-clause-lasting g c = lasting_self _ _ _
 
-pub returns-in-Some-clause-room : goal.returns-in-Some-clause-room
-returns-in-Some-clause-room g c = flushed_room (length c.args.volumes.now) c.args.capacity
-    c.args.tape.now.course c.write_block.new.self.course c.args.packer.now _ c.in-Some.block.now
-    c.write_block.result c.in-Some.ensures.found c.take_block.follows.holds-at-none
-    c.write_block.ensures.passed c.write_block.ensures.roomy
+pub returns-in_default-get-clause-stuck : goal.returns-in_default-get-clause-stuck
+returns-in_default-get-clause-stuck g c = λ e. (
+  refl,
+  left_out (length c.args.volumes.now) c.args.capacity c.args.tape.now.course c.args.packer.now
+      c.in-Some.block.now c.in-Some.ensures.found (search rules)
+      (let due = c.has_room.ensures.no (search rules) in omega (arith, due)),
+)
 
-pub returns-in-None-clause-room : goal.returns-in-None-clause-room
-returns-in-None-clause-room g c = none_room (length c.args.volumes.now) c.args.capacity
-    c.args.tape.now.course c.args.packer.now _ c.in-None.ensures.none
+-- ---- the room that is left
+
+pub returns-in_default-clause-room : goal.returns-in_default-clause-room
+returns-in_default-clause-room g c = none_room (length c.args.volumes.now) c.args.capacity
+    c.args.tape.now.course c.args.packer.now _ c.in_default.ensures.none
     c.take_block.follows.holds-at-none
 
-pub returns-in-Some-clause-front : goal.returns-in-Some-clause-front
-returns-in-Some-clause-front g c = λ some set_id d o.
-    let block : Filled = record { bytes = c.in-Some.block.now; parts = c.args.packer.now.parts } in
-    err_map c.write_block.result _ _ (λ f p not.
-    let q = p not in (
-      q.0,
-      flushed_by (HoldsFront (g.T.TapeOut.holds c.write_block.new.self.out)) c.args.volumes.now
-          c.args.capacity set_id c.args.file.now q.0 d c.args.packer.now c.in-Some.block.now
-          (Ok tt) c.in-Some.ensures.found q.1,
+pub returns-then-has_room-clause-room : goal.returns-then-has_room-clause-room
+returns-then-has_room-clause-room g c = flushed_here (length c.args.volumes.now) c.args.capacity
+    c.args.tape.now.course c.add_block.new.self.course c.args.packer.now _ c.in-Some.block.now
+    c.add_block.result c.in-Some.ensures.found c.take_block.follows.holds-at-none
+    (let fits = c.has_room.ensures.yes (search rules) in omega (arith, fits))
+    c.add_block.ensures.course
+
+pub returns-clause-room : goal.returns-clause-room
+returns-clause-room g c = flushed_next (length c.args.volumes.now) c.args.capacity
+    c.args.tape.now.course c.change_to.new.self.course c.add_block-2.new.self.course
+    c.args.packer.now _ c.in-Some.block.now c.add_block-2.result c.in-Some.ensures.found
+    c.take_block.follows.holds-at-none (search rules) c.in_ok-change_to.ensures.course
+    c.add_block-2.ensures.course
+
+-- ---- the draft
+
+pub returns-then-has_room-clause-flushed : goal.returns-then-has_room-clause-flushed
+returns-then-has_room-clause-flushed g c = λ some set_id d o.
+    let text = c.in-Some.block.now in
+    let b : Filled = record { bytes = text; parts = c.args.packer.now.parts } in
+    let H = g.T.TapeOut.holds c.add_block.new.self.out in
+    flushed_by H c.args.volumes.now c.args.capacity set_id c.args.file.now
+    c.add_block.new.self.course d c.args.packer.now text c.add_block.result
+    c.in-Some.ensures.found
+    (write_here (g.T.TapeOut.holds c.args.tape.now.out) H c.args.volumes.now c.args.capacity set_id
+    c.args.file.now c.args.tape.now.course c.add_block.new.self.course d b text
+    c.add_block.result refl
+    (given_sized c.args.packer.now _ text c.requires.shape c.requires.ready.writable
+    c.in-Some.ensures.found) o
+    (let fits = c.has_room.ensures.yes (search rules) in omega (arith, fits))
+    c.add_block.ensures.ok c.add_block.ensures.course)
+
+pub returns-clause-flushed : goal.returns-clause-flushed
+returns-clause-flushed g c = λ some set_id d o.
+    let vs = c.args.volumes.now in
+    let text = c.in-Some.block.now in
+    let b : Filled = record { bytes = text; parts = c.args.packer.now.parts } in
+    let H = g.T.TapeOut.holds c.add_block-2.new.self.out in
+    let there = got vs c.from.result c.args.tape.now.course.volume c.in-Some-get.volume.now
+    (search rules) c.in-Some-get.ensures.lookup.3.0 c.in-Some-get.ensures.lookup.1 in
+    flushed_by H vs c.args.capacity set_id c.args.file.now c.add_block-2.new.self.course d
+    c.args.packer.now text c.add_block-2.result c.in-Some.ensures.found
+    (write_next (g.T.TapeOut.holds c.args.tape.now.out) (g.T.TapeOut.holds c.change_to.new.self.out)
+    H vs c.args.capacity set_id c.args.file.now c.args.tape.now.course
+    c.change_to.new.self.course c.add_block-2.new.self.course d b c.in-Some-get.volume.now text
+    c.add_block-2.result refl
+    (given_sized c.args.packer.now _ text c.requires.shape c.requires.ready.writable
+    c.in-Some.ensures.found) o
+    (let due = c.has_room.ensures.no (search rules) in omega (arith, due)) there
+    (every_at IsWideVolume vs c.args.tape.now.course.volume c.in-Some-get.volume.now
+    c.requires.wide there) c.requires.volumes
+    (let same = ap (λ s. s.block_len) c.requires.shape in
+    omega (arith, same, c.requires.capacity, c.in-Some.ensures.found.within)) (omega arith)
+    c.in_ok-change_to.ensures.ok c.in_ok-change_to.ensures.course c.add_block-2.ensures.ok
+    c.add_block-2.ensures.course)
+
+-- ---- or a prefix of its items
+
+pub returns-then-has_room-clause-front : goal.returns-then-has_room-clause-front
+returns-then-has_room-clause-front g c = λ some set_id d o.
+    err_any c.add_block.result _ (λ f not.
+    let text = c.in-Some.block.now in
+    let b : Filled = record { bytes = text; parts = c.args.packer.now.parts } in
+    let old = g.T.TapeOut.holds c.args.tape.now.out in
+    let K = g.T.TapeOut.holds c.add_block.new.self.out in
+    let new = added_course c.args.tape.now.course (item_size (block text)) in (
+      new,
+      flushed_by (HoldsFront K) c.args.volumes.now c.args.capacity set_id c.args.file.now new d
+          c.args.packer.now text (Ok tt) c.in-Some.ensures.found
+          (write_here old (HoldsFront K) c.args.volumes.now c.args.capacity set_id c.args.file.now
+          c.args.tape.now.course new d b text (Ok tt) refl
+          (given_sized c.args.packer.now _ text c.requires.shape c.requires.ready.writable
+          c.in-Some.ensures.found) o
+          (let fits = c.has_room.ensures.yes (search rules) in omega (arith, fits))
+          (took old K (block text ∷ []) c.add_block.result c.add_block.ensures.ok
+          c.add_block.ensures.err) refl),
     ))
-    (c.write_block.ensures.front set_id d block refl o)
+
+pub returns-in_err-change_to-clause-front : goal.returns-in_err-change_to-clause-front
+returns-in_err-change_to-clause-front g c =
+    let p = err_from_is_err_and c.from_residual.result c.from_residual.ensures.1 in
+    rw (p.1, p.2) (λ some set_id d o not.
+    let vs = c.args.volumes.now in
+    let text = c.in-Some.block.now in
+    let b : Filled = record { bytes = text; parts = c.args.packer.now.parts } in
+    let there = got vs c.from.result c.args.tape.now.course.volume c.in-Some-get.volume.now
+    (search rules) c.in-Some-get.ensures.lookup.3.0 c.in-Some-get.ensures.lookup.1 in
+    let H = g.T.TapeOut.holds c.change_to.new.self.out in
+    let one = changed_course c.args.tape.now.course in
+    let two = added_course one (item_size (block text)) in (
+      two,
+      flushed_by (HoldsFront H) vs c.args.capacity set_id c.args.file.now two d
+          c.args.packer.now text (Ok tt) c.in-Some.ensures.found
+          (write_next (g.T.TapeOut.holds c.args.tape.now.out) (HoldsFront H) (HoldsFront H) vs
+          c.args.capacity set_id c.args.file.now c.args.tape.now.course one two d b
+          c.in-Some-get.volume.now text (Ok tt) refl
+          (given_sized c.args.packer.now _ text c.requires.shape c.requires.ready.writable
+          c.in-Some.ensures.found) o
+          (let due = c.has_room.ensures.no (search rules) in omega (arith, due)) there
+          (every_at IsWideVolume vs c.args.tape.now.course.volume c.in-Some-get.volume.now
+          c.requires.wide there) c.requires.volumes
+          (let same = ap (λ s. s.block_len) c.requires.shape in
+          omega (arith, same, c.requires.capacity, c.in-Some.ensures.found.within)) (omega arith)
+          c.change_to.ensures.front refl
+          (λ past items h. front_items H past items (block text ∷ []) h) refl),
+    ))
+
+pub returns-clause-front : goal.returns-clause-front
+returns-clause-front g c = λ some set_id d o.
+    err_any c.add_block-2.result _ (λ f not.
+    let vs = c.args.volumes.now in
+    let text = c.in-Some.block.now in
+    let b : Filled = record { bytes = text; parts = c.args.packer.now.parts } in
+    let there = got vs c.from.result c.args.tape.now.course.volume c.in-Some-get.volume.now
+    (search rules) c.in-Some-get.ensures.lookup.3.0 c.in-Some-get.ensures.lookup.1 in
+    let H = g.T.TapeOut.holds c.change_to.new.self.out in
+    let K = g.T.TapeOut.holds c.add_block-2.new.self.out in
+    let one = c.change_to.new.self.course in
+    let two = added_course one (item_size (block text)) in (
+      two,
+      flushed_by (HoldsFront K) vs c.args.capacity set_id c.args.file.now two d
+          c.args.packer.now text (Ok tt) c.in-Some.ensures.found
+          (write_next (g.T.TapeOut.holds c.args.tape.now.out) H (HoldsFront K) vs c.args.capacity
+          set_id c.args.file.now c.args.tape.now.course one two d b c.in-Some-get.volume.now text
+          (Ok tt) refl
+          (given_sized c.args.packer.now _ text c.requires.shape c.requires.ready.writable
+          c.in-Some.ensures.found) o
+          (let due = c.has_room.ensures.no (search rules) in omega (arith, due)) there
+          (every_at IsWideVolume vs c.args.tape.now.course.volume c.in-Some-get.volume.now
+          c.requires.wide there) c.requires.volumes
+          (let same = ap (λ s. s.block_len) c.requires.shape in
+          omega (arith, same, c.requires.capacity, c.in-Some.ensures.found.within)) (omega arith)
+          c.in_ok-change_to.ensures.ok c.in_ok-change_to.ensures.course
+          (took H K (block text ∷ []) c.add_block-2.result c.add_block-2.ensures.ok
+          c.add_block-2.ensures.err) refl),
+    ))

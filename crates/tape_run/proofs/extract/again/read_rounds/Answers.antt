@@ -87,7 +87,8 @@ returns-then-lines-count-clause-ok g c =
 pub returns-in_err-read_round-clause-cause : goal.returns-in_err-read_round-clause-cause
 returns-in_err-read_round-clause-cause g c =
     let (rounds, e, room, h, calm) = c.rounds.invariant in
-    told_err _ _ _ c.from_residual.ensures.1 (then_fails g.S.PartSink c.args.back
+    told_err _ _ _ c.from_residual.ensures.1 (then_fails g.S.PartSink
+    g.S.PartSink.refuses_change c.args.back
     c.in_err-read_round.field-0.0 c.args.session.now c.rounds.session c.read_round.new.session calm
     c.in_err-read_round.ensures.cause)
 

@@ -1,7 +1,7 @@
 use Rattle.std.proofs.Common.{subst, refl, arith, ◌<◌, ◌-◌}
 use Rattle.tape_core.specs.Walks.{GivesPart}
 use Rattle.tape_run.proofs.RecordFronts.{pass_goes_on}
-use Rattle.tape_run.proofs.Walked.{walk_on}
+use Rattle.tape_run.proofs.Walked.{walk_on, walk_refused}
 use Rattle.tape_run.proofs.extract.front.pass_parts.Goals as goal
 
 pub parts-init : goal.parts-init
@@ -29,3 +29,8 @@ parts-preserved g c =
           (c.next_part.follows.holds-at-none.gives xs is)),
       walk_on _ _ _ _ _ c.in-Ok.is c.parts.invariant.1 c.next_part.follows.holds-at-none,
     )
+
+pub returns-in-Err-clause-cause : goal.returns-in-Err-clause-cause
+returns-in-Err-clause-cause g c =
+    walk_refused _ _ _ _ c.in-Err.fault c.in-Err.is c.parts.invariant.1
+    c.next_part.follows.holds-at-none

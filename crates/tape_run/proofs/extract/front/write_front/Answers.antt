@@ -1,9 +1,9 @@
-use Rattle.std.proofs.Common.{rules, ◌≡◌, Ok, false, ap, subst, ◌∙◌, arith}
+use Rattle.std.proofs.Common.{rules, ◌≡◌, Ok, false, ap, subst, ◌∙◌, arith, inl}
 use Rattle.tape_blocks.specs.Spans.{leaves}
 use Rattle.tape_core.specs.Walks.{GivesPart}
 use Rattle.tape_image.proofs.Pieces.{on_err}
 use Rattle.tape_run.proofs.RecordFronts.{front_starts, front_goes_on, front_failed, front_refused}
-use Rattle.tape_run.proofs.Walked.{walk_on}
+use Rattle.tape_run.proofs.Walked.{walk_on, walk_refused}
 use Rattle.tape_run.proofs.extract.front.write_front.Goals as goal
 
 pub parts-init : goal.parts-init
@@ -51,3 +51,8 @@ pub returns-in-Err-clause-err : goal.returns-in-Err-clause-err
 returns-in-Err-clause-err g c = λ parts was.
     front_refused c.args.form (g.S.PartWalk.ahead c.parts.sink) c.parts.records _ _ parts
     (c.parts.invariant.1 parts was)
+
+pub returns-in-Err-clause-cause : goal.returns-in-Err-clause-cause
+returns-in-Err-clause-cause g c = rw c.walk_fault.ensures (inl
+    (walk_refused _ _ _ _ c.in-Err.fault c.in-Err.is c.parts.invariant.0
+    c.next_part.follows.holds-at-none))

@@ -36,7 +36,8 @@ pub returns-clause-cause : goal.returns-clause-cause
 returns-clause-cause g c = IfErr-weaker c.write_rest.result _ _
     (λ fault. fails_behind g.S.PartSink.holds (λ s rest. (first : List Portion)
     × g.S.PartSink.holds s (first ++ rest) × (length first ≡ c.in_ok-front.front.records)
-    × EachEnds first) g.S.PartSink.refusals fault c.args.sink.now c.write_front.new.sink _
+    × EachEnds first) g.S.PartSink.refusals g.S.PartWalk.refuses fault c.args.sink.now
+    c.write_front.new.sink _
     c.in_ok-front.ensures.calm
     (λ parts was.
     let f = c.in_ok-front.ensures.ok parts was in (

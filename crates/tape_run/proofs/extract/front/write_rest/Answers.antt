@@ -39,7 +39,7 @@ returns-in_err-write_records-clause-cause g c =
     (fails_behind (λ s rest. (first : List Portion) × g.S.PartSink.holds s (first ++ rest)
     × (length first ≡ c.args.passed) × EachEnds first) (λ s parts. g.S.PartWalk.ahead s parts
     × (c.saturating_sub.result ≡ length (join parts).records))
-    g.S.PartSink.refusals c.in_err-write_records.field-0.0 c.args.sink.now
+    g.S.PartSink.refusals g.S.PartWalk.refuses c.in_err-write_records.field-0.0 c.args.sink.now
     c.pass_parts.new.sink _ (c.in-Ok-pass_parts.ensures.calm ∙ c.in-Ok.ensures.calm)
     (λ rest (first, was, long, each). (
       rest,

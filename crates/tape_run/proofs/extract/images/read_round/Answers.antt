@@ -124,7 +124,8 @@ loop-number-preserved g c =
 pub returns-in_err-take_image-clause-cause : goal.returns-in_err-take_image-clause-cause
 returns-in_err-take_image-clause-cause g c =
     let (turns, e, are, lines, none, f, calm) = c.loop-number.invariant in
-    told_err _ _ _ c.from_residual.ensures.1 (then_fails g.S.PartSink c.args.back
+    told_err _ _ _ c.from_residual.ensures.1 (then_fails g.S.PartSink
+    g.S.PartSink.refuses_change c.args.back
     c.in_err-take_image.field-0.0 c.args.session.now c.loop-number.session
     c.take_image.new.session calm c.in_err-take_image.ensures.cause)
 

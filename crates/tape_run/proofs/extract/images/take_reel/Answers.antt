@@ -76,7 +76,8 @@ returns-in_err-answer-clause-cause g c =
 
 pub returns-in_err-settle-clause-cause : goal.returns-in_err-settle-clause-cause
 returns-in_err-settle-clause-cause g c =
-    told_err _ _ _ c.from_residual-in_err-settle.ensures.1 (then_fails g.S.PartSink c.args.back
+    told_err _ _ _ c.from_residual-in_err-settle.ensures.1 (then_fails g.S.PartSink
+    g.S.PartSink.refuses_change c.args.back
     (Run c.in_err-settle.field-0.0) c.args.session.now c.reel.new.self c.settle.new.session
     (calm_reel g.S.PartSink c.args.session.now c.reel.new.self _ c.in_ok-answer.ensures.calm
     c.in_ok-answer.ensures.notes c.in_ok-answer.ensures.ok) c.in_err-settle.ensures.cause)

@@ -1,23 +1,35 @@
-use Rattle.std.proofs.Common.{◌≡◌, sym, subst, ◌∙◌}
-use Rattle.tape_run.specs.OutSinks.{HasTaken}
+use Rattle.std.proofs.Common.{rules, ◌≡◌, true, false, subst, ◌∙◌, inl}
+use Rattle.tape_run.proofs.Causes.{ended_for}
+use Rattle.tape_run.proofs.Ended.{told_err}
 use Rattle.tape_run.proofs.Located.{ended_as}
 use Rattle.tape_run.proofs.extract.located.extract_located.Goals as goal
 
-pub returns-clause-ok : goal.returns-clause-ok
-returns-clause-ok g c whole held = record {
-  last = c.read_sections.new.session;
-  reads = ended_as c.if-complete.false (c.in_ok-complete.ensures.ok whole held);
-  complete = λ n none. absurd (cc);
-}
+pub returns-then-not-complete-clause-ok : goal.returns-then-not-complete-clause-ok
+returns-then-not-complete-clause-ok g c whole held =
+    let ended : c.in_ok-complete.complete ≡ false = search (rules, c.if-not-complete.true) in
+    record {
+      last = c.read_sections.new.session;
+      reads = ended_as ended (c.in_ok-complete.ensures.ok whole held);
+      complete = λ n none. absurd (cc);
+    }
 
-pub returns-then-complete-clause-ok : goal.returns-then-complete-clause-ok
-returns-then-complete-clause-ok g c whole held = record {
-  last = c.read_sections.new.session;
-  reads = ended_as c.if-complete.true (c.in_ok-complete.ensures.ok whole held);
-  complete = λ n is parts was.
-      let done = c.in_ok-written.ensures.ok parts
-      (subst (λ s. HasTaken g.W.Write.contents s.form s.out s.weight s.records s.begun s.failed
-      parts) (sym c.into_sink.ensures) was) in
-      let same : n ≡ c.in_ok-written.records = cc in
-      (same ∙ done.0, λ tells. c.in_ok-place.ensures.ok ∙ done.1 tells);
-}
+pub returns-in-Ok-clause-ok : goal.returns-in-Ok-clause-ok
+returns-in-Ok-clause-ok g c whole held =
+    let ended : c.in_ok-complete.complete ≡ true = search (rules, c.if-not-complete.false) in
+    record {
+      last = c.read_sections.new.session;
+      reads = ended_as ended (c.in_ok-complete.ensures.ok whole held);
+      complete = λ n is parts was.
+          let done = c.in-Ok.ensures.ok parts was in
+          let same : n ≡ c.in-Ok.records = cc in
+          (same ∙ done.0, done.1);
+    }
+
+pub returns-in_err-complete-clause-cause : goal.returns-in_err-complete-clause-cause
+returns-in_err-complete-clause-cause g c =
+    told_err _ _ _ c.from_residual.ensures.1 (inl c.in_err-complete.ensures.cause)
+
+pub returns-in-Err-clause-cause : goal.returns-in-Err-clause-cause
+returns-in-Err-clause-cause g c = ended_for _ _ _ c.args.session.now
+    c.read_sections.new.session c.place_output.new.self c.args.form c.in-Err.fault
+    (c.place_output.ensures.calm ∙ c.in_ok-complete.ensures.calm.calm) c.in-Err.ensures.cause

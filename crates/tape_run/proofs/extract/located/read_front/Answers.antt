@@ -1,5 +1,7 @@
-use Rattle.std.proofs.Common.{◌∙◌}
+use Rattle.std.proofs.Common.{false, ◌∙◌}
 use Rattle.tape_run.specs.Given.{is_device}
+use Rattle.tape_run.proofs.Causes.{calm_reel, step_fails}
+use Rattle.tape_run.proofs.Ended.{told_err}
 use Rattle.tape_run.proofs.LocatedParts.{part_front}
 use Rattle.tape_run.proofs.LocatedReaders.{held_front, not_finished}
 use Rattle.tape_run.proofs.extract.located.read_front.Goals as goal
@@ -31,3 +33,18 @@ returns-clause-ok g c =
     let (now, has, (front, keeps, reeled)) = c.in_ok-answer.ensures.ok held was in
     (now, has, reeled))
     tt
+
+pub returns-in_err-answer-clause-cause : goal.returns-in_err-answer-clause-cause
+returns-in_err-answer-clause-cause g c =
+    told_err _ _ _ c.from_residual.ensures.1 (step_fails g.S.PartSink false _
+    c.args.session.now c.reel.new.self c.in_err-answer.ensures.refuses)
+
+pub returns-then-ends_section-clause-calm : goal.returns-then-ends_section-clause-calm
+returns-then-ends_section-clause-calm g c =
+    let done = c.in_ok-answer.ensures in
+    calm_reel g.S.PartSink c.args.session.now c.reel.new.self _ done.calm done.notes done.ok
+
+pub returns-clause-calm : goal.returns-clause-calm
+returns-clause-calm g c =
+    let done = c.in_ok-answer.ensures in
+    calm_reel g.S.PartSink c.args.session.now c.reel.new.self _ done.calm done.notes done.ok

@@ -9,6 +9,8 @@ use Rattle.tape_run.specs.Noted.{same_key}
 use Rattle.tape_run.specs.ExtractingLocated.{IsHeld, BeginsOn, NextBeginsOn, held_behind}
 use Rattle.tape_run.specs.SurveyLocations.{Located}
 use Rattle.tape_run.specs.declared.survey.files.FileKey.{FileKey}
+use Rattle.tape_run.proofs.Causes.{calm_same, calm_then, then_fails}
+use Rattle.tape_run.proofs.Ended.{told_err}
 use Rattle.tape_run.proofs.Located.{nothing_read, section_read, read_some, section_failed}
 use Rattle.tape_run.proofs.Located.{nothing_open, read_open, located_open}
 use Rattle.tape_run.proofs.Located.{sections_read, not_none, is_none_then, wanted_sect}
@@ -43,6 +45,7 @@ pub sections-init : goal.sections-init
 sections-init g c = record {
   set_id = refl;
   file = refl;
+  calm = calm_same g.S.PartSink c.args.session.now;
   reads = λ whole held. (
     nothing_read g.S.PartSink _ g.L.ImageSource.gives g.R.Read.remaining c.args.session.now
         c.args.images.now (is_some c.args.mounted.now) whole c.args.mounted.now held,
@@ -63,6 +66,8 @@ sections-preserved g c =
     record {
       set_id = c.in_ok-mounted.ensures.file.0 ∙ inv.set_id;
       file = c.in_ok-mounted.ensures.file.1 ∙ inv.file;
+      calm = calm_then g.S.PartSink c.args.session.now c.sections.session
+          c.read_section.new.session inv.calm c.in_ok-mounted.ensures.calm;
       reads = λ whole held.
           let (s, is_open, more) = inv.reads whole held in
           let reads = located_open g.S.PartSink g.L.ImageSource.gives g.R.Read.remaining
@@ -150,3 +155,15 @@ returns-clause-ok g c whole held =
     c.sections.session c.args.images.now c.sections.images c.sections.images
     (is_some c.args.mounted.now) whole c.sections.mounted c.sections.mounted s s.held
     (search rules, refl)
+
+pub returns-in_err-mounted-clause-cause : goal.returns-in_err-mounted-clause-cause
+returns-in_err-mounted-clause-cause g c =
+    told_err _ _ _ c.from_residual.ensures.1 (then_fails g.S.PartSink
+    g.S.PartSink.refuses_change false c.in_err-mounted.field-0.0 c.args.session.now
+    c.sections.session c.read_section.new.session c.sections.invariant.calm
+    c.in_err-mounted.ensures.cause)
+
+pub returns-then-is_none-clause-calm : goal.returns-then-is_none-clause-calm
+returns-then-is_none-clause-calm g c = calm_then g.S.PartSink c.args.session.now
+    c.sections.session c.read_section.new.session c.sections.invariant.calm
+    c.in_ok-mounted.ensures.calm

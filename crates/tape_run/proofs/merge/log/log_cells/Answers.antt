@@ -1,9 +1,19 @@
-use Rattle.std.proofs.Common.{arith, subst}
+use Rattle.std.proofs.Common.{arith, rules, subst}
 use Rattle.std.specs.Io.KnownBytes.{Appends}
 use Rattle.tape_run.specs.MergeLog.{verdict_cell}
-use Rattle.tape_run.proofs.MergeReports.{reports_all}
+use Rattle.tape_run.proofs.MergeReports.{reports_none, reports_more, reports_all}
 use Rattle.tape_run.proofs.MergeRows.{lines_flat}
 use Rattle.tape_run.proofs.merge.log.log_cells.Goals as goal
+
+pub loop-reading-init : goal.loop-reading-init
+loop-reading-init g c = reports_none _ _ _
+
+pub loop-reading-preserved : goal.loop-reading-preserved
+loop-reading-preserved g c = reports_more (λ _ r. verdict_cell r.verdict)
+    c.loop-reading.reading-index c.args.readings.now c.reading-item.result
+    (g.G.Write.contents c.args.log.now) (g.G.Write.contents c.loop-reading.log)
+    (g.G.Write.contents c.write_text.new.writer) c.cell.result.now (search rules) c.reading-item.is
+    c.cell.ensures c.loop-reading.invariant c.in_ok-write_text.ensures.ok
 
 pub returns : goal.returns
 returns g c = subst (λ t. Appends (g.G.Write.contents c.args.log.now)

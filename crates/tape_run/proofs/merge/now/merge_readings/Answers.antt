@@ -1,35 +1,39 @@
-use Rattle.std.proofs.Common.{◌≡◌, map, inl, inr, rules, subst, sym, ◌∙◌, [], ◌++◌, append-nil}
+use Rattle.std.proofs.Common.{◌≡◌, map, inl, inr, rules, refl, subst, sym, ◌∙◌, [], ◌++◌}
+use Rattle.std.proofs.Common.{append-nil}
 use Rattle.std.specs.Io.KnownBytes.{Appends}
 use Rattle.std.proofs.KnownBytes.{Appends-trans}
 use Rattle.tape_image.specs.Written.{AppendsFront}
+use Rattle.tape_image.specs.declared.item.ImageWriteFault.TheVariants.{TooLong}
 use Rattle.tape_run.specs.MergeLines.{lines_from, reading_line, has_line, merged_line, differ_line}
+use Rattle.tape_run.specs.MergeNow.{Misses}
+use Rattle.tape_run.proofs.Ended.{told_err}
 use Rattle.tape_run.proofs.Reporting.{front_then}
 use Rattle.tape_run.proofs.MergeNow.{made, made_some, differed, fits_other, err_write}
-use Rattle.tape_run.proofs.MergeNow.{all_logged}
+use Rattle.tape_run.proofs.MergeNow.{all_logged, stays, err_stays, says_nothing, says_front}
+use Rattle.tape_run.proofs.MergeNow.{says_lines, says_differ, says_items}
+use Rattle.tape_run.proofs.MergeTooLong.{item_cause, end_cause}
 use Rattle.tape_run.proofs.merge.now.merge_readings.Goals as goal
 
-pub returns-in-Ok-clause-ok : goal.returns-in-Ok-clause-ok
-returns-in-Ok-clause-ok g c =
+pub returns-in-Ok-merge_to-clause-ok : goal.returns-in-Ok-merge_to-clause-ok
+returns-in-Ok-merge_to-clause-ok g c =
     let names = map (λ n. n.now) c.args.names.now in
     let old = g.P.Write.contents c.args.report.now in
     let mid = g.P.Write.contents c.report_readings.new.report in
     let new = g.P.Write.contents c.pass_on.new.report in
-    made c.args.readings.now c.merge_to.new.readings c.in-Ok.merged _ _
-    (g.G.Write.contents c.write_log.new.log) (g.G.Write.contents c.merge_to.new.log) _ _ _
+    made c.args.readings.now c.merge_to.new.readings c.in-Ok-merge_to.merged _ _
+    (g.G.Write.contents c.write_text.new.writer) (g.G.Write.contents c.merge_to.new.log) _ _ _
     c.end_of-end.result _ names (Appends (g.G.Write.contents c.args.log.now)
-    (g.G.Write.contents c.flush_log.new.log)) (Appends old new)
-    c.new-image.ensures c.in-Ok.ensures.ok
-    c.in_ok-written-in-Ok.ensures.ok c.in_ok-place-in-Ok.ensures.ok c.whole_or_partial.ensures
-    c.end_of-end.ensures (all_logged _ _ _ _ _ _ _ c.as_slice.ensures.value c.in_ok-head.ensures
-    c.in_ok-write_log.ensures.ok c.flush_log.ensures.kept) (Appends-trans old mid new
+    (g.G.Write.contents c.flush.new.writer)) (Appends old new)
+    c.new-image.ensures c.in-Ok-merge_to.ensures.ok
+    c.in_ok-written-in-Ok-merge_to.ensures.ok c.in_ok-place-in-Ok-merge_to.ensures.ok
+    c.whole_or_partial.ensures c.end_of-end.ensures
+    (all_logged _ _ _ _ _ _ _ c.as_slice.ensures.value c.in_ok-head.ensures
+    c.in-Ok.ensures.ok c.flush.ensures.kept) (Appends-trans old mid new
     (lines_from (reading_line names) 0 c.merge_to.new.readings)
-    (merged_line c.in-Ok.merged c.end_of-end.result) c.in_ok-report_readings-in-Ok.ensures.ok
+    (merged_line c.in-Ok-merge_to.merged c.end_of-end.result)
+    c.in_ok-report_readings-in-Ok-merge_to.ensures.ok
     (subst (λ t. Appends mid new t) (c.deref.ensures.0 ∙ c.merged_line.ensures)
-    c.in_ok-pass_on-in-Ok.ensures.ok))
-
-pub returns-in-Ok-clause-untouched : goal.returns-in-Ok-clause-untouched
-returns-in-Ok-clause-untouched g c =
-    λ is. absurd (fits_other _ _ _ _ c.whole_or_partial.ensures is)
+    c.in_ok-pass_on-in-Ok-merge_to.ensures.ok))
 
 pub returns-in-Err-Differ-clause-ok : goal.returns-in-Err-Differ-clause-ok
 returns-in-Err-Differ-clause-ok g c =
@@ -42,7 +46,7 @@ returns-in-Err-Differ-clause-ok g c =
     let items = lines_from (has_line names) 0 c.merge_to.new.readings in
     let text : c.deref-in-Err-Differ.result.now ≡ differ_line c.in-Err-Differ.item =
     search rules in
-    differed c.args.readings.now c.merge_to.new.readings c.in-Err-Differ.item
+    differed c.args.readings.now c.merge_to.new.readings _ _ c.in-Err-Differ.item
     c.in-Err-Differ.field-0 (g.W.Write.contents c.args.out) (g.O.Place.stands c.args.place.now)
     names (Appends (g.G.Write.contents c.args.log.now) (g.G.Write.contents c.merge_to.new.log))
     (Appends old new) c.in-Err-Differ.ensures.fault c.in-Err-Differ.field-0-is
@@ -52,27 +56,123 @@ returns-in-Err-Differ-clause-ok g c =
     (subst (λ t. Appends first second t) text c.in_ok-pass_on-in-Err-Differ.ensures.ok))
     c.in_ok-report_items-in-Err-Differ.ensures.ok)
 
-pub returns-in_err-place-in-Ok-clause-err : goal.returns-in_err-place-in-Ok-clause-err
-returns-in_err-place-in-Ok-clause-err g c =
-    err_write _ g.O.Place.stands _ _ _ _ (search rules) (inl c.in_err-place-in-Ok.ensures.err)
+pub returns-in-Err-Write-clause-cause : goal.returns-in-Err-Write-clause-cause
+returns-in-Err-Write-clause-cause g c =
+    let misses : Misses (λ _. ⊥) (λ n. (c.in-Err-Write.fault ≡ TooLong) × (n ≡ c.size.result))
+    c.write_stop.result = search rules in
+    item_cause c.args.readings.now c.merge_to.new.readings _ _ _ c.in-Err-Write.field-0
+    c.in-Err-Write.fault c.size.result c.write_stop.result c.new-image.ensures
+    c.in-Err-Write.field-0-is c.size.ensures c.in-Err-Write.ensures.fault misses
 
-pub returns-in_err-pass_on-in-Ok-clause-err : goal.returns-in_err-pass_on-in-Ok-clause-err
-returns-in_err-pass_on-in-Ok-clause-err g c =
+pub returns-in_err-written-in-Ok-merge_to-clause-cause :
+    goal.returns-in_err-written-in-Ok-merge_to-clause-cause
+returns-in_err-written-in-Ok-merge_to-clause-cause g c =
+    end_cause c.from_residual-in_err-written-in-Ok-merge_to.result c.args.readings.now
+    c.merge_to.new.readings c.in-Ok-merge_to.merged _ c.merge_to.new.out
+    (g.G.Write.contents c.write_text.new.writer) (g.G.Write.contents c.merge_to.new.log) _
+    c.end_of-end.result c.new-image.ensures c.in-Ok-merge_to.ensures.ok c.end_of-end.ensures
+    (told_err c.from_residual-in_err-written-in-Ok-merge_to.result _ _
+    c.from_residual-in_err-written-in-Ok-merge_to.ensures.1
+    c.in_err-written-in-Ok-merge_to.ensures.err)
+
+pub returns-in_err-head-clause-left : goal.returns-in_err-head-clause-left
+returns-in_err-head-clause-left g c = err_stays c.from_residual.result g.O.Place.stands _ _ _
+    (says_nothing _ _ _)
+
+pub returns-in_default-clause-left : goal.returns-in_default-clause-left
+returns-in_default-clause-left g c = (refl, says_nothing _ _ _)
+
+pub returns-in-Err-OutOfMemory-clause-left : goal.returns-in-Err-OutOfMemory-clause-left
+returns-in-Err-OutOfMemory-clause-left g c = (refl, says_nothing _ _ _)
+
+pub returns-in-Err-Write-clause-left : goal.returns-in-Err-Write-clause-left
+returns-in-Err-Write-clause-left g c =
+    stays g.O.Place.stands _ _ _ c.write_stop.result (says_nothing _ _ _)
+
+pub returns-clause-left : goal.returns-clause-left
+returns-clause-left g c = (refl, says_nothing _ _ _)
+
+pub returns-in_err-report_readings-in-Ok-merge_to-clause-left :
+    goal.returns-in_err-report_readings-in-Ok-merge_to-clause-left
+returns-in_err-report_readings-in-Ok-merge_to-clause-left g c =
+    err_stays c.from_residual-in_err-report_readings-in-Ok-merge_to.result g.O.Place.stands _ _ _
+    (says_front _ c.merge_to.new.readings _ _
+    c.in_err-report_readings-in-Ok-merge_to.ensures.front)
+
+pub returns-in_err-written-in-Ok-merge_to-clause-left :
+    goal.returns-in_err-written-in-Ok-merge_to-clause-left
+returns-in_err-written-in-Ok-merge_to-clause-left g c =
+    err_stays c.from_residual-in_err-written-in-Ok-merge_to.result g.O.Place.stands _ _ _
+    (says_lines _ c.merge_to.new.readings _ _
+    c.in_ok-report_readings-in-Ok-merge_to.ensures.ok)
+
+pub returns-in_default-flush-clause-left : goal.returns-in_default-flush-clause-left
+returns-in_default-flush-clause-left g c = (
+  refl,
+  says_lines _ c.merge_to.new.readings _ _ c.in_ok-report_readings-in-Ok-merge_to.ensures.ok,
+)
+
+pub returns-in_err-place-in-Ok-merge_to-clause-left :
+    goal.returns-in_err-place-in-Ok-merge_to-clause-left
+returns-in_err-place-in-Ok-merge_to-clause-left g c =
+    err_write _ g.O.Place.stands _ _ _ _ (search rules) (inl (
+      c.in_err-place-in-Ok-merge_to.ensures.err,
+      says_lines _ c.merge_to.new.readings _ _ c.in_ok-report_readings-in-Ok-merge_to.ensures.ok,
+    ))
+
+pub returns-in_err-report_readings-in-Err-Differ-clause-left :
+    goal.returns-in_err-report_readings-in-Err-Differ-clause-left
+returns-in_err-report_readings-in-Err-Differ-clause-left g c =
+    err_stays c.from_residual-in_err-report_readings-in-Err-Differ.result g.O.Place.stands _ _ _
+    (says_front _ c.merge_to.new.readings _ _
+    c.in_err-report_readings-in-Err-Differ.ensures.front)
+
+pub returns-in_err-pass_on-in-Err-Differ-clause-left :
+    goal.returns-in_err-pass_on-in-Err-Differ-clause-left
+returns-in_err-pass_on-in-Err-Differ-clause-left g c =
+    let text : c.deref-in-Err-Differ.result.now ≡ differ_line c.in-Err-Differ.item =
+    search rules in
+    err_stays c.from_residual-in_err-pass_on-in-Err-Differ.result g.O.Place.stands _ _ _
+    (says_differ _ c.merge_to.new.readings c.in-Err-Differ.item _ _ _
+    c.in_ok-report_readings-in-Err-Differ.ensures.ok
+    (subst (λ t. AppendsFront (g.P.Write.contents c.report_readings-in-Err-Differ.new.report)
+    (g.P.Write.contents c.pass_on-in-Err-Differ.new.report) t) text
+    c.in_err-pass_on-in-Err-Differ.ensures.err))
+
+pub returns-in_err-report_items-in-Err-Differ-clause-left :
+    goal.returns-in_err-report_items-in-Err-Differ-clause-left
+returns-in_err-report_items-in-Err-Differ-clause-left g c =
+    let names = map (λ n. n.now) c.args.names.now in
+    let old = g.P.Write.contents c.args.report.now in
+    let first = g.P.Write.contents c.report_readings-in-Err-Differ.new.report in
+    let second = g.P.Write.contents c.pass_on-in-Err-Differ.new.report in
+    let text : c.deref-in-Err-Differ.result.now ≡ differ_line c.in-Err-Differ.item =
+    search rules in
+    err_stays c.from_residual-in_err-report_items-in-Err-Differ.result g.O.Place.stands _ _ _
+    (says_items names c.merge_to.new.readings c.in-Err-Differ.item old second _
+    (Appends-trans old first second (lines_from (reading_line names) 0 c.merge_to.new.readings)
+    (differ_line c.in-Err-Differ.item) c.in_ok-report_readings-in-Err-Differ.ensures.ok
+    (subst (λ t. Appends first second t) text c.in_ok-pass_on-in-Err-Differ.ensures.ok))
+    c.in_err-report_items-in-Err-Differ.ensures.front)
+
+pub returns-in_err-pass_on-in-Ok-merge_to-clause-left :
+    goal.returns-in_err-pass_on-in-Ok-merge_to-clause-left
+returns-in_err-pass_on-in-Ok-merge_to-clause-left g c =
     let names = map (λ n. n.now) c.args.names.now in
     let old = g.P.Write.contents c.args.report.now in
     let mid = g.P.Write.contents c.report_readings.new.report in
     let new = g.P.Write.contents c.pass_on.new.report in
     let lines = lines_from (reading_line names) 0 c.merge_to.new.readings in
-    let last = merged_line c.in-Ok.merged c.end_of-end.result in
+    let last = merged_line c.in-Ok-merge_to.merged c.end_of-end.result in
     err_write _ g.O.Place.stands _ _ _ _ (search rules) (inr (made_some
-    c.args.readings.now c.merge_to.new.readings c.in-Ok.merged _ _
-    (g.G.Write.contents c.write_log.new.log) (g.G.Write.contents c.merge_to.new.log) _ _ _
+    c.args.readings.now c.merge_to.new.readings c.in-Ok-merge_to.merged _ _
+    (g.G.Write.contents c.write_text.new.writer) (g.G.Write.contents c.merge_to.new.log) _ _ _
     c.end_of-end.result names (Appends (g.G.Write.contents c.args.log.now)
-    (g.G.Write.contents c.flush_log.new.log)) (AppendsFront old new)
-    c.new-image.ensures c.in-Ok.ensures.ok c.in_ok-written-in-Ok.ensures.ok
-    c.in_ok-place-in-Ok.ensures.ok c.end_of-end.ensures (all_logged _ _ _ _ _ _ _
-    c.as_slice.ensures.value c.in_ok-head.ensures
-    c.in_ok-write_log.ensures.ok c.flush_log.ensures.kept)
-    (front_then old mid new lines last [] (lines ++ last) c.in_ok-report_readings-in-Ok.ensures.ok
+    (g.G.Write.contents c.flush.new.writer)) (AppendsFront old new)
+    c.new-image.ensures c.in-Ok-merge_to.ensures.ok c.in_ok-written-in-Ok-merge_to.ensures.ok
+    c.in_ok-place-in-Ok-merge_to.ensures.ok c.end_of-end.ensures (all_logged _ _ _ _ _ _ _
+    c.as_slice.ensures.value c.in_ok-head.ensures c.in-Ok.ensures.ok c.flush.ensures.kept)
+    (front_then old mid new lines last [] (lines ++ last)
+    c.in_ok-report_readings-in-Ok-merge_to.ensures.ok
     (subst (λ t. AppendsFront mid new t) (c.deref.ensures.0 ∙ c.merged_line.ensures)
-    c.in_err-pass_on-in-Ok.ensures.err) (sym (append-nil (lines ++ last))))))
+    c.in_err-pass_on-in-Ok-merge_to.ensures.err) (sym (append-nil (lines ++ last))))))

@@ -1,21 +1,42 @@
-use Rattle.std.proofs.Common.{◌≡◌, ◌+◌, arith, map, ap, ◌∙◌}
-use Rattle.tape_run.specs.MergeLines.{reading_text, line_of, with_name, name_at, reading_line}
-use Rattle.tape_run.proofs.MergeReports.{reports_more}
+use Rattle.std.proofs.Common.{arith, map, ◌∙◌}
+use Rattle.tape_image.proofs.Pieces.{on_err}
+use Rattle.tape_run.specs.MergeLines.{reading_line}
+use Rattle.tape_run.proofs.MergeReports.{reports_none, reports_more, reports_all, reports_part}
+use Rattle.tape_run.proofs.MergeReports.{reports_so_far, named_reading}
 use Rattle.tape_run.proofs.merge.now.report_readings.Goals as goal
+
+pub loop-number-init : goal.loop-number-init
+loop-number-init g c = reports_none _ _ _
 
 pub loop-number-preserved : goal.loop-number-preserved
 loop-number-preserved g c =
     let names = map (λ n. n.now) c.args.names.now in
-    let n = c.loop-number.number in
-    let r = c.index-readings-number.result in
-    let line : c.line_of.result ≡ line_of r = c.line_of.ensures in
-    let text : c.deref.result.now ≡ reading_text (n + 1) (line_of r) =
-    c.deref.ensures.0 ∙ c.reading_text-text.ensures ∙ ap (λ l. reading_text (n + 1) l) line in
-    let name : c.name_at.result.now ≡ name_at names n = c.name_at.ensures in
-    let this : c.as_slice.result.now ≡ reading_line names n r = c.as_slice.ensures.value
-    ∙ c.in_ok-line.ensures ∙ ap (λ t. with_name t c.name_at.result.now) text
-    ∙ ap (λ t. with_name (reading_text (n + 1) (line_of r)) t) name in
-    reports_more (reading_line names) n c.args.readings.now r
+    reports_more (reading_line names) c.loop-number.number c.args.readings.now
+    c.index-readings-number.result (g.P.Write.contents c.args.report.now)
+    (g.P.Write.contents c.loop-number.report) (g.P.Write.contents c.pass_on.new.report)
+    c.as_slice.result.now (omega arith) c.index-readings-number.is (c.as_slice.ensures.value
+    ∙ named_reading names c.loop-number.number c.index-readings-number.result c.line_of.result
+    c.reading_text-text.result.items c.deref.result.now c.name_at.result.now
+    c.in_ok-line.line.items c.line_of.ensures c.reading_text-text.ensures c.deref.ensures.0
+    c.name_at.ensures c.in_ok-line.ensures) c.loop-number.invariant c.in_ok-pass_on.ensures.ok
+
+pub returns-clause-ok : goal.returns-clause-ok
+returns-clause-ok g c = reports_all _ c.loop-number.number _ _ _ (omega arith)
+    c.loop-number.invariant
+
+pub returns-in_err-line-clause-front : goal.returns-in_err-line-clause-front
+returns-in_err-line-clause-front g c = on_err c.from_residual.result _
+    (reports_so_far _ c.loop-number.number _ _ _ c.loop-number.invariant)
+
+pub returns-in_err-pass_on-clause-front : goal.returns-in_err-pass_on-clause-front
+returns-in_err-pass_on-clause-front g c =
+    let names = map (λ n. n.now) c.args.names.now in
+    on_err c.from_residual-in_err-pass_on.result _ (reports_part (reading_line names)
+    c.loop-number.number c.args.readings.now c.index-readings-number.result
     (g.P.Write.contents c.args.report.now) (g.P.Write.contents c.loop-number.report)
     (g.P.Write.contents c.pass_on.new.report) c.as_slice.result.now (omega arith)
-    c.index-readings-number.is this c.loop-number.invariant c.in_ok-pass_on.ensures.ok
+    c.index-readings-number.is (c.as_slice.ensures.value
+    ∙ named_reading names c.loop-number.number c.index-readings-number.result c.line_of.result
+    c.reading_text-text.result.items c.deref.result.now c.name_at.result.now
+    c.in_ok-line.line.items c.line_of.ensures c.reading_text-text.ensures c.deref.ensures.0
+    c.name_at.ensures c.in_ok-line.ensures) c.loop-number.invariant c.in_err-pass_on.ensures.err)

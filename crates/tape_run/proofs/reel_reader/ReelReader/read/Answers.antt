@@ -6,6 +6,8 @@ use Rattle.tape_core.specs.Arrive.{arrival}
 use Rattle.tape_core.specs.Table.{step_of}
 use Rattle.tape_core.proofs.Crashes.{only_same}
 use Rattle.tape_run.proofs.Growing.{Grows, grows_then, adds_on}
+use Rattle.tape_run.proofs.Causes.{refused_then}
+use Rattle.tape_run.proofs.Ended.{told_err}
 use Rattle.tape_run.proofs.Images.{IsTaken, none_taken, taken_on, reads_image, refuses_image}
 use Rattle.tape_run.proofs.Notes.{front_self, front_trans}
 use Rattle.tape_image.proofs.Pieces.{on_err}
@@ -116,3 +118,8 @@ returns-in_default-clause-ok g c = grows_then c.items.invariant.so_far
 pub returns-in_default-clause-crash : goal.returns-in_default-clause-crash
 returns-in_default-clause-crash g c =
     adds_on c.items.invariant.so_far c.items.invariant.crash c.take.ensures.crash
+
+pub returns-in_err-answer-clause-cause : goal.returns-in_err-answer-clause-cause
+returns-in_err-answer-clause-cause g c =
+    told_err _ _ _ c.from_residual.ensures.1 (refused_then g.S.PartSink.refusals
+    g.S.PartSink.refuses_change _ _ _ _ c.items.invariant.calm c.in_err-answer.ensures.cause)

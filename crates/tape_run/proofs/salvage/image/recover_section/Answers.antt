@@ -35,7 +35,8 @@ returns-then-is_end-clause-ok g c =
     c.items.expected item c.args.recovery.now c.items.recovery c.take_item.new.self
     (g.P.Write.contents c.args.report.now)
     (g.P.Write.contents c.items.report) (g.P.Write.contents c.take_item.new.report)
-    c.items.invariant.so_far step.takes at.0 at.1 c.read_in.result c.read_in.ensures given
+    c.items.invariant.so_far step.takes at.0 at.1 c.read_in.result c.read_in.ensures
+    c.items.invariant.unended given
 
 pub items-preserved : goal.items-preserved
 items-preserved g c =
@@ -72,7 +73,8 @@ returns-in-Ok-None-clause-ok g c =
     (c.in-Ok-None.is ∙ ap Ok c.in-Ok-None.field-0-is) in
     at_end g.W.Write.contents c.args.image.now.left c.items.image.left next.left
     c.items.image.place next.place met.ending c.args.start c.args.key.now c.args.most
-    c.args.form.now c.items.expected c.args.recovery.now c.items.recovery (g.P.Write.contents c.args.report.now)
+    c.args.form.now c.items.expected c.args.recovery.now c.items.recovery
+    (g.P.Write.contents c.args.report.now)
     (g.P.Write.contents c.items.report) c.items.invariant.so_far met.takes
     c.read_in-in-Ok-None.result c.read_in-in-Ok-None.ensures c.items.invariant.unended
 

@@ -5,8 +5,8 @@ use Rattle.tape_run.proofs.SalvageOne.{no_copy, no_form, no_image, from_copy, if
 use Rattle.tape_run.proofs.salvage.sections.recover.Goals as goal
 
 pub returns-in_default-clause-ok : goal.returns-in_default-clause-ok
-returns-in_default-clause-ok g c = no_copy g.W.Write.contents g.L.ImageSource.gives g.R.Read.remaining c.args.copies.now
-    c.args.content c.args.known.now c.args.sect _ _ _ _ _ _
+returns-in_default-clause-ok g c = no_copy g.W.Write.contents g.L.ImageSource.gives
+    g.R.Read.remaining c.args.copies.now c.args.content c.args.known.now c.args.sect _ _ _ _ _ _
     (subst (IsBest (firsts c.args.sect None c.args.copies.now)) c.in_default.is
     c.best_copy.ensures) refl c.in_ok-miss_section.ensures.ok
 

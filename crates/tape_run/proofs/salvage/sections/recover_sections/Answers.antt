@@ -19,8 +19,8 @@ loop-before-preserved g c =
     c.in_ok-end.ensures.ok (c.ends_file.ensures.no c.if-ends_file.false)
 
 pub returns-then-ends_file-clause-ok : goal.returns-then-ends_file-clause-ok
-returns-then-ends_file-clause-ok g c = ends_file g.W.Write.contents g.L.ImageSource.gives g.R.Read.remaining c.args.copies.now
-    c.args.content _ c.loop-before.before _ _ _ _ _ _ _ _ _ _ _
+returns-then-ends_file-clause-ok g c = ends_file g.W.Write.contents g.L.ImageSource.gives
+    g.R.Read.remaining c.args.copies.now c.args.content _ c.loop-before.before _ _ _ _ _ _ _ _ _ _ _
     (omega (arith, c.loop-before-test.true, c.last_section-last.ensures)) c.loop-before.invariant
     c.in_ok-end.ensures.ok (c.ends_file.ensures.yes c.if-ends_file.true)
     c.form_of_file-form.ensures

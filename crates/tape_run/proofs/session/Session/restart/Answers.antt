@@ -1,7 +1,8 @@
-use Rattle.std.proofs.Common.{◌≡◌, Some, [], ap, subst, arith, slice_get, refl, inr}
+use Rattle.std.proofs.Common.{◌≡◌, Some, [], ap, subst, arith, slice_get, refl, inl, inr}
 use Rattle.std.proofs.lemmas.Grind.{common_steps}
 use Rattle.std.proofs.lemmas.Option.{gets}
 use Rattle.tape_core.specs.Place.{rest_of}
+use Rattle.tape_run.proofs.Causes.{refused_at}
 use Rattle.tape_run.proofs.Crashes.{cut_only}
 use Rattle.tape_run.proofs.Notes.{front_weighs}
 use Rattle.tape_run.proofs.Places.{from_taken}
@@ -100,3 +101,10 @@ returns-clause-crash g c =
     (g.S.PartSink.refusals s.reel_reader.sink) in
     cut_only here c.args.n point _ _ noted kept (g.S.PartSink.holds s.reel_reader.sink) was
     c.cut_to.ensures.crash)
+
+pub returns-in-Err-clause-refuses : goal.returns-in-Err-clause-refuses
+returns-in-Err-clause-refuses g c = rw (← c.self.view_is) (
+  refl,
+  inl (refused_at g.S.PartSink.refusals g.S.PartSink.refuses_change _ _ _ c.in-Err.cause refl
+      c.in-Err.ensures.why c.in-Err.ensures.cause),
+)

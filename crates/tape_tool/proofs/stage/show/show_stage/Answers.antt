@@ -1,23 +1,82 @@
-use Rattle.std.proofs.Common.{refl}
+use Rattle.std.proofs.Common.{◌≡◌, ℕ, false, refl, subst, inl}
+use Rattle.std.specs.Prelude.{Option, Some}
 use Rattle.std.proofs.KnownBytes.{Keeps-refl}
-use Rattle.std.specs.Prelude.{None}
-use Rattle.tape_stage.specs.Stages.{Holds}
-use Rattle.tape_tool.specs.StageReport.{GivesFront, ending_of, unopened}
-use Rattle.tape_tool.proofs.StageReport.{stops_in_part, of_held_err}
+use Rattle.tape_stage.specs.Salvaged.{Remains}
+use Rattle.tape_stage.specs.declared.stage.StageFault.TheVariants.{BadFrame, Failed, Full}
+use Rattle.tape_stage.proofs.Remaining.{broken_bad, broken_none, none_staged}
+use Rattle.tape_stage.proofs.Results.{no_frame_any, no_frame_says}
+use Rattle.tape_tool.specs.StageReport.{GivesFront, in_part, unopened}
+use Rattle.tape_tool.specs.declared.stage.ending.StageEnding.{StageEnding}
+use Rattle.tape_tool.proofs.StageReport.{gives_front, no_lines, shows}
 use Rattle.tape_tool.proofs.stage.show.show_stage.Goals as goal
 
-pub returns-in-Ok-clause-err : goal.returns-in-Ok-clause-err
-returns-in-Ok-clause-err g c honest =
-    let read = c.in-Ok.ensures.resumes honest in
-    let front = of_held_err c.show_opened.result (λ ps. Holds c.in-Ok.stage ps)
-    (λ ps. GivesFront c.in-Ok.point (ending_of c.in-Ok.point None) c.args.form
-    (g.W.Write.contents c.args.out.now) (g.W.Write.contents c.show_opened.new.out)
-    (g.P.Write.contents c.args.report.now) (g.P.Write.contents c.show_opened.new.report) ps)
-    read.1 read.3 c.show_opened.ensures.err in
-    stops_in_part (g.D.Disk.seen c.args.disk) read.0 c.in-Ok.point read.1 c.args.form _ _ _ _
-    c.show_opened.result read.2 front c.show_opened.ensures.fault
+-- ---- no stage was opened
 
 pub returns-in-Err-clause-err : goal.returns-in-Err-clause-err
 returns-in-Err-clause-err g c honest =
-    unopened c.in-Err.refused.fault refl (λ says. c.in-Err.ensures.none honest says)
-    (c.in-Err.ensures.says honest) c.in-Err.ensures.not_full c.in-Err.ensures.not_failed (Keeps-refl _) (Keeps-refl _)
+    let refuses = c.in-Err.ensures.refused in
+    let fault = c.in-Err.refused.fault in
+    let read = g.D.Disk.seen c.args.disk in
+    unopened fault refl (λ says. none_staged read (refuses.none honest says))
+    (no_frame_says read fault (refuses.none honest) refuses.no_frame)
+    (no_frame_any fault (λ place. c.args.damaged ≡ false) refuses.no_frame)
+    refuses.not_full refuses.not_failed
+    (Keeps-refl _) (Keeps-refl _)
+
+-- ---- a damaged stage is refused
+
+pub returns-in-Err-ending_at-clause-err : goal.returns-in-Err-ending_at-clause-err
+returns-in-Err-ending_at-clause-err g c honest =
+    let opened = c.in-Ok.opened in
+    let found = c.in-Ok.ensures.remains honest in
+    let read = g.D.Disk.seen c.args.disk in
+    let e = c.in-Err-ending_at.ensures.err in
+    let place = e.0 in
+    let remains : Remains read found.0 opened.point (Some place) found.1 =
+    subst (λ (b : Option ℕ). Remains read found.0 opened.point b found.1) e.1 found.2 in
+    unopened (BadFrame place) e.3
+    (λ says. broken_none read found.0 opened.point place found.1 remains)
+    (broken_bad read found.0 opened.point place found.1 remains) e.2
+    (λ e. let no : BadFrame place ≡ Full = e in cc)
+    (λ e. let no : BadFrame place ≡ Failed = e in cc) (Keeps-refl _) (Keeps-refl _)
+
+-- ---- the records could not be written
+
+pub returns-in-Err-write_in-clause-err : goal.returns-in-Err-write_in-clause-err
+returns-in-Err-write_in-clause-err g c honest =
+    let opened = c.in-Ok.opened in
+    let found = c.in-Ok.ensures.remains honest in
+    let ends = c.in-Ok-ending_at.ensures.ok in
+    in_part found.0 opened.point opened.broken found.1 found.2 ends.1
+    (no_lines opened.point _ c.args.form _ _ _ _ found.1
+    (c.in-Err-write_in.ensures.err found.1 found.3) refl) c.in-Err-write_in.ensures.fault
+
+-- ---- the lines could not be printed
+
+pub returns-clause-err : goal.returns-clause-err
+returns-clause-err g c honest =
+    let opened = c.in-Ok.opened in
+    let found = c.in-Ok.ensures.remains honest in
+    let ends = c.in-Ok-ending_at.ensures.ok in
+    let wrote = c.in-Ok-write_in.ensures.ok found.1 found.3 found.4 in
+    let out = g.W.Write.contents c.args.out.now in
+    let written = g.W.Write.contents c.write_in.new.out in
+    let said = g.P.Write.contents c.args.report.now in
+    let says = g.P.Write.contents c.tell.new.report in
+    in_part found.0 opened.point opened.broken found.1 found.2 ends.1
+    (subst (λ (ending : StageEnding). GivesFront opened.point ending c.args.form out written said
+    says found.1) ends.0
+    (gives_front opened.point c.in-Ok-ending_at.ending c.args.form out written said says found.1
+    c.in-Ok-write_in.records wrote.0 wrote.1 c.in-Err-tell.ensures.err)) (inl refl)
+
+-- ---- everything succeeded
+
+pub returns-in-Ok-tell-clause-ok : goal.returns-in-Ok-tell-clause-ok
+returns-in-Ok-tell-clause-ok g c honest =
+    let opened = c.in-Ok.opened in
+    let found = c.in-Ok.ensures.remains honest in
+    let ends = c.in-Ok-ending_at.ensures.ok in
+    let wrote = c.in-Ok-write_in.ensures.ok found.1 found.3 found.4 in
+    shows opened.point c.in-Ok-ending_at.ending c.args.form _ _ _ _ found.1
+    (g.D.Disk.seen c.args.disk) c.args.damaged found.0 opened.broken c.in-Ok-write_in.records
+    found.2 ends.1 ends.0 wrote.0 wrote.1 c.in-Ok-tell.ensures.ok

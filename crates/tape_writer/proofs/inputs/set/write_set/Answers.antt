@@ -1,108 +1,191 @@
 use Rattle.std.proofs.Common.{◌≡◌, ◌≤◌, [], ap, sym, subst, ◌∙◌, map, inl, inr}
 use Rattle.tape_set.specs.Tight.{least_capacity}
 use Rattle.tape_writer.specs.Images.{Holds}
+use Rattle.tape_writer.specs.Refusals.{IsFinishFault}
 use Rattle.tape_writer.specs.NoVolume.{GaveUpIn, GaveUpSet}
 use Rattle.tape_writer.specs.ToldFiles.{IfAllKnown, told_files}
 use Rattle.tape_writer.specs.LeftOf.{IsLeftOfAll, IsLeftSet}
 use Rattle.tape_writer.specs.WriteSet.{IsSetOfImages}
-use Rattle.tape_writer.proofs.inputs.Finished.{set_of_images, if_cut, all_known}
-use Rattle.tape_writer.proofs.inputs.Leaving.{left_without}
-use Rattle.tape_writer.specs.WriteFaults.{IsFaultOfCut, IsFilesFault}
+use Rattle.tape_writer.specs.WriteFaults.{IsFaultOfCut, IsFilesFault, IsOfWriter}
 use Rattle.tape_writer.proofs.Last.{rose_none}
+use Rattle.tape_writer.proofs.Standing.{behind_writing}
+use Rattle.tape_writer.proofs.inputs.Finished.{set_of_images, if_cut, all_known}
 use Rattle.tape_writer.proofs.inputs.Heads.{head_fault}
+use Rattle.tape_writer.proofs.inputs.Leaving.{left_without, refused_left, finish_other}
 use Rattle.tape_writer.proofs.inputs.set.write_set.Goals as goal
 
-pub returns-in-Ok-clause-written : goal.returns-in-Ok-clause-written
-returns-in-Ok-clause-written g c fresh =
-    let plan = c.args.plan in
-    let begun = c.judged-writer.ensures.told (c.new.ensures.held fresh) in
-    let told = c.in-Ok.ensures.told [] begun in
-    let made = c.judged-writer.ensures.made in
-    let whole = c.write_whole.new.writer in
-    let done = c.written.result in
-    let H = g.S.ImageStore.holds in
-    let volumes = c.write_whole.ensures.same.0 ∙ ap (λ w. w.volumes) made in
-    let capacity = c.write_whole.ensures.same.1 ∙ ap (λ w. w.capacity) made in
-    let set_id = c.write_whole.ensures.same.2 ∙ ap (λ w. w.set_id) made in
-    if_cut (λ cut. IfAllKnown (map (λ f. (f.head, g.R.Read.remaining f.reader)) c.args.files.now)
-    (λ fs.
-    IsSetOfImages (H done.images) plan.volumes.items plan.capacity plan.set_id
-    (told_files plan.set_id plan.shape cut 1 fs))) _ _ c.in-Some.cut c.in-Some.is c.cut_of.ensures
-    (all_known (map (λ f. (f.head, g.R.Read.remaining f.reader)) c.args.files.now) _ _ told (λ fs w.
-    subst (λ s. IsSetOfImages (H done.images) plan.volumes.items plan.capacity plan.set_id
-    (told_files s plan.shape c.in-Some.cut 1 fs)) (ap (λ w. w.set_id) made)
-    (set_of_images H whole done.images plan.volumes.items plan.capacity plan.set_id _
-    c.in-Ok.ensures.end volumes capacity set_id (sym c.written.ensures.images) w)))
-
-pub returns-in-Err-write_whole-clause-stuck : goal.returns-in-Err-write_whole-clause-stuck
-returns-in-Err-write_whole-clause-stuck g c fresh = λ e.
+pub returns-clause-written : goal.returns-clause-written
+returns-clause-written g c fresh =
     let plan = c.args.plan in
     let inputs = map (λ f. (f.head, g.R.Read.remaining f.reader)) c.args.files.now in
-    let begun = c.judged-writer.ensures.told (c.new.ensures.held fresh) in
-    let made = c.judged-writer.ensures.made in
-    let whole = c.write_whole.new.writer in
+    let begun = c.in-Ok.ensures.told (c.new-tapes.ensures.held fresh) in
+    let made = c.in-Ok.ensures.made in
+    let told = c.in_default-write_files.ensures.told [] begun in
+    let whole = c.finish.new.self in
+    let images = c.into_parts-images.result.0 in
     let H = g.S.ImageStore.holds in
-    let fault = sym c.left.ensures.fault ∙ e in
-    let out = c.in-Err-write_whole.ensures.stuck (ap (λ w. w.phase) made) fault [] begun in
+    let volumes = c.finish.ensures.same.0 ∙ c.write_files.ensures.same.0
+    ∙ ap (λ w. w.volumes) made in
+    let capacity = c.finish.ensures.same.1 ∙ c.write_files.ensures.same.1
+    ∙ ap (λ w. w.capacity) made in
+    let set_id = c.finish.ensures.same.2 ∙ c.write_files.ensures.same.2
+    ∙ ap (λ w. w.set_id) made in
+    let store = c.into_parts-images.ensures.store
+    ∙ ap (λ t. t.store) c.into_parts-tapes.ensures.out in
+    if_cut (λ cut. IfAllKnown inputs (λ fs.
+    IsSetOfImages (H images) plan.volumes.items plan.capacity plan.set_id
+    (told_files plan.set_id plan.shape cut 1 fs))) _ _ c.in-Some.cut c.in-Some.is c.cut_of.ensures
+    (all_known inputs _ _ told (λ fs w.
+    subst (λ s. IsSetOfImages (H images) plan.volumes.items plan.capacity plan.set_id
+    (told_files s plan.shape c.in-Some.cut 1 fs)) (ap (λ w. w.set_id) made)
+    (set_of_images H whole images plan.volumes.items plan.capacity plan.set_id _
+    c.in_default-finish.ensures.end volumes capacity set_id (sym store)
+    (c.in_default-finish.ensures.told _ w))))
+
+-- ---- a file is not written
+
+pub returns-in-Err-write_files-clause-stuck : goal.returns-in-Err-write_files-clause-stuck
+returns-in-Err-write_files-clause-stuck g c fresh = λ e.
+    let plan = c.args.plan in
+    let inputs = map (λ f. (f.head, g.R.Read.remaining f.reader)) c.args.files.now in
+    let begun = c.in-Ok.ensures.told (c.new-tapes.ensures.held fresh) in
+    let made = c.in-Ok.ensures.made in
+    let whole = c.write_files.new.writer in
+    let left = c.left-in-Err-write_files in
+    let back = c.into_out-in-Err-write_files in
+    let H = g.S.ImageStore.holds in
+    let fault = sym left.ensures.fault ∙ e in
+    let out = c.in-Err-write_files.ensures.stuck fault [] begun in
     inr (if_cut (λ cut.
-    GaveUpSet (Holds H) (λ t. (t.store ≡ c.left.result.images)
-    × (t.image ≡ c.left.result.under_way)) plan cut inputs) _ _ c.in-Some.cut
+    GaveUpSet (Holds H) (λ t. (t.store ≡ left.result.images)
+    × (t.image ≡ left.result.under_way)) plan cut inputs) _ _ c.in-Some.cut
     c.in-Some.is c.cut_of.ensures record {
       writer = whole;
-      on_tapes = (sym c.left.ensures.images, sym c.left.ensures.under_way);
-      on_volumes = c.write_whole.ensures.same.0 ∙ ap (λ w. w.volumes) made;
-      capacity = c.write_whole.ensures.same.1 ∙ ap (λ w. w.capacity) made;
-      set_id = c.write_whole.ensures.same.2 ∙ ap (λ w. w.set_id) made;
+      on_tapes = (
+        sym (left.ensures.images ∙ ap (λ t. t.store) back.ensures),
+        sym (left.ensures.under_way ∙ ap (λ t. t.image) back.ensures),
+      );
+      on_volumes = c.write_files.ensures.same.0 ∙ ap (λ w. w.volumes) made;
+      capacity = c.write_files.ensures.same.1 ∙ ap (λ w. w.capacity) made;
+      set_id = c.write_files.ensures.same.2 ∙ ap (λ w. w.set_id) made;
       stuck = subst (λ s. GaveUpIn (Holds H whole.out) whole s [] plan.shape c.in-Some.cut inputs)
           (ap (λ w. w.set_id) made) out;
     })
 
-pub returns-in-Err-write_whole-clause-front : goal.returns-in-Err-write_whole-clause-front
-returns-in-Err-write_whole-clause-front g c fresh =
+pub returns-in-Err-write_files-clause-front : goal.returns-in-Err-write_files-clause-front
+returns-in-Err-write_files-clause-front g c fresh =
     let plan = c.args.plan in
     let inputs = map (λ f. (f.head, g.R.Read.remaining f.reader)) c.args.files.now in
-    let begun = c.judged-writer.ensures.told (c.new.ensures.held fresh) in
-    let made = c.judged-writer.ensures.made in
-    let whole = c.write_whole.new.writer in
+    let begun = c.in-Ok.ensures.told (c.new-tapes.ensures.held fresh) in
+    let made = c.in-Ok.ensures.made in
+    let whole = c.write_files.new.writer in
+    let left = c.left-in-Err-write_files in
+    let back = c.into_out-in-Err-write_files in
     let H = g.S.ImageStore.holds in
-    let out = c.in-Err-write_whole.ensures.front (ap (λ w. w.phase) made) [] begun in
+    let out = c.in-Err-write_files.ensures.front (ap (λ w. w.phase) made) [] begun in
     inr (if_cut (λ cut.
-    IsLeftSet (Holds H) (λ t. (t.store ≡ c.left.result.images)
-    × (t.image ≡ c.left.result.under_way)) c.left.result.fault plan cut inputs) _ _ c.in-Some.cut
+    IsLeftSet (Holds H) (λ t. (t.store ≡ left.result.images)
+    × (t.image ≡ left.result.under_way)) left.result.fault plan cut inputs) _ _ c.in-Some.cut
     c.in-Some.is c.cut_of.ensures record {
       writer = whole;
-      on_tapes = (sym c.left.ensures.images, sym c.left.ensures.under_way);
-      on_volumes = c.write_whole.ensures.same.0 ∙ ap (λ w. w.volumes) made;
-      capacity = c.write_whole.ensures.same.1 ∙ ap (λ w. w.capacity) made;
-      set_id = c.write_whole.ensures.same.2 ∙ ap (λ w. w.set_id) made;
-      left = subst (λ s. IsLeftOfAll (Holds H whole.out) whole ⊥ c.left.result.fault s []
+      on_tapes = (
+        sym (left.ensures.images ∙ ap (λ t. t.store) back.ensures),
+        sym (left.ensures.under_way ∙ ap (λ t. t.image) back.ensures),
+      );
+      on_volumes = c.write_files.ensures.same.0 ∙ ap (λ w. w.volumes) made;
+      capacity = c.write_files.ensures.same.1 ∙ ap (λ w. w.capacity) made;
+      set_id = c.write_files.ensures.same.2 ∙ ap (λ w. w.set_id) made;
+      left = subst (λ s. IsLeftOfAll (Holds H whole.out) whole ⊥ left.result.fault s []
           plan.shape c.in-Some.cut inputs) (ap (λ w. w.set_id) made)
-          (subst (λ f. IsLeftOfAll (Holds H whole.out) whole ⊥ f c.judged-writer.result.set_id []
-          plan.shape c.in-Some.cut inputs) (sym c.left.ensures.fault)
+          (subst (λ f. IsLeftOfAll (Holds H whole.out) whole ⊥ f c.in-Ok.writer.set_id []
+          plan.shape c.in-Some.cut inputs) (sym left.ensures.fault)
           (left_without (Holds H whole.out) whole _ _ _ [] plan.shape c.in-Some.cut inputs
-          rose_none out));
+          rose_none (inl out)));
     })
 
-pub returns-in-Err-write_whole-clause-unfit : goal.returns-in-Err-write_whole-clause-unfit
-returns-in-Err-write_whole-clause-unfit g c unfit some =
-    let made = c.judged-writer.ensures.made in
-    let kept = (c.in-Err-write_whole.ensures.unfit (ap (λ w. w.phase) made)
+pub returns-in-Err-write_files-clause-unfit : goal.returns-in-Err-write_files-clause-unfit
+returns-in-Err-write_files-clause-unfit g c unfit some =
+    let made = c.in-Ok.ensures.made in
+    let left = c.left-in-Err-write_files in
+    let back = c.into_out-in-Err-write_files in
+    let kept = (c.in-Err-write_files.ensures.unfit (ap (λ w. w.phase) made)
     (λ writable room. unfit writable
     (subst (λ d. least_capacity c.args.plan.shape ≤ d) (ap (λ w. w.capacity) made) room)) some).0
     in (
-      c.left.ensures.images ∙ (ap (λ w. w.out.store) kept
-          ∙ (ap (λ w. w.out.store) made ∙ c.new.ensures.store)),
-      c.left.ensures.under_way ∙ (ap (λ w. w.out.image) kept
-          ∙ (ap (λ w. w.out.image) made ∙ c.new.ensures.image)),
+      left.ensures.images ∙ (ap (λ t. t.store) back.ensures ∙ (ap (λ w. w.out.store) kept
+          ∙ (ap (λ w. w.out.store) made ∙ c.new-tapes.ensures.store))),
+      left.ensures.under_way ∙ (ap (λ t. t.image) back.ensures ∙ (ap (λ w. w.out.image) kept
+          ∙ (ap (λ w. w.out.image) made ∙ c.new-tapes.ensures.image))),
     )
+
+-- ---- the set does not end
+
+pub returns-in-Err-finish-clause-stuck : goal.returns-in-Err-finish-clause-stuck
+returns-in-Err-finish-clause-stuck g c fresh = λ e.
+    let between = (c.in_default-write_files.ensures.stands
+    (ap (λ w. w.phase) c.in-Ok.ensures.made)).0 in
+    absurd (subst (IsOfWriter (IsFinishFault c.write_files.new.writer.course.volume))
+    (sym c.left-in-Err-finish.ensures.fault ∙ e) (c.in-Err-finish.ensures.due between))
+
+pub returns-in-Err-finish-clause-front : goal.returns-in-Err-finish-clause-front
+returns-in-Err-finish-clause-front g c fresh =
+    let plan = c.args.plan in
+    let inputs = map (λ f. (f.head, g.R.Read.remaining f.reader)) c.args.files.now in
+    let begun = c.in-Ok.ensures.told (c.new-tapes.ensures.held fresh) in
+    let made = c.in-Ok.ensures.made in
+    let between = (c.in_default-write_files.ensures.stands (ap (λ w. w.phase) made)).0 in
+    let whole = c.finish.new.self in
+    let left = c.left-in-Err-finish in
+    let back = c.into_out-in-Err-finish in
+    let H = g.S.ImageStore.holds in
+    inr (if_cut (λ cut.
+    IsLeftSet (Holds H) (λ t. (t.store ≡ left.result.images)
+    × (t.image ≡ left.result.under_way)) left.result.fault plan cut inputs) _ _ c.in-Some.cut
+    c.in-Some.is c.cut_of.ensures record {
+      writer = whole;
+      on_tapes = (
+        sym (left.ensures.images ∙ ap (λ t. t.store) back.ensures),
+        sym (left.ensures.under_way ∙ ap (λ t. t.image) back.ensures),
+      );
+      on_volumes = c.finish.ensures.same.0 ∙ c.write_files.ensures.same.0
+          ∙ ap (λ w. w.volumes) made;
+      capacity = c.finish.ensures.same.1 ∙ c.write_files.ensures.same.1
+          ∙ ap (λ w. w.capacity) made;
+      set_id = c.finish.ensures.same.2 ∙ c.write_files.ensures.same.2
+          ∙ ap (λ w. w.set_id) made;
+      left = subst (λ s. IsLeftOfAll (Holds H whole.out) whole ⊥ left.result.fault s []
+          plan.shape c.in-Some.cut inputs) (ap (λ w. w.set_id) made)
+          (subst (λ f. IsLeftOfAll (Holds H whole.out) whole ⊥ f c.in-Ok.writer.set_id []
+          plan.shape c.in-Some.cut inputs) (sym left.ensures.fault)
+          (inr (
+            λ e. rose_none (c.in-Err-finish.ensures.cause.1 cc),
+            finish_other _ c.in-Err-finish.fault (c.in-Err-finish.ensures.due between),
+            all_known inputs _ _ (c.in_default-write_files.ensures.told [] begun) (λ fs w.
+                refused_left (Holds H) c.write_files.new.writer whole c.in-Err-finish.fault _ _
+                c.in-Err-finish.ensures.leaves w
+                (λ same writing. inl (behind_writing (Holds H whole.out) whole _
+                (ap (λ w. w.phase) same ∙ between) writing))
+                (λ e. inr (c.in-Err-finish.ensures.front _ w e))),
+          )));
+    })
+
+pub returns-in-Err-finish-clause-unfit : goal.returns-in-Err-finish-clause-unfit
+returns-in-Err-finish-clause-unfit g c unfit some =
+    let made = c.in-Ok.ensures.made in
+    absurd (c.in_default-write_files.ensures.unfit (ap (λ w. w.phase) made)
+    (λ writable room. unfit writable
+    (subst (λ d. least_capacity c.args.plan.shape ≤ d) (ap (λ w. w.capacity) made) room)) some).1
+
+-- ---- a head cannot be written
 
 pub returns-then-not-are_text_heads-clause-due : goal.returns-then-not-are_text_heads-clause-due
 returns-then-not-are_text_heads-clause-due g c =
     let plan = c.args.plan in
     let inputs = map (λ f. (f.head, g.R.Read.remaining f.reader)) c.args.files.now in
-    let fault = c.refused-then-not-are_text_heads.ensures.fault in
-    subst (λ k. IsFaultOfCut plan inputs k c.refused-then-not-are_text_heads.result.fault)
+    let left = c.left-then-not-are_text_heads in
+    subst (λ k. IsFaultOfCut plan inputs k left.result.fault)
     (sym (sym c.cut_of.ensures ∙ c.in-Some.is))
-    (inr (inl (subst (IsFilesFault plan.capacity plan.shape c.in-Some.cut 0 inputs) (sym fault)
+    (inr (inl (subst (IsFilesFault plan.capacity plan.shape c.in-Some.cut 0 inputs)
+    (sym left.ensures.fault)
     (head_fault _ (λ f. (f.head, g.R.Read.remaining f.reader)) plan.capacity plan.shape
     c.in-Some.cut 0 c.args.files.now (λ all. cc (c.if-not-are_text_heads.ensures.1 all))))))

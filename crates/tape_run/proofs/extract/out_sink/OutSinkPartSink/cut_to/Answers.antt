@@ -7,4 +7,4 @@ pub returns-then-point-self-clause-ok : goal.returns-then-point-self-clause-ok
 returns-then-point-self-clause-ok g c = λ front rest h e.
     let all : weight_of front ≡ c.args.self.now.weight = search (rules, e) in
     all_kept g.W.Write.contents c.args.self.now.form c.args.self.now.out c.args.self.now.weight
-    c.args.self.now.records c.args.self.now.begun c.args.self.now.failed front rest all h
+    c.args.self.now.records c.args.self.now.begun front rest all h

@@ -1,8 +1,8 @@
 use Rattle.std.proofs.Common.{◌++◌, ◌&&◌, subst}
 use Rattle.std.specs.Io.KnownBytes.{Appends}
-use Rattle.tape_run.specs.SalvageBlocks.{HasSalvaged, gap_text, torn_text}
-use Rattle.tape_run.specs.SalvageEnds.{with_count, without_gap, with_end, count_text}
-use Rattle.tape_run.proofs.SalvageOne.{three_texts}
+use Rattle.std.proofs.KnownBytes.{Appends-trans}
+use Rattle.tape_run.specs.SalvageBlocks.{HasSalvaged, torn_text}
+use Rattle.tape_run.specs.SalvageEnds.{with_count, with_end, count_text}
 use Rattle.tape_run.proofs.salvage.recovery.Recovery.end_closed.Goals as goal
 
 pub returns-clause-ok : goal.returns-clause-ok
@@ -12,16 +12,13 @@ returns-clause-ok g c =
     let eof = c.args.closed.eof in
     λ start z h.
     let label = c.wrong_count.result in
-    let one = c.in_ok-end_gap.ensures.ok start z h in
-    let two = c.in_ok-take_count.ensures.ok start (without_gap z) one.0 in
-    let three =
-    c.in_ok-end_record.ensures.ok start (with_count label (without_gap z)) two.0 in
+    let one = c.in_ok-take_count.ensures.ok start z h in
+    let two = c.in_ok-end_record.ensures.ok start (with_count label z) one.0 in
     subst (λ l. HasSalvaged g.W.Write.contents start c.end_record.new.self
-    (with_end eof (with_count l (without_gap z)))
+    (with_end eof (with_count l z))
     × Appends (g.P.Write.contents c.args.report.now)
     (g.P.Write.contents c.end_record.new.report)
-    (gap_text sect z.gap k.section.blocks z.piece.records
-    ++ (count_text sect l k.section.blocks
-    ++ torn_text (eof && z.piece.begun) sect k.section.blocks z.piece.records)))
+    (count_text sect l k.section.blocks
+    ++ torn_text (eof && z.piece.begun) sect k.section.blocks z.piece.records))
     c.wrong_count.ensures
-    (three.0, three_texts _ _ _ _ _ _ _ one.1 two.1 three.1)
+    (two.0, Appends-trans _ _ _ _ _ one.1 two.1)

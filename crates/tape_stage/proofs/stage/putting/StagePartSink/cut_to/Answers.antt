@@ -1,9 +1,10 @@
-use Rattle.std.proofs.Common.{◌≡◌, ℕ, List, ◌++◌, refl}
+use Rattle.std.proofs.Common.{◌≡◌, ℕ, List, ◌++◌, refl, ap, inr}
+use Rattle.std.specs.Prelude.{Err}
 use Rattle.tape_blocks.specs.Block.{Portion}
 use Rattle.tape_core.specs.Crash.{IsThis}
 use Rattle.tape_core.specs.Stands.{weight_of}
 use Rattle.tape_stage.specs.Parts.{IsFront}
-use Rattle.tape_stage.proofs.Held.{stage_holds}
+use Rattle.tape_stage.proofs.Held.{stage_holds, change_refused}
 use Rattle.tape_stage.proofs.Backs.{adds_this, adds_refused}
 use Rattle.tape_stage.proofs.stage.putting.StagePartSink.cut_to.Goals as goal
 
@@ -17,7 +18,7 @@ returns-in-Ok-clause-ok g c front rest holds weighs =
     let parts = front ++ rest in
     let of = front_of c.args.point.now.staged front rest weighs in
     let e = c.in-Ok.ensures in
-    let honest = holds.honest (c.args.self.now.settled e.ends.was_alive) in
+    let honest = holds.honest (c.args.self.now.settled (c.args.self.now.usable e.ends.was_alive)) in
     let was = holds.ready e.ends.was_alive in
     let now = e.ok honest was.0 parts front was.1 of in
     stage_holds c.cut_back.new.self now.0 front (e.ends.honest honest) now.1
@@ -28,7 +29,7 @@ returns-in-Ok-clause-crash g c front rest holds weighs =
     let of = front_of c.args.point.now.staged front rest weighs in
     let s = c.args.self.now in
     let e = c.in-Ok.ensures in
-    let honest = holds.honest (s.settled e.ends.was_alive) in
+    let honest = holds.honest (s.settled (s.usable e.ends.was_alive)) in
     let was = holds.ready e.ends.was_alive in
     adds_this s c.cut_back.new.self was.0 parts front c.args.point.now
     (g.met.D.Disk.seen_now s.disk honest) was.1 (e.any_moment honest was.0 parts front was.1 of)
@@ -41,8 +42,15 @@ returns-in-Err-clause-crash g c front rest holds weighs =
     let e = c.in-Err.ensures in
     adds_refused s c.cut_back.new.self (IsThis c.args.point.now front) c.in-Err.fault
     e.ends.refused (λ alive.
-    let honest = holds.honest (s.settled alive) in
+    let honest = holds.honest (s.settled (s.usable alive)) in
     let was = holds.ready alive in
     adds_this s c.cut_back.new.self was.0 parts front c.args.point.now
     (g.met.D.Disk.seen_now s.disk honest) was.1
     (e.any_moment honest was.0 parts front was.1 of))
+
+pub returns-in-Err-clause-why : goal.returns-in-Err-clause-why
+returns-in-Err-clause-why g c =
+    let e = c.in-Err.ensures in
+    change_refused c.args.self.now c.cut_back.new.self _ c.in-Err.fault c.sink_fault.result
+    c.sink_fault.ensures e.ends.refused (λ device. e.ends.cause (ap Err device))
+    (λ full. inr (e.full (ap Err full)))

@@ -1,9 +1,9 @@
-use Rattle.std.proofs.Common.{◌≡◌, List, ap}
+use Rattle.std.proofs.Common.{◌≡◌, List, ap, inr}
 use Rattle.std.specs.Prelude.{Option, Some, None, Err}
 use Rattle.tape_blocks.specs.Block.{Portion}
 use Rattle.tape_core.specs.Crash.{IsThis}
 use Rattle.tape_core.specs.Point.{Point}
-use Rattle.tape_stage.proofs.Held.{refused_holds}
+use Rattle.tape_stage.proofs.Held.{refused_holds, change_refused}
 use Rattle.tape_stage.proofs.Keeps.{frames_holding}
 use Rattle.tape_stage.specs.Stages.{Returns}
 use Rattle.tape_stage.proofs.Backs.{returned_kept, returned_now, adds_this, adds_refused}
@@ -26,7 +26,7 @@ pub returns-in-Ok-clause-kept : goal.returns-in-Ok-clause-kept
 returns-in-Ok-clause-kept g c parts holds =
     let new = c.save.new.self in
     let e = c.in-Ok.ensures in
-    let honest = holds.honest (c.args.self.now.settled e.ends.was_alive) in
+    let honest = holds.honest (c.args.self.now.settled (c.args.self.now.usable e.ends.was_alive)) in
     let was = holds.ready e.ends.was_alive in
     let only : (back : Point) (there : List Portion) → Returns new back there
     → (back ≡ c.args.point.now) × (there ≡ parts) =
@@ -41,7 +41,7 @@ pub returns-in-Ok-clause-crash : goal.returns-in-Ok-clause-crash
 returns-in-Ok-clause-crash g c parts holds =
     let s = c.args.self.now in
     let e = c.in-Ok.ensures in
-    let honest = holds.honest (s.settled e.ends.was_alive) in
+    let honest = holds.honest (s.settled (s.usable e.ends.was_alive)) in
     let was = holds.ready e.ends.was_alive in
     adds_this s c.save.new.self was.0 parts parts c.args.point.now
     (g.met.D.Disk.seen_now s.disk honest) was.1 (e.any_moment honest was.0 parts was.1)
@@ -52,7 +52,14 @@ returns-in-Err-clause-crash g c parts holds =
     let e = c.in-Err.ensures in
     adds_refused s c.save.new.self (IsThis c.args.point.now parts) c.in-Err.fault
     e.ends.refused (λ alive.
-    let honest = holds.honest (s.settled alive) in
+    let honest = holds.honest (s.settled (s.usable alive)) in
     let was = holds.ready alive in
     adds_this s c.save.new.self was.0 parts parts c.args.point.now
     (g.met.D.Disk.seen_now s.disk honest) was.1 (e.any_moment honest was.0 parts was.1))
+
+pub returns-in-Err-clause-why : goal.returns-in-Err-clause-why
+returns-in-Err-clause-why g c =
+    let e = c.in-Err.ensures in
+    change_refused c.args.self.now c.save.new.self _ c.in-Err.fault c.sink_fault.result
+    c.sink_fault.ensures e.ends.refused (λ device. e.ends.cause (ap Err device))
+    (λ full. inr (e.full (ap Err full)))

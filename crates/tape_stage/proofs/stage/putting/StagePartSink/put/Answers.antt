@@ -1,6 +1,7 @@
-use Rattle.std.proofs.Common.{[], ◌∷◌, ◌++◌}
+use Rattle.std.proofs.Common.{[], ◌∷◌, ◌++◌, ap, inl, arith}
+use Rattle.std.specs.Prelude.{Err}
 use Rattle.tape_blocks.specs.Parts.{view}
-use Rattle.tape_stage.proofs.Held.{stage_holds, refused_holds}
+use Rattle.tape_stage.proofs.Held.{stage_holds, refused_holds, change_refused}
 use Rattle.tape_stage.proofs.Keeps.{kept_front_holding}
 use Rattle.tape_stage.proofs.Backs.{adds_nothing, adds_refused}
 use Rattle.tape_stage.proofs.stage.putting.StagePartSink.put.Goals as goal
@@ -8,7 +9,7 @@ use Rattle.tape_stage.proofs.stage.putting.StagePartSink.put.Goals as goal
 pub returns-in-Ok-clause-ok : goal.returns-in-Ok-clause-ok
 returns-in-Ok-clause-ok g c parts holds =
     let e = c.in-Ok.ensures in
-    let honest = holds.honest (c.args.self.now.settled e.ends.was_alive) in
+    let honest = holds.honest (c.args.self.now.settled (c.args.self.now.usable e.ends.was_alive)) in
     let was = holds.ready e.ends.was_alive in
     stage_holds c.put_part.new.self was.0 (parts ++ view c.args.part ∷ [])
     (e.honest.onward honest) (e.ok honest was.0 parts was.1)
@@ -25,7 +26,7 @@ pub returns-in-Ok-clause-crash : goal.returns-in-Ok-clause-crash
 returns-in-Ok-clause-crash g c parts holds =
     let s = c.args.self.now in
     let e = c.in-Ok.ensures in
-    let honest = holds.honest (s.settled e.ends.was_alive) in
+    let honest = holds.honest (s.settled (s.usable e.ends.was_alive)) in
     let was = holds.ready e.ends.was_alive in
     adds_nothing s c.put_part.new.self was.0 parts (g.met.D.Disk.seen_now s.disk honest) was.1
     (e.any_moment honest was.0 parts was.1)
@@ -36,7 +37,14 @@ returns-in-Err-clause-crash g c parts holds =
     let e = c.in-Err.ensures in
     adds_refused s c.put_part.new.self (λ back there. ⊥) c.in-Err.fault e.ends.refused
     (λ alive.
-    let honest = holds.honest (s.settled alive) in
+    let honest = holds.honest (s.settled (s.usable alive)) in
     let was = holds.ready alive in
     adds_nothing s c.put_part.new.self was.0 parts (g.met.D.Disk.seen_now s.disk honest) was.1
     (e.any_moment honest was.0 parts was.1))
+
+pub returns-in-Err-clause-why : goal.returns-in-Err-clause-why
+returns-in-Err-clause-why g c =
+    let e = c.in-Err.ensures in
+    change_refused c.args.self.now c.put_part.new.self _ c.in-Err.fault c.sink_fault.result
+    c.sink_fault.ensures e.ends.refused (λ device. e.ends.cause (ap Err device))
+    (λ full. inl (omega (arith, c.requires, (e.full (ap Err full)).1)))

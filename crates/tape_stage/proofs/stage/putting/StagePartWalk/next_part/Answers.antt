@@ -8,8 +8,8 @@ use Rattle.tape_stage.proofs.Giving.{given, lends_none, nothing_ahead}
 use Rattle.tape_stage.proofs.Held.{read_held}
 use Rattle.tape_stage.proofs.stage.putting.StagePartWalk.next_part.Goals as goal
 
-pub returns-then-self-2 : goal.returns-then-self-2
-returns-then-self-2 g c =
+pub returns-then-self : goal.returns-then-self
+returns-then-self g c =
     let s = c.args.self.now in
     let bytes = g.D.Disk.seen s.disk in (
       (
@@ -21,7 +21,7 @@ returns-then-self-2 g c =
           same_weight = refl;
           gives = λ parts is.
               let none = nothing_ahead (256 + s.walked) (256 + s.weight) bytes parts
-              (omega (arith, c.if-self-2.true)) is.1 in
+              (omega (arith, c.if-self.true)) is.1 in
               (none.0, (is.0, none.1));
           lends = tt;
           counts = refl;
@@ -36,7 +36,7 @@ returns-in-Ok g c =
     let s = c.args.self.now in
     let e = c.in-Ok.ensures in
     let d = c.read_frame.new.disk in
-    let calm = s.settled c.if-self.false in
+    let calm = s.settled c.if-not-self.false in
     let old = g.D.Disk.seen s.disk in
     let new = g.D.Disk.seen d in
     let same : c.deref.result.now ≡ c.read_frame.new.buffer =
@@ -56,10 +56,10 @@ returns-in-Ok g c =
           gives = λ parts is.
               let next = given s.walked (256 + s.weight) c.in-Ok.size old new c.in-Ok.span
               (take c.in-Ok.size c.read_frame.new.buffer) parts
-              (omega (arith, c.if-self-2.false)) (e.found (is.0 calm)) long
+              (omega (arith, c.if-self.false)) (e.found (is.0 calm)) long
               (e.reads.same (is.0 calm)) is.1 in
               (next.0, next.1, (λ none. e.honest (is.0 none), next.2));
-          lends = (omega (arith, long, e.short), omega (arith, c.if-self-2.false, e.ends));
+          lends = (omega (arith, long, e.short), omega (arith, c.if-self.false, e.ends));
           counts = refl;
           why = tt;
         },
@@ -72,7 +72,7 @@ returns-in-Err g c =
     let s = c.args.self.now in
     let e = c.in-Err.ensures in
     let d = c.read_frame.new.disk in
-    let calm = s.settled c.if-self.false in (
+    let calm = s.settled c.if-not-self.false in (
       (
         refl,
         λ _. tt,
@@ -89,7 +89,7 @@ returns-in-Err g c =
           );
           lends = tt;
           counts = search rules;
-          why = lends_none g.D.Disk s.failed s.walked s.weight s.disk d c.in-Err.fault e.only
+          why = lends_none g.D.Disk s.readable s.walked s.weight s.disk d c.in-Err.fault e.only
               (λ is. e.kinds (ap Err is)) (λ honest is. e.none honest (ap Err is));
         },
       ),

@@ -1,46 +1,76 @@
-use Rattle.std.proofs.Common.{rules, arith, refl, sym, subst}
-use Rattle.std.specs.Io.KnownBytes.{Keeps, prepend_known}
-use Rattle.tape_writer.specs.Records.{left_of}
+use Rattle.std.proofs.Common.{arith, rules, refl, sym, subst, vec_capacity}
+use Rattle.std.proofs.lemmas.Grind.{common_steps}
 use Rattle.std.proofs.lemmas.Result.{err_from_is_err_and}
-use Rattle.tape_writer.proofs.inputs.Cutting.{read_ahead, used, piece_more, taken}
-use Rattle.tape_writer.proofs.inputs.Refusing.{no_room}
+use Rattle.tape_writer.specs.Records.{Adds, GrowsLong}
+use Rattle.tape_writer.proofs.inputs.Cutting.{read_ahead, used, piece_taken, piece_more, next_given}
+use Rattle.tape_writer.proofs.inputs.Cutting.{taken}
+use Rattle.tape_writer.proofs.inputs.Refusing.{no_room, grows_long}
 use Rattle.tape_writer.proofs.inputs.records.Records.next.Goals as goal
 
 pub pieces-preserved : goal.pieces-preserved
 pieces-preserved g c =
-    let taken = c.in_ok-ended.ensures.taken in
+    let old = c.pieces.self.record.items in
+    let piece = c.piece-piece in
+    let moved = piece_taken c.pieces.self.cut old c.extend_from_slice.new.self.items
+    c.as_slice-bytes.result.now _ _ piece.result.content piece.result.taken piece.result.ended
+    c.as_slice-bytes.ensures c.skip.ensures (search (rules, c.in-Ok.ensures.items))
+    piece.ensures.all (piece.ensures.adds old (search rules)) in
     record {
       cut = search rules;
       limit = search rules;
       over = search rules;
       fresh = c.pieces.invariant.fresh;
-      within = search rules;
-      room = omega (arith, c.pieces.invariant.room, c.in_ok-ended.ensures.room.0);
-      fits = c.in_ok-ended.ensures.room.1;
-      so_far = piece_more _ c.pieces.self.cut _ _ _ _ c.take_piece.new.held.items taken.0
-          c.in_ok-ended.ended (read_ahead _ _ _ _ _ c.pieces.invariant.so_far c.fill.ensures.bytes)
-          (used _ _ _ taken.0 taken.1) c.pieces.invariant.cut c.if-ended.false (taken.2, taken.3);
+      within = grind (arith, common_steps);
+      room = grind (arith, common_steps);
+      fits = grind (arith, common_steps);
+      so_far = piece_more _ c.pieces.self.cut _ _ _ _ c.extend_from_slice.new.self.items moved.0
+          piece.result.ended
+          (read_ahead _ _ _ _ _ c.pieces.invariant.so_far c.fill.ensures.bytes)
+          (used _ _ _ moved.0 moved.1) c.pieces.invariant.cut c.if-piece.false (moved.2, moved.3);
     }
+
+-- the record ends with the piece
+pub returns-then-piece-clause-given : goal.returns-then-piece-clause-given
+returns-then-piece-clause-given g c =
+    let old = c.pieces.self.record.items in
+    let piece = c.piece-piece in
+    let new = c.extend_from_slice.new.self.items in
+    let moved = piece_taken c.pieces.self.cut old new c.as_slice-bytes.result.now _ _
+    piece.result.content piece.result.taken piece.result.ended c.as_slice-bytes.ensures
+    c.skip.ensures (search (rules, c.in-Ok.ensures.items)) piece.ensures.all
+    (piece.ensures.adds old (search rules)) in
+    next_given _ c.pieces.self.cut _ c.pieces.self.over _ _ _ old new moved.0
+    (read_ahead _ _ _ _ _ c.pieces.invariant.so_far c.fill.ensures.bytes)
+    (used _ _ _ moved.0 moved.1) c.pieces.invariant.cut c.pieces.invariant.fresh
+    c.pieces.invariant.over
+    (subst (Adds c.pieces.self.cut old moved.0 new) c.if-piece.true moved.2)
 
 pub returns-in_err-fill-clause-taken : goal.returns-in_err-fill-clause-taken
 returns-in_err-fill-clause-taken g c =
     let p = err_from_is_err_and c.from_residual.result c.from_residual.ensures.1 in
     rw p.1 (taken _ _ _ _ _ _ c.pieces.invariant.so_far c.fill.ensures.bytes refl)
 
-pub returns-in_err-ended-clause-memory : goal.returns-in_err-ended-clause-memory
-returns-in_err-ended-clause-memory g c =
-    let p = err_from_is_err_and c.from_residual-in_err-ended.result
-    c.from_residual-in_err-ended.ensures.1 in
-    rw (p.1, p.2) (λ e. no_room _ _ _ c.pieces.self.cut _ c.pieces.self.record.items _ _ _ _
-    c.pieces.invariant.so_far c.fill.ensures.bytes c.pieces.invariant.room c.pieces.invariant.cut
-    c.pieces.invariant.fresh (c.in_err-ended.ensures.memory e))
+-- the record is longer than the limit, or than the capacity of the buffer
+pub returns-then-piece-self-clause-long : goal.returns-then-piece-self-clause-long
+returns-then-piece-self-clause-long g c = λ _.
+    let old = c.pieces.self.record.items in
+    let piece = c.piece-piece in
+    no_room _ c.pieces.self.limit _ c.pieces.self.cut _ old _ _ _ _ c.pieces.invariant.so_far
+    c.fill.ensures.bytes (omega (arith, c.pieces.invariant.limit)) c.pieces.invariant.cut
+    c.pieces.invariant.fresh
+    (subst (GrowsLong c.pieces.self.limit c.pieces.self.cut old) c.as_slice-bytes.ensures
+    (grows_long c.pieces.self.limit c.pieces.self.cut old c.as_slice-bytes.result.now
+    piece.result.content piece.result.taken piece.result.ended piece.ensures.within.0
+    piece.ensures.within.1 (grind (arith, common_steps)) (piece.ensures.adds old (search rules))))
 
-pub returns-in_err-ended-clause-taken : goal.returns-in_err-ended-clause-taken
-returns-in_err-ended-clause-taken g c =
-    let p = err_from_is_err_and c.from_residual-in_err-ended.result
-    c.from_residual-in_err-ended.ensures.1 in
-    let kept = c.in_err-ended.ensures.err in
-    rw p.1 (taken _ _ _ _ c.pieces.self.record.items _ c.pieces.invariant.so_far
-    (subst (λ a. Keeps (left_of g.R.Read.remaining c.pieces.self)
-    (prepend_known a (g.R.Read.remaining c.fill.new.reader))) (sym kept.1) c.fill.ensures.bytes)
-    kept.0)
+pub returns-in-Err-clause-memory : goal.returns-in-Err-clause-memory
+returns-in-Err-clause-memory g c = λ _.
+    let old = c.pieces.self.record.items in
+    let most = vec_capacity c.pieces.self.record in
+    let piece = c.piece-piece in
+    no_room _ most _ c.pieces.self.cut _ old _ _ _ _ c.pieces.invariant.so_far
+    c.fill.ensures.bytes c.pieces.invariant.room c.pieces.invariant.cut c.pieces.invariant.fresh
+    (subst (GrowsLong most c.pieces.self.cut old) c.as_slice-bytes.ensures
+    (grows_long most c.pieces.self.cut old c.as_slice-bytes.result.now piece.result.content
+    piece.result.taken piece.result.ended piece.ensures.within.0 piece.ensures.within.1
+    (search rules) (piece.ensures.adds old (search rules))))

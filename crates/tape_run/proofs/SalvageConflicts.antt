@@ -1,0 +1,102 @@
+-- The complete copies of sections that differ from the best one.
+use Rattle.std.proofs.Common.{◌≡◌, ◌<◌, ℕ, suc, ◌+◌, ◌||◌, Bool, true, false, take, get_or, List}
+use Rattle.std.proofs.Common.{[], ◌∷◌, ◌++◌, length, Option, Some, None, refl, sym, ap, subst, ◌∙◌}
+use Rattle.std.proofs.Common.{append_assoc, append-nil, arith}
+use Rattle.std.specs.Prelude.{if◌then◌else◌}
+use Rattle.std.specs.Io.KnownBytes.{Appends}
+use Rattle.std.proofs.KnownBytes.{Appends-nil, Appends-trans}
+use Rattle.tape_run.specs.declared.salvage.copies.SectionCopy.{SectionCopy}
+use Rattle.tape_run.specs.SalvageChoice.{firsts, IsBest}
+use Rattle.tape_run.specs.SalvageConflicts.{are_conflicting, has_conflict, conflict_text}
+use Rattle.tape_run.specs.SalvageConflicts.{AreConflicts, text_if}
+use Rattle.tape_run.proofs.SalvageChoice.{taken_more}
+
+or_none : (b : Bool) → (b || false) ≡ b
+or_none true = refl
+or_none false = refl
+
+or_assoc : (a b c : Bool) → (a || (b || c)) ≡ ((a || b) || c)
+or_assoc true b c = refl
+or_assoc false b c = refl
+
+conflict_more : (best c : SectionCopy) (cs : List SectionCopy)
+    → has_conflict (Some best) (cs ++ c ∷ [])
+    ≡ (has_conflict (Some best) cs || are_conflicting best c)
+conflict_more best c [] = or_none (are_conflicting best c)
+conflict_more best c (d ∷ cs) =
+    ap (λ b. are_conflicting best d || b) (conflict_more best c cs)
+    ∙ or_assoc (are_conflicting best d) (has_conflict (Some best) cs) (are_conflicting best c)
+
+text_more : (best c : SectionCopy) (cs : List SectionCopy)
+    → conflict_text (Some best) (cs ++ c ∷ [])
+    ≡ conflict_text (Some best) cs ++ text_if (are_conflicting best c) best c
+text_more best c [] = append-nil (text_if (are_conflicting best c) best c)
+text_more best c (d ∷ cs) =
+    let line = text_if (are_conflicting best d) best d in
+    ap (λ (t : List ℕ). line ++ t) (text_more best c cs)
+    ∙ sym (append_assoc line (conflict_text (Some best) cs)
+    (text_if (are_conflicting best c) best c))
+
+or_turned : (a b c : Bool) → ((a || b) || c) ≡ (b || (a || c))
+or_turned true true c = refl
+or_turned true false c = refl
+or_turned false b c = refl
+
+-- The copies up to a place were compared with the best one; `before` says whether there was a
+-- conflict before.
+pub record ComparedSoFar (best : SectionCopy) (cs : List SectionCopy) (before any : Bool)
+    (said says : Option (List ℕ)) : Type 0 where
+  pub found : any ≡ (has_conflict (Some best) cs || before)
+  pub wrote : Appends said says (conflict_text (Some best) cs)
+
+pub none_compared : (best : SectionCopy) (any : Bool) (said : Option (List ℕ))
+    → ComparedSoFar best [] any any said said
+none_compared best any said = record { found = refl; wrote = Appends-nil said }
+
+-- one more copy
+pub compared_more : (best c : SectionCopy) (cs : List SectionCopy) (place : ℕ)
+    (before any now : Bool) (said w says : Option (List ℕ)) → place < length cs
+    → c ≡ get_or cs place c → ComparedSoFar best (take place cs) before any said w
+    → now ≡ (are_conflicting best c || any)
+    → Appends w says (text_if (are_conflicting best c) best c)
+    → ComparedSoFar best (take (place + 1) cs) before now said says
+compared_more best c cs place before any now said w says within is s test wrote =
+    let all = taken_more cs place c c within is in
+    let front = take place cs in
+    let b = are_conflicting best c in
+    record {
+      found = test ∙ ap (λ a. b || a) s.found
+          ∙ sym (ap (λ l. has_conflict (Some best) l || before) all
+          ∙ ap (λ d. d || before) (conflict_more best c front)
+          ∙ or_turned (has_conflict (Some best) front) b before);
+      wrote = subst (Appends said says)
+          (sym (ap (conflict_text (Some best)) all ∙ text_more best c front))
+          (Appends-trans said w says _ _ s.wrote wrote);
+    }
+
+-- ---- all sections
+
+pub record ReportedSoFar (copies : List SectionCopy) (n : ℕ) (any : Bool)
+    (said says : Option (List ℕ)) : Type 0 where
+  pub text : List ℕ
+  pub are : AreConflicts copies n text any
+  pub wrote : Appends said says text
+
+pub none_reported : (copies : List SectionCopy) (said : Option (List ℕ))
+    → ReportedSoFar copies 0 false said said
+none_reported copies said = record { text = []; are = (refl, refl); wrote = Appends-nil said }
+
+pub next_reported : (copies : List SectionCopy) (n : ℕ) (any now : Bool)
+    (best : Option SectionCopy) (said w says : Option (List ℕ))
+    → ReportedSoFar copies n any said w → IsBest (firsts (n + 1) None copies) best
+    → now ≡ (has_conflict best copies || any) → Appends w says (conflict_text best copies)
+    → ReportedSoFar copies (n + 1) now said says
+next_reported copies n any now best said w says s is found wrote =
+    let next : suc n ≡ n + 1 = omega arith in
+    let text = s.text ++ conflict_text best copies in
+    record {
+      text = text;
+      are = subst (λ m. AreConflicts copies m text now) next
+          (s.text, any, best, s.are, is, refl, found);
+      wrote = Appends-trans said w says s.text (conflict_text best copies) s.wrote wrote;
+    }

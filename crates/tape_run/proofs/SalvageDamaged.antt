@@ -1,0 +1,400 @@
+-- On a damaged volume of a valid set a section that closes has exactly its blocks.
+use Rattle.std.proofs.Common.{◌≡◌, ◌≤◌, ℕ, ◌==◌, ◌&&◌, Bool, true, false, List, [], ◌∷◌, ◌++◌}
+use Rattle.std.proofs.Common.{length, Option, Some, None, Ok, refl, sym, ap, subst, ◌∙◌, arith}
+use Rattle.std.proofs.Common.{append_assoc}
+use Rattle.std.specs.Prelude.{if◌then◌else◌, min}
+use Rattle.std.specs.List.{AllByRecursion}
+use Rattle.std.proofs.lemmas.Bool.Decides.{nat_tests}
+use Rattle.tape_image.specs.Tape.{TapeItem, block, bad, mark}
+use Rattle.tape_label.specs.declared.values.Kind.TheVariants as kinds
+use Rattle.tape_label.specs.declared.values.Head1.{Head1}
+use Rattle.tape_label.specs.declared.values.Trail1.{Trail1}
+use Rattle.tape_label.specs.Kinds.{HasKind, trailer}
+use Rattle.tape_label.specs.Reading.{head1_at, trail1_at}
+use Rattle.tape_label.proofs.First.{head1_found, head1_again, trail1_found, trail1_again}
+use Rattle.tape_label.proofs.Apart.{HasKind-unique}
+use Rattle.tape_blocks.specs.Tight.{Filled}
+use Rattle.tape_set.specs.Lawful.{IsVolume, label_count}
+use Rattle.tape_set.specs.Laws.{StandsIn}
+use Rattle.tape_run.specs.declared.section.SectionKey.{SectionKey}
+use Rattle.tape_run.specs.declared.salvage.walk.OpenSection.{OpenSection}
+use Rattle.tape_run.specs.declared.salvage.walk.Closing.{Closing}
+use Rattle.tape_run.specs.SalvageWalk.{FoundAt, section_by, sections_in}
+use Rattle.tape_run.specs.SalvageWhole.{Blocks}
+use Rattle.tape_run.specs.SalvageSections.{Labels, read_labels, read_blocks, filled_of, IsNoHead}
+use Rattle.tape_run.specs.SalvageSections.{AreNoHeads}
+use Rattle.tape_run.specs.SalvageClosed.{IsNoMark, IsClosedIn, IsThere, digest_items}
+use Rattle.tape_run.specs.SalvageDamaged.{AnySection, if_read, to_trailer, from_trailer}
+use Rattle.tape_run.specs.SalvageDamaged.{any_sections, any_volume, IsPlain, IsPlainSection}
+use Rattle.tape_run.specs.SalvageDamaged.{AreApart, key_in, IsExact, IsFoundExactly}
+use Rattle.tape_run.specs.SalvageDamaged.{ClosedAreExact}
+use Rattle.tape_run.proofs.SalvageChoice.{all_append}
+use Rattle.tape_run.proofs.SalvageClosed.{closed_are_there}
+use Rattle.tape_run.proofs.SalvageOpened.{key_is, long}
+use Rattle.tape_run.proofs.SalvagePlaces.{same_place, between}
+use Rattle.tape_run.proofs.SalvageVolumes.{volume_no_heads}
+
+-- ---- items that are no such labels
+
+module _ (set_id : List ℕ) where
+  abbrev NoHead : TapeItem → Type 0
+  NoHead (block b) = (h : Head1) → head1_at b ≡ Ok h → h.set_id ≡ set_id → ⊥
+  NoHead bad = Unit {0}
+  NoHead mark = Unit {0}
+
+  abbrev is_own : SectionKey → Trail1 → Bool
+  is_own key t = (t.head.sect == key.sect) && (t.head.sequence == key.file)
+
+  abbrev NotOwn : SectionKey → TapeItem → Type 0
+  NotOwn key (block b) = (t : Trail1) → trail1_at b ≡ Ok t → is_own key t ≡ true → ⊥
+  NotOwn key bad = Unit {0}
+  NotOwn key mark = Unit {0}
+
+  -- neither, nor a mark
+  record IsNone (key : SectionKey) (x : TapeItem) : Type 0 where
+    head : NoHead x
+    own : NotOwn key x
+    off : IsNoMark x
+
+  plain : (key : SectionKey) (g : Bool) (b : List ℕ) → IsPlain set_id b
+      → IsNone key (if g then block b else bad)
+  plain key true b p =
+      record { head = p.no_head; own = λ t e own. p.no_trail t e; off = tt }
+  plain key false b p = record { head = tt; own = tt; off = tt }
+
+  plain_labels : (key : SectionKey) (ls : Labels) → AllByRecursion (λ l. IsPlain set_id l.1) ls
+      → AllByRecursion (IsNone key) (read_labels ls)
+  plain_labels key [] all = tt
+  plain_labels key (l ∷ ls) (p, all) = (plain key l.0 l.1 p, plain_labels key ls all)
+
+  plain_blocks : (key : SectionKey) (bs : Blocks)
+      → AllByRecursion (λ b. IsPlain set_id b.1.bytes) bs
+      → AllByRecursion (IsNone key) (read_blocks bs)
+  plain_blocks key [] all = tt
+  plain_blocks key (b ∷ bs) (p, all) = (plain key b.0 b.1.bytes p, plain_blocks key bs all)
+
+  all_heads : (key : SectionKey) (xs : List TapeItem) → AllByRecursion (IsNone key) xs
+      → AllByRecursion NoHead xs
+  all_heads key [] all = tt
+  all_heads key (x ∷ xs) (h, all) = (h.head, all_heads key xs all)
+
+  all_own : (key : SectionKey) (xs : List TapeItem) → AllByRecursion (IsNone key) xs
+      → AllByRecursion (NotOwn key) xs
+  all_own key [] all = tt
+  all_own key (x ∷ xs) (h, all) = (h.own, all_own key xs all)
+
+  all_no : (key : SectionKey) (xs : List TapeItem) → AllByRecursion (IsNone key) xs
+      → AllByRecursion IsNoMark xs
+  all_no key [] all = tt
+  all_no key (x ∷ xs) (h, all) = (h.off, all_no key xs all)
+
+  mark_head : (g : Bool) → NoHead (if_read g mark)
+  mark_head true = tt
+  mark_head false = tt
+
+  mark_own : (key : SectionKey) (g : Bool) → NotOwn key (if_read g mark)
+  mark_own key true = tt
+  mark_own key false = tt
+
+  -- a trailer label is no HDR1, and the other way round
+  not_both : (b : List ℕ) (h : Head1) (t : Trail1) → head1_at b ≡ Ok h → trail1_at b ≡ Ok t → ⊥
+  not_both b h t e f = apart t.eof (trail1_found b t f).kind
+    where
+      apart : (z : Bool) → HasKind b (trailer z) → ⊥
+      apart true c =
+          absurd (cc (HasKind-unique b kinds.Hdr1 kinds.Eof1 (head1_found b h e).kind c))
+      apart false c =
+          absurd (cc (HasKind-unique b kinds.Hdr1 kinds.Eov1 (head1_found b h e).kind c))
+
+  module _ (volumes : ℕ) where
+    -- the items of a section up to its trailer label, other than HDR1
+    to_heads : (r : AnySection) → IsPlainSection set_id volumes r
+        → AllByRecursion NoHead (to_trailer r)
+    to_heads r p =
+        let key = key_in set_id r in
+        all_append NoHead (read_labels r.headers) _
+        (all_heads key (read_labels r.headers) (plain_labels key r.headers p.headers)) (
+          mark_head r.first_mark,
+          all_append NoHead (read_blocks r.blocks) _
+              (all_heads key (read_blocks r.blocks) (plain_blocks key r.blocks p.blocks))
+              (mark_head r.second_mark, tt),
+        )
+
+    to_own : (key : SectionKey) (r : AnySection) → IsPlainSection set_id volumes r
+        → AllByRecursion (NotOwn key) (to_trailer r)
+    to_own key r p =
+        all_append (NotOwn key) (read_labels r.headers) _
+        (all_own key (read_labels r.headers) (plain_labels key r.headers p.headers)) (
+          mark_own key r.first_mark,
+          all_append (NotOwn key) (read_blocks r.blocks) _
+              (all_own key (read_blocks r.blocks) (plain_blocks key r.blocks p.blocks))
+              (mark_own key r.second_mark, tt),
+        )
+
+    -- the items after its trailer label
+    abbrev after_trailer : AnySection → List TapeItem
+    after_trailer r = read_labels r.trailers ++ (if_read r.last_mark mark ∷ [])
+
+    after_heads : (r : AnySection) → IsPlainSection set_id volumes r
+        → AllByRecursion NoHead (after_trailer r)
+    after_heads r p =
+        let key = key_in set_id r in
+        all_append NoHead (read_labels r.trailers) _
+        (all_heads key (read_labels r.trailers) (plain_labels key r.trailers p.trailers))
+        (mark_head r.last_mark, tt)
+
+    after_own : (key : SectionKey) (r : AnySection) → IsPlainSection set_id volumes r
+        → AllByRecursion (NotOwn key) (after_trailer r)
+    after_own key r p =
+        all_append (NotOwn key) (read_labels r.trailers) _
+        (all_own key (read_labels r.trailers) (plain_labels key r.trailers p.trailers))
+        (mark_own key r.last_mark, tt)
+
+    trailer_head : (g : Bool) (r : AnySection) → IsPlainSection set_id volumes r
+        → NoHead (if_read g (block r.placed.section.trailer))
+    trailer_head false r p = tt
+    trailer_head true r p =
+        let (t, is) = p.is.trailer in
+        λ h e same. not_both r.placed.section.trailer h t e
+        (trail1_again r.placed.section.trailer t is.label)
+
+    hdr1_own : (key : SectionKey) (g : Bool) (r : AnySection) → IsPlainSection set_id volumes r
+        → NotOwn key (if_read g (block r.placed.section.hdr1))
+    hdr1_own key false r p = tt
+    hdr1_own key true r p =
+        let (h, is) = p.is.header in
+        λ t e own. not_both r.placed.section.hdr1 h t
+        (head1_again r.placed.section.hdr1 h is.label) e
+
+    -- the trailer label of another section
+    trailer_own : (key : SectionKey) (g : Bool) (r : AnySection) → IsPlainSection set_id volumes r
+        → ((r.placed.sect == key.sect) && (r.placed.file == key.file)) ≡ false
+        → NotOwn key (if_read g (block r.placed.section.trailer))
+    trailer_own key false r p other = tt
+    trailer_own key true r p other =
+        let (t, is) = p.is.trailer in
+        λ u e own.
+        let same : t ≡ u =
+        cc (sym (trail1_again r.placed.section.trailer t is.label) ∙ e) in
+        let here : is_own key t ≡ false =
+        ap (λ n. (n == key.sect) && (t.head.sequence == key.file)) is.sect
+        ∙ ap (λ n. (r.placed.sect == key.sect) && (n == key.file)) is.file ∙ other in
+        absurd (cc (sym here ∙ ap (is_own key) same ∙ own))
+
+    -- later sections
+    later_own : (key : SectionKey) (rs : List AnySection) (tail : List TapeItem)
+        → AllByRecursion (IsPlainSection set_id volumes) rs
+        → AllByRecursion (λ q. ((q.placed.sect == key.sect) && (q.placed.file == key.file))
+        ≡ false) rs → AllByRecursion (NotOwn key) tail
+        → AllByRecursion (NotOwn key) (any_sections rs ++ tail)
+    later_own key [] tail all other none = none
+    later_own key (r ∷ rs) tail (p, all) (o, other) none =
+        let rest = later_own key rs tail all other none in
+        let items = to_trailer r ++ (from_trailer r ++ any_sections rs) in (
+          hdr1_own key r.hdr1 r p,
+          subst (AllByRecursion (NotOwn key))
+              (sym (append_assoc (to_trailer r) (from_trailer r ++ any_sections rs) tail
+              ∙ ap (λ (l : List TapeItem). to_trailer r ++ l)
+              (append_assoc (from_trailer r) (any_sections rs) tail)))
+              (all_append (NotOwn key) (to_trailer r) _ (to_own key r p)
+              (all_append (NotOwn key) (from_trailer r) _
+              (trailer_own key r.trailer r p o, after_own key r p) rest)),
+        )
+
+    -- ---- where a section begins
+
+    record After (zs : List TapeItem) (b : List ℕ) (ys : List TapeItem) : Type 0 where
+      front : List TapeItem
+      is : zs ≡ front ++ (block b ∷ ys)
+
+    -- an HDR1 is not among items that are none
+    passed : (ps zs front : List TapeItem) (b : List ℕ) (h : Head1) (ys : List TapeItem)
+        → head1_at b ≡ Ok h → h.set_id ≡ set_id → AllByRecursion NoHead ps
+        → ps ++ zs ≡ front ++ (block b ∷ ys) → After zs b ys
+    passed [] zs front b h ys is own none e = record { front = front; is = e }
+    passed (a ∷ ps) zs [] b h ys is own (n, none) e =
+        let same : a ≡ block b = cc e in absurd (subst NoHead same n h is own)
+    passed (a ∷ ps) zs (x ∷ front) b h ys is own (n, none) e =
+        let rest : ps ++ zs ≡ front ++ (block b ∷ ys) = cc e in
+        passed ps zs front b h ys is own none rest
+
+    record Begins (rs : List AnySection) (tail : List TapeItem) (b : List ℕ) (ys : List TapeItem)
+        : Type 0 where
+      before : List AnySection
+      section : AnySection
+      rest : List AnySection
+      is : rs ≡ before ++ section ∷ rest
+      same : section.placed.section.hdr1 ≡ b
+      items : ys ≡ to_trailer section ++ (from_trailer section ++ (any_sections rest ++ tail))
+
+    hdr1_is : (g : Bool) (a b : List ℕ) → if_read g (block a) ≡ block b → a ≡ b
+    hdr1_is true a b e = cc e
+    hdr1_is false a b e = absurd (cc e)
+
+    begins : (rs : List AnySection) (tail front : List TapeItem) (b : List ℕ) (h : Head1)
+        (ys : List TapeItem) → head1_at b ≡ Ok h → h.set_id ≡ set_id
+        → AllByRecursion (IsPlainSection set_id volumes) rs → AllByRecursion NoHead tail
+        → any_sections rs ++ tail ≡ front ++ (block b ∷ ys) → Begins rs tail b ys
+    begins [] tail front b h ys is own all none e = absurd (no_more tail front none e)
+      where
+        no_more : (zs front : List TapeItem) → AllByRecursion NoHead zs
+            → zs ≡ front ++ (block b ∷ ys) → ⊥
+        no_more [] [] none e = absurd (cc e)
+        no_more [] (x ∷ front) none e = absurd (cc e)
+        no_more (z ∷ zs) [] (n, none) e =
+            let same : z ≡ block b = cc e in absurd (subst NoHead same n h is own)
+        no_more (z ∷ zs) (x ∷ front) (n, none) e =
+            let rest : zs ≡ front ++ (block b ∷ ys) = cc e in no_more zs front none rest
+    begins (r ∷ rs) tail [] b h ys is own (p, all) none e =
+        let first : if_read r.hdr1 (block r.placed.section.hdr1) ≡ block b = cc e in
+        let rest : (to_trailer r ++ (from_trailer r ++ any_sections rs)) ++ tail ≡ ys = cc e in
+        record {
+          before = [];
+          section = r;
+          rest = rs;
+          is = refl;
+          same = hdr1_is r.hdr1 r.placed.section.hdr1 b first;
+          items = sym rest
+              ∙ append_assoc (to_trailer r) (from_trailer r ++ any_sections rs) tail
+              ∙ ap (λ (l : List TapeItem). to_trailer r ++ l)
+              (append_assoc (from_trailer r) (any_sections rs) tail);
+        }
+    begins (r ∷ rs) tail (x ∷ front) b h ys is own (p, all) none e =
+        let rest : (to_trailer r ++ (from_trailer r ++ any_sections rs)) ++ tail
+        ≡ front ++ (block b ∷ ys) = cc e in
+        let one = passed (to_trailer r) (from_trailer r ++ (any_sections rs ++ tail)) front b h ys
+        is own (to_heads r p)
+        (sym (append_assoc (to_trailer r) (from_trailer r ++ any_sections rs) tail
+        ∙ ap (λ (l : List TapeItem). to_trailer r ++ l)
+        (append_assoc (from_trailer r) (any_sections rs) tail)) ∙ rest) in
+        let two = passed (from_trailer r) (any_sections rs ++ tail) one.front b h ys is own
+        (trailer_head r.trailer r p, after_heads r p) one.is in
+        let s = begins rs tail two.front b h ys is own all none two.is in
+        record {
+          before = r ∷ s.before;
+          section = s.section;
+          rest = s.rest;
+          is = ap (λ (l : List AnySection). r ∷ l) s.is;
+          same = s.same;
+          items = s.items;
+        }
+
+    -- ---- the section that was found
+
+    one_of : (rs before rest : List AnySection) (r : AnySection) → rs ≡ before ++ r ∷ rest
+        → AllByRecursion (IsPlainSection set_id volumes) rs → AreApart rs
+        → IsPlainSection set_id volumes r × (AllByRecursion (IsPlainSection set_id volumes) rest
+        × AllByRecursion (λ q. ((q.placed.sect == r.placed.sect)
+        && (q.placed.file == r.placed.file)) ≡ false) rest)
+    one_of rs before rest r is all apart = at before
+        (subst (AllByRecursion (IsPlainSection set_id volumes)) is all) (subst AreApart is apart)
+      where
+        at : (before : List AnySection)
+            → AllByRecursion (IsPlainSection set_id volumes) (before ++ r ∷ rest)
+            → AreApart (before ++ r ∷ rest) → IsPlainSection set_id volumes r
+            × (AllByRecursion (IsPlainSection set_id volumes) rest
+            × AllByRecursion (λ q. ((q.placed.sect == r.placed.sect)
+            && (q.placed.file == r.placed.file)) ≡ false) rest)
+        at [] (p, all) (other, apart) = (p, (all, other))
+        at (q ∷ before) (p, all) (other, apart) = at before all apart
+
+    block_is : (g : Bool) (a b : List ℕ) → block b ≡ if_read g (block a) → b ≡ a
+    block_is true a b e = cc e
+    block_is false a b e = absurd (cc e)
+
+    blocks_long : (bs : Blocks) → length (read_blocks bs) ≡ length bs
+    blocks_long [] = refl
+    blocks_long (b ∷ bs) = let r = blocks_long bs in omega (arith, r)
+
+    found_exactly : (ls : Labels) (rs : List AnySection) (last : Bool)
+        (items more : List TapeItem) (u : OpenSection) (k : Closing)
+        → AllByRecursion NoHead (read_labels ls)
+        → AllByRecursion (IsPlainSection set_id volumes) rs → AreApart rs
+        → items ++ more ≡ any_volume ls rs last → IsClosedIn items u k → u.key.set_id ≡ set_id
+        → IsExact set_id rs items u k
+    found_exactly ls rs last items more u k none all apart whole c own =
+        let tail = if_read last mark ∷ [] in
+        let head_own : c.head.set_id ≡ set_id =
+        ap (λ (z : SectionKey). z.set_id) (sym c.key) ∙ own in
+        let end = block c.trailer ∷ c.rest in
+        let ys = c.labels ++ (mark ∷ (c.data_items ++ (mark ∷ end))) in
+        let there : any_volume ls rs last ≡ c.front ++ (block c.hdr1 ∷ (ys ++ more)) =
+        sym whole ∙ ap (λ (l : List TapeItem). l ++ more) c.is
+        ∙ append_assoc c.front (block c.hdr1 ∷ ys) more in
+        let one = passed (read_labels ls) (any_sections rs ++ tail) c.front c.hdr1 c.head
+        (ys ++ more) c.begins head_own none there in
+        let s = begins rs tail one.front c.hdr1 c.head (ys ++ more) c.begins head_own all
+        (mark_head last, tt) one.is in
+        let r = s.section in
+        let key = key_in set_id r in
+        let (p, (later, others)) = one_of rs s.before s.rest r s.is all apart in
+        let (h, header) = p.is.header in
+        let (t, label) = p.is.trailer in
+        let heads : h ≡ c.head = cc (sym (head1_again r.placed.section.hdr1 h header.label)
+        ∙ ap head1_at s.same ∙ c.begins) in
+        let whose : u.key ≡ key = c.key ∙ ap (λ (z : Head1). (section_by z).key) (sym heads)
+        ∙ key_is h set_id r.placed.file r.placed.sect header.set_id header.file header.sect in
+        let mine : is_own key c.trail ≡ true = ap (λ (z : SectionKey). is_own z c.trail) (sym whose)
+        ∙ c.same in
+        let after = after_trailer r ++ (any_sections s.rest ++ tail) in
+        let prefix = c.labels ++ (mark ∷ (c.data_items ++ (mark ∷ []))) in
+        let split : ys ++ more ≡ prefix ++ (block c.trailer ∷ (c.rest ++ more)) =
+        append_assoc c.labels (mark ∷ (c.data_items ++ (mark ∷ end))) more
+        ∙ ap (λ (l : List TapeItem). c.labels ++ (mark ∷ l))
+        (append_assoc c.data_items (mark ∷ end) more
+        ∙ sym (append_assoc c.data_items (mark ∷ []) (end ++ more)))
+        ∙ sym (append_assoc c.labels (mark ∷ (c.data_items ++ (mark ∷ []))) (end ++ more)) in
+        let place = same_place (NotOwn key) prefix (block c.trailer) (c.rest ++ more) (to_trailer r)
+        (if_read r.trailer (block r.placed.section.trailer)) after
+        (λ off. off c.trail c.ends mine) (to_own key r p)
+        (all_append (NotOwn key) (after_trailer r) _ (after_own key r p)
+        (later_own key s.rest tail later others (mark_own key last, tt)))
+        (sym split ∙ s.items) in
+        let exact = between c.labels c.data_items (read_labels r.headers) (read_blocks r.blocks)
+        (if_read r.first_mark mark) (if_read r.second_mark mark) c.no_labels c.no_data
+        (all_no key (read_labels r.headers) (plain_labels key r.headers p.headers))
+        (all_no key (read_blocks r.blocks) (plain_blocks key r.blocks p.blocks)) place.before in
+        let trail_is = block_is r.trailer r.placed.section.trailer c.trailer place.here in
+        let trails : t ≡ c.trail = cc (sym (trail1_again r.placed.section.trailer t label.label)
+        ∙ ap trail1_at (sym trail_is) ∙ c.ends) in
+        let n = sym (long r.blocks) ∙ ap length p.are_blocks in
+        let many = ap length exact ∙ blocks_long r.blocks in
+        let b = c.blocks in
+        let few = p.is.few in
+        record {
+          section = r;
+          among = (s.before, s.rest, s.is);
+          key = whose;
+          front = c.front ++ (block c.hdr1 ∷ c.labels);
+          rest = end;
+          is = c.is
+              ∙ ap (λ (l : List TapeItem). c.front ++ (block c.hdr1 ∷ (c.labels ++ (mark
+              ∷ (l ++ (mark ∷ end)))))) exact
+              ∙ sym (append_assoc c.front (block c.hdr1 ∷ c.labels)
+              (mark ∷ (read_blocks r.blocks ++ (mark ∷ end))));
+          blocks = omega (arith, b, many, n, few);
+          digest = c.digest ∙ ap (digest_items 0) exact;
+          count = ap (λ (z : Closing). z.count) c.closing
+              ∙ ap (λ (z : Trail1). z.blocks) (sym trails) ∙ label.count ∙ ap label_count (sym n);
+        }
+
+labels_no_heads : (set_id : List ℕ) (ls : Labels) → AreNoHeads ls
+    → AllByRecursion (NoHead set_id) (read_labels ls)
+labels_no_heads set_id [] none = tt
+labels_no_heads set_id ((true, b) ∷ ls) ((f, e), none) =
+    (λ h is own. absurd (cc (sym e ∙ is)), labels_no_heads set_id ls none)
+labels_no_heads set_id ((false, b) ∷ ls) none = (tt, labels_no_heads set_id ls none)
+
+pub closed_are_exact : ClosedAreExact
+closed_are_exact set_id volumes v ls rs last items more is labels all apart whole =
+    each (sections_in items) (closed_are_there items)
+  where
+    each : (l : List FoundAt) → AllByRecursion (IsThere items) l
+        → AllByRecursion (IsFoundExactly set_id rs items) l
+    each [] there = tt
+    each ((place, (u, None)) ∷ l) (h, there) = (tt, each l there)
+    each ((place, (u, Some k)) ∷ l) (h, there) = (
+      λ none own. found_exactly set_id volumes ls rs last items more u k
+          (labels_no_heads set_id ls (volume_no_heads v ls is labels)) all apart whole (h none) own,
+      each l there,
+    )

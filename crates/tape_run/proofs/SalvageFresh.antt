@@ -1,0 +1,172 @@
+-- A section whose data have not begun, before and after an item.
+use Rattle.std.proofs.Common.{◌≡◌, ◌<◌, ◌≤◌, ℕ, ◌+◌, ◌-◌, ◌==◌, ◌&&◌, Bool, true, false, List, []}
+use Rattle.std.proofs.Common.{◌∷◌, ◌++◌, length, Option, Some, None, Result, Ok, Err, refl, sym, ap}
+use Rattle.std.proofs.Common.{subst, ◌∙◌, arith, append_assoc, append-nil}
+use Rattle.std.specs.Prelude.{if◌then◌else◌, nat_lt, min}
+use Rattle.std.specs.List.{AllByRecursion}
+use Rattle.std.proofs.lemmas.Bool.Decides.{nat_tests}
+use Rattle.tape_image.specs.Tape.{TapeItem, block, bad, mark}
+use Rattle.tape_label.specs.declared.values.Kind.{Kind}
+use Rattle.tape_label.specs.declared.values.Kind.TheVariants as kinds
+use Rattle.tape_label.specs.declared.values.Head1.{Head1}
+use Rattle.tape_label.specs.declared.values.Trail1.{Trail1}
+use Rattle.tape_label.specs.declared.label.LabelFault.{LabelFault}
+use Rattle.tape_label.specs.Kinds.{kind_at}
+use Rattle.tape_label.specs.Reading.{head1_at, head2_at, trail1_at}
+use Rattle.tape_set.specs.Lawful.{FileForm, label_count}
+use Rattle.tape_run.specs.declared.section.SectionKey.{SectionKey}
+use Rattle.tape_run.specs.Noted.{same_key}
+use Rattle.tape_run.specs.declared.salvage.copies.SectionCopy.{SectionCopy}
+use Rattle.tape_run.specs.declared.salvage.walk.OpenSection.{OpenSection}
+use Rattle.tape_run.specs.declared.salvage.walk.Closing.{Closing}
+use Rattle.tape_run.specs.declared.salvage.walk.UnnamedItems.{UnnamedItems}
+use Rattle.tape_run.specs.declared.salvage.walk.Expected.{Expected}
+use Rattle.tape_run.specs.declared.salvage.walk.Expected.TheVariants.{Outside, Second, Headers}
+use Rattle.tape_run.specs.declared.salvage.walk.Expected.TheVariants.{Data, Trailer, Trailers}
+use Rattle.tape_run.specs.declared.salvage.walk.Expected.TheVariants.{Next, Over, Skipping}
+use Rattle.tape_run.specs.declared.salvage.walk.Expected.TheVariants.{Unnamed, UnnamedTrailer}
+use Rattle.tape_run.specs.SalvageWalk.{step, expected_after, begun_by, closed_by, unnamed_by}
+use Rattle.tape_run.specs.SalvageWalk.{outside_by, outside_mark, outside_bad, goes_on_by, skipping}
+use Rattle.tape_run.specs.SalvageWalk.{unnamed_after, one_read, with_item, with_data, closes}
+use Rattle.tape_run.specs.SalvageWalk.{with_unreadable, FoundSection, named_by, unclosed_by}
+use Rattle.tape_run.specs.SalvageCopies.{believed, start_of}
+use Rattle.tape_run.specs.SalvageLine.{section_line}
+use Rattle.tape_run.specs.SalvageBlocks.{Salvaged, salvaged_at, text_at, gap_text}
+use Rattle.tape_run.specs.SalvageImage.{is_in, is_mark, number_in, read_in, closings, EndsData}
+use Rattle.tape_run.specs.SalvageImage.{salvaged_from, text_from}
+use Rattle.tape_run.specs.SalvageEnds.{without_rest, without_gap, with_count, with_end, ended}
+use Rattle.tape_run.specs.SalvageEnds.{end_from, end_text}
+use Rattle.tape_run.specs.SalvageTaking.{image_number, copy_text, after_copy}
+use Rattle.tape_run.specs.SalvageGaps.{datum, data_in, salvaged_data, AreReadOf, ReportsGaps}
+use Rattle.tape_run.specs.SalvageGaps.{GapsAreRuns, block_lines}
+use Rattle.tape_run.proofs.SalvageOpened.{second_is, one_more}
+use Rattle.tape_run.proofs.SalvagedSoFar.{expected_after-append, salvaged_from-append}
+use Rattle.tape_run.proofs.SalvagedSoFar.{text_from-append, closings-append, read_at_mark}
+use Rattle.tape_run.proofs.SalvageRest.{no_number, none_by, rest_none}
+use Rattle.tape_run.proofs.SalvageSections.{is_number, no_mark}
+
+-- ---- a section whose data have not begun
+
+module _ (key : SectionKey) where
+  -- no data item of an open section was read, and the data of this section have not ended
+  abbrev pub Fresh : Expected → Type 0
+  Fresh (Second u) = u.blocks ≡ 0
+  Fresh (Headers u) = u.blocks ≡ 0
+  Fresh (Skipping n u) = u.blocks ≡ 0
+  Fresh (Trailer u) = same_key u.key key ≡ false
+  Fresh _ = Unit {0}
+
+  -- the data of this section are not being read, or begin
+  abbrev pub Begins : Expected → Type 0
+  Begins t = Fresh t × (read_in key t ≡ 0)
+
+  none_if : (b : Bool) (n : ℕ) → n ≡ 0 → (if b then n else 0) ≡ 0
+  none_if true n e = e
+  none_if false n e = refl
+
+  none_off : (b : Bool) (n : ℕ) → b ≡ false → (if b then n else 0) ≡ 0
+  none_off true n e = absurd (cc e)
+  none_off false n e = refl
+
+  begun : (r : Result Head1 LabelFault) (t : Expected) → Begins t → Begins (begun_by r t)
+  begun (Ok h) t rest = (refl, refl)
+  begun (Err f) t rest = rest
+
+  unnamed : (b : Bool) (r : UnnamedItems) → Begins (if b then Unnamed r else Outside 0)
+  unnamed true r = (tt, refl)
+  unnamed false r = (tt, refl)
+
+  goes_on : (k : Option Kind) → Begins (goes_on_by k)
+  goes_on None = (tt, refl)
+  goes_on (Some kinds.Vol1) = (tt, refl)
+  goes_on (Some kinds.Hdr1) = (tt, refl)
+  goes_on (Some kinds.Hdr2) = (tt, refl)
+  goes_on (Some kinds.Eof1) = (tt, refl)
+  goes_on (Some kinds.Eof2) = (tt, refl)
+  goes_on (Some kinds.Eov1) = (tt, refl)
+  goes_on (Some kinds.Eov2) = (tt, refl)
+
+  either : (b : Bool) (t u : Expected) → Begins t → Begins u → Begins (if b then t else u)
+  either true t u x y = x
+  either false t u x y = y
+
+  skips : (n : ℕ) (u : OpenSection) → u.blocks ≡ 0 → Begins (skipping n u)
+  skips n u e = either (n == 0) (Data u) (Skipping n u)
+      (tt, none_if (same_key u.key key) u.blocks e) (e, refl)
+
+  closed : (u : OpenSection) (r : Result Trail1 LabelFault) (h : Result Head1 LabelFault)
+      → Begins (closed_by u r h).0
+  closed u (Err f) h = begun h (Outside 0) (tt, refl)
+  closed u (Ok t) h = chosen (closes u t)
+    where
+      chosen : (b : Bool) → Begins (if b
+          then (Trailers u (record { eof = t.eof; count = t.blocks }), None)
+          else unclosed_by u h).0
+      chosen true = (tt, refl)
+      chosen false = begun h (Outside 0) (tt, refl)
+
+  named : (r : UnnamedItems) (l : Result Trail1 LabelFault) (h : Result Head1 LabelFault)
+      → Begins (unnamed_by r l h)
+  named r (Err f) h = begun h (Unnamed one_read) (tt, refl)
+  named r (Ok t) h = either (t.blocks == label_count r.items)
+      (Trailers (named_by r t) (record { eof = t.eof; count = t.blocks }))
+      (begun_by h (Unnamed one_read)) (tt, refl) (begun h (Unnamed one_read) (tt, refl))
+
+  -- after an item that is not a data item of this section
+  pub enters : (s : Expected) (x : TapeItem) → Fresh s → is_in key s ≡ false → Begins (step s x).0
+  enters (Outside n) (block b) fresh off = either (nat_lt n 2)
+      (begun_by (head1_at b) (unnamed_after n one_read)) (goes_on_by (kind_at b))
+      (begun (head1_at b) (unnamed_after n one_read) (unnamed (n == 1) one_read))
+      (goes_on (kind_at b))
+  enters (Outside n) bad fresh off = either (nat_lt n 2) (unnamed_after n _) (Outside n)
+      (unnamed (n == 1) _) (tt, refl)
+  enters (Outside n) mark fresh off = either (n == 0) (Outside 1) _ (tt, refl)
+      (either (n == 1) (Outside 2) Over (tt, refl) (tt, refl))
+  enters (Second u) (block b) fresh off =
+      let two = second_is u (kind_at b) (head2_at b) in
+      subst Begins (sym two.expects) (two.none ∙ fresh, refl)
+  enters (Second u) bad fresh off = (fresh, refl)
+  enters (Second u) mark fresh off = (tt, none_if (same_key u.key key) u.blocks fresh)
+  enters (Headers u) (block b) fresh off = (fresh, refl)
+  enters (Headers u) bad fresh off = (fresh, refl)
+  enters (Headers u) mark fresh off = (tt, none_if (same_key u.key key) u.blocks fresh)
+  enters (Data u) (block b) fresh off = (tt, none_off (same_key u.key key) _ off)
+  enters (Data u) bad fresh off = (tt, none_off (same_key u.key key) _ off)
+  enters (Data u) mark fresh off = (off, none_off (same_key u.key key) u.blocks off)
+  enters (Trailer u) (block b) fresh off = closed u (trail1_at b) (head1_at b)
+  enters (Trailer u) bad fresh off = (tt, refl)
+  enters (Trailer u) mark fresh off = (tt, refl)
+  enters (Trailers u k) (block b) fresh off = (tt, refl)
+  enters (Trailers u k) bad fresh off = (tt, refl)
+  enters (Trailers u k) mark fresh off = (tt, refl)
+  enters Next (block b) fresh off = begun (head1_at b) (Outside 0) (tt, refl)
+  enters Next bad fresh off = (tt, refl)
+  enters Next mark fresh off = (tt, refl)
+  enters Over x fresh off = (tt, refl)
+  enters (Unnamed r) (block b) fresh off = begun (head1_at b) (Unnamed _) (tt, refl)
+  enters (Unnamed r) bad fresh off = (tt, refl)
+  enters (Unnamed r) mark fresh off = (tt, refl)
+  enters (UnnamedTrailer r) (block b) fresh off = named r (trail1_at b) (head1_at b)
+  enters (UnnamedTrailer r) bad fresh off = (tt, refl)
+  enters (UnnamedTrailer r) mark fresh off = (tt, refl)
+  enters (Skipping n u) x fresh off = skips (n - 1) u fresh
+
+  pub not_read : (s : Expected) → Fresh s → is_in key s ≡ false → read_in key s ≡ 0
+  not_read (Data u) fresh off = none_off (same_key u.key key) u.blocks off
+  not_read (Trailer u) fresh off = none_off (same_key u.key key) u.blocks fresh
+  not_read (Outside n) fresh off = refl
+  not_read (Second u) fresh off = refl
+  not_read (Headers u) fresh off = refl
+  not_read (Trailers u k) fresh off = refl
+  not_read Next fresh off = refl
+  not_read Over fresh off = refl
+  not_read (Unnamed r) fresh off = refl
+  not_read (UnnamedTrailer r) fresh off = refl
+  not_read (Skipping n u) fresh off = refl
+
+  pub starts : (c : SectionCopy) → Begins (start_of c)
+  starts c = by c.skip
+    where
+      by : (o : Option ℕ) → Begins (start_of (record c { skip = o }))
+      by None = (tt, refl)
+      by (Some n) = skips n (record c.section { blocks = 0 }) refl

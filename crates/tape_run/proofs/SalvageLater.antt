@@ -1,0 +1,159 @@
+-- What is true of each section that is found: proved from the last item to the first.
+use Rattle.std.proofs.Common.{◌≡◌, ℕ, Bool, true, false, List, [], ◌∷◌, ◌++◌, Option, Some, None}
+use Rattle.std.proofs.Common.{Result, Ok, Err, refl, sym, ap, subst, ◌∙◌}
+use Rattle.std.specs.Prelude.{if◌then◌else◌}
+use Rattle.std.specs.List.{AllByRecursion}
+use Rattle.tape_image.specs.Tape.{TapeItem, block, bad, mark}
+use Rattle.tape_label.specs.declared.values.Head1.{Head1}
+use Rattle.tape_label.specs.declared.values.Trail1.{Trail1}
+use Rattle.tape_label.specs.declared.label.LabelFault.{LabelFault}
+use Rattle.tape_label.specs.Reading.{head1_at, trail1_at}
+use Rattle.tape_run.specs.declared.salvage.walk.OpenSection.{OpenSection}
+use Rattle.tape_run.specs.declared.salvage.walk.Closing.{Closing}
+use Rattle.tape_run.specs.declared.salvage.walk.Expected.{Expected}
+use Rattle.tape_run.specs.declared.salvage.walk.Expected.TheVariants.{Outside, Second, Headers}
+use Rattle.tape_run.specs.declared.salvage.walk.Expected.TheVariants.{Data, Trailer, Trailers}
+use Rattle.tape_run.specs.declared.salvage.walk.Expected.TheVariants.{Next, Over, Skipping}
+use Rattle.tape_run.specs.declared.salvage.walk.Expected.TheVariants.{Unnamed, UnnamedTrailer}
+use Rattle.tape_run.specs.SalvageWalk.{step, expected_after, closed_by, closes, found_from, in_list}
+use Rattle.tape_run.specs.SalvageWalk.{FoundAt, FoundSection, one_further, open_section, read_after}
+use Rattle.tape_run.specs.SalvageWalk.{sections_in, unclosed_by}
+use Rattle.tape_run.proofs.SalvageChoice.{all_append}
+
+-- parts of a section that was found
+abbrev is_closed : Option FoundSection → Bool
+is_closed None = false
+is_closed (Some (u, None)) = false
+is_closed (Some (u, Some k)) = true
+
+not_closed : (o : Option FoundSection) (v : OpenSection) (k : Closing)
+    → o ≡ Some (v, Some k) → is_closed o ≡ false → ⊥
+not_closed o v k e off = let f : false ≡ true = sym off ∙ ap is_closed e in absurd (cc f)
+
+abbrev section_or : OpenSection → Option FoundSection → OpenSection
+section_or d None = d
+section_or d (Some (u, k)) = u
+
+abbrev closing_or : Closing → Option FoundSection → Closing
+closing_or d None = d
+closing_or d (Some (u, None)) = d
+closing_or d (Some (u, Some k)) = k
+
+no_end : (u : OpenSection) (r : Result Trail1 LabelFault) (h : Result Head1 LabelFault)
+    (v : OpenSection) (k : Closing) → (closed_by u r h).1 ≡ Some (v, Some k) → ⊥
+no_end u (Err f) h v k e = absurd (not_closed _ v k e refl)
+no_end u (Ok t) h v k e = chosen (closes u t) e
+  where
+    chosen : (c : Bool) → (if c then (Trailers u (record { eof = t.eof; count = t.blocks }), None)
+        else unclosed_by u h).1 ≡ Some (v, Some k) → ⊥
+    chosen true e = absurd (not_closed _ v k e refl)
+    chosen false e = absurd (not_closed _ v k e refl)
+
+-- this is true of a section that was found, if it closes
+abbrev pub PAt : (Expected → List TapeItem → OpenSection → Closing → Type 0) → Expected
+    → List TapeItem → FoundAt → Type 0
+PAt P s xs (place, (v, None)) = Unit {0}
+PAt P s xs (place, (v, Some k)) = P s xs v k
+
+-- `P s xs v k`: if the phase s is expected, and a section that is found later ends as v and k, then
+-- this is true of the items to come. It is true at the end of its labels, and before each item if
+-- it is true after it.
+module _ (P : Expected → List TapeItem → OpenSection → Closing → Type 0)
+    (back : (s : Expected) (x : TapeItem) (xs : List TapeItem) (v : OpenSection) (k : Closing)
+    → P (step s x).0 xs v k → P s (x ∷ xs) v k)
+    (here : (u : OpenSection) (l : Closing) (xs : List TapeItem) → P (Trailers u l) xs u l)
+    (skips : (n : ℕ) (u : OpenSection) (xs : List TapeItem) (v : OpenSection) (k : Closing)
+    → P (Skipping n u) xs v k) where
+  named : (u v : OpenSection) (l k : Closing) (xs : List TapeItem) → u ≡ v → l ≡ k
+      → P (Trailers u l) xs v k
+  named u v l k xs same alike = subst (λ w. P (Trailers u l) xs w k) same
+      (subst (λ m. P (Trailers u l) xs u m) alike (here u l xs))
+
+  ends_here : (s : Expected) (x : TapeItem) (xs : List TapeItem) (v : OpenSection) (k : Closing)
+      → (step s x).1 ≡ Some (v, Some k) → P s (x ∷ xs) v k
+  ends_here (Trailers u l) bad xs v k e =
+      let same : u ≡ v = ap (section_or u) e in
+      let alike : l ≡ k = ap (closing_or l) e in named u v l k (bad ∷ xs) same alike
+  ends_here (Trailers u l) mark xs v k e =
+      let same : u ≡ v = ap (section_or u) e in
+      let alike : l ≡ k = ap (closing_or l) e in named u v l k (mark ∷ xs) same alike
+  ends_here (Trailers u l) (block b) xs v k e = absurd (not_closed _ v k e refl)
+  ends_here (Trailer u) (block b) xs v k e =
+      absurd (no_end u (trail1_at b) (head1_at b) v k e)
+  ends_here (Trailer u) bad xs v k e = absurd (not_closed _ v k e refl)
+  ends_here (Trailer u) mark xs v k e = absurd (not_closed _ v k e refl)
+  ends_here (Outside n) (block b) xs v k e = absurd (not_closed _ v k e refl)
+  ends_here (Outside n) bad xs v k e = absurd (not_closed _ v k e refl)
+  ends_here (Outside n) mark xs v k e = absurd (not_closed _ v k e refl)
+  ends_here (Second u) (block b) xs v k e = absurd (not_closed _ v k e refl)
+  ends_here (Second u) bad xs v k e = absurd (not_closed _ v k e refl)
+  ends_here (Second u) mark xs v k e = absurd (not_closed _ v k e refl)
+  ends_here (Headers u) (block b) xs v k e = absurd (not_closed _ v k e refl)
+  ends_here (Headers u) bad xs v k e = absurd (not_closed _ v k e refl)
+  ends_here (Headers u) mark xs v k e = absurd (not_closed _ v k e refl)
+  ends_here (Data u) (block b) xs v k e = absurd (not_closed _ v k e refl)
+  ends_here (Data u) bad xs v k e = absurd (not_closed _ v k e refl)
+  ends_here (Data u) mark xs v k e = absurd (not_closed _ v k e refl)
+  ends_here Next (block b) xs v k e = absurd (not_closed _ v k e refl)
+  ends_here Next bad xs v k e = absurd (not_closed _ v k e refl)
+  ends_here Next mark xs v k e = absurd (not_closed _ v k e refl)
+  ends_here Over x xs v k e = absurd (not_closed _ v k e refl)
+  ends_here (Unnamed r) (block b) xs v k e = absurd (not_closed _ v k e refl)
+  ends_here (Unnamed r) bad xs v k e = absurd (not_closed _ v k e refl)
+  ends_here (Unnamed r) mark xs v k e = absurd (not_closed _ v k e refl)
+  ends_here (UnnamedTrailer r) (block b) xs v k e = absurd (not_closed _ v k e refl)
+  ends_here (UnnamedTrailer r) bad xs v k e = absurd (not_closed _ v k e refl)
+  ends_here (UnnamedTrailer r) mark xs v k e = absurd (not_closed _ v k e refl)
+  ends_here (Skipping n u) x xs v k e = skips n u (x ∷ xs) v k
+
+  still_open : (s : Expected) (xs : List TapeItem) (v : OpenSection) (k : Closing)
+      → open_section (expected_after s xs) ≡ Some (v, Some k) → P s xs v k
+  still_open (Trailers u l) [] v k e =
+      let same : u ≡ v = ap (section_or u) e in
+      let alike : l ≡ k = ap (closing_or l) e in named u v l k [] same alike
+  still_open (Outside n) [] v k e = absurd (not_closed _ v k e refl)
+  still_open (Second u) [] v k e = absurd (not_closed _ v k e refl)
+  still_open (Headers u) [] v k e = absurd (not_closed _ v k e refl)
+  still_open (Data u) [] v k e = absurd (not_closed _ v k e refl)
+  still_open (Trailer u) [] v k e = absurd (not_closed _ v k e refl)
+  still_open Next [] v k e = absurd (not_closed _ v k e refl)
+  still_open Over [] v k e = absurd (not_closed _ v k e refl)
+  still_open (Unnamed r) [] v k e = absurd (not_closed _ v k e refl)
+  still_open (UnnamedTrailer r) [] v k e = absurd (not_closed _ v k e refl)
+  still_open (Skipping n u) [] v k e = skips n u [] v k
+  still_open s (x ∷ xs) v k e =
+      back s x xs v k (still_open (step s x).0 xs v k e)
+
+  -- ---- all sections
+
+  all_back : (s : Expected) (x : TapeItem) (xs : List TapeItem) (l : List FoundAt)
+      → AllByRecursion (PAt P (step s x).0 xs) l → AllByRecursion (PAt P s (x ∷ xs)) l
+  all_back s x xs [] all = tt
+  all_back s x xs ((place, (v, None)) ∷ l) (h, all) = (tt, all_back s x xs l all)
+  all_back s x xs ((place, (v, Some k)) ∷ l) (h, all) =
+      (back s x xs v k h, all_back s x xs l all)
+
+  in_list_comes : (s : Expected) (xs : List TapeItem) (n : ℕ) (o : Option FoundSection)
+      → ((v : OpenSection) (k : Closing) → o ≡ Some (v, Some k) → P s xs v k)
+      → AllByRecursion (PAt P s xs) (in_list n o)
+  in_list_comes s xs n None f = tt
+  in_list_comes s xs n (Some (v, None)) f = (tt, tt)
+  in_list_comes s xs n (Some (v, Some k)) f = (f v k refl, tt)
+
+  all_come : (s : Expected) (n : ℕ) (xs : List TapeItem)
+      → AllByRecursion (PAt P s xs) (found_from s n xs)
+  all_come s n [] = tt
+  all_come s n (x ∷ xs) = all_append (PAt P s (x ∷ xs)) (in_list n (step s x).1)
+      (found_from (step s x).0 (one_further n) xs)
+      (in_list_comes s (x ∷ xs) n (step s x).1 (λ v k e. ends_here s x xs v k e))
+      (all_back s x xs (found_from (step s x).0 (one_further n) xs)
+      (all_come (step s x).0 (one_further n) xs))
+
+  pub all_found : (items : List TapeItem)
+      → AllByRecursion (PAt P (Outside 0) items) (sections_in items)
+  all_found items =
+      let o = Outside 0 in
+      let last = in_list (read_after 0 items) (open_section (expected_after o items)) in
+      all_append (PAt P o items) (found_from o 0 items) last (all_come o 0 items)
+      (in_list_comes o items (read_after 0 items) (open_section (expected_after o items))
+      (λ v k e. still_open o items v k e))

@@ -1,0 +1,407 @@
+-- A section that is found without its HDR1 has exactly the items between two tape marks.
+use Rattle.std.proofs.Common.{◌≡◌, ◌≢◌, ◌≤◌, inl, inr, ◌⊎◌, ℕ, ◌+◌, ◌==◌, Bool, true, false, List}
+use Rattle.std.proofs.Common.{[], ◌∷◌, ◌++◌, length, Option, Some, None, Result, Ok, Err, refl, sym, ap}
+use Rattle.std.proofs.Common.{◌∙◌, arith}
+use Rattle.std.specs.Prelude.{if◌then◌else◌, nat_lt, min, option_map}
+use Rattle.std.specs.List.{AllByRecursion}
+use Rattle.std.proofs.lemmas.Bool.Decides.{nat_tests}
+use Rattle.tape_image.specs.Tape.{TapeItem, block, bad, mark}
+use Rattle.tape_label.specs.declared.values.Kind.{Kind}
+use Rattle.tape_label.specs.declared.values.Kind.TheVariants as kinds
+use Rattle.tape_label.specs.declared.values.Head1.{Head1}
+use Rattle.tape_label.specs.declared.values.Head2.{Head2}
+use Rattle.tape_label.specs.declared.values.Trail1.{Trail1}
+use Rattle.tape_label.specs.declared.label.LabelFault.{LabelFault}
+use Rattle.tape_label.specs.Kinds.{kind_at}
+use Rattle.tape_label.specs.Reading.{head1_at, head2_at, trail1_at}
+use Rattle.tape_set.specs.Lawful.{label_count}
+use Rattle.tape_run.specs.declared.section.SectionKey.{SectionKey}
+use Rattle.tape_run.specs.declared.salvage.walk.OpenSection.{OpenSection}
+use Rattle.tape_run.specs.declared.salvage.walk.Closing.{Closing}
+use Rattle.tape_run.specs.declared.salvage.walk.UnnamedItems.{UnnamedItems}
+use Rattle.tape_run.specs.declared.salvage.walk.Expected.{Expected}
+use Rattle.tape_run.specs.declared.salvage.walk.Expected.TheVariants.{Outside, Second, Headers}
+use Rattle.tape_run.specs.declared.salvage.walk.Expected.TheVariants.{Data, Trailer, Trailers}
+use Rattle.tape_run.specs.declared.salvage.walk.Expected.TheVariants.{Next, Over, Skipping}
+use Rattle.tape_run.specs.declared.salvage.walk.Expected.TheVariants.{Unnamed, UnnamedTrailer}
+use Rattle.tape_run.specs.SalvageWalk.{step, begun_by, closed_by, unnamed_by, goes_on_by}
+use Rattle.tape_run.specs.SalvageWalk.{unnamed_after, one_read, one_unreadable, section_by}
+use Rattle.tape_run.specs.SalvageWalk.{second_by, closes, named_by, unclosed_by, FoundAt}
+use Rattle.tape_run.specs.SalvageWalk.{sections_in, and_read}
+use Rattle.tape_run.specs.SalvageSections.{IsNoHead}
+use Rattle.tape_run.specs.SalvageClosed.{IsNoMark}
+use Rattle.tape_run.specs.SalvageUnnamed.{IsNoFirst, IsUnnamedIn, IsThereUnnamed, UnnamedAreThere}
+use Rattle.tape_run.proofs.SalvageClosed.{counted, all_counted}
+use Rattle.tape_run.proofs.SalvageLater.{PAt, all_found}
+
+-- ---- the items to come
+
+-- the section has an HDR1, or not
+abbrev NoHdr1 : Option ℕ → Type 0
+NoHdr1 o = o ≡ None → ⊥
+
+-- its trailer label was read
+record IsTrailed (u : OpenSection) (l : Closing) (v : OpenSection) (k : Closing) : Type 0 where
+  key : v.key ≡ u.key
+  blocks : v.blocks ≡ u.blocks
+  after : NoHdr1 u.after
+  closing : k ≡ l
+
+-- its trailer label comes next, after n data items
+record TrailerTo (n : ℕ) (xs : List TapeItem) (v : OpenSection) (k : Closing) : Type 0 where
+  trailer : List ℕ
+  trail : Trail1
+  rest : List TapeItem
+  is : xs ≡ block trailer ∷ rest
+  ends : trail1_at trailer ≡ Ok trail
+  key : v.key ≡ (section_by trail.head).key
+  closing : k ≡ record { eof = trail.eof; count = trail.blocks }
+  blocks : v.blocks ≡ n
+  count : trail.blocks ≡ label_count v.blocks
+
+-- further data come next, after n data items
+record DataTo (n : ℕ) (xs : List TapeItem) (v : OpenSection) (k : Closing) : Type 0 where
+  data_items : List TapeItem
+  trailer : List ℕ
+  trail : Trail1
+  rest : List TapeItem
+  is : xs ≡ data_items ++ (mark ∷ block trailer ∷ rest)
+  no_data : AllByRecursion IsNoMark data_items
+  no_first : AllByRecursion IsNoFirst data_items
+  ends : trail1_at trailer ≡ Ok trail
+  key : v.key ≡ (section_by trail.head).key
+  closing : k ≡ record { eof = trail.eof; count = trail.blocks }
+  blocks : v.blocks ≡ counted n data_items
+  count : trail.blocks ≡ label_count v.blocks
+
+-- its data come next, after a tape mark
+record AfterMark (xs : List TapeItem) (v : OpenSection) (k : Closing) : Type 0 where
+  first : TapeItem
+  more : List TapeItem
+  is : xs ≡ first ∷ more
+  off : IsNoMark first
+  none : IsNoFirst first
+  goes : DataTo 1 more v k
+
+abbrev AfterOne : Bool → List TapeItem → OpenSection → Closing → Type 0
+AfterOne true xs v k = AfterMark xs v k
+AfterOne false xs v k = ⊥
+
+abbrev Open : Expected → List TapeItem → OpenSection → Closing → Type 0
+Open (Outside n) xs v k = AfterOne (n == 1) xs v k
+Open (Second u) xs v k = NoHdr1 u.after
+Open (Headers u) xs v k = NoHdr1 u.after
+Open (Data u) xs v k = NoHdr1 u.after
+Open (Trailer u) xs v k = NoHdr1 u.after
+Open (Trailers u l) xs v k = IsTrailed u l v k
+Open (Unnamed r) xs v k = DataTo r.items xs v k
+Open (UnnamedTrailer r) xs v k = TrailerTo r.items xs v k ⊎ AfterMark xs v k
+Open (Skipping n u) xs v k = Unit {0}
+Open Next xs v k = ⊥
+Open Over xs v k = ⊥
+
+-- the section is among the items to come, or its end is
+abbrev Comes : Expected → List TapeItem → OpenSection → Closing → Type 0
+Comes s xs v k = v.after ≢ None → IsUnnamedIn xs v k ⊎ Open s xs v k
+
+-- ---- one item more at the start
+
+further : (x : TapeItem) (xs : List TapeItem) (v : OpenSection) (k : Closing)
+    → IsUnnamedIn xs v k → IsUnnamedIn (x ∷ xs) v k
+further x xs v k h = record {
+  front = x ∷ h.front;
+  data_items = h.data_items;
+  trailer = h.trailer;
+  trail = h.trail;
+  rest = h.rest;
+  is = ap (λ (l : List TapeItem). x ∷ l) h.is;
+  some = h.some;
+  no_data = h.no_data;
+  no_first = h.no_first;
+  ends = h.ends;
+  key = h.key;
+  closing = h.closing;
+  blocks = h.blocks;
+  count = h.count;
+}
+
+at_mark : (xs : List TapeItem) (v : OpenSection) (k : Closing) → AfterMark xs v k
+    → IsUnnamedIn (mark ∷ xs) v k
+at_mark xs v k a =
+    let d = a.goes in
+    let few : 1 ≤ 4294967295 = omega arith in
+    let c = all_counted 1 d.data_items few in
+    let b = d.blocks in
+    record {
+      front = [];
+      data_items = a.first ∷ d.data_items;
+      trailer = d.trailer;
+      trail = d.trail;
+      rest = d.rest;
+      is = ap (λ (l : List TapeItem). mark ∷ l)
+          (a.is ∙ ap (λ (l : List TapeItem). a.first ∷ l) d.is);
+      some = λ e. absurd (cc e);
+      no_data = (a.off, d.no_data);
+      no_first = (a.none, d.no_first);
+      ends = d.ends;
+      key = d.key;
+      closing = d.closing;
+      blocks = omega (arith, b, c);
+      count = d.count;
+    }
+
+-- one more data item
+with_item : (n : ℕ) (x : TapeItem) (xs : List TapeItem) (v : OpenSection) (k : Closing)
+    → IsNoMark x → IsNoFirst x → DataTo (min (n + 1) 4294967295) xs v k → DataTo n (x ∷ xs) v k
+with_item n x xs v k off none d = record {
+  data_items = x ∷ d.data_items;
+  trailer = d.trailer;
+  trail = d.trail;
+  rest = d.rest;
+  is = ap (λ (l : List TapeItem). x ∷ l) d.is;
+  no_data = (off, d.no_data);
+  no_first = (none, d.no_first);
+  ends = d.ends;
+  key = d.key;
+  closing = d.closing;
+  blocks = d.blocks;
+  count = d.count;
+}
+
+-- the mark after the data
+at_trailer : (n : ℕ) (xs : List TapeItem) (v : OpenSection) (k : Closing) → TrailerTo n xs v k
+    → DataTo n (mark ∷ xs) v k
+at_trailer n xs v k t = record {
+  data_items = [];
+  trailer = t.trailer;
+  trail = t.trail;
+  rest = t.rest;
+  is = ap (λ (l : List TapeItem). mark ∷ l) t.is;
+  no_data = tt;
+  no_first = tt;
+  ends = t.ends;
+  key = t.key;
+  closing = t.closing;
+  blocks = t.blocks;
+  count = t.count;
+}
+
+only : (x : TapeItem) (t : Expected) (xs : List TapeItem) (v : OpenSection) (k : Closing)
+    → (Open t xs v k → ⊥) → IsUnnamedIn xs v k ⊎ Open t xs v k → IsUnnamedIn (x ∷ xs) v k
+only x t xs v k none (inl h) = further x xs v k h
+only x t xs v k none (inr o) = absurd (none o)
+
+-- after a block that may begin a section: if it does not, this is what is expected
+begun : {Q : Type 0} (b : List ℕ) (r : Result Head1 LabelFault) (other : Expected)
+    (xs : List TapeItem) (v : OpenSection) (k : Closing) → head1_at b ≡ r
+    → (IsNoHead b → Open other xs v k → Q)
+    → IsUnnamedIn xs v k ⊎ Open (begun_by r other) xs v k
+    → IsUnnamedIn (block b ∷ xs) v k ⊎ Q
+begun b r other xs v k is next (inl h) = inl (further (block b) xs v k h)
+begun b (Ok h) other xs v k is next (inr o) = absurd (o refl)
+begun b (Err f) other xs v k is next (inr o) = inr (next (f, is) o)
+
+first_block : (b : List ℕ) (xs : List TapeItem) (v : OpenSection) (k : Closing) → IsNoHead b
+    → DataTo 1 xs v k → AfterMark (block b ∷ xs) v k
+first_block b xs v k none d =
+    record { first = block b; more = xs; is = refl; off = tt; none = none; goes = d }
+
+none_goes_on : (o : Option Kind) (xs : List TapeItem) (v : OpenSection) (k : Closing)
+    → Open (goes_on_by o) xs v k → ⊥
+none_goes_on None xs v k o = o
+none_goes_on (Some kinds.Vol1) xs v k o = o
+none_goes_on (Some kinds.Hdr1) xs v k o = o
+none_goes_on (Some kinds.Hdr2) xs v k o = o
+none_goes_on (Some kinds.Eof1) xs v k o = o
+none_goes_on (Some kinds.Eof2) xs v k o = o
+none_goes_on (Some kinds.Eov1) xs v k o = o
+none_goes_on (Some kinds.Eov2) xs v k o = o
+
+outside : (a c : Bool) (b : List ℕ) (xs : List TapeItem) (v : OpenSection) (k : Closing)
+    → IsUnnamedIn xs v k ⊎ Open (if a then begun_by (head1_at b) (if c then Unnamed one_read
+    else Outside 0) else goes_on_by (kind_at b)) xs v k
+    → IsUnnamedIn (block b ∷ xs) v k ⊎ AfterOne c (block b ∷ xs) v k
+outside true true b xs v k h = begun b (head1_at b) (Unnamed one_read) xs v k refl
+    (λ none d. first_block b xs v k none d) h
+outside true false b xs v k h =
+    begun b (head1_at b) (Outside 0) xs v k refl (λ none o. o) h
+outside false c b xs v k h =
+    inl (only (block b) (goes_on_by (kind_at b)) xs v k (none_goes_on (kind_at b) xs v k) h)
+
+outside_bad : (n : ℕ) (a c : Bool) (xs : List TapeItem) (v : OpenSection) (k : Closing)
+    → nat_lt n 2 ≡ a → (n == 1) ≡ c
+    → IsUnnamedIn xs v k ⊎ Open (if a then (if c then Unnamed one_unreadable else Outside 0)
+    else Outside n) xs v k → IsUnnamedIn (bad ∷ xs) v k ⊎ AfterOne c (bad ∷ xs) v k
+outside_bad n a c xs v k e f (inl h) = inl (further bad xs v k h)
+outside_bad n true true xs v k e f (inr d) =
+    inr (record { first = bad; more = xs; is = refl; off = tt; none = tt; goes = d })
+outside_bad n true false xs v k e f (inr o) = absurd o
+outside_bad n false true xs v k e f (inr o) = absurd (apart n e f)
+  where
+    apart : (n : ℕ) → nat_lt n 2 ≡ false → (n == 1) ≡ true → ⊥
+    apart n e f = grind (arith, nat_tests)
+outside_bad n false false xs v k e f (inr o) =
+    absurd (none (n == 1) f o)
+  where
+    none : (b : Bool) → b ≡ false → AfterOne b xs v k → ⊥
+    none true e o = absurd (cc e)
+    none false e o = o
+
+outside_mark : (a c : Bool) (xs : List TapeItem) (v : OpenSection) (k : Closing)
+    → IsUnnamedIn xs v k ⊎ Open (if a then Outside 1 else (if c then Outside 2 else Over)) xs v k
+    → IsUnnamedIn (mark ∷ xs) v k
+outside_mark a c xs v k (inl h) = further mark xs v k h
+outside_mark true c xs v k (inr o) = at_mark xs v k o
+outside_mark false true xs v k (inr o) = absurd o
+outside_mark false false xs v k (inr o) = absurd o
+
+second : (u : OpenSection) (o : Option Kind) (r : Result Head2 LabelFault) (xs : List TapeItem)
+    (v : OpenSection) (k : Closing) → Open (second_by u o r) xs v k → NoHdr1 u.after
+second u None r xs v k h = h
+second u (Some kinds.Hdr2) r xs v k h = h
+second u (Some kinds.Vol1) r xs v k h = h
+second u (Some kinds.Hdr1) r xs v k h = h
+second u (Some kinds.Eof1) r xs v k h = h
+second u (Some kinds.Eof2) r xs v k h = h
+second u (Some kinds.Eov1) r xs v k h = h
+second u (Some kinds.Eov2) r xs v k h = h
+
+trailer_item : (u : OpenSection) (b : List ℕ) (r : Result Trail1 LabelFault) (xs : List TapeItem)
+    (v : OpenSection) (k : Closing)
+    → IsUnnamedIn xs v k ⊎ Open (closed_by u r (head1_at b)).0 xs v k
+    → IsUnnamedIn (block b ∷ xs) v k ⊎ NoHdr1 u.after
+trailer_item u b (Err f) xs v k h =
+    begun b (head1_at b) (Outside 0) xs v k refl (λ none o. absurd o) h
+trailer_item u b (Ok t) xs v k h = chosen (closes u t) h
+  where
+    chosen : (c : Bool) → IsUnnamedIn xs v k ⊎ Open (if c
+        then (Trailers u (record { eof = t.eof; count = t.blocks }), None)
+        else unclosed_by u (head1_at b)).0 xs v k
+        → IsUnnamedIn (block b ∷ xs) v k ⊎ NoHdr1 u.after
+    chosen false h = begun b (head1_at b) (Outside 0) xs v k refl (λ none o. absurd o) h
+    chosen true (inl h) = inl (further (block b) xs v k h)
+    chosen true (inr o) = inr o.after
+
+unnamed_item : (r : UnnamedItems) (b : List ℕ) (l : Result Trail1 LabelFault)
+    (xs : List TapeItem) (v : OpenSection) (k : Closing) → trail1_at b ≡ l
+    → IsUnnamedIn xs v k ⊎ Open (unnamed_by r l (head1_at b)) xs v k
+    → IsUnnamedIn (block b ∷ xs) v k ⊎ Open (UnnamedTrailer r) (block b ∷ xs) v k
+unnamed_item r b (Err f) xs v k is h = begun b (head1_at b) (Unnamed one_read) xs v k refl
+    (λ none d. inr (first_block b xs v k none d)) h
+unnamed_item r b (Ok t) xs v k is h = chosen (t.blocks == label_count r.items) refl h
+  where
+    chosen : (c : Bool) → (t.blocks == label_count r.items) ≡ c
+        → IsUnnamedIn xs v k ⊎ Open (if c
+        then Trailers (named_by r t) (record { eof = t.eof; count = t.blocks })
+        else begun_by (head1_at b) (Unnamed one_read)) xs v k
+        → IsUnnamedIn (block b ∷ xs) v k ⊎ Open (UnnamedTrailer r) (block b ∷ xs) v k
+    chosen false e h = begun b (head1_at b) (Unnamed one_read) xs v k refl
+        (λ none d. inr (first_block b xs v k none d)) h
+    chosen true e (inl h) = inl (further (block b) xs v k h)
+    chosen true e (inr o) =
+        let same : t.blocks ≡ label_count r.items = grind (arith, nat_tests) in
+        inr (inl (record {
+          trailer = b;
+          trail = t;
+          rest = xs;
+          is = refl;
+          ends = is;
+          key = o.key;
+          closing = o.closing;
+          blocks = o.blocks;
+          count = same ∙ ap label_count (sym o.blocks);
+        }))
+
+back : (s : Expected) (x : TapeItem) (xs : List TapeItem) (v : OpenSection) (k : Closing)
+    → Comes (step s x).0 xs v k → Comes s (x ∷ xs) v k
+back (Outside n) (block b) xs v k h own = outside (nat_lt n 2) (n == 1) b xs v k (h own)
+back (Outside n) bad xs v k h own =
+    outside_bad n (nat_lt n 2) (n == 1) xs v k refl refl (h own)
+back (Outside n) mark xs v k h own = inl (outside_mark (n == 0) (n == 1) xs v k (h own))
+back (Second u) (block b) xs v k h own = elim (h own) [
+  | inl c ↦ inl (further (block b) xs v k c)
+  | inr o ↦ inr (second u (kind_at b) (head2_at b) xs v k o)
+]
+back (Second u) bad xs v k h own =
+    elim (h own) [ inl c ↦ inl (further bad xs v k c) | inr o ↦ inr o ]
+back (Second u) mark xs v k h own =
+    elim (h own) [ inl c ↦ inl (further mark xs v k c) | inr o ↦ inr o ]
+back (Headers u) (block b) xs v k h own =
+    elim (h own) [ inl c ↦ inl (further (block b) xs v k c) | inr o ↦ inr o ]
+back (Headers u) bad xs v k h own =
+    elim (h own) [ inl c ↦ inl (further bad xs v k c) | inr o ↦ inr o ]
+back (Headers u) mark xs v k h own =
+    elim (h own) [ inl c ↦ inl (further mark xs v k c) | inr o ↦ inr o ]
+back (Data u) (block b) xs v k h own =
+    elim (h own) [ inl c ↦ inl (further (block b) xs v k c) | inr o ↦ inr o ]
+back (Data u) bad xs v k h own =
+    elim (h own) [ inl c ↦ inl (further bad xs v k c) | inr o ↦ inr o ]
+back (Data u) mark xs v k h own =
+    elim (h own) [ inl c ↦ inl (further mark xs v k c) | inr o ↦ inr o ]
+back (Trailer u) (block b) xs v k h own = trailer_item u b (trail1_at b) xs v k (h own)
+back (Trailer u) bad xs v k h own = inl (only bad (Outside 0) xs v k (λ o. o) (h own))
+back (Trailer u) mark xs v k h own = elim (h own) [
+  | inl c ↦ inl (further mark xs v k c)
+  | inr o ↦ inl (at_mark xs v k o)
+]
+back (Trailers u l) (block b) xs v k h own = elim (h own) [
+  | inl c ↦ inl (further (block b) xs v k c)
+  | inr o ↦ inr (record {
+    key = o.key;
+    blocks = o.blocks;
+    after = λ e. o.after (ap (option_map (λ n. min (n + 1) 4294967295)) e);
+    closing = o.closing;
+  })
+]
+back (Trailers u l) bad xs v k h own = inl (only bad (Outside 0) xs v k (λ o. o) (h own))
+back (Trailers u l) mark xs v k h own = inl (only mark Next xs v k (λ o. o) (h own))
+back Next (block b) xs v k h own =
+    begun b (head1_at b) (Outside 0) xs v k refl (λ none o. o) (h own)
+back Next bad xs v k h own = inl (only bad (Outside 0) xs v k (λ o. o) (h own))
+back Next mark xs v k h own = inl (only mark Over xs v k (λ o. o) (h own))
+back Over x xs v k h own = inl (only x Over xs v k (λ o. o) (h own))
+back (Unnamed r) (block b) xs v k h own = begun b (head1_at b) (Unnamed (and_read r)) xs v k refl
+    (λ none d. with_item r.items (block b) xs v k tt none d) (h own)
+back (Unnamed r) bad xs v k h own = elim (h own) [
+  | inl c ↦ inl (further bad xs v k c)
+  | inr o ↦ inr (with_item r.items bad xs v k tt tt o)
+]
+back (Unnamed r) mark xs v k h own = elim (h own) [
+  | inl c ↦ inl (further mark xs v k c)
+  | inr o ↦ elim o [
+    | inl t ↦ inr (at_trailer r.items xs v k t)
+    | inr a ↦ inl (at_mark xs v k a)
+  ]
+]
+back (UnnamedTrailer r) (block b) xs v k h own =
+    unnamed_item r b (trail1_at b) xs v k refl (h own)
+back (UnnamedTrailer r) bad xs v k h own = elim (h own) [
+  | inl c ↦ inl (further bad xs v k c)
+  | inr d ↦ inr (inr (record {
+    first = bad;
+    more = xs;
+    is = refl;
+    off = tt;
+    none = tt;
+    goes = d;
+  }))
+]
+back (UnnamedTrailer r) mark xs v k h own =
+    inl (only mark (Outside 2) xs v k (λ o. o) (h own))
+back (Skipping n u) x xs v k h own = inr tt
+
+-- ---- all sections
+
+here : (u : OpenSection) (l : Closing) (xs : List TapeItem) → Comes (Trailers u l) xs u l
+here u l xs own = inr (record { key = refl; blocks = refl; after = own; closing = refl })
+
+all_there : (xs : List TapeItem) (l : List FoundAt) → AllByRecursion (PAt Comes (Outside 0) xs) l
+    → AllByRecursion (IsThereUnnamed xs) l
+all_there xs [] all = tt
+all_there xs ((place, (v, None)) ∷ l) (h, all) = (tt, all_there xs l all)
+all_there xs ((place, (v, Some k)) ∷ l) (h, all) =
+    (λ own. elim (h own) [ inl c ↦ c | inr o ↦ absurd o ], all_there xs l all)
+
+pub unnamed_are_there : UnnamedAreThere
+unnamed_are_there items = all_there items (sections_in items)
+    (all_found Comes back here (λ n u xs v k own. inr tt) items)

@@ -1,0 +1,21 @@
+use Rattle.std.proofs.Common.{subst}
+use Rattle.std.specs.Io.KnownBytes.{Appends}
+use Rattle.std.proofs.KnownBytes.{Appends-trans}
+use Rattle.tape_run.specs.SalvageBlocks.{gap_text}
+use Rattle.tape_run.specs.SalvageEnds.{without_gap}
+use Rattle.tape_run.proofs.salvage.recovery.Recovery.end_section.Goals as goal
+
+pub returns-clause-ok : goal.returns-clause-ok
+returns-clause-ok g c = (
+  c.end_by.ensures,
+  λ start z h.
+      let one = c.in_ok-end_gap.ensures.ok start z h in
+      let two = c.in_ok-end_blocks.ensures.ok start (without_gap z) one.0 in (
+        two.0,
+        Appends-trans _ _ _ _ _
+            (subst (λ n. Appends (g.P.Write.contents c.args.report.now)
+            (g.P.Write.contents c.end_gap.new.report)
+            (gap_text c.args.copy.now.section.key.sect z.gap n z.piece.records)) c.recovered.ensures
+            one.1) two.1,
+      ),
+)

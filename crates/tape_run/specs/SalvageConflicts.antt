@@ -1,0 +1,45 @@
+-- Complete copies of one section with different blocks.
+use Rattle.std.specs.Prelude.{◌≡◌, ℕ, zero, suc, ◌+◌, ◌==◌, ◌&&◌, ◌||◌, not, Bool}
+use Rattle.std.specs.Prelude.{false, if◌then◌else◌, List, [], ◌∷◌, ◌++◌, Option, Some, None}
+use Rattle.tape_run.specs.declared.salvage.copies.SectionCopy.{SectionCopy}
+use Rattle.tape_run.specs.SalvageCopies.{is_complete}
+use Rattle.tape_run.specs.SalvageChoice.{firsts, IsBest}
+use Rattle.tape_run.specs.SalvageLine.{conflict_line}
+use Rattle.tape_run.specs.SalvageTaking.{image_number}
+
+-- they have equally many blocks, and their digests are the same
+abbrev pub have_same_blocks : SectionCopy → SectionCopy → Bool
+have_same_blocks best c =
+    (c.section.blocks == best.section.blocks) && (c.section.digest == best.section.digest)
+
+-- both are complete copies of one section, but have different blocks
+abbrev pub are_conflicting : SectionCopy → SectionCopy → Bool
+are_conflicting best c = (c.section.key.sect == best.section.key.sect)
+    && (is_complete best && (is_complete c && not (have_same_blocks best c)))
+
+-- whether one of these copies differs from the best copy of its section
+abbrev pub has_conflict : Option SectionCopy → List SectionCopy → Bool
+has_conflict None cs = false
+has_conflict (Some best) [] = false
+has_conflict (Some best) (c ∷ cs) = are_conflicting best c || has_conflict (Some best) cs
+
+-- the line about a copy that differs from the best one
+abbrev pub text_if : Bool → SectionCopy → SectionCopy → List ℕ
+text_if is best c = if is
+    then conflict_line c.section.key.sect (image_number best.image) (image_number c.image) else []
+
+-- the lines about the copies that differ from the best one
+abbrev pub conflict_text : Option SectionCopy → List SectionCopy → List ℕ
+conflict_text None cs = []
+conflict_text (Some best) [] = []
+conflict_text (Some best) (c ∷ cs) =
+    text_if (are_conflicting best c) best c ++ conflict_text (Some best) cs
+
+-- These lines report all copies of the sections 1 to n that differ from the best copy, and say
+-- whether there are any.
+abbrev pub AreConflicts : List SectionCopy → ℕ → List ℕ → Bool → Type 0
+AreConflicts copies zero text any = (text ≡ []) × (any ≡ false)
+AreConflicts copies (suc n) text any = (front : List ℕ) × (earlier : Bool)
+    × (best : Option SectionCopy) × AreConflicts copies n front earlier
+    × IsBest (firsts (n + 1) None copies) best × (text ≡ front ++ conflict_text best copies)
+    × (any ≡ (has_conflict best copies || earlier))

@@ -1,0 +1,43 @@
+use Rattle.std.proofs.Common.{◌≡◌, ℕ, Err, true, false, sym, ap, subst, ◌∙◌}
+use Rattle.tape_stage.specs.Salvaged.{standing}
+use Rattle.tape_stage.specs.Staged.{Holding}
+use Rattle.tape_stage.proofs.Held.{holding_weighs}
+use Rattle.tape_stage.proofs.Remaining.{found_remains}
+use Rattle.tape_stage.proofs.stage.Stage.open_read_only.Goals as goal
+
+pub returns-in-Err-clause-refused : goal.returns-in-Err-clause-refused
+returns-in-Err-clause-refused g c =
+    let l = c.in-Err.ensures in
+    record {
+      none = l.none;
+      no_frame = l.no_frame;
+      not_full = λ e. l.ends.not_full (ap Err e);
+      not_failed = λ e. l.ends.not_failed (ap Err e);
+      cause = λ e. l.ends.cause (ap Err e);
+      reads = c.look.ensures.reads;
+    }
+
+pub returns-clause-remains : goal.returns-clause-remains
+returns-clause-remains g c h =
+    let l = c.in-Ok.ensures in
+    let found = c.in-Ok.looked.0 in
+    let walked = c.in-Ok.looked.1 in
+    let framed = l.framed h in
+    let new = g.D.Disk.seen c.look.new.disk in
+    let weight : c.standing.result ≡ standing found.point.staged walked.broken =
+    c.standing.ensures ∙ ap (λ (n : ℕ). standing n walked.broken) c.staged.ensures.value in
+    let holds : Holding c.standing.result framed.0 new =
+    subst (λ (w : ℕ). Holding w framed.0 new) (sym weight)
+    (subst (Holding (standing found.point.staged walked.broken) framed.0)
+    (sym (c.look.ensures.reads.same h)) framed.1.holds) in (
+      found.generation,
+      framed.0,
+      found_remains found walked.broken framed.0 (g.D.Disk.seen c.args.disk) (l.found h) framed.1,
+      record {
+        honest = λ none. l.ends.honest h;
+        framed = holds;
+        weighs = holding_weighs c.standing.result framed.0 new holds;
+        ready = λ alive. absurd (let no : true ≡ false = alive in cc);
+      },
+      framed.2,
+    )

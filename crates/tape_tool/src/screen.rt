@@ -1,0 +1,237 @@
+//! The system, with a line on its terminal that shows how far the images have been read.
+//!
+//! The line is printed on standard error if that is a terminal, and otherwise never. It is removed
+//! before anything else is printed. Output is printed in whole lines, so it never follows a part of
+//! one.
+
+ghost use Rattle.std.specs.Prelude.{◌≡◌, false, None};
+
+use crate::host::{Host, Progress};
+use std::alloc::{Allocator, Global};
+use std::cell::Cell;
+use std::env::{Env, FillError};
+use std::fmt::Display;
+use std::fs::{File, Files, Metadata, OpenOptions};
+use std::io;
+use std::io::{Input, Lines};
+use std::rt::Runtime;
+use std::time::{Clock, Duration, Instant};
+
+/// The time in milliseconds between two prints of the line, and before the first one.
+const PAUSE: u64 = 500;
+
+/// The number of bytes in the unit that the line uses.
+const MEGABYTE: u64 = 1_000_000;
+
+/// Overwrites the line, which is shorter, with spaces. Every terminal can do this.
+const CLEARED: &str = "\r                                                            \r";
+
+/// The state of the line.
+#[derive(Clone, Copy)]
+pub struct Line {
+    /// When the line was printed last, or when the run began. `None` if it is never printed.
+    since: Option<Instant>,
+    /// Whether the line is on the terminal.
+    is_shown: bool,
+}
+
+impl Line {
+    /// Creates the state of a line that was not printed yet, given whether there is a terminal for
+    /// it.
+    pub fn new<R: Clock>(rt: &R, is_terminal: bool) -> Line
+        ensures { is_terminal ≡ false → result.since ≡ None }
+    {
+        Line {
+            since: if is_terminal {
+                Instant::now(rt).ok()
+            } else {
+                None
+            },
+            is_shown: false,
+        }
+    }
+}
+
+/// A system, with the line on its terminal.
+#[derive(Clone, Drop)]
+pub struct Screen<'a, R> {
+    rt: &'a R,
+    line: &'a Cell<Line>,
+}
+
+impl<'a, R: Host> Screen<'a, R> {
+    /// Returns the system `rt`, with the line whose state is in `line`.
+    pub fn new(rt: &'a R, line: &'a Cell<Line>) -> Screen<'a, R> {
+        Screen { rt, line }
+    }
+
+    /// Removes the line from the terminal.
+    pub fn clear(&self) {
+        let line = self.line.get();
+        if line.is_shown {
+            let _ = self.rt.eprint(CLEARED);
+            self.line.set(Line {
+                is_shown: false,
+                ..line
+            });
+        }
+    }
+}
+
+impl<R: Host> Progress for Screen<'_, R> {
+    fn show(&self, image: usize, count: usize, bytes: u64) {
+        let Some(since) = self.line.get().since else {
+            return;
+        };
+        let Ok(now) = Instant::now(self.rt) else {
+            return;
+        };
+        if now.duration_since(since) < Duration::from_millis(PAUSE) {
+            return;
+        }
+        self.clear();
+        let read = bytes / MEGABYTE;
+        let printed = self
+            .rt
+            .eprint(format_args!("image {image} of {count}: {read} MB"));
+        self.line.set(Line {
+            // After an error nothing more is printed.
+            since: if printed.is_ok() { Some(now) } else { None },
+            is_shown: printed.is_ok(),
+        });
+    }
+}
+
+impl<R: Host> Print for Screen<'_, R> {
+    fn print<D: Display + Drop>(&self, value: D) -> io::Result<()> {
+        self.clear();
+        self.rt.print(value)
+    }
+
+    fn println<D: Display + Drop>(&self, value: D) -> io::Result<()> {
+        self.clear();
+        self.rt.println(value)
+    }
+
+    fn write_all(&self, bytes: &[u8]) -> io::Result<()> {
+        self.clear();
+        Print::write_all(self.rt, bytes)
+    }
+
+    fn write_some(&self, bytes: &[u8]) -> io::Result<usize> {
+        self.clear();
+        self.rt.write_some(bytes)
+    }
+}
+
+impl<R: Host> Eprint for Screen<'_, R> {
+    fn eprint<D: Display + Drop>(&self, value: D) -> io::Result<()> {
+        self.clear();
+        self.rt.eprint(value)
+    }
+
+    fn eprintln<D: Display + Drop>(&self, value: D) -> io::Result<()> {
+        self.clear();
+        self.rt.eprintln(value)
+    }
+}
+
+impl<R: Host> Files for Screen<'_, R> {
+    type File = File;
+
+    type Dir = <R as Files>::Dir;
+
+    fn open_file(&self, how: &OpenOptions, path: &str) -> io::Result<File> {
+        self.rt.open_file(how, path)
+    }
+
+    fn open_dir(&self, path: &str) -> io::Result<Self::Dir> {
+        self.rt.open_dir(path)
+    }
+
+    fn metadata(&self, path: &str) -> io::Result<Metadata> {
+        Files::metadata(self.rt, path)
+    }
+
+    fn symlink_metadata(&self, path: &str) -> io::Result<Metadata> {
+        self.rt.symlink_metadata(path)
+    }
+
+    fn copy(&self, from: &str, to: &str) -> io::Result<u64> {
+        self.rt.copy(from, to)
+    }
+
+    fn rename(&self, from: &str, to: &str) -> io::Result<()> {
+        self.rt.rename(from, to)
+    }
+
+    fn hard_link(&self, original: &str, link: &str) -> io::Result<()> {
+        self.rt.hard_link(original, link)
+    }
+
+    fn remove_file(&self, path: &str) -> io::Result<()> {
+        self.rt.remove_file(path)
+    }
+
+    fn create_dir(&self, path: &str) -> io::Result<()> {
+        self.rt.create_dir(path)
+    }
+
+    fn remove_dir(&self, path: &str) -> io::Result<()> {
+        self.rt.remove_dir(path)
+    }
+
+    fn remove_dir_all<B: Allocator>(&self, alloc: B, path: &str) -> io::Result<()> {
+        self.rt.remove_dir_all(alloc, path)
+    }
+}
+
+impl<R: Host> Env for Screen<'_, R> {
+    fn arg(&self, i: usize, buf: &mut [u8]) -> Result<usize, FillError> {
+        self.rt.arg(i, buf)
+    }
+
+    fn var(&self, name: &str, buf: &mut [u8]) -> Result<usize, FillError> {
+        self.rt.var(name, buf)
+    }
+
+    fn var_at(&self, i: usize, buf: &mut [u8]) -> Result<usize, FillError> {
+        self.rt.var_at(i, buf)
+    }
+}
+
+impl<R: Host> Clock for Screen<'_, R> {
+    fn monotonic(&self) -> io::Result<Duration> {
+        self.rt.monotonic()
+    }
+
+    fn since_1970(&self) -> io::Result<Duration> {
+        self.rt.since_1970()
+    }
+}
+
+impl<R: Host> Input for Screen<'_, R> {
+    type Reader = <R as Input>::Reader;
+
+    fn read_line<A: Allocator + Clone>(&self, buf: &mut String<A>) -> io::Result<usize> {
+        self.rt.read_line(buf)
+    }
+
+    fn lines<A: Allocator>(&self, alloc: A) -> Lines<Self::Reader, A> {
+        self.rt.lines(alloc)
+    }
+
+    fn reader(&self) -> Self::Reader {
+        self.rt.reader()
+    }
+}
+
+impl<R: Host> Alloc for Screen<'_, R> {
+    type A = Global;
+
+    fn alloc(&self) -> Global {
+        self.rt.alloc()
+    }
+}
+
+impl<R: Host> Runtime for Screen<'_, R> {}
