@@ -1,7 +1,7 @@
 //! Tables of commands and their arguments.
-ghost use Rattle.std.specs.Prelude.{◌≡◌, ⊤, IfOk};
+ghost use Rattle.std.specs.Prelude.{◌≡◌, IfOk};
 ghost use Rattle.clap.specs.Words.{kind_of};
-ghost use Rattle.tape_tool.specs.Words.{RefusedFor};
+ghost use Rattle.tape_tool.specs.Words.{IsMistake};
 
 use crate::shown::Shown;
 use clap::builder::{ValueParser, ValueRange};
@@ -157,7 +157,7 @@ fn defaults_of(kind: Kind) -> &'static [&'static str] {
 /// Returns a usage error of the command, whose usage line follows `text`. If that cannot be
 /// allocated, returns the error for out of memory.
 pub fn mistake(alloc: Global, command_spec: &CommandSpec, text: &str) -> Error
-    ensures { RefusedFor ⊤ result }
+    ensures { IsMistake result }
 {
     match told(alloc, command_spec, text) {
         Ok(error) => error,
@@ -168,7 +168,7 @@ pub fn mistake(alloc: Global, command_spec: &CommandSpec, text: &str) -> Error
 /// Returns the usage error for `value`, which is not accepted; the message shows `value` before
 /// `text`.
 pub fn wrong_value(alloc: Global, command_spec: &CommandSpec, value: &str, text: &str) -> Error
-    ensures { RefusedFor ⊤ result }
+    ensures { IsMistake result }
 {
     match format!(in alloc; "invalid value \"{}\": {text}", Shown(value)) {
         Ok(text) => mistake(alloc, command_spec, text.as_str()),

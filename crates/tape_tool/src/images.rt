@@ -9,7 +9,6 @@ use crate::help;
 use crate::host::{Host, Progress};
 use crate::refusal::{Refusal, refused};
 use crate::shown::Shown;
-use crate::words::is_dash;
 use std::alloc::{AllocError, Global};
 use std::fs::File;
 use std::io::{BufReader, ErrorKind, Read};
@@ -306,7 +305,7 @@ impl<'a, R: Progress> Images<'a, R> {
         Images {
             rt,
             names,
-            input: named.words.iter().position(|word| is_dash(*word)),
+            input: named.words.iter().position(|word| *word == "-"),
             reels: None,
         }
     }

@@ -4,13 +4,13 @@ ghost use Rattle.tape_tool.specs.Cases.{CasesOfEnds, CasesOfFaults, CasesOfLines
 ghost use Rattle.tape_tool.specs.Cases.{CasesOfStaging};
 ghost use Rattle.tape_tool.specs.CasesOfShowing.{CasesOfShowing};
 ghost use Rattle.tape_tool.specs.CasesOfWriting.{CasesOfWriting};
-ghost use Rattle.tape_tool.specs.CasesOfWords.{CasesOfWords, CasesOfOrders, CasesOfWrongWords};
+ghost use Rattle.tape_tool.specs.CasesOfWords.{CasesOfWords};
 
 use tape_stage::Disk;
 
 /// Examples for the definitions of the program: how runs end, the numbers of faults, the lines that
 /// are printed, the names in a list, sessions over a stage, the report on a stage, refused shapes,
-/// the requests in arguments, and the reasons for refusing them.
+/// and values in arguments.
 pub fn cases<D: Disk>()
     ensures ends { CasesOfEnds }
     ensures faults { CasesOfFaults }
@@ -20,6 +20,4 @@ pub fn cases<D: Disk>()
     ensures showing { CasesOfShowing }
     ensures writing { CasesOfWriting }
     ensures words { CasesOfWords }
-    ensures orders { CasesOfOrders }
-    ensures wrong_words { CasesOfWrongWords }
 {}

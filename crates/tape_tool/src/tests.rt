@@ -10,6 +10,7 @@ mod guards;
 mod image;
 mod init;
 mod merge_program;
+mod orders;
 mod program;
 mod progress;
 mod salvage_program;

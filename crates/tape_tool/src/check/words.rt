@@ -1,14 +1,7 @@
 //! The arguments of `check`.
-ghost use Rattle.std.specs.Prelude.{IfOk, IfErr};
-ghost use Rattle.clap.specs.Words.{found_of, rows_of};
-ghost use Rattle.tape_tool.specs.Words.{IsNoInput, NamesInput, RefusedFor};
 
 use crate::command_spec::{CommandSpec, Kind, Word};
 use crate::help;
-use crate::images::Named;
-use crate::words::named_once;
-use clap::{ArgMatches, Error};
-use std::alloc::Global;
 
 /// The `check` command and its arguments.
 pub const CHECK: CommandSpec = CommandSpec {
@@ -23,11 +16,3 @@ pub const CHECK: CommandSpec = CommandSpec {
         Word("null", Kind::FlagOf("files-from"), help::NULL),
     ],
 };
-
-/// Returns the request in `matches`, the arguments of `check`.
-pub fn check_order<'a>(alloc: Global, matches: &ArgMatches<'a>) -> Result<Named<'a>, Error>
-    ensures ok { IfOk result (NamesInput (rows_of (found_of matches.now))) }
-    ensures err { IfErr result (RefusedFor (IsNoInput (rows_of (found_of matches.now)))) }
-{
-    named_once(alloc, matches, &CHECK, help::TOO_MANY_TO_CHECK)
-}

@@ -1,14 +1,12 @@
 //! The arguments of `extract`.
 
-ghost use Rattle.std.specs.Prelude.{◌≡◌, IfOk, IfErr, IfSome, IfNone, IsSome};
-ghost use Rattle.clap.specs.Words.{found_of, rows_of};
-ghost use Rattle.tape_tool.specs.Words.{AsksForFile, AsksToExtract, IsNoExtract, IsNoSet, IsNoTask};
-ghost use Rattle.tape_tool.specs.Words.{RefusedFor, padded_set};
+ghost use Rattle.std.specs.Prelude.{◌≡◌, IfSome, IfNone, IsSome};
+ghost use Rattle.tape_tool.specs.Words.{IsNoSet, padded_set};
 
 use crate::command_spec::{CommandSpec, Kind, Word, mistake, wrong_value};
 use crate::help;
 use crate::images::Named;
-use crate::words::{FORMS, flag_of, form_of, is_dash, named, number_of, option_of, text_of};
+use crate::words::{FORMS, form_of, named, number_of, text_of};
 use clap::{ArgMatches, Error};
 use std::alloc::Global;
 use tape_blocks::Form;
@@ -60,38 +58,26 @@ pub const EXTRACT: CommandSpec = CommandSpec {
 
 /// Returns the request in `matches`, the arguments of `extract`. The parser has checked that all
 /// required ones are present.
-pub fn extract_order<'a>(alloc: Global, matches: &ArgMatches<'a>) -> Result<Extract<'a>, Error>
-    ensures ok { IfOk result (AsksToExtract (rows_of (found_of matches.now))) }
-    ensures err { IfErr result (RefusedFor (IsNoExtract (rows_of (found_of matches.now)))) }
-{
-    let task = task_of(alloc, matches)?;
-    let images = named(alloc, matches, &EXTRACT, help::TOO_MANY_IMAGES)?;
-    Ok(Extract { task, images })
-}
-
-/// Returns the file to recover, and how to recover it.
-fn task_of<'a>(alloc: Global, matches: &ArgMatches<'a>) -> Result<Task<'a>, Error>
-    ensures ok { IfOk result (AsksForFile (rows_of (found_of matches.now))) }
-    ensures err { IfErr result (RefusedFor (IsNoTask (rows_of (found_of matches.now)))) }
-{
+pub fn extract_order<'a>(alloc: Global, matches: &ArgMatches<'a>) -> Result<Extract<'a>, Error> {
     let command_spec = &EXTRACT;
     let set = text_of(matches, "SET");
     let Some(set_id) = set_id_of(set) else {
         return Err(wrong_value(alloc, command_spec, set, help::WRONG_SET));
     };
     let out = text_of(matches, "OUT");
-    if is_dash(out) {
+    if out == "-" {
         return Err(mistake(alloc, command_spec, help::OUT_IS_DASH));
     }
-    let stage = option_of(matches, "stage");
-    Ok(Task {
+    let task = Task {
         set_id,
         file: number_of(matches, "FILE"),
         out,
         form: form_of(matches),
-        stage,
-        again: flag_of(matches, "again"),
-    })
+        stage: matches.get_str("stage"),
+        again: matches.get_flag("again"),
+    };
+    let images = named(alloc, matches, command_spec, help::TOO_MANY_IMAGES)?;
+    Ok(Extract { task, images })
 }
 
 /// Returns the set identifier `text`, padded with spaces, if it has 1 to 6 bytes.

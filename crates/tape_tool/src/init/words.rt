@@ -1,7 +1,4 @@
 //! The arguments of `init`.
-ghost use Rattle.std.specs.Prelude.{IfOk, IfErr};
-ghost use Rattle.clap.specs.Words.{found_of, rows_of};
-ghost use Rattle.tape_tool.specs.Words.{AsksToInit, IsNoInit, RefusedFor};
 
 use crate::command_spec::{CommandSpec, Kind, Word, mistake, wrong_value};
 use crate::help;
@@ -34,10 +31,7 @@ pub const INIT: CommandSpec = CommandSpec {
 
 /// Returns the request in `matches`, the arguments of `init`. The parser has checked that all three
 /// are present.
-pub fn init_order<'a>(alloc: Global, matches: &ArgMatches<'a>) -> Result<Init<'a>, Error>
-    ensures ok { IfOk result (AsksToInit (rows_of (found_of matches.now))) }
-    ensures err { IfErr result (RefusedFor (IsNoInit (rows_of (found_of matches.now)))) }
-{
+pub fn init_order<'a>(alloc: Global, matches: &ArgMatches<'a>) -> Result<Init<'a>, Error> {
     let command_spec = &INIT;
     let folder = text_of(matches, "DIR");
     if folder.is_empty() {

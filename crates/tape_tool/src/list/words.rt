@@ -1,11 +1,8 @@
 //! The arguments of `list`.
-ghost use Rattle.std.specs.Prelude.{codes, IfOk, IfErr};
-ghost use Rattle.clap.specs.Words.{found_of, rows_of};
-ghost use Rattle.tape_tool.specs.Words.{AsksToList, IsDashOrMore, RefusedFor, texts_in};
 
 use crate::command_spec::{CommandSpec, Kind, Word, mistake};
 use crate::help;
-use crate::words::{at_most_one, flag_of};
+use crate::words::at_most_one;
 use clap::{ArgMatches, Error};
 use std::alloc::Global;
 
@@ -32,16 +29,12 @@ pub const LIST: CommandSpec = CommandSpec {
 };
 
 /// Returns the request in `matches`, the arguments of `list`.
-pub fn list_order<'a>(alloc: Global, matches: &ArgMatches<'a>) -> Result<Listing<'a>, Error>
-    ensures ok { IfOk result (AsksToList (rows_of (found_of matches.now))) }
-    ensures err { IfErr result (RefusedFor (IsDashOrMore
-        (texts_in (rows_of (found_of matches.now)) (codes "IMAGE")))) }
-{
+pub fn list_order<'a>(alloc: Global, matches: &ArgMatches<'a>) -> Result<Listing<'a>, Error> {
     let images = matches.get_strs("IMAGE").unwrap_or(&[]);
     match at_most_one(images, help::DASH, help::ONE_IMAGE) {
         Ok(image) => Ok(Listing {
             image,
-            offsets: flag_of(matches, "offsets"),
+            offsets: matches.get_flag("offsets"),
         }),
         Err(text) => Err(mistake(alloc, &LIST, text)),
     }

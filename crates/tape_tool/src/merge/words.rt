@@ -1,14 +1,9 @@
 //! The arguments of `merge` and `compare`.
 
-ghost use Rattle.std.specs.Prelude.{IfOk, IfErr};
-ghost use Rattle.clap.specs.Words.{found_of, rows_of};
-ghost use Rattle.tape_tool.specs.Words.{AreTooMany, AsksToMerge, IsNoMerge, NamesImages};
-ghost use Rattle.tape_tool.specs.Words.{RefusedFor};
-
 use crate::command_spec::{CommandSpec, Kind, Word, mistake};
 use crate::help;
 use crate::images::Named;
-use crate::words::{is_dash, named, option_of, text_of};
+use crate::words::{named, text_of};
 use clap::{ArgMatches, Error};
 use std::alloc::Global;
 
@@ -53,15 +48,12 @@ pub const COMPARE: CommandSpec = CommandSpec {
 };
 
 /// Returns the request in `matches`, the arguments of `merge`.
-pub fn merge_order<'a>(alloc: Global, matches: &ArgMatches<'a>) -> Result<Merge<'a>, Error>
-    ensures ok { IfOk result (AsksToMerge (rows_of (found_of matches.now))) }
-    ensures err { IfErr result (RefusedFor (IsNoMerge (rows_of (found_of matches.now)))) }
-{
+pub fn merge_order<'a>(alloc: Global, matches: &ArgMatches<'a>) -> Result<Merge<'a>, Error> {
     let out = text_of(matches, "OUT");
-    if is_dash(out) {
+    if out == "-" {
         return Err(mistake(alloc, &MERGE, help::MERGED_OUT_IS_DASH));
     }
-    let log = option_of(matches, "log");
+    let log = matches.get_str("log");
     if log == Some("-") {
         return Err(mistake(alloc, &MERGE, help::LOG_IS_DASH));
     }
@@ -70,12 +62,4 @@ pub fn merge_order<'a>(alloc: Global, matches: &ArgMatches<'a>) -> Result<Merge<
         log,
         images: named(alloc, matches, &MERGE, help::TOO_MANY_TO_MERGE)?,
     })
-}
-
-/// Returns the request in `matches`, the arguments of `compare`.
-pub fn compare_order<'a>(alloc: Global, matches: &ArgMatches<'a>) -> Result<Named<'a>, Error>
-    ensures ok { IfOk result (NamesImages (rows_of (found_of matches.now))) }
-    ensures err { IfErr result (RefusedFor (AreTooMany (rows_of (found_of matches.now)))) }
-{
-    named(alloc, matches, &COMPARE, help::TOO_MANY_TO_COMPARE)
 }

@@ -1,11 +1,8 @@
 //! The arguments of `stage`.
-ghost use Rattle.std.specs.Prelude.{codes, IfOk, IfErr};
-ghost use Rattle.clap.specs.Words.{found_of, rows_of};
-ghost use Rattle.tape_tool.specs.Words.{AsksForStage, IsDashOrMore, RefusedFor, texts_in};
 
 use crate::command_spec::{CommandSpec, Kind, Word, mistake};
 use crate::help;
-use crate::words::{FORMS, at_most_one, flag_of, form_of, text_of};
+use crate::words::{FORMS, at_most_one, form_of, text_of};
 use clap::{ArgMatches, Error};
 use std::alloc::Global;
 use tape_blocks::Form;
@@ -42,18 +39,14 @@ pub const STAGE: CommandSpec = CommandSpec {
 
 /// Returns the request in `matches`, the arguments of `stage`. The parser has checked that a stage
 /// is named.
-pub fn stage_order<'a>(alloc: Global, matches: &ArgMatches<'a>) -> Result<StageOrder<'a>, Error>
-    ensures ok { IfOk result (AsksForStage (rows_of (found_of matches.now))) }
-    ensures err { IfErr result (RefusedFor (IsDashOrMore
-        (texts_in (rows_of (found_of matches.now)) (codes "OUT")))) }
-{
+pub fn stage_order<'a>(alloc: Global, matches: &ArgMatches<'a>) -> Result<StageOrder<'a>, Error> {
     let outs = matches.get_strs("OUT").unwrap_or(&[]);
     match at_most_one(outs, help::OUT_IS_DASH, help::ONE_OUT) {
         Ok(out) => Ok(StageOrder {
             stage: text_of(matches, "PATH"),
             out,
             form: form_of(matches),
-            damaged: flag_of(matches, "damaged"),
+            damaged: matches.get_flag("damaged"),
         }),
         Err(text) => Err(mistake(alloc, &STAGE, text)),
     }

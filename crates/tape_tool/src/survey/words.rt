@@ -1,12 +1,9 @@
 //! The arguments of `survey`.
-ghost use Rattle.std.specs.Prelude.{codes, IfOk, IfErr};
-ghost use Rattle.clap.specs.Words.{found_of, rows_of};
-ghost use Rattle.tape_tool.specs.Words.{AsksToSurvey, IsFlag, IsNoInput, RefusedFor, is_in_rows};
 
 use crate::command_spec::{CommandSpec, Kind, Word};
 use crate::help;
 use crate::images::Named;
-use crate::words::{flag_of, named_once};
+use crate::words::named_once;
 use clap::{ArgMatches, Error};
 use std::alloc::Global;
 use tape_run::Wording;
@@ -34,23 +31,13 @@ pub const SURVEY: CommandSpec = CommandSpec {
 };
 
 /// Returns the request in `matches`, the arguments of `survey`.
-pub fn survey_order<'a>(alloc: Global, matches: &ArgMatches<'a>) -> Result<Survey<'a>, Error>
-    ensures ok { IfOk result (AsksToSurvey (rows_of (found_of matches.now))) }
-    ensures err { IfErr result (RefusedFor (IsNoInput (rows_of (found_of matches.now)))) }
-{
+pub fn survey_order<'a>(alloc: Global, matches: &ArgMatches<'a>) -> Result<Survey<'a>, Error> {
     Ok(Survey {
         images: named_once(alloc, matches, &SURVEY, help::TOO_MANY_TO_SURVEY)?,
-        wording: wording_of(matches),
+        wording: if matches.get_flag("tsv") {
+            Wording::Rows
+        } else {
+            Wording::Words
+        },
     })
-}
-
-/// Returns how the survey is printed.
-fn wording_of(matches: &ArgMatches<'_>) -> Wording
-    ensures { IsFlag (rows_of (found_of matches.now)) (codes "tsv") (is_in_rows result) }
-{
-    if flag_of(matches, "tsv") {
-        Wording::Rows
-    } else {
-        Wording::Words
-    }
 }

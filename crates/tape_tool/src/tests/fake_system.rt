@@ -48,15 +48,21 @@ struct FakeSystem<'a> {
     /// Whether standard output accepts bytes.
     takes: bool,
     odd: Odd<'a>,
-    out: &'a RefCell<String>,
-    told: &'a RefCell<String>,
+    records: &'a Records,
+}
+
+/// What a run leaves on the system.
+#[derive(Drop)]
+struct Records {
+    out: RefCell<String>,
+    told: RefCell<String>,
     /// The paths that were opened, each followed by a space, or by a question mark and a space if
     /// opening it failed.
-    opened: &'a RefCell<String>,
+    opened: RefCell<String>,
     /// The time in seconds, which advances when the clock is read.
-    time: &'a Cell<u64>,
+    time: Cell<u64>,
     /// The number of texts that standard error got.
-    texts: &'a Cell<usize>,
+    texts: Cell<usize>,
 }
 
 /// The contents of a file that appears during a run.
@@ -105,8 +111,11 @@ impl Files for FakeSystem<'_> {
             }
             Ok(()) => self.rt.open_file(how, path),
         };
-        note(self.opened, path)?;
-        note(self.opened, if opened.is_ok() { " " } else { "? " })?;
+        note(&self.records.opened, path)?;
+        note(
+            &self.records.opened,
+            if opened.is_ok() { " " } else { "? " },
+        )?;
         opened
     }
 
@@ -186,8 +195,8 @@ impl Env for FakeSystem<'_> {
 
 impl Clock for FakeSystem<'_> {
     fn monotonic(&self) -> io::Result<Duration> {
-        let time = self.time.get().saturating_add(1);
-        self.time.set(time);
+        let time = self.records.time.get().saturating_add(1);
+        self.records.time.set(time);
         Ok(Duration::from_secs(time))
     }
 
@@ -199,7 +208,7 @@ impl Clock for FakeSystem<'_> {
 impl Print for FakeSystem<'_> {
     fn print<D: Display + Drop>(&self, value: D) -> io::Result<()> {
         if self.takes {
-            note(self.out, value)
+            note(&self.records.out, value)
         } else {
             Err(io::Error::from(ErrorKind::BrokenPipe))
         }
@@ -220,12 +229,11 @@ impl Print for FakeSystem<'_> {
 
 impl Eprint for FakeSystem<'_> {
     fn eprint<D: Display + Drop>(&self, value: D) -> io::Result<()> {
-        self.texts.set(self.texts.get().saturating_add(1));
+        let texts = self.records.texts.get().saturating_add(1);
+        self.records.texts.set(texts);
         match self.odd {
-            Odd::Terminal(most) if self.texts.get() > most => {
-                Err(io::Error::from(ErrorKind::StorageFull))
-            }
-            _ => note(self.told, value),
+            Odd::Terminal(most) if texts > most => Err(io::Error::from(ErrorKind::StorageFull)),
+            _ => note(&self.records.told, value),
         }
     }
 
@@ -300,22 +308,26 @@ fn run_on(system: &FakeSystem<'_>) -> u8 {
 /// Runs the program with the arguments in `line`, on a system with the peculiarity `odd`.
 pub fn called_oddly(rt: &HostRuntime, line: &str, takes: bool, odd: Odd<'_>) -> Result<Seen, Fail> {
     let words = words_of(rt.alloc(), line)?;
-    let out = RefCell::new(String::new(rt.alloc()));
-    let told = RefCell::new(String::new(rt.alloc()));
-    let opened = RefCell::new(String::new(rt.alloc()));
-    let (time, texts) = (Cell::new(0), Cell::new(0));
-    let system = FakeSystem {
+    let records = Records {
+        out: RefCell::new(String::new(rt.alloc())),
+        told: RefCell::new(String::new(rt.alloc())),
+        opened: RefCell::new(String::new(rt.alloc())),
+        time: Cell::new(0),
+        texts: Cell::new(0),
+    };
+    let status = run_on(&FakeSystem {
         rt: *rt,
         words: words.as_slice(),
         takes,
         odd,
-        out: &out,
-        told: &told,
-        opened: &opened,
-        time: &time,
-        texts: &texts,
-    };
-    let status = run_on(&system);
+        records: &records,
+    });
+    let Records {
+        out,
+        told,
+        opened,
+        ..
+    } = records;
     let opened = opened.into_inner();
     // The numbers of the standard streams are checked first.
     let Some(opened) = opened.as_str().strip_prefix("/ ") else {

@@ -1,6 +1,5 @@
 //! Tests of command lines.
 use crate::command_line::call_of;
-use crate::list::words::Listing;
 use crate::words::Order;
 use crate::write::words::WriteOrder;
 use std::alloc::{AllocError, Global};
@@ -20,27 +19,6 @@ pub fn words_of(alloc: Global, line: &str) -> Result<Vec<String>, AllocError> {
 
 fn push_word(alloc: Global, words: &mut Vec<String>, word: &str) -> Result<(), AllocError> {
     words.push(word.to_string(alloc)?)?;
-    Ok(())
-}
-
-const ORDERS: &[(&str, Option<&str>, bool)] = &[
-    ("list", None, false),
-    ("list reel.tap", Some("reel.tap"), false),
-    ("list --offsets", None, true),
-    ("list -- -odd.tap", Some("-odd.tap"), false),
-];
-
-#[test]
-fn orders(rt: HostRuntime) -> Result<(), Fail> {
-    for (line, image, told) in ORDERS {
-        let words = words_of(rt.alloc(), line)?;
-        let order = call_of(rt.alloc(), words.as_slice())?.order;
-        assert!(rt;
-            matches!(order, Order::List(Listing { image: found, offsets })
-                if found == *image && offsets == *told),
-            "{line}"
-        );
-    }
     Ok(())
 }
 

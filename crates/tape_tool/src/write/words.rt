@@ -1,16 +1,11 @@
 //! The arguments of `write`.
 
-ghost use Rattle.std.specs.Prelude.{◌≡◌, ◌↔◌, ◌⊎◌, ◌++◌, ℕ, List, [], codes, map, IfOk, IfErr};
-ghost use Rattle.std.specs.Prelude.{IfSome, IfNone, IsTrue};
-ghost use Rattle.std.specs.List.{Contains};
-ghost use Rattle.clap.specs.Words.{found_of, rows_of};
-ghost use Rattle.tape_tool.specs.Words.{AreAtOdds, AsksToWrite, HavePaths, IsAtOdds, IsNoWrite};
-ghost use Rattle.tape_tool.specs.Words.{RefusedFor, text_in, texts_in, IsSize, IsUnit};
-ghost use Rattle.tape_tool.specs.Words.{EndsInLetter};
+ghost use Rattle.std.specs.Prelude.{◌≡◌, ◌↔◌, ◌⊎◌, ◌++◌, ℕ, List, [], codes, IfSome, IfNone};
+ghost use Rattle.tape_tool.specs.Words.{IsAtOdds, IsSize, IsUnit, EndsInLetter};
 
 use crate::command_spec::{CommandSpec, Kind, Word, mistake, wrong_value};
 use crate::help;
-use crate::words::{FORMS, flag_of, form_of, text_of};
+use crate::words::{FORMS, form_of, text_of};
 use clap::{ArgMatches, Error};
 use std::alloc::Global;
 use tape_blocks::Form;
@@ -70,10 +65,7 @@ pub const WRITE: CommandSpec = CommandSpec {
 
 /// Returns the request in `matches`, the arguments of `write`. The parser has checked that all
 /// required ones are present.
-pub fn write_order<'a>(alloc: Global, matches: &ArgMatches<'a>) -> Result<WriteOrder<'a>, Error>
-    ensures ok { IfOk result (AsksToWrite (rows_of (found_of matches.now))) }
-    ensures err { IfErr result (RefusedFor (IsNoWrite (rows_of (found_of matches.now)))) }
-{
+pub fn write_order<'a>(alloc: Global, matches: &ArgMatches<'a>) -> Result<WriteOrder<'a>, Error> {
     let name = text_of(matches, "PRE");
     let Some(prefix) = Prefix::new(name) else {
         return Err(wrong_value(alloc, &WRITE, name, help::WRONG_PREFIX));
@@ -82,7 +74,22 @@ pub fn write_order<'a>(alloc: Global, matches: &ArgMatches<'a>) -> Result<WriteO
     let Some(capacity) = size_of(size) else {
         return Err(wrong_value(alloc, &WRITE, size, help::WRONG_CAPACITY));
     };
-    let order = asked(matches, prefix, capacity, files_of(alloc, matches)?);
+    let files = matches.get_strs("ID=PATH").unwrap_or(&[]);
+    if !files.iter().all(|file| file.contains('=')) {
+        return Err(mistake(alloc, &WRITE, help::NO_PATH));
+    }
+    let order = WriteOrder {
+        folder: text_of(matches, "DIR"),
+        prefix,
+        capacity,
+        files: Vec::from_slice(alloc, files)?,
+        format: format_of(text_of(matches, "format")),
+        block: matches.get_one::<u32>("block").unwrap_or(0),
+        record: matches.get_one::<u32>("record"),
+        offset: matches.get_one::<u8>("offset").unwrap_or(0),
+        pad_full: matches.get_flag("pad-full"),
+        form: form_of(matches),
+    };
     match wrong(&order) {
         Some(text) => Err(mistake(alloc, &WRITE, text)),
         None => Ok(order),
@@ -120,71 +127,6 @@ fn unit_of(text: &str) -> (&str, u32)
         return (digits, 1_073_741_824);
     }
     (text, 1)
-}
-
-/// Returns the request in the arguments, with the given prefix, capacity and files.
-fn asked<'a>(
-    matches: &ArgMatches<'a>,
-    prefix: Prefix,
-    capacity: u32,
-    files: Vec<&'a str>,
-) -> WriteOrder<'a>
-    ensures asks { prefix.characters ≡ text_in (rows_of (found_of matches.now)) (codes "PRE")
-        → map (λ w. w.now) files.entry.items
-        ≡ texts_in (rows_of (found_of matches.now)) (codes "ID=PATH")
-        → IsSize (text_in (rows_of (found_of matches.now)) (codes "CAPACITY")) capacity
-        → (IsNoWrite (rows_of (found_of matches.now)) → ⊥)
-        → AsksToWrite (rows_of (found_of matches.now)) result }
-    ensures folder { result.folder.now ≡ text_in (rows_of (found_of matches.now)) (codes "DIR") }
-    ensures odds { IsAtOdds result ↔ AreAtOdds (rows_of (found_of matches.now)) }
-{
-    WriteOrder {
-        folder: text_of(matches, "DIR"),
-        prefix,
-        capacity,
-        files,
-        format: format_of(text_of(matches, "format")),
-        block: matches.get_one::<u32>("block").unwrap_or(0),
-        record: matches.get_one::<u32>("record"),
-        offset: matches.get_one::<u8>("offset").unwrap_or(0),
-        pad_full: flag_of(matches, "pad-full"),
-        form: form_of(matches),
-    }
-}
-
-/// Returns the arguments that name files. Each must have a path.
-fn files_of<'a>(alloc: Global, matches: &ArgMatches<'a>) -> Result<Vec<&'a str>, Error>
-    ensures ok { IfOk result (λ files. map (λ w. w.now) files.items
-        ≡ texts_in (rows_of (found_of matches.now)) (codes "ID=PATH")) }
-    ensures paths { IfOk result (λ _.
-        HavePaths (texts_in (rows_of (found_of matches.now)) (codes "ID=PATH"))) }
-    ensures err { IfErr result (RefusedFor
-        (HavePaths (texts_in (rows_of (found_of matches.now)) (codes "ID=PATH")) → ⊥)) }
-{
-    let files = matches.get_strs("ID=PATH").unwrap_or(&[]);
-    if !have_paths(files) {
-        return Err(mistake(alloc, &WRITE, help::NO_PATH));
-    }
-    Ok(Vec::from_slice(alloc, files)?)
-}
-
-/// Returns whether each argument has a path.
-fn have_paths(words: &[&str]) -> bool
-    ensures { IsTrue result ↔ HavePaths (map (λ w. w.now) words.now) }
-{
-    for word in words {
-        if !has_path(word) {
-            return false;
-        }
-    }
-    true
-}
-
-/// Returns whether the argument has a path, after an equals sign.
-fn has_path(word: &str) -> bool
-    ensures { IsTrue result ↔ Contains word.now 61 }
-{
-    word.contains('=')
 }
 
 /// Returns the error if the directory is empty or options exclude each other.

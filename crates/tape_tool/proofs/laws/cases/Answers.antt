@@ -2,8 +2,7 @@ use Rattle.tape_tool.proofs.Examples.{cases_of_ends, cases_of_faults, cases_of_l
 use Rattle.tape_tool.proofs.Examples.{cases_of_names, cases_of_staging}
 use Rattle.tape_tool.proofs.ExamplesOfShowing.{cases_of_showing}
 use Rattle.tape_tool.proofs.ExamplesOfWriting.{cases_of_writing}
-use Rattle.tape_tool.proofs.ExamplesOfWords.{cases_of_words, cases_of_orders}
-use Rattle.tape_tool.proofs.ExamplesOfWrongWords.{cases_of_wrong_words}
+use Rattle.tape_tool.proofs.ExamplesOfWords.{cases_of_words}
 use Rattle.tape_tool.proofs.laws.cases.Goals as goal
 
 pub returns-clause-ends : goal.returns-clause-ends
@@ -29,9 +28,3 @@ returns-clause-writing g c = cases_of_writing
 
 pub returns-clause-words : goal.returns-clause-words
 returns-clause-words g c = cases_of_words
-
-pub returns-clause-orders : goal.returns-clause-orders
-returns-clause-orders g c = cases_of_orders
-
-pub returns-clause-wrong_words : goal.returns-clause-wrong_words
-returns-clause-wrong_words g c = cases_of_wrong_words
