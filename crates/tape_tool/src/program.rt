@@ -1,6 +1,6 @@
 //! Runs of the program and their ends.
 
-ghost use Rattle.std.specs.Prelude.{◌≡◌, ◌≢◌, Bool, true, false, None, IsSome, IfErr};
+ghost use Rattle.std.specs.Prelude.{◌≡◌, ◌≢◌, Bool, IfErr};
 ghost use Rattle.clap.specs.Words.{kind_of};
 ghost use Rattle.tape_tool.specs.Ends.{exit_status, no_words_end, words_end, IsRefusalEnd};
 ghost use Rattle.tape_tool.specs.Ends.{IsWrongWords, end_of, help_end, check_end, extract_end};
@@ -156,10 +156,21 @@ pub fn run<R: Progress>(rt: &R) -> u8 {
         Ok(kept) => kept,
         Err(fault) => return finish(rt, End::Faulted(fault)),
     };
-    match words_of(rt) {
-        Ok(words) => tell(rt, perform(rt, words.as_slice())),
-        Err(end) => finish(rt, end),
+    let words = match words_of(rt) {
+        Ok(words) => words,
+        Err(end) => return finish(rt, end),
+    };
+    let outcome = perform(rt, words.as_slice());
+    let status = finish(rt, outcome.end);
+    if let (End::Faulted(fault), Some(site)) = (outcome.end, outcome.explained) {
+        let reason = reason_of(rt, fault, site);
+        let _ = rt.eprint(Explanation {
+            fault,
+            site,
+            reason,
+        });
     }
+    status
 }
 
 /// Returns the arguments of the command line, beginning with the program's name. If they cannot be
@@ -200,22 +211,6 @@ pub struct Outcome<'a> {
     pub explained: Option<FaultSite<'a>>,
 }
 
-/// Reports how a run ended, and returns the exit status.
-fn tell<R: Host>(rt: &R, outcome: Outcome<'_>) -> u8
-    ensures { result ≡ exit_status outcome.entry.end }
-{
-    let status = finish(rt, outcome.end);
-    if let (End::Faulted(fault), Some(site)) = (outcome.end, outcome.explained) {
-        let reason = reason_of(rt, fault, site);
-        let _ = rt.eprint(Explanation {
-            fault,
-            site,
-            reason,
-        });
-    }
-    status
-}
-
 /// Ends a run whose arguments could not be obtained.
 pub fn without_words<R: Eprint>(rt: &R, kind: io::ErrorKind) -> End
     ensures { result ≡ no_words_end kind }
@@ -229,15 +224,24 @@ pub fn without_words<R: Eprint>(rt: &R, kind: io::ErrorKind) -> End
 
 /// Executes a command line, whose first argument is the program's name.
 pub fn perform<'a, R: Progress>(rt: &R, words: &'a [String]) -> Outcome<'a> {
-    match call_of(rt.alloc(), words) {
-        Ok(mut call) => {
-            call.explained = call.explained || is_asked(rt);
-            follow(rt, &call)
+    let mut call = match call_of(rt.alloc(), words) {
+        Ok(call) => call,
+        Err(error) => {
+            return Outcome {
+                end: refuse(rt, &error),
+                explained: None,
+            };
         }
-        Err(error) => Outcome {
-            end: refuse(rt, &error),
-            explained: None,
-        },
+    };
+    call.explained = call.explained || is_asked(rt);
+    let mut site = FaultSite::Unknown;
+    let end = obey(rt, &call, &mut site);
+    if call.explained && end == End::Incomplete {
+        explain_missing(rt, &call.order);
+    }
+    Outcome {
+        end,
+        explained: call.explained.then_some(site),
     }
 }
 
@@ -246,22 +250,6 @@ fn is_asked<R: Host>(rt: &R) -> bool {
     match env::var(rt, "TAPE_EXPLAIN") {
         Ok(value) => !value.as_str().is_empty(),
         Err(_) => false,
-    }
-}
-
-/// Executes a parsed command line.
-fn follow<'a, R: Progress>(rt: &R, call: &Call<'a>) -> Outcome<'a>
-    ensures plain { call.now.explained ≡ false → result.explained ≡ None }
-    ensures explained { call.now.explained ≡ true → IsSome result.explained }
-{
-    let mut site = FaultSite::Unknown;
-    let end = obey(rt, call, &mut site);
-    if call.explained && end == End::Incomplete {
-        explain_missing(rt, &call.order);
-    }
-    Outcome {
-        end,
-        explained: call.explained.then_some(site),
     }
 }
 

@@ -1,4 +1,4 @@
-use Rattle.std.proofs.Common.{◌≡◌, ℕ, [], refl, sym, ap, subst, ◌∙◌}
+use Rattle.std.proofs.Common.{◌≡◌, ℕ, [], true, false, refl, sym, ap, subst, ◌∙◌}
 use Rattle.tape_core.specs.State.{State}
 use Rattle.tape_stage.specs.Stages.{OpensOver}
 use Rattle.tape_core.specs.Weight.{Rose}
@@ -10,7 +10,6 @@ use Rattle.tape_stage.specs.declared.stage.StageFault.TheVariants.{OutOfMemory, 
 use Rattle.tape_stage.specs.declared.stage.Stage.{Stage as StageOf}
 use Rattle.tape_stage.proofs.Refusals.{opened_keeps}
 use Rattle.tape_tool.proofs.Sessions.{stands_at}
-use Rattle.tape_tool.proofs.WordsOfWriting.{never}
 use Rattle.tape_tool.proofs.staging.resume.Goals as goal
 
 pub returns-then-same_file-clause-goes_on : goal.returns-then-same_file-clause-goes_on
@@ -61,6 +60,9 @@ returns-in-Err-clause-cause g c =
 
 pub returns-in-Err-clause-same_length : goal.returns-in-Err-clause-same_length
 returns-in-Err-clause-same_length g c = c.in-Err.ensures.refused.same_length
+
+never : false ≡ true → ⊥
+never e = cc
 
 pub returns-else-same_file-clause-refused : goal.returns-else-same_file-clause-refused
 returns-else-same_file-clause-refused g c honest =
