@@ -1,6 +1,6 @@
 //! The commands, and the arguments that several of them share.
 
-use crate::check::words::CHECK;
+use crate::check::words::check_order;
 use crate::command_line::TAPE;
 use crate::command_spec::{CommandSpec, mistake};
 use crate::extract::words::extract_order;
@@ -9,7 +9,7 @@ use crate::help;
 use crate::images::{List, Named};
 use crate::init::words::{Init, init_order};
 use crate::list::words::{Listing, list_order};
-use crate::merge::words::{COMPARE, Merge, merge_order};
+use crate::merge::words::{Merge, compare_order, merge_order};
 use crate::salvage::words::{SalvageOrder, salvage_order};
 use crate::stage::words::{StageOrder, stage_order};
 use crate::survey::words::{Survey, survey_order};
@@ -138,32 +138,29 @@ pub enum Order<'a> {
 /// Returns the request in `matches`, the parsed arguments. The parser guarantees that they name one
 /// of the commands.
 pub fn call_in<'a>(alloc: Global, matches: &ArgMatches<'a>) -> Result<Call<'a>, Error> {
-    let order = match matches.subcommand() {
-        Some(("list", words)) => Order::List(list_order(alloc, words)?),
-        Some(("check", words)) => Order::Check(named_once(
-            alloc,
-            words,
-            &CHECK,
-            help::TOO_MANY_TO_CHECK,
-        )?),
-        Some(("survey", words)) => Order::Survey(survey_order(alloc, words)?),
-        Some(("extract", words)) => Order::Extract(extract_order(alloc, words)?),
-        Some(("unpack", words)) => Order::Unpack(unpack_order(alloc, words)?),
-        Some(("salvage", words)) => Order::Salvage(salvage_order(alloc, words)?),
-        Some(("stage", words)) => Order::Stage(stage_order(alloc, words)?),
-        Some(("init", words)) => Order::Init(init_order(alloc, words)?),
-        Some(("write", words)) => Order::Write(write_order(alloc, words)?),
-        Some(("merge", words)) => Order::Merge(merge_order(alloc, words)?),
-        Some(("compare", words)) => Order::Compare(named(
-            alloc,
-            words,
-            &COMPARE,
-            help::TOO_MANY_TO_COMPARE,
-        )?),
-        _ => return Err(mistake(alloc, &TAPE, help::NO_COMMAND)),
+    let Some((name, words)) = matches.subcommand() else {
+        return Err(mistake(alloc, &TAPE, help::NO_COMMAND));
     };
     Ok(Call {
-        order,
+        order: order_of(alloc, name, words)?,
         explained: matches.get_flag("explain"),
     })
+}
+
+/// Returns the request to command `name` in its arguments.
+fn order_of<'a>(alloc: Global, name: &str, words: &ArgMatches<'a>) -> Result<Order<'a>, Error> {
+    match name {
+        "list" => list_order(alloc, words),
+        "check" => check_order(alloc, words),
+        "survey" => survey_order(alloc, words),
+        "extract" => extract_order(alloc, words),
+        "unpack" => unpack_order(alloc, words),
+        "salvage" => salvage_order(alloc, words),
+        "stage" => stage_order(alloc, words),
+        "init" => init_order(alloc, words),
+        "write" => write_order(alloc, words),
+        "merge" => merge_order(alloc, words),
+        "compare" => compare_order(alloc, words),
+        _ => Err(mistake(alloc, &TAPE, help::NO_COMMAND)),
+    }
 }

@@ -2,6 +2,9 @@
 
 use crate::command_spec::{CommandSpec, Kind, Word};
 use crate::help;
+use crate::words::{Order, named_once};
+use clap::{ArgMatches, Error};
+use std::alloc::Global;
 
 /// The `check` command and its arguments.
 pub const CHECK: CommandSpec = CommandSpec {
@@ -16,3 +19,9 @@ pub const CHECK: CommandSpec = CommandSpec {
         Word("null", Kind::FlagOf("files-from"), help::NULL),
     ],
 };
+
+/// Returns the request in `matches`, the arguments of `check`.
+pub fn check_order<'a>(alloc: Global, matches: &ArgMatches<'a>) -> Result<Order<'a>, Error> {
+    let images = named_once(alloc, matches, &CHECK, help::TOO_MANY_TO_CHECK)?;
+    Ok(Order::Check(images))
+}

@@ -6,7 +6,7 @@ ghost use Rattle.tape_tool.specs.Words.{IsNoSet, padded_set};
 use crate::command_spec::{CommandSpec, Kind, Word, mistake, wrong_value};
 use crate::help;
 use crate::images::Named;
-use crate::words::{FORMS, form_of, named, number_of, text_of};
+use crate::words::{FORMS, Order, form_of, named, number_of, text_of};
 use clap::{ArgMatches, Error};
 use std::alloc::Global;
 use tape_blocks::Form;
@@ -58,26 +58,31 @@ pub const EXTRACT: CommandSpec = CommandSpec {
 
 /// Returns the request in `matches`, the arguments of `extract`. The parser has checked that all
 /// required ones are present.
-pub fn extract_order<'a>(alloc: Global, matches: &ArgMatches<'a>) -> Result<Extract<'a>, Error> {
-    let command_spec = &EXTRACT;
+pub fn extract_order<'a>(alloc: Global, matches: &ArgMatches<'a>) -> Result<Order<'a>, Error> {
+    let task = task_of(alloc, matches)?;
+    let images = named(alloc, matches, &EXTRACT, help::TOO_MANY_IMAGES)?;
+    Ok(Order::Extract(Extract { task, images }))
+}
+
+/// Returns the file to recover, and how to recover it.
+fn task_of<'a>(alloc: Global, matches: &ArgMatches<'a>) -> Result<Task<'a>, Error> {
     let set = text_of(matches, "SET");
     let Some(set_id) = set_id_of(set) else {
-        return Err(wrong_value(alloc, command_spec, set, help::WRONG_SET));
+        return Err(wrong_value(alloc, &EXTRACT, set, help::WRONG_SET));
     };
     let out = text_of(matches, "OUT");
     if out == "-" {
-        return Err(mistake(alloc, command_spec, help::OUT_IS_DASH));
+        return Err(mistake(alloc, &EXTRACT, help::OUT_IS_DASH));
     }
-    let task = Task {
+    let stage = matches.get_str("stage");
+    Ok(Task {
         set_id,
         file: number_of(matches, "FILE"),
         out,
         form: form_of(matches),
-        stage: matches.get_str("stage"),
+        stage,
         again: matches.get_flag("again"),
-    };
-    let images = named(alloc, matches, command_spec, help::TOO_MANY_IMAGES)?;
-    Ok(Extract { task, images })
+    })
 }
 
 /// Returns the set identifier `text`, padded with spaces, if it has 1 to 6 bytes.

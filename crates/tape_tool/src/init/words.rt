@@ -2,7 +2,7 @@
 
 use crate::command_spec::{CommandSpec, Kind, Word, mistake, wrong_value};
 use crate::help;
-use crate::words::{number_of, text_of};
+use crate::words::{Order, number_of, text_of};
 use clap::{ArgMatches, Error};
 use std::alloc::Global;
 use tape_writer::Prefix;
@@ -31,7 +31,7 @@ pub const INIT: CommandSpec = CommandSpec {
 
 /// Returns the request in `matches`, the arguments of `init`. The parser has checked that all three
 /// are present.
-pub fn init_order<'a>(alloc: Global, matches: &ArgMatches<'a>) -> Result<Init<'a>, Error> {
+pub fn init_order<'a>(alloc: Global, matches: &ArgMatches<'a>) -> Result<Order<'a>, Error> {
     let command_spec = &INIT;
     let folder = text_of(matches, "DIR");
     if folder.is_empty() {
@@ -39,11 +39,11 @@ pub fn init_order<'a>(alloc: Global, matches: &ArgMatches<'a>) -> Result<Init<'a
     }
     let prefix = text_of(matches, "PRE");
     match Prefix::new(prefix) {
-        Some(prefix) => Ok(Init {
+        Some(prefix) => Ok(Order::Init(Init {
             folder,
             prefix,
             count: number_of(matches, "COUNT"),
-        }),
+        })),
         None => Err(wrong_value(alloc, command_spec, prefix, help::WRONG_PREFIX)),
     }
 }

@@ -2,7 +2,7 @@
 
 use crate::command_spec::{CommandSpec, Kind, Word, mistake};
 use crate::help;
-use crate::words::at_most_one;
+use crate::words::{Order, at_most_one};
 use clap::{ArgMatches, Error};
 use std::alloc::Global;
 
@@ -29,13 +29,13 @@ pub const LIST: CommandSpec = CommandSpec {
 };
 
 /// Returns the request in `matches`, the arguments of `list`.
-pub fn list_order<'a>(alloc: Global, matches: &ArgMatches<'a>) -> Result<Listing<'a>, Error> {
+pub fn list_order<'a>(alloc: Global, matches: &ArgMatches<'a>) -> Result<Order<'a>, Error> {
     let images = matches.get_strs("IMAGE").unwrap_or(&[]);
     match at_most_one(images, help::DASH, help::ONE_IMAGE) {
-        Ok(image) => Ok(Listing {
+        Ok(image) => Ok(Order::List(Listing {
             image,
             offsets: matches.get_flag("offsets"),
-        }),
+        })),
         Err(text) => Err(mistake(alloc, &LIST, text)),
     }
 }

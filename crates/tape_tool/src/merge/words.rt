@@ -3,7 +3,7 @@
 use crate::command_spec::{CommandSpec, Kind, Word, mistake};
 use crate::help;
 use crate::images::Named;
-use crate::words::{named, text_of};
+use crate::words::{Order, named, text_of};
 use clap::{ArgMatches, Error};
 use std::alloc::Global;
 
@@ -48,18 +48,21 @@ pub const COMPARE: CommandSpec = CommandSpec {
 };
 
 /// Returns the request in `matches`, the arguments of `merge`.
-pub fn merge_order<'a>(alloc: Global, matches: &ArgMatches<'a>) -> Result<Merge<'a>, Error> {
+pub fn merge_order<'a>(alloc: Global, matches: &ArgMatches<'a>) -> Result<Order<'a>, Error> {
     let out = text_of(matches, "OUT");
     if out == "-" {
         return Err(mistake(alloc, &MERGE, help::MERGED_OUT_IS_DASH));
     }
     let log = matches.get_str("log");
-    if log == Some("-") {
+    if let Some("-") = log {
         return Err(mistake(alloc, &MERGE, help::LOG_IS_DASH));
     }
-    Ok(Merge {
-        out,
-        log,
-        images: named(alloc, matches, &MERGE, help::TOO_MANY_TO_MERGE)?,
-    })
+    let images = named(alloc, matches, &MERGE, help::TOO_MANY_TO_MERGE)?;
+    Ok(Order::Merge(Merge { out, log, images }))
+}
+
+/// Returns the request in `matches`, the arguments of `compare`.
+pub fn compare_order<'a>(alloc: Global, matches: &ArgMatches<'a>) -> Result<Order<'a>, Error> {
+    let images = named(alloc, matches, &COMPARE, help::TOO_MANY_TO_COMPARE)?;
+    Ok(Order::Compare(images))
 }

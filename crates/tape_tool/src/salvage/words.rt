@@ -3,7 +3,7 @@
 use crate::command_spec::{CommandSpec, Kind, Word, mistake, wrong_value};
 use crate::help;
 use crate::images::Named;
-use crate::words::{form_of, named, number_of, set_id_of, text_of};
+use crate::words::{Order, form_of, named, number_of, set_id_of, text_of};
 use clap::{ArgMatches, Error};
 use std::alloc::Global;
 use tape_blocks::Form;
@@ -44,10 +44,7 @@ pub const SALVAGE: CommandSpec = CommandSpec {
 
 /// Returns the request in `matches`, the arguments of `salvage`. The parser has checked that all
 /// required ones are present.
-pub fn salvage_order<'a>(
-    alloc: Global,
-    matches: &ArgMatches<'a>,
-) -> Result<SalvageOrder<'a>, Error> {
+pub fn salvage_order<'a>(alloc: Global, matches: &ArgMatches<'a>) -> Result<Order<'a>, Error> {
     let command_spec = &SALVAGE;
     let set = text_of(matches, "SET");
     let Some(set_id) = set_id_of(set) else {
@@ -69,5 +66,5 @@ pub fn salvage_order<'a>(
         form,
     };
     let images = named(alloc, matches, command_spec, help::TOO_MANY_TO_SALVAGE)?;
-    Ok(SalvageOrder { task, out, images })
+    Ok(Order::Salvage(SalvageOrder { task, out, images }))
 }

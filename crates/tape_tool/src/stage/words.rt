@@ -2,7 +2,7 @@
 
 use crate::command_spec::{CommandSpec, Kind, Word, mistake};
 use crate::help;
-use crate::words::{FORMS, at_most_one, form_of, text_of};
+use crate::words::{FORMS, Order, at_most_one, form_of, text_of};
 use clap::{ArgMatches, Error};
 use std::alloc::Global;
 use tape_blocks::Form;
@@ -39,15 +39,15 @@ pub const STAGE: CommandSpec = CommandSpec {
 
 /// Returns the request in `matches`, the arguments of `stage`. The parser has checked that a stage
 /// is named.
-pub fn stage_order<'a>(alloc: Global, matches: &ArgMatches<'a>) -> Result<StageOrder<'a>, Error> {
+pub fn stage_order<'a>(alloc: Global, matches: &ArgMatches<'a>) -> Result<Order<'a>, Error> {
     let outs = matches.get_strs("OUT").unwrap_or(&[]);
     match at_most_one(outs, help::OUT_IS_DASH, help::ONE_OUT) {
-        Ok(out) => Ok(StageOrder {
+        Ok(out) => Ok(Order::Stage(StageOrder {
             stage: text_of(matches, "PATH"),
             out,
             form: form_of(matches),
             damaged: matches.get_flag("damaged"),
-        }),
+        })),
         Err(text) => Err(mistake(alloc, &STAGE, text)),
     }
 }

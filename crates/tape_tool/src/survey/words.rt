@@ -3,7 +3,7 @@
 use crate::command_spec::{CommandSpec, Kind, Word};
 use crate::help;
 use crate::images::Named;
-use crate::words::named_once;
+use crate::words::{Order, named_once};
 use clap::{ArgMatches, Error};
 use std::alloc::Global;
 use tape_run::Wording;
@@ -31,13 +31,12 @@ pub const SURVEY: CommandSpec = CommandSpec {
 };
 
 /// Returns the request in `matches`, the arguments of `survey`.
-pub fn survey_order<'a>(alloc: Global, matches: &ArgMatches<'a>) -> Result<Survey<'a>, Error> {
-    Ok(Survey {
-        images: named_once(alloc, matches, &SURVEY, help::TOO_MANY_TO_SURVEY)?,
-        wording: if matches.get_flag("tsv") {
-            Wording::Rows
-        } else {
-            Wording::Words
-        },
-    })
+pub fn survey_order<'a>(alloc: Global, matches: &ArgMatches<'a>) -> Result<Order<'a>, Error> {
+    let images = named_once(alloc, matches, &SURVEY, help::TOO_MANY_TO_SURVEY)?;
+    let wording = if matches.get_flag("tsv") {
+        Wording::Rows
+    } else {
+        Wording::Words
+    };
+    Ok(Order::Survey(Survey { images, wording }))
 }

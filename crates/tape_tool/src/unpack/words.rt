@@ -4,7 +4,7 @@ use crate::command_spec::{CommandSpec, Kind, Word, mistake, wrong_value};
 use crate::extract::words::set_id_of;
 use crate::help;
 use crate::images::Named;
-use crate::words::{FORMS, form_of, named, text_of};
+use crate::words::{FORMS, Order, form_of, named, text_of};
 use clap::{ArgMatches, Error};
 use std::alloc::Global;
 use tape_blocks::Form;
@@ -50,7 +50,7 @@ pub const UNPACK: CommandSpec = CommandSpec {
 
 /// Returns the request in `matches`, the arguments of `unpack`. The parser has checked that all
 /// required ones are present.
-pub fn unpack_order<'a>(alloc: Global, matches: &ArgMatches<'a>) -> Result<Unpack<'a>, Error> {
+pub fn unpack_order<'a>(alloc: Global, matches: &ArgMatches<'a>) -> Result<Order<'a>, Error> {
     let command_spec = &UNPACK;
     let folder = text_of(matches, "DIR");
     if folder.is_empty() {
@@ -62,14 +62,15 @@ pub fn unpack_order<'a>(alloc: Global, matches: &ArgMatches<'a>) -> Result<Unpac
     {
         return Err(wrong_value(alloc, command_spec, name, help::WRONG_SET));
     }
-    let files = matches.get_strs("file").unwrap_or(&[]);
-    Ok(Unpack {
+    let images = named(alloc, matches, command_spec, help::TOO_MANY_TO_UNPACK)?;
+    let files = Vec::from_slice(alloc, matches.get_strs("file").unwrap_or(&[]))?;
+    Ok(Order::Unpack(Unpack {
         folder,
-        images: named(alloc, matches, command_spec, help::TOO_MANY_TO_UNPACK)?,
+        images,
         form: form_of(matches),
         set,
-        files: Vec::from_slice(alloc, files)?,
+        files,
         list: matches.get_flag("list"),
         salvage: matches.get_flag("salvage"),
-    })
+    }))
 }

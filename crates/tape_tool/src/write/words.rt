@@ -5,7 +5,7 @@ ghost use Rattle.tape_tool.specs.Words.{IsAtOdds, IsSize, IsUnit, EndsInLetter};
 
 use crate::command_spec::{CommandSpec, Kind, Word, mistake, wrong_value};
 use crate::help;
-use crate::words::{FORMS, form_of, text_of};
+use crate::words::{FORMS, Order, form_of, text_of};
 use clap::{ArgMatches, Error};
 use std::alloc::Global;
 use tape_blocks::Form;
@@ -65,7 +65,7 @@ pub const WRITE: CommandSpec = CommandSpec {
 
 /// Returns the request in `matches`, the arguments of `write`. The parser has checked that all
 /// required ones are present.
-pub fn write_order<'a>(alloc: Global, matches: &ArgMatches<'a>) -> Result<WriteOrder<'a>, Error> {
+pub fn write_order<'a>(alloc: Global, matches: &ArgMatches<'a>) -> Result<Order<'a>, Error> {
     let name = text_of(matches, "PRE");
     let Some(prefix) = Prefix::new(name) else {
         return Err(wrong_value(alloc, &WRITE, name, help::WRONG_PREFIX));
@@ -92,7 +92,7 @@ pub fn write_order<'a>(alloc: Global, matches: &ArgMatches<'a>) -> Result<WriteO
     };
     match wrong(&order) {
         Some(text) => Err(mistake(alloc, &WRITE, text)),
-        None => Ok(order),
+        None => Ok(Order::Write(order)),
     }
 }
 
