@@ -131,7 +131,7 @@ front_of_mount set ys rest saves m = absurd m
 front_of_mount set ys rest (restarts n) m = absurd m
 
 -- the items that bytes begin with are read from longer bytes too
-walks_before : (front rest ys : List ℕ) (xs : List TapeItem) (end : ℕ) → Walks 0 front xs end ys
+pub walks_before : (front rest ys : List ℕ) (xs : List TapeItem) (end : ℕ) → Walks 0 front xs end ys
     → Walks 0 (front ++ rest) xs end (ys ++ rest)
 walks_before front rest ys xs end w = record {
   leads = Leads-before front ys rest xs w.leads;

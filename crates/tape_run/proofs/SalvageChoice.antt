@@ -17,7 +17,7 @@ pub all_append : {X : Type 0} (P : X → Type 0) (xs ys : List X) → AllByRecur
 all_append P [] ys a b = b
 all_append P (x ∷ xs) ys (h, a) b = (h, all_append P xs ys a b)
 
-all_map : {X : Type 0} (P Q : X → Type 0) → ((x : X) → P x → Q x) → (xs : List X)
+pub all_map : {X : Type 0} (P Q : X → Type 0) → ((x : X) → P x → Q x) → (xs : List X)
     → AllByRecursion P xs → AllByRecursion Q xs
 all_map P Q f [] a = tt
 all_map P Q f (x ∷ xs) (h, a) = (f x h, all_map P Q f xs a)
@@ -120,6 +120,17 @@ pub last_more : (cs : List SectionCopy) (c : SectionCopy)
     → last_section (cs ++ c ∷ []) ≡ max (last_section cs) c.section.key.sect
 last_more [] c = omega arith
 last_more (d ∷ cs) c = let r = last_more cs c in omega (arith, r)
+
+-- none of these copies has a greater number
+pub last_at : (front : List SectionCopy) (c : SectionCopy) (rest : List SectionCopy)
+    → c.section.key.sect ≤ last_section (front ++ c ∷ rest)
+last_at [] c rest = omega arith
+last_at (x ∷ front) c rest = let h = last_at front c rest in omega (arith, h)
+
+pub last_most : (cs : List SectionCopy) (n : ℕ)
+    → AllByRecursion (λ c. c.section.key.sect ≤ n) cs → last_section cs ≤ n
+last_most [] n all = omega arith
+last_most (c ∷ cs) n (h, all) = let r = last_most cs n all in omega (arith, h, r)
 
 -- one more copy of the section
 pub taken_more : {X : Type 0} (xs : List X) (place : ℕ) (x z : X) → place < length xs

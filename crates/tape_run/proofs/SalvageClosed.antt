@@ -1,7 +1,6 @@
 -- A section that closes is exactly the items between two tape marks.
-use Rattle.std.proofs.Common.{◌≡◌, ◌≤◌, inl, inr, ◌⊎◌, ℕ, ◌+◌, ◌==◌, ◌&&◌, Bool, true, false, List}
-use Rattle.std.proofs.Common.{[], ◌∷◌, ◌++◌, length, Option, Some, None, Result, Ok, Err, refl, sym}
-use Rattle.std.proofs.Common.{ap, subst, ◌∙◌, arith}
+use Rattle.std.proofs.Common.{◌≡◌, ◌≤◌, inl, inr, ◌⊎◌, ℕ, ◌+◌, ◌==◌, Bool, true, false, List, []}
+use Rattle.std.proofs.Common.{◌∷◌, ◌++◌, Option, Some, None, Result, Ok, Err, refl, ap, ◌∙◌, arith}
 use Rattle.std.specs.Prelude.{if◌then◌else◌, nat_lt, min, option_map}
 use Rattle.std.specs.List.{AllByRecursion}
 use Rattle.tape_image.specs.Tape.{TapeItem, block, bad, mark}
@@ -14,202 +13,23 @@ use Rattle.tape_label.specs.declared.label.LabelFault.{LabelFault}
 use Rattle.tape_label.specs.Kinds.{kind_at}
 use Rattle.tape_label.specs.Reading.{head1_at, head2_at, trail1_at}
 use Rattle.tape_set.specs.Lawful.{label_count}
-use Rattle.tape_run.specs.declared.section.SectionKey.{SectionKey}
 use Rattle.tape_run.specs.declared.salvage.walk.OpenSection.{OpenSection}
 use Rattle.tape_run.specs.declared.salvage.walk.Closing.{Closing}
 use Rattle.tape_run.specs.declared.salvage.walk.UnnamedItems.{UnnamedItems}
 use Rattle.tape_run.specs.declared.salvage.walk.Expected.{Expected}
 use Rattle.tape_run.specs.declared.salvage.walk.Expected.TheVariants.{Outside, Second, Headers}
-use Rattle.tape_run.specs.declared.salvage.walk.Expected.TheVariants.{Data, Trailer, Trailers}
-use Rattle.tape_run.specs.declared.salvage.walk.Expected.TheVariants.{Next, Over, Skipping}
-use Rattle.tape_run.specs.declared.salvage.walk.Expected.TheVariants.{Unnamed, UnnamedTrailer}
-use Rattle.tape_run.specs.SalvageWalk.{step, expected_after, begun_by, closed_by, unnamed_by}
-use Rattle.tape_run.specs.SalvageWalk.{goes_on_by, unnamed_after, one_read, section_by, second_by}
-use Rattle.tape_run.specs.SalvageWalk.{closes, first_of, named_by, FoundAt, sections_in}
-use Rattle.tape_run.specs.SalvageWalk.{unclosed_by, and_read, and_unreadable, one_unreadable}
-use Rattle.tape_run.specs.SalvageGaps.{IsReadable}
-use Rattle.tape_run.specs.SalvageClosed.{IsNoMark, digest_items, IsClosedIn, IsThere}
-use Rattle.tape_run.specs.SalvageClosed.{ClosedAreThere}
+use Rattle.tape_run.specs.declared.salvage.walk.Expected.TheVariants.{Data, Trailer, Trailers, Next}
+use Rattle.tape_run.specs.declared.salvage.walk.Expected.TheVariants.{Over, Skipping, Unnamed}
+use Rattle.tape_run.specs.declared.salvage.walk.Expected.TheVariants.{UnnamedTrailer}
+use Rattle.tape_run.specs.SalvageWalk.{step, begun_by, closed_by, unnamed_by, goes_on_by}
+use Rattle.tape_run.specs.SalvageWalk.{unnamed_after, one_read, section_by, second_by, closes}
+use Rattle.tape_run.specs.SalvageWalk.{named_by, FoundAt, sections_in, unclosed_by, and_read}
+use Rattle.tape_run.specs.SalvageWalk.{and_unreadable, one_unreadable}
+use Rattle.tape_run.specs.SalvageClosed.{IsClosedIn, IsThere, ClosedAreThere}
 use Rattle.tape_run.proofs.SalvageLater.{PAt, all_found}
-
--- the number of blocks after these items
-abbrev pub counted : ℕ → List TapeItem → ℕ
-counted n [] = n
-counted n (x ∷ xs) = counted (min (n + 1) 4294967295) xs
-
-pub all_counted : (n : ℕ) (xs : List TapeItem) → n ≤ 4294967295
-    → counted n xs ≡ min (n + length xs) 4294967295
-all_counted n [] few = omega (arith, few)
-all_counted n (x ∷ xs) few =
-    let m : min (n + 1) 4294967295 ≤ 4294967295 = omega arith in
-    let r = all_counted (min (n + 1) 4294967295) xs m in omega (arith, r)
-
--- ---- the items to come of the current section
-
--- its trailer label was read, with this end
-record IsTrailed (u : OpenSection) (l : Closing) (v : OpenSection) (k : Closing) : Type 0 where
-  key : v.key ≡ u.key
-  blocks : v.blocks ≡ u.blocks
-  digest : v.digest ≡ u.digest
-  certain : v.certain ≡ u.certain
-  after : v.after ≡ None → u.after ≡ None
-  closing : k ≡ l
-
-abbrev is_own : SectionKey → Trail1 → Bool
-is_own key t = (t.head.sect == key.sect) && (t.head.sequence == key.file)
-
--- its trailer label comes next
-record TrailerTo (key : SectionKey) (blocks digest : ℕ) (certain : Option ℕ) (xs : List TapeItem)
-    (v : OpenSection) (k : Closing) : Type 0 where
-  trailer : List ℕ
-  trail : Trail1
-  rest : List TapeItem
-  is : xs ≡ block trailer ∷ rest
-  ends : trail1_at trailer ≡ Ok trail
-  own : is_own key trail ≡ true
-  same_key : v.key ≡ key
-  same_blocks : v.blocks ≡ blocks
-  same_digest : v.digest ≡ digest
-  same_certain : v.certain ≡ certain
-  closing : k ≡ record { eof = trail.eof; count = trail.blocks }
-
--- its data come next
-record DataTo (key : SectionKey) (blocks digest : ℕ) (certain : Option ℕ) (xs : List TapeItem)
-    (v : OpenSection) (k : Closing) : Type 0 where
-  data_items : List TapeItem
-  trailer : List ℕ
-  trail : Trail1
-  rest : List TapeItem
-  is : xs ≡ data_items ++ (mark ∷ block trailer ∷ rest)
-  no_data : AllByRecursion IsNoMark data_items
-  ends : trail1_at trailer ≡ Ok trail
-  own : is_own key trail ≡ true
-  same_key : v.key ≡ key
-  all_blocks : v.blocks ≡ counted blocks data_items
-  all_digest : v.digest ≡ digest_items digest data_items
-  readable : v.certain ≡ None → (certain ≡ None) × AllByRecursion IsReadable data_items
-  closing : k ≡ record { eof = trail.eof; count = trail.blocks }
-
--- labels come next
-record HeadersTo (key : SectionKey) (blocks digest : ℕ) (certain : Option ℕ) (xs : List TapeItem)
-    (v : OpenSection) (k : Closing) : Type 0 where
-  labels : List TapeItem
-  more : List TapeItem
-  is : xs ≡ labels ++ (mark ∷ more)
-  no_labels : AllByRecursion IsNoMark labels
-  goes : DataTo key blocks digest certain more v k
-
-abbrev Open : Expected → List TapeItem → OpenSection → Closing → Type 0
-Open (Second u) xs v k = HeadersTo u.key u.blocks u.digest u.certain xs v k
-Open (Headers u) xs v k = HeadersTo u.key u.blocks u.digest u.certain xs v k
-Open (Data u) xs v k = DataTo u.key u.blocks u.digest u.certain xs v k
-Open (Trailer u) xs v k = TrailerTo u.key u.blocks u.digest u.certain xs v k
-Open (Trailers u l) xs v k = IsTrailed u l v k
-Open (Skipping n u) xs v k = Unit {0}
-Open _ xs v k = ⊥
-
--- the section is among the items to come, or its end is
-abbrev Comes : Expected → List TapeItem → OpenSection → Closing → Type 0
-Comes s xs v k = v.after ≡ None → IsClosedIn xs v k ⊎ Open s xs v k
-
--- ---- one item more at the start
-
-further : (x : TapeItem) (xs : List TapeItem) (v : OpenSection) (k : Closing)
-    → IsClosedIn xs v k → IsClosedIn (x ∷ xs) v k
-further x xs v k h = record {
-  front = x ∷ h.front;
-  hdr1 = h.hdr1;
-  head = h.head;
-  labels = h.labels;
-  data_items = h.data_items;
-  trailer = h.trailer;
-  trail = h.trail;
-  rest = h.rest;
-  is = ap (λ (l : List TapeItem). x ∷ l) h.is;
-  begins = h.begins;
-  key = h.key;
-  no_labels = h.no_labels;
-  no_data = h.no_data;
-  ends = h.ends;
-  same = h.same;
-  closing = h.closing;
-  blocks = h.blocks;
-  digest = h.digest;
-  readable = h.readable;
-}
-
--- the labels of a section, after one more item
-with_label : (key : SectionKey) (blocks digest : ℕ) (certain : Option ℕ) (x : TapeItem)
-    (xs : List TapeItem) (v : OpenSection) (k : Closing) → IsNoMark x
-    → HeadersTo key blocks digest certain xs v k → HeadersTo key blocks digest certain (x ∷ xs) v k
-with_label key blocks digest certain x xs v k off h = record {
-  labels = x ∷ h.labels;
-  more = h.more;
-  is = ap (λ (l : List TapeItem). x ∷ l) h.is;
-  no_labels = (off, h.no_labels);
-  goes = h.goes;
-}
-
-some_first : (o : Option ℕ) (n : ℕ) → first_of o n ≡ None → ⊥
-some_first None n e = absurd (cc e)
-some_first (Some m) n e = absurd (cc e)
-
--- an unreadable item among the labels
-with_doubt : (u : OpenSection) (xs : List TapeItem) (v : OpenSection) (k : Closing)
-    → HeadersTo u.key u.blocks u.digest (first_of u.certain u.blocks) xs v k
-    → HeadersTo u.key u.blocks u.digest u.certain (bad ∷ xs) v k
-with_doubt u xs v k h =
-    let d = h.goes in
-    record {
-      labels = bad ∷ h.labels;
-      more = h.more;
-      is = ap (λ (l : List TapeItem). bad ∷ l) h.is;
-      no_labels = (tt, h.no_labels);
-      goes = record {
-        data_items = d.data_items;
-        trailer = d.trailer;
-        trail = d.trail;
-        rest = d.rest;
-        is = d.is;
-        no_data = d.no_data;
-        ends = d.ends;
-        own = d.own;
-        same_key = d.same_key;
-        all_blocks = d.all_blocks;
-        all_digest = d.all_digest;
-        readable = λ e. absurd (some_first u.certain u.blocks (d.readable e).0);
-        closing = d.closing;
-      };
-    }
-
-at_mark : (key : SectionKey) (blocks digest : ℕ) (certain : Option ℕ) (xs : List TapeItem)
-    (v : OpenSection) (k : Closing) → DataTo key blocks digest certain xs v k
-    → HeadersTo key blocks digest certain (mark ∷ xs) v k
-at_mark key blocks digest certain xs v k d =
-    record { labels = []; more = xs; is = refl; no_labels = tt; goes = d }
-
-not_bad : (b : List ℕ) → IsReadable (block b)
-not_bad b e = absurd (cc e)
-
--- after the last data item
-at_data_mark : (key : SectionKey) (blocks digest : ℕ) (certain : Option ℕ) (xs : List TapeItem)
-    (v : OpenSection) (k : Closing) → TrailerTo key blocks digest certain xs v k
-    → DataTo key blocks digest certain (mark ∷ xs) v k
-at_data_mark key blocks digest certain xs v k t = record {
-  data_items = [];
-  trailer = t.trailer;
-  trail = t.trail;
-  rest = t.rest;
-  is = ap (λ (l : List TapeItem). mark ∷ l) t.is;
-  no_data = tt;
-  ends = t.ends;
-  own = t.own;
-  same_key = t.same_key;
-  all_blocks = t.same_blocks;
-  all_digest = t.same_digest;
-  readable = λ e. (sym t.same_certain ∙ e, tt);
-  closing = t.closing;
-}
+use Rattle.tape_run.proofs.SalvageComing.{all_counted, is_own, HeadersTo, Open, Comes, further}
+use Rattle.tape_run.proofs.SalvageComing.{with_label, some_first, with_doubt, at_mark, not_bad}
+use Rattle.tape_run.proofs.SalvageComing.{at_data_mark}
 
 -- HDR1 begins a section
 begin_here : (b : List ℕ) (h : Head1) (xs : List TapeItem) (v : OpenSection) (k : Closing)

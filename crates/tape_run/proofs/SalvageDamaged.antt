@@ -1,161 +1,85 @@
 -- On a damaged volume of a valid set a section that closes has exactly its blocks.
-use Rattle.std.proofs.Common.{◌≡◌, ◌≤◌, ℕ, ◌==◌, ◌&&◌, Bool, true, false, List, [], ◌∷◌, ◌++◌}
-use Rattle.std.proofs.Common.{length, Option, Some, None, Ok, refl, sym, ap, subst, ◌∙◌, arith}
-use Rattle.std.proofs.Common.{append_assoc}
-use Rattle.std.specs.Prelude.{if◌then◌else◌, min}
+use Rattle.std.proofs.Common.{◌≡◌, ℕ, ◌==◌, ◌&&◌, Bool, true, false, List, [], ◌∷◌, ◌++◌, length}
+use Rattle.std.proofs.Common.{Some, None, Ok, refl, sym, ap, subst, ◌∙◌, arith, append_assoc}
 use Rattle.std.specs.List.{AllByRecursion}
-use Rattle.std.proofs.lemmas.Bool.Decides.{nat_tests}
-use Rattle.tape_image.specs.Tape.{TapeItem, block, bad, mark}
-use Rattle.tape_label.specs.declared.values.Kind.TheVariants as kinds
+use Rattle.tape_image.specs.Tape.{TapeItem, block, mark}
 use Rattle.tape_label.specs.declared.values.Head1.{Head1}
 use Rattle.tape_label.specs.declared.values.Trail1.{Trail1}
-use Rattle.tape_label.specs.Kinds.{HasKind, trailer}
+use Rattle.tape_label.specs.Kinds.{trailer}
 use Rattle.tape_label.specs.Reading.{head1_at, trail1_at}
-use Rattle.tape_label.proofs.First.{head1_found, head1_again, trail1_found, trail1_again}
-use Rattle.tape_label.proofs.Apart.{HasKind-unique}
-use Rattle.tape_blocks.specs.Tight.{Filled}
-use Rattle.tape_set.specs.Lawful.{IsVolume, label_count}
-use Rattle.tape_set.specs.Laws.{StandsIn}
+use Rattle.tape_label.proofs.First.{head1_again, trail1_again}
+use Rattle.tape_set.specs.Lawful.{label_count}
 use Rattle.tape_run.specs.declared.section.SectionKey.{SectionKey}
 use Rattle.tape_run.specs.declared.salvage.walk.OpenSection.{OpenSection}
 use Rattle.tape_run.specs.declared.salvage.walk.Closing.{Closing}
 use Rattle.tape_run.specs.SalvageWalk.{FoundAt, section_by, sections_in}
 use Rattle.tape_run.specs.SalvageWhole.{Blocks}
-use Rattle.tape_run.specs.SalvageSections.{Labels, read_labels, read_blocks, filled_of, IsNoHead}
-use Rattle.tape_run.specs.SalvageSections.{AreNoHeads}
+use Rattle.tape_run.specs.SalvageSections.{Labels, read_labels, read_blocks, AreNoHeads}
 use Rattle.tape_run.specs.SalvageClosed.{IsNoMark, IsClosedIn, IsThere, digest_items}
 use Rattle.tape_run.specs.SalvageDamaged.{AnySection, if_read, to_trailer, from_trailer}
-use Rattle.tape_run.specs.SalvageDamaged.{any_sections, any_volume, IsPlain, IsPlainSection}
-use Rattle.tape_run.specs.SalvageDamaged.{AreApart, key_in, IsExact, IsFoundExactly}
-use Rattle.tape_run.specs.SalvageDamaged.{ClosedAreExact}
-use Rattle.tape_run.proofs.SalvageChoice.{all_append}
+use Rattle.tape_run.specs.SalvageDamaged.{any_sections, any_volume, IsPlainSection, AreApart}
+use Rattle.tape_run.specs.SalvageDamaged.{key_in, IsExact, IsFoundExactly, ClosedAreExact}
+use Rattle.tape_run.proofs.SalvageChoice.{all_append, all_map}
 use Rattle.tape_run.proofs.SalvageClosed.{closed_are_there}
 use Rattle.tape_run.proofs.SalvageOpened.{key_is, long}
 use Rattle.tape_run.proofs.SalvagePlaces.{same_place, between}
 use Rattle.tape_run.proofs.SalvageVolumes.{volume_no_heads}
-
--- ---- items that are no such labels
+use Rattle.tape_run.proofs.SalvagePlain.{IsNoHead1, IsNotOwn, IsNone, is_own, plain_labels}
+use Rattle.tape_run.proofs.SalvagePlain.{plain_blocks, mark_head, mark_own, not_both}
 
 module _ (set_id : List ℕ) where
   abbrev NoHead : TapeItem → Type 0
-  NoHead (block b) = (h : Head1) → head1_at b ≡ Ok h → h.set_id ≡ set_id → ⊥
-  NoHead bad = Unit {0}
-  NoHead mark = Unit {0}
-
-  abbrev is_own : SectionKey → Trail1 → Bool
-  is_own key t = (t.head.sect == key.sect) && (t.head.sequence == key.file)
+  NoHead = IsNoHead1 set_id
 
   abbrev NotOwn : SectionKey → TapeItem → Type 0
-  NotOwn key (block b) = (t : Trail1) → trail1_at b ≡ Ok t → is_own key t ≡ true → ⊥
-  NotOwn key bad = Unit {0}
-  NotOwn key mark = Unit {0}
-
-  -- neither, nor a mark
-  record IsNone (key : SectionKey) (x : TapeItem) : Type 0 where
-    head : NoHead x
-    own : NotOwn key x
-    off : IsNoMark x
-
-  plain : (key : SectionKey) (g : Bool) (b : List ℕ) → IsPlain set_id b
-      → IsNone key (if g then block b else bad)
-  plain key true b p =
-      record { head = p.no_head; own = λ t e own. p.no_trail t e; off = tt }
-  plain key false b p = record { head = tt; own = tt; off = tt }
-
-  plain_labels : (key : SectionKey) (ls : Labels) → AllByRecursion (λ l. IsPlain set_id l.1) ls
-      → AllByRecursion (IsNone key) (read_labels ls)
-  plain_labels key [] all = tt
-  plain_labels key (l ∷ ls) (p, all) = (plain key l.0 l.1 p, plain_labels key ls all)
-
-  plain_blocks : (key : SectionKey) (bs : Blocks)
-      → AllByRecursion (λ b. IsPlain set_id b.1.bytes) bs
-      → AllByRecursion (IsNone key) (read_blocks bs)
-  plain_blocks key [] all = tt
-  plain_blocks key (b ∷ bs) (p, all) = (plain key b.0 b.1.bytes p, plain_blocks key bs all)
-
-  all_heads : (key : SectionKey) (xs : List TapeItem) → AllByRecursion (IsNone key) xs
-      → AllByRecursion NoHead xs
-  all_heads key [] all = tt
-  all_heads key (x ∷ xs) (h, all) = (h.head, all_heads key xs all)
-
-  all_own : (key : SectionKey) (xs : List TapeItem) → AllByRecursion (IsNone key) xs
-      → AllByRecursion (NotOwn key) xs
-  all_own key [] all = tt
-  all_own key (x ∷ xs) (h, all) = (h.own, all_own key xs all)
-
-  all_no : (key : SectionKey) (xs : List TapeItem) → AllByRecursion (IsNone key) xs
-      → AllByRecursion IsNoMark xs
-  all_no key [] all = tt
-  all_no key (x ∷ xs) (h, all) = (h.off, all_no key xs all)
-
-  mark_head : (g : Bool) → NoHead (if_read g mark)
-  mark_head true = tt
-  mark_head false = tt
-
-  mark_own : (key : SectionKey) (g : Bool) → NotOwn key (if_read g mark)
-  mark_own key true = tt
-  mark_own key false = tt
-
-  -- a trailer label is no HDR1, and the other way round
-  not_both : (b : List ℕ) (h : Head1) (t : Trail1) → head1_at b ≡ Ok h → trail1_at b ≡ Ok t → ⊥
-  not_both b h t e f = apart t.eof (trail1_found b t f).kind
-    where
-      apart : (z : Bool) → HasKind b (trailer z) → ⊥
-      apart true c =
-          absurd (cc (HasKind-unique b kinds.Hdr1 kinds.Eof1 (head1_found b h e).kind c))
-      apart false c =
-          absurd (cc (HasKind-unique b kinds.Hdr1 kinds.Eov1 (head1_found b h e).kind c))
+  NotOwn = IsNotOwn set_id
 
   module _ (volumes : ℕ) where
     -- the items of a section up to its trailer label, other than HDR1
-    to_heads : (r : AnySection) → IsPlainSection set_id volumes r
-        → AllByRecursion NoHead (to_trailer r)
-    to_heads r p =
-        let key = key_in set_id r in
-        all_append NoHead (read_labels r.headers) _
-        (all_heads key (read_labels r.headers) (plain_labels key r.headers p.headers)) (
-          mark_head r.first_mark,
-          all_append NoHead (read_blocks r.blocks) _
-              (all_heads key (read_blocks r.blocks) (plain_blocks key r.blocks p.blocks))
-              (mark_head r.second_mark, tt),
-        )
-
-    to_own : (key : SectionKey) (r : AnySection) → IsPlainSection set_id volumes r
-        → AllByRecursion (NotOwn key) (to_trailer r)
-    to_own key r p =
-        all_append (NotOwn key) (read_labels r.headers) _
-        (all_own key (read_labels r.headers) (plain_labels key r.headers p.headers)) (
-          mark_own key r.first_mark,
-          all_append (NotOwn key) (read_blocks r.blocks) _
-              (all_own key (read_blocks r.blocks) (plain_blocks key r.blocks p.blocks))
-              (mark_own key r.second_mark, tt),
+    to_all : (P : TapeItem → Type 0) (key : SectionKey)
+        → ((x : TapeItem) → IsNone set_id key x → P x) → ((g : Bool) → P (if_read g mark))
+        → (r : AnySection) → IsPlainSection set_id volumes r → AllByRecursion P (to_trailer r)
+    to_all P key f m r p = all_append P (read_labels r.headers) _ (all_map (IsNone set_id key) P f
+        (read_labels r.headers) (plain_labels set_id key r.headers p.headers)) (
+          m r.first_mark,
+          all_append P (read_blocks r.blocks) _ (all_map (IsNone set_id key) P f
+              (read_blocks r.blocks) (plain_blocks set_id key r.blocks p.blocks))
+              (m r.second_mark, tt),
         )
 
     -- the items after its trailer label
     abbrev after_trailer : AnySection → List TapeItem
     after_trailer r = read_labels r.trailers ++ (if_read r.last_mark mark ∷ [])
 
+    after_all : (P : TapeItem → Type 0) (key : SectionKey)
+        → ((x : TapeItem) → IsNone set_id key x → P x) → ((g : Bool) → P (if_read g mark))
+        → (r : AnySection) → IsPlainSection set_id volumes r → AllByRecursion P (after_trailer r)
+    after_all P key f m r p = all_append P (read_labels r.trailers) _
+        (all_map (IsNone set_id key) P f (read_labels r.trailers)
+        (plain_labels set_id key r.trailers p.trailers)) (m r.last_mark, tt)
+
+    to_heads : (r : AnySection) → IsPlainSection set_id volumes r
+        → AllByRecursion NoHead (to_trailer r)
+    to_heads r p = to_all NoHead (key_in set_id r) (λ x h. h.head) (mark_head set_id) r p
+
+    to_own : (key : SectionKey) (r : AnySection) → IsPlainSection set_id volumes r
+        → AllByRecursion (NotOwn key) (to_trailer r)
+    to_own key r p = to_all (NotOwn key) key (λ x h. h.own) (mark_own set_id key) r p
+
     after_heads : (r : AnySection) → IsPlainSection set_id volumes r
         → AllByRecursion NoHead (after_trailer r)
-    after_heads r p =
-        let key = key_in set_id r in
-        all_append NoHead (read_labels r.trailers) _
-        (all_heads key (read_labels r.trailers) (plain_labels key r.trailers p.trailers))
-        (mark_head r.last_mark, tt)
+    after_heads r p = after_all NoHead (key_in set_id r) (λ x h. h.head) (mark_head set_id) r p
 
     after_own : (key : SectionKey) (r : AnySection) → IsPlainSection set_id volumes r
         → AllByRecursion (NotOwn key) (after_trailer r)
-    after_own key r p =
-        all_append (NotOwn key) (read_labels r.trailers) _
-        (all_own key (read_labels r.trailers) (plain_labels key r.trailers p.trailers))
-        (mark_own key r.last_mark, tt)
+    after_own key r p = after_all (NotOwn key) key (λ x h. h.own) (mark_own set_id key) r p
 
     trailer_head : (g : Bool) (r : AnySection) → IsPlainSection set_id volumes r
         → NoHead (if_read g (block r.placed.section.trailer))
     trailer_head false r p = tt
     trailer_head true r p =
         let (t, is) = p.is.trailer in
-        λ h e same. not_both r.placed.section.trailer h t e
+        λ h e same. not_both set_id r.placed.section.trailer h t e
         (trail1_again r.placed.section.trailer t is.label)
 
     hdr1_own : (key : SectionKey) (g : Bool) (r : AnySection) → IsPlainSection set_id volumes r
@@ -163,7 +87,7 @@ module _ (set_id : List ℕ) where
     hdr1_own key false r p = tt
     hdr1_own key true r p =
         let (h, is) = p.is.header in
-        λ t e own. not_both r.placed.section.hdr1 h t
+        λ t e own. not_both set_id r.placed.section.hdr1 h t
         (head1_again r.placed.section.hdr1 h is.label) e
 
     -- the trailer label of another section
@@ -176,10 +100,10 @@ module _ (set_id : List ℕ) where
         λ u e own.
         let same : t ≡ u =
         cc (sym (trail1_again r.placed.section.trailer t is.label) ∙ e) in
-        let here : is_own key t ≡ false =
+        let here : is_own set_id key t ≡ false =
         ap (λ n. (n == key.sect) && (t.head.sequence == key.file)) is.sect
         ∙ ap (λ n. (r.placed.sect == key.sect) && (n == key.file)) is.file ∙ other in
-        absurd (cc (sym here ∙ ap (is_own key) same ∙ own))
+        absurd (cc (sym here ∙ ap (is_own set_id key) same ∙ own))
 
     -- later sections
     later_own : (key : SectionKey) (rs : List AnySection) (tail : List TapeItem)
@@ -324,7 +248,7 @@ module _ (set_id : List ℕ) where
         let one = passed (read_labels ls) (any_sections rs ++ tail) c.front c.hdr1 c.head
         (ys ++ more) c.begins head_own none there in
         let s = begins rs tail one.front c.hdr1 c.head (ys ++ more) c.begins head_own all
-        (mark_head last, tt) one.is in
+        (mark_head set_id last, tt) one.is in
         let r = s.section in
         let key = key_in set_id r in
         let (p, (later, others)) = one_of rs s.before s.rest r s.is all apart in
@@ -334,7 +258,7 @@ module _ (set_id : List ℕ) where
         ∙ ap head1_at s.same ∙ c.begins) in
         let whose : u.key ≡ key = c.key ∙ ap (λ (z : Head1). (section_by z).key) (sym heads)
         ∙ key_is h set_id r.placed.file r.placed.sect header.set_id header.file header.sect in
-        let mine : is_own key c.trail ≡ true = ap (λ (z : SectionKey). is_own z c.trail) (sym whose)
+        let mine : is_own set_id key c.trail ≡ true = ap (λ (z : SectionKey). is_own set_id z c.trail) (sym whose)
         ∙ c.same in
         let after = after_trailer r ++ (any_sections s.rest ++ tail) in
         let prefix = c.labels ++ (mark ∷ (c.data_items ++ (mark ∷ []))) in
@@ -348,12 +272,14 @@ module _ (set_id : List ℕ) where
         (if_read r.trailer (block r.placed.section.trailer)) after
         (λ off. off c.trail c.ends mine) (to_own key r p)
         (all_append (NotOwn key) (after_trailer r) _ (after_own key r p)
-        (later_own key s.rest tail later others (mark_own key last, tt)))
+        (later_own key s.rest tail later others (mark_own set_id key last, tt)))
         (sym split ∙ s.items) in
         let exact = between c.labels c.data_items (read_labels r.headers) (read_blocks r.blocks)
         (if_read r.first_mark mark) (if_read r.second_mark mark) c.no_labels c.no_data
-        (all_no key (read_labels r.headers) (plain_labels key r.headers p.headers))
-        (all_no key (read_blocks r.blocks) (plain_blocks key r.blocks p.blocks)) place.before in
+        (all_map (IsNone set_id key) IsNoMark (λ x h. h.off) (read_labels r.headers)
+        (plain_labels set_id key r.headers p.headers))
+        (all_map (IsNone set_id key) IsNoMark (λ x h. h.off) (read_blocks r.blocks)
+        (plain_blocks set_id key r.blocks p.blocks)) place.before in
         let trail_is = block_is r.trailer r.placed.section.trailer c.trailer place.here in
         let trails : t ≡ c.trail = cc (sym (trail1_again r.placed.section.trailer t label.label)
         ∙ ap trail1_at (sym trail_is) ∙ c.ends) in

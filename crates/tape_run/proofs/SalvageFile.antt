@@ -31,7 +31,7 @@ use Rattle.tape_run.proofs.SalvageClosings.{volume_counted, reading_salvaged}
 -- ---- missing data are recorded
 
 -- all of these blocks were read
-abbrev AreRead : Blocks → Type 0
+abbrev pub AreRead : Blocks → Type 0
 AreRead bs = AllByRecursion (λ b. b.0 ≡ true) bs
 
 none_of : (a b : Bool) → (a || b) ≡ false → a ≡ false
@@ -66,10 +66,10 @@ end_missing eof g = chosen (eof && g.piece.begun)
 -- ---- a section
 
 -- the records that a section adds
-record Adds (form : FileForm) (eof : Bool) (g h : Salvaged) (bs : Blocks) : Type 0 where
-  done : h.piece.done ≡ (piece_after form g.piece bs).done
-  same : eof ≡ false → h.piece ≡ piece_after form g.piece bs
-  none : h.missing ≡ false → (g.missing ≡ false) × AreRead bs
+pub record Adds (form : FileForm) (eof : Bool) (g h : Salvaged) (bs : Blocks) : Type 0 where
+  pub done : h.piece.done ≡ (piece_after form g.piece bs).done
+  pub same : eof ≡ false → h.piece ≡ piece_after form g.piece bs
+  pub none : h.missing ≡ false → (g.missing ≡ false) × AreRead bs
 
 not_less : (n m : ℕ) → n ≡ m → nat_lt n m ≡ false
 not_less n m e = grind (arith, nat_tests)
@@ -88,7 +88,7 @@ ended_adds form c closed g s bs is =
           ∙ none_of s.missing (is_some (wrong_count c)) (end_missing closed.eof t e));
     }
 
-taken_adds : (set_id : List ℕ) (volumes : ℕ) (known : Option FileForm) (form : FileForm)
+pub taken_adds : (set_id : List ℕ) (volumes : ℕ) (known : Option FileForm) (form : FileForm)
     (eof : Bool) (t : Taken) (r : SectionRead) (g : Salvaged)
     → IsTakenFrom set_id volumes known form eof t r
     → Adds form eof g (after_taken Records known t.copy t.items g) r.blocks

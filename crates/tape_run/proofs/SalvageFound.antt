@@ -1,10 +1,16 @@
 -- A section of a valid set is found to close.
 use Rattle.std.proofs.Common.{◌≡◌, ℕ, Bool, true, false, List, [], ◌∷◌, ◌++◌, Option, Some, None}
-use Rattle.std.proofs.Common.{map, refl, sym, ap, ◌∙◌, append_assoc, append-nil}
-use Rattle.std.specs.Prelude.{if◌then◌else◌}
+use Rattle.std.proofs.Common.{map, refl, sym, ap, subst, ◌∙◌, append_assoc, append-nil, length, Ok}
+use Rattle.std.specs.Prelude.{if◌then◌else◌, ◌==◌}
+use Rattle.std.specs.List.{AllByRecursion}
 use Rattle.tape_image.specs.Tape.{TapeItem, block, bad, mark}
+use Rattle.tape_label.specs.declared.values.Kind.TheVariants as kinds
+use Rattle.tape_label.specs.declared.values.Head1.{Head1}
 use Rattle.tape_label.specs.declared.values.Trail1.{Trail1}
-use Rattle.tape_label.specs.Reading.{trail1_at}
+use Rattle.tape_label.specs.Kinds.{kind_at}
+use Rattle.tape_label.specs.Reading.{head1_at, head2_at, trail1_at}
+use Rattle.tape_set.specs.Layout.{Volume}
+use Rattle.tape_set.specs.Lawful.{FileForm, IsVolume, label_count}
 use Rattle.tape_run.specs.declared.salvage.walk.OpenSection.{OpenSection}
 use Rattle.tape_run.specs.declared.salvage.walk.Closing.{Closing}
 use Rattle.tape_run.specs.declared.salvage.walk.Expected.{Expected}
@@ -13,10 +19,16 @@ use Rattle.tape_run.specs.declared.salvage.walk.Expected.TheVariants.{Data, Trai
 use Rattle.tape_run.specs.declared.salvage.walk.Expected.TheVariants.{Next, Over, Skipping}
 use Rattle.tape_run.specs.declared.salvage.walk.Expected.TheVariants.{Unnamed, UnnamedTrailer}
 use Rattle.tape_run.specs.SalvageWalk.{step, expected_after, found_from, in_list, closes}
-use Rattle.tape_run.specs.SalvageWalk.{FoundSection, FoundAt, read_after, one_further}
-use Rattle.tape_run.specs.SalvageSections.{read_section, key_of, MayBegin, FindsSection}
-use Rattle.tape_run.proofs.SalvageOpened.{trailer_step}
-use Rattle.tape_run.proofs.SalvageSteps.{gathered, Quiet, quiet_data, section_walked}
+use Rattle.tape_run.specs.SalvageWalk.{FoundSection, FoundAt, read_after, one_further, form_by}
+use Rattle.tape_run.specs.SalvageWalk.{open_section, sections_in}
+use Rattle.tape_run.specs.SalvageSections.{SectionRead, IsRead, Labels, AreLabels, read_labels}
+use Rattle.tape_run.specs.SalvageSections.{read_section, read_sections, read_volume, key_of}
+use Rattle.tape_run.specs.SalvageSections.{MayBegin, after_trailers, FindsSection}
+use Rattle.tape_run.proofs.SalvagedSoFar.{expected_after-append}
+use Rattle.tape_run.proofs.SalvageOpened.{trailer_step, may_after}
+use Rattle.tape_run.proofs.SalvageSteps.{gathered, Quiet, quiet_data, section_walked, outside}
+use Rattle.tape_run.proofs.SalvageSteps.{FirstIsRead}
+use Rattle.tape_run.proofs.SalvageVolumes.{volume_no_heads}
 
 pub found_from-append : (s : Expected) (n : ℕ) (xs ys : List TapeItem)
     → found_from s n (xs ++ ys)
@@ -101,12 +113,159 @@ quiet = record {
   trailers = λ u k ts b. none_added (Trailers u k) ts (block b) refl;
 }
 
-pub finds_section : FindsSection
-finds_section set_id volumes r s before read may =
+-- a section that was found as it is
+pub record IsFound (set_id : List ℕ) (r : SectionRead) (found : FoundAt) : Type 0 where
+  pub place : ℕ
+  pub section : OpenSection
+  pub closing : Closing
+  pub is : found ≡ (place, (section, Some closing))
+  pub key : section.key ≡ key_of set_id r
+  pub blocks : section.blocks ≡ length r.blocks
+  pub count : closing.count ≡ label_count (length r.blocks)
+  pub after : section.after ≡ None
+  pub eof : (t : Trail1) → trail1_at r.placed.section.trailer ≡ Ok t → closing.eof ≡ t.eof
+  pub form : (h : Head1) (f : FileForm) → head1_at r.placed.section.hdr1 ≡ Ok h
+      → FirstIsRead r.headers → kind_at r.placed.section.hdr2 ≡ Some kinds.Hdr2
+      → form_by h.file_id (head2_at r.placed.section.hdr2) ≡ Some f → section.form ≡ Some f
+
+pub record FindsOne (set_id : List ℕ) (r : SectionRead) (s : Expected) (before : ℕ) : Type 0 where
+  pub found : FoundAt
+  pub is_found : IsFound set_id r found
+  pub only : found_from s before (read_section r) ≡ found ∷ []
+  pub after : expected_after s (read_section r) ≡ after_trailers r.trailers
+
+pub finds_one : (set_id : List ℕ) (volumes : ℕ) (r : SectionRead) (s : Expected) (before : ℕ)
+    → IsRead set_id volumes r → MayBegin s → FindsOne set_id r s before
+finds_one set_id volumes r s before read may =
     let w = section_walked added quiet set_id volumes r s [] [] [] (λ z k. (z, Some k) ∷ []) read
     may
     (λ v k z. quiet_data added (key_of set_id r) v [] r.blocks k (λ u b e. refl) (λ u e. refl))
     (λ v k l. refl) (λ z k. refl) (λ z k. refl) in
     let at = at_place (found_from s before (read_section r)) (w.section, Some w.closing)
     (sym (same_gathered s before [] (read_section r)) ∙ w.walk.gives) in
-    (w.section, w.closing, at.0, at.1, w.key, w.blocks, w.count)
+    record {
+      found = (at.0, (w.section, Some w.closing));
+      is_found = record {
+        place = at.0;
+        section = w.section;
+        closing = w.closing;
+        is = refl;
+        key = w.key;
+        blocks = w.blocks;
+        count = w.count;
+        after = w.after;
+        eof = w.eof;
+        form = w.form;
+      };
+      only = at.1;
+      after = w.walk.after;
+    }
+
+pub finds_section : FindsSection
+finds_section set_id volumes r s before read may =
+    let one = finds_one set_id volumes r s before read may in
+    let f = one.is_found in (
+      f.section,
+      f.closing,
+      f.place,
+      one.only ∙ ap (λ (t : FoundAt). t ∷ []) f.is,
+      f.key,
+      f.blocks,
+      f.count,
+    )
+
+-- ---- a volume
+
+-- each section of a volume was found as it is, in order
+abbrev pub AreFound : List ℕ → List SectionRead → List FoundAt → Type 0
+AreFound set_id [] [] = Unit {0}
+AreFound set_id [] (t ∷ ts) = ⊥
+AreFound set_id (r ∷ rs) [] = ⊥
+AreFound set_id (r ∷ rs) (t ∷ ts) = IsFound set_id r t × AreFound set_id rs ts
+
+record Founds (set_id : List ℕ) (rs : List SectionRead) (s : Expected) (before : ℕ) : Type 0 where
+  found : AreFound set_id rs (found_from s before (read_sections rs))
+  may : MayBegin (expected_after s (read_sections rs))
+
+finds_all : (set_id : List ℕ) (volumes : ℕ) (rs : List SectionRead) (s : Expected) (before : ℕ)
+    → AllByRecursion (IsRead set_id volumes) rs → MayBegin s → Founds set_id rs s before
+finds_all set_id volumes [] s before read may = record { found = tt; may = may }
+finds_all set_id volumes (r ∷ rs) s before (read, all) may =
+    let xs = read_section r in
+    let ys = read_sections rs in
+    let z = after_trailers r.trailers in
+    let m = read_after before xs in
+    let one = finds_one set_id volumes r s before read may in
+    let rest = finds_all set_id volumes rs z m all (may_after r.trailers) in
+    let is : found_from s before (xs ++ ys) ≡ one.found ∷ found_from z m ys =
+    found_from-append s before xs ys
+    ∙ ap (λ (l : List FoundAt). l ++ found_from (expected_after s xs) m ys) one.only
+    ∙ ap (λ (e : Expected). one.found ∷ found_from e m ys) one.after in
+    record {
+      found = subst (AreFound set_id (r ∷ rs)) (sym is) (one.is_found, rest.found);
+      may = subst MayBegin
+          (sym (expected_after-append s xs ys ∙ ap (λ (e : Expected). expected_after e ys) one.after))
+          rest.may;
+    }
+
+none_in : (l : List FoundAt) → map (λ (t : FoundAt). t.1) l ≡ [] → l ≡ []
+none_in [] e = refl
+none_in (t ∷ l) e = absurd (cc e)
+
+none_open : (s : Expected) → MayBegin s → open_section (step s mark).0 ≡ None
+none_open (Outside n) may = marks (n == 0) (n == 1)
+  where
+    marks : (a b : Bool)
+        → open_section (if a then Outside 1 else (if b then Outside 2 else Over)) ≡ None
+    marks true b = refl
+    marks false true = refl
+    marks false false = refl
+none_open Next may = refl
+none_open (Second u) may = absurd may
+none_open (Headers u) may = absurd may
+none_open (Data u) may = absurd may
+none_open (Trailer u) may = absurd may
+none_open (Trailers u k) may = absurd may
+none_open Over may = absurd may
+none_open (Unnamed r) may = absurd may
+none_open (UnnamedTrailer r) may = absurd may
+none_open (Skipping n u) may = absurd may
+
+-- The sections on a volume of which the labels and tape marks were read are found as they are.
+pub volume_found : (set_id : List ℕ) (volumes : ℕ) (v : Volume) (ls : Labels)
+    (rs : List SectionRead) → IsVolume v → AreLabels v ls
+    → AllByRecursion (IsRead set_id volumes) rs
+    → AreFound set_id rs (sections_in (read_volume ls rs))
+volume_found set_id volumes v ls rs is labels read =
+    let o = Outside 0 in
+    let front = read_labels ls in
+    let xs = read_sections rs in
+    let end = mark ∷ [] in
+    let w = outside added quiet [] ls (volume_no_heads v ls is labels) in
+    let none = none_in (found_from o 0 front) (sym (same_gathered o 0 [] front) ∙ w.gives) in
+    let n = read_after 0 front in
+    let all = finds_all set_id volumes rs o n read refl in
+    let s = expected_after o xs in
+    let m = read_after n xs in
+    let last : found_from s m end ≡ [] =
+    ap (λ (f : Option FoundSection). in_list m f ++ []) (none_ends s mark all.may) in
+    let body : found_from o 0 (front ++ (xs ++ end)) ≡ found_from o n xs =
+    found_from-append o 0 front (xs ++ end)
+    ∙ ap (λ (l : List FoundAt). l ++ found_from (expected_after o front) n (xs ++ end)) none
+    ∙ ap (λ (e : Expected). found_from e n (xs ++ end)) w.after
+    ∙ found_from-append o n xs end
+    ∙ ap (λ (l : List FoundAt). found_from o n xs ++ l) last
+    ∙ append-nil (found_from o n xs) in
+    let over : expected_after o (front ++ (xs ++ end)) ≡ (step s mark).0 =
+    expected_after-append o front (xs ++ end)
+    ∙ ap (λ (e : Expected). expected_after e (xs ++ end)) w.after
+    ∙ expected_after-append o xs end in
+    let tail : open_section (expected_after o (front ++ (xs ++ end))) ≡ None =
+    ap open_section over ∙ none_open s all.may in
+    let whole : sections_in (read_volume ls rs) ≡ found_from o n xs =
+    ap (λ (l : List FoundAt). l ++ in_list (read_after 0 (read_volume ls rs))
+    (open_section (expected_after o (read_volume ls rs)))) body
+    ∙ ap (λ (f : Option FoundSection). found_from o n xs
+    ++ in_list (read_after 0 (read_volume ls rs)) f) tail
+    ∙ append-nil (found_from o n xs) in
+    subst (AreFound set_id rs) (sym whole) all.found

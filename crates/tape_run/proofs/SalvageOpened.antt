@@ -1,7 +1,7 @@
 -- A section of a valid set during the walk over its items: the effect of its labels and blocks.
 use Rattle.std.proofs.Common.{◌≡◌, ◌<◌, ◌≤◌, ℕ, ◌+◌, Bool, true, false, List, [], ◌∷◌, suc}
 use Rattle.std.proofs.Common.{length, Option, Some, None, Ok, Result, refl, ap, ◌∙◌, arith}
-use Rattle.std.specs.Prelude.{if◌then◌else◌, ◌==◌, min}
+use Rattle.std.specs.Prelude.{if◌then◌else◌, ◌==◌, min, option_map}
 use Rattle.std.proofs.lemmas.Bool.Decides.{nat_tests}
 use Rattle.tape_image.specs.Tape.{block}
 use Rattle.tape_label.specs.declared.values.Kind.{Kind}
@@ -11,6 +11,7 @@ use Rattle.tape_label.specs.declared.values.Head2.{Head2}
 use Rattle.tape_label.specs.declared.values.Trail1.{Trail1}
 use Rattle.tape_label.specs.declared.label.LabelFault.{LabelFault}
 use Rattle.tape_label.specs.Reading.{head1_at, head2_at, trail1_at}
+use Rattle.tape_set.specs.Lawful.{FileForm}
 use Rattle.tape_run.specs.declared.section.SectionKey.{SectionKey}
 use Rattle.tape_run.specs.declared.salvage.walk.OpenSection.{OpenSection}
 use Rattle.tape_run.specs.declared.salvage.walk.Closing.{Closing}
@@ -22,7 +23,7 @@ use Rattle.tape_run.specs.declared.salvage.walk.Expected.TheVariants.{Unnamed, U
 use Rattle.tape_run.specs.SalvageWalk.{step, section_by, begun_by, with_item, with_data}
 use Rattle.tape_run.specs.SalvageWalk.{with_unreadable}
 use Rattle.tape_run.specs.SalvageWalk.{doubted, closes, closed_by, second_by, unclosed_by}
-use Rattle.tape_run.specs.SalvageWalk.{with_trailer, unnamed_after, one_read}
+use Rattle.tape_run.specs.SalvageWalk.{with_trailer, unnamed_after, one_read, form_by, form_or}
 use Rattle.tape_run.specs.SalvageWhole.{Blocks}
 use Rattle.tape_run.specs.SalvageSections.{Labels, filled_of, MayBegin, after_trailers}
 
@@ -44,23 +45,41 @@ may_begin (UnnamedTrailer r) b h may is = absurd may
 may_begin (Skipping n u) b h may is = absurd may
 
 -- after its second label
-pub record Heads (u : OpenSection) (s : Expected) : Type 0 where
+pub record Heads (u : OpenSection) (k : Option Kind) (r : Result Head2 LabelFault) : Type 0 where
   pub section : OpenSection
-  pub expects : s ≡ Headers section
+  pub expects : second_by u k r ≡ Headers section
   pub same : section.key ≡ u.key
   pub none : section.blocks ≡ u.blocks
+  pub after : section.after ≡ u.after
+  pub form : k ≡ Some kinds.Hdr2 → section.form ≡ form_by u.file_id r
 
-pub second_is : (u : OpenSection) (k : Option Kind) (r : Result Head2 LabelFault)
-    → Heads u (second_by u k r)
-second_is u None r = record { section = u; expects = refl; same = refl; none = refl }
-second_is u (Some kinds.Hdr2) r =
-    record { section = _; expects = refl; same = refl; none = refl }
-second_is u (Some kinds.Vol1) r = record { section = u; expects = refl; same = refl; none = refl }
-second_is u (Some kinds.Hdr1) r = record { section = u; expects = refl; same = refl; none = refl }
-second_is u (Some kinds.Eof1) r = record { section = u; expects = refl; same = refl; none = refl }
-second_is u (Some kinds.Eof2) r = record { section = u; expects = refl; same = refl; none = refl }
-second_is u (Some kinds.Eov1) r = record { section = u; expects = refl; same = refl; none = refl }
-second_is u (Some kinds.Eov2) r = record { section = u; expects = refl; same = refl; none = refl }
+no_second : (u : OpenSection) (k : Option Kind) (r : Result Head2 LabelFault)
+    → second_by u k r ≡ Headers u → (k ≡ Some kinds.Hdr2 → ⊥) → Heads u k r
+no_second u k r e other = record {
+  section = u;
+  expects = e;
+  same = refl;
+  none = refl;
+  after = refl;
+  form = λ f. absurd (other f);
+}
+
+pub second_is : (u : OpenSection) (k : Option Kind) (r : Result Head2 LabelFault) → Heads u k r
+second_is u None r = no_second u None r refl (λ e. absurd (cc e))
+second_is u (Some kinds.Hdr2) r = record {
+  section = record u { form = form_by u.file_id r };
+  expects = refl;
+  same = refl;
+  none = refl;
+  after = refl;
+  form = λ e. refl;
+}
+second_is u (Some kinds.Vol1) r = no_second u (Some kinds.Vol1) r refl (λ e. absurd (cc e))
+second_is u (Some kinds.Hdr1) r = no_second u (Some kinds.Hdr1) r refl (λ e. absurd (cc e))
+second_is u (Some kinds.Eof1) r = no_second u (Some kinds.Eof1) r refl (λ e. absurd (cc e))
+second_is u (Some kinds.Eof2) r = no_second u (Some kinds.Eof2) r refl (λ e. absurd (cc e))
+second_is u (Some kinds.Eov1) r = no_second u (Some kinds.Eov1) r refl (λ e. absurd (cc e))
+second_is u (Some kinds.Eov2) r = no_second u (Some kinds.Eov2) r refl (λ e. absurd (cc e))
 
 -- its trailer label closes it
 pub closes_it : (u : OpenSection) (t : Trail1) → t.head.sect ≡ u.key.sect
@@ -114,6 +133,18 @@ none_headed u [] = refl
 none_headed u ((true, b) ∷ ls) = none_headed u ls
 none_headed u ((false, b) ∷ ls) = none_headed (doubted u) ls
 
+pub after_headed : (u : OpenSection) (ls : Labels) → (headed u ls).after ≡ u.after
+unfolding headed
+after_headed u [] = refl
+after_headed u ((true, b) ∷ ls) = after_headed u ls
+after_headed u ((false, b) ∷ ls) = after_headed (doubted u) ls
+
+pub form_headed : (u : OpenSection) (ls : Labels) → (headed u ls).form ≡ u.form
+unfolding headed
+form_headed u [] = refl
+form_headed u ((true, b) ∷ ls) = form_headed u ls
+form_headed u ((false, b) ∷ ls) = form_headed (doubted u) ls
+
 -- after these data items
 unfoldable pub section_after : OpenSection → Blocks → OpenSection
 section_after u [] = u
@@ -125,6 +156,18 @@ unfolding section_after
 same_section_after u [] = refl
 same_section_after u ((true, f) ∷ bs) = same_section_after (with_data f.bytes u) bs
 same_section_after u ((false, f) ∷ bs) = same_section_after (with_item (with_unreadable u)) bs
+
+pub after_section : (u : OpenSection) (bs : Blocks) → (section_after u bs).after ≡ u.after
+unfolding section_after
+after_section u [] = refl
+after_section u ((true, f) ∷ bs) = after_section (with_data f.bytes u) bs
+after_section u ((false, f) ∷ bs) = after_section (with_item (with_unreadable u)) bs
+
+pub form_section : (u : OpenSection) (bs : Blocks) → (section_after u bs).form ≡ u.form
+unfolding section_after
+form_section u [] = refl
+form_section u ((true, f) ∷ bs) = form_section (with_data f.bytes u) bs
+form_section u ((false, f) ∷ bs) = form_section (with_item (with_unreadable u)) bs
 
 pub one_more : (n : ℕ) → n < 4294967295 → min (n + 1) 4294967295 ≡ n + 1
 one_more n lt = omega (arith, lt)
@@ -163,3 +206,18 @@ unfolding trailed
 counted_trailed u [] = refl
 counted_trailed u ((true, b) ∷ ls) = counted_trailed (with_trailer u (head2_at b)) ls
 counted_trailed u ((false, b) ∷ ls) = refl
+
+pub after_trailed : (u : OpenSection) (ls : Labels) → u.after ≡ None → (trailed u ls).after ≡ None
+unfolding trailed
+after_trailed u [] e = e
+after_trailed u ((true, b) ∷ ls) e = after_trailed (with_trailer u (head2_at b)) ls
+    (ap (option_map (λ n. min (n + 1) 4294967295)) e)
+after_trailed u ((false, b) ∷ ls) e = e
+
+pub form_trailed : (u : OpenSection) (ls : Labels) (f : FileForm) → u.form ≡ Some f
+    → (trailed u ls).form ≡ Some f
+unfolding trailed
+form_trailed u [] f e = e
+form_trailed u ((true, b) ∷ ls) f e = form_trailed (with_trailer u (head2_at b)) ls f
+    (ap (λ o. form_or o (form_by u.file_id (head2_at b))) e)
+form_trailed u ((false, b) ∷ ls) f e = e

@@ -24,6 +24,7 @@ use Rattle.tape_run.specs.SalvageSections.{SectionRead, IsRead, Labels, labels_o
 use Rattle.tape_run.specs.SalvageSections.{read_blocks, filled_of, read_section, read_sections}
 use Rattle.tape_run.specs.SalvageSections.{read_volume, NoneBegins, IsOther, IsReadTo, key_of}
 use Rattle.tape_run.specs.SalvageReadings.{IsReadVolume, RecoversReading}
+use Rattle.tape_run.proofs.SalvageSteps.{FirstIsRead}
 use Rattle.tape_run.proofs.SalvageClosings.{recovers_from_reading}
 use Rattle.tape_run.proofs.StayingGood.{key_again}
 use Rattle.tape_run.proofs.WholeVolumes.{some_of}
@@ -133,6 +134,7 @@ record ReadSection (p : Placed) (gs : List Bool) : Type 0 where
   blocks : filled_of read.blocks ≡ p.section.blocks
   trailers : labels_of read.trailers ≡ p.section.trailers
   none : NoneBegins read.trailers
+  first : FirstIsRead read.headers
   is : read_as gs (section_entries p.section) ≡ read_section read
 
 section_read : (p : Placed) (gs : List Bool) → passes gs (section_entries p.section) ≡ true
@@ -174,6 +176,7 @@ section_read p gs h =
       blocks = fs.1;
       trailers = same_labels s.trailers;
       none = none_begins s.trailers;
+      first = tt;
       is = a.is
           ∙ ap (λ (l : List TapeItem). l ++ read_as a.more (trailer_group s))
           (c.is ∙ ap (λ (l : List TapeItem). l ++ read_as c.more (data_group s.blocks)) headers_are
@@ -187,13 +190,14 @@ record ReadSections (set : FileSet) (ps : List Placed) (gs : List Bool) : Type 0
   reads : List SectionRead
   all : map (λ (r : SectionRead). r.placed) reads ≡ ps
   are_read : AllByRecursion (IsRead set.set_id (length set.volumes)) reads
+  firsts : AllByRecursion (λ (r : SectionRead). FirstIsRead r.headers) reads
   is : read_as gs (all_entries ps) ≡ read_sections reads
 
 sections_read : (set : FileSet) (k : ℕ) (ps : List Placed) (gs : List Bool)
     → AllByRecursion (IsOn set k) ps → passes gs (all_entries ps) ≡ true
     → ReadSections set ps gs
 sections_read set k [] gs all h =
-    record { reads = []; all = refl; are_read = tt; is = none gs }
+    record { reads = []; all = refl; are_read = tt; firsts = tt; is = none gs }
   where
     none : (gs : List Bool) → as_read [] gs ≡ []
     none [] = refl
@@ -220,15 +224,21 @@ sections_read set k (p ∷ ps) gs (here, all) h =
         },
         rest.are_read,
       );
+      firsts = (one.first, rest.firsts);
       is = a.is ∙ ap (λ (l : List TapeItem). l ++ read_as a.more (all_entries ps)) one.is
           ∙ ap (λ (l : List TapeItem). read_section s ++ l) rest.is;
     }
 
 -- ---- a volume
 
-volume_read : (set : FileSet) (k : ℕ) (v : Volume) (gs : List Bool) → IsLawful set
+-- a volume whose second labels were read
+pub record ReadVolume (set : FileSet) (k : ℕ) (xs : List TapeItem) : Type 0 where
+  pub volume : IsReadVolume set k xs
+  pub firsts : AllByRecursion (λ (r : SectionRead). FirstIsRead r.headers) volume.reads
+
+pub volume_read : (set : FileSet) (k : ℕ) (v : Volume) (gs : List Bool) → IsLawful set
     → nth set.volumes k ≡ Some v → passes gs (entries set k) ≡ true
-    → IsReadVolume set k (as_read (items set k) gs)
+    → ReadVolume set k (as_read (items set k) gs)
 volume_read set k v gs l there h =
     let ps = on k (sections set) in
     let at = nth_found set.volumes k v there in
@@ -240,22 +250,25 @@ volume_read set k v gs l there h =
     let rs = sections_read set k ps a.more (sections_on_are set k l) a.second in
     let labels = good_labels (v.vol1 ∷ v.labels) in
     record {
-      volume = v;
-      labels = labels;
-      reads = rs.reads;
-      there = there;
-      is_volume = every_at IsVolume set.volumes at.place v l.volumes at.found;
-      are_labels = same_labels (v.vol1 ∷ v.labels);
-      are_read = rs.are_read;
-      all = rs.all;
-      is = ap (read_as gs) es ∙ b.is
-          ∙ ap (λ (l : List TapeItem). l ++ read_as b.more (a_mark ∷ []))
-          (a.is ∙ ap (λ (l : List TapeItem). l ++ read_as a.more (all_entries ps))
-          (labels_read gs (v.vol1 ∷ v.labels) a.first)
-          ∙ ap (λ (l : List TapeItem). read_labels labels ++ l) rs.is)
-          ∙ ap (λ (l : List TapeItem). (read_labels labels ++ read_sections rs.reads) ++ l)
-          (mark_read b.more b.second)
-          ∙ append_assoc (read_labels labels) (read_sections rs.reads) (mark ∷ []);
+      volume = record {
+        volume = v;
+        labels = labels;
+        reads = rs.reads;
+        there = there;
+        is_volume = every_at IsVolume set.volumes at.place v l.volumes at.found;
+        are_labels = same_labels (v.vol1 ∷ v.labels);
+        are_read = rs.are_read;
+        all = rs.all;
+        is = ap (read_as gs) es ∙ b.is
+            ∙ ap (λ (l : List TapeItem). l ++ read_as b.more (a_mark ∷ []))
+            (a.is ∙ ap (λ (l : List TapeItem). l ++ read_as a.more (all_entries ps))
+            (labels_read gs (v.vol1 ∷ v.labels) a.first)
+            ∙ ap (λ (l : List TapeItem). read_labels labels ++ l) rs.is)
+            ∙ ap (λ (l : List TapeItem). (read_labels labels ++ read_sections rs.reads) ++ l)
+            (mark_read b.more b.second)
+            ∙ append_assoc (read_labels labels) (read_sections rs.reads) (mark ∷ []);
+      };
+      firsts = rs.firsts;
     }
 
 -- ---- the other sections on the volume
@@ -269,7 +282,7 @@ other_file : (set_id : List ℕ) (s t : SectionRead)
 other_file set_id s t e = false_last (bytes_eq set_id set_id) (s.placed.file == t.placed.file)
     (s.placed.sect == t.placed.sect) e
 
-abbrev placed_of : List SectionRead → List Placed
+abbrev pub placed_of : List SectionRead → List Placed
 placed_of rs = map (λ (r : SectionRead). r.placed) rs
 
 later_others : (set_id : List ℕ) (s : SectionRead) (rs : List SectionRead)
@@ -280,11 +293,12 @@ later_others set_id s (r ∷ rs) (lt, all) =
     let off : (r.placed.file == s.placed.file) ≡ false = grind (arith, nat_tests) in
     (other_file set_id r s off, later_others set_id s rs all)
 
-record Others (set_id : List ℕ) (s : SectionRead) (before rest : List SectionRead) : Type 0 where
-  first : AllByRecursion (IsOther set_id (key_of set_id s)) before
-  last : AllByRecursion (IsOther set_id (key_of set_id s)) rest
+pub record Others (set_id : List ℕ) (s : SectionRead) (before rest : List SectionRead) : Type 0
+  where
+    pub first : AllByRecursion (IsOther set_id (key_of set_id s)) before
+    pub last : AllByRecursion (IsOther set_id (key_of set_id s)) rest
 
-others : (set_id : List ℕ) (s : SectionRead) (before rest : List SectionRead)
+pub others : (set_id : List ℕ) (s : SectionRead) (before rest : List SectionRead)
     → Rising (placed_of (before ++ s ∷ rest)) → Others set_id s before rest
 others set_id s [] rest (all, rise) =
     record { first = tt; last = later_others set_id s rest all }
@@ -300,7 +314,7 @@ others set_id s (r ∷ before) rest (all, rise) =
     later [] all = all.0
     later (x ∷ xs) all = later xs all.1
 
-all_in_two : {A : Type 0} (P : A → Type 0) (xs : List A) (y : A) (zs : List A)
+pub all_in_two : {A : Type 0} (P : A → Type 0) (xs : List A) (y : A) (zs : List A)
     → AllByRecursion P (xs ++ y ∷ zs)
     → AllByRecursion P xs × (P y × AllByRecursion P zs)
 all_in_two P [] y zs (h, all) = (tt, (h, all))
@@ -311,7 +325,7 @@ pub recovers_reading : RecoversReading
 recovers_reading set r l reading h =
     let k = r.volume in
     let (v, there) = some_of (nth set.volumes k) reading.volume in
-    let w = volume_read set k v r.good l there h in (
+    let w = (volume_read set k v r.good l there h).volume in (
       w,
       λ before rest s form g read splits how.
           let rise : Rising (placed_of (before ++ s ∷ rest)) =

@@ -1,12 +1,14 @@
 -- The walk over a section of a valid set, with a list of results that is extended on the way.
 use Rattle.std.proofs.Common.{◌≡◌, ℕ, true, false, List, [], ◌∷◌, ◌++◌, length, Ok, refl, sym, ap}
-use Rattle.std.proofs.Common.{◌∙◌, arith}
+use Rattle.std.proofs.Common.{◌∙◌, arith, Some, None}
 use Rattle.tape_image.specs.Tape.{TapeItem, block, bad, mark}
+use Rattle.tape_label.specs.declared.values.Kind.TheVariants as kinds
+use Rattle.tape_label.specs.declared.values.Head1.{Head1}
 use Rattle.tape_label.specs.declared.values.Trail1.{Trail1}
 use Rattle.tape_label.specs.Kinds.{kind_at}
-use Rattle.tape_label.specs.Reading.{head2_at, trail1_at}
+use Rattle.tape_label.specs.Reading.{head1_at, head2_at, trail1_at}
 use Rattle.tape_label.proofs.First.{head1_again, trail1_again}
-use Rattle.tape_set.specs.Lawful.{label_count}
+use Rattle.tape_set.specs.Lawful.{FileForm, label_count}
 use Rattle.tape_run.specs.declared.section.SectionKey.{SectionKey}
 use Rattle.tape_run.specs.declared.salvage.walk.OpenSection.{OpenSection}
 use Rattle.tape_run.specs.declared.salvage.walk.Closing.{Closing}
@@ -16,6 +18,7 @@ use Rattle.tape_run.specs.declared.salvage.walk.Expected.TheVariants.{Data, Trai
 use Rattle.tape_run.specs.declared.salvage.walk.Expected.TheVariants.{Next}
 use Rattle.tape_run.specs.SalvageWalk.{step, expected_after, section_by, begun_by, with_item}
 use Rattle.tape_run.specs.SalvageWalk.{with_data, with_unreadable, doubted, closes, with_trailer}
+use Rattle.tape_run.specs.SalvageWalk.{form_by}
 use Rattle.tape_run.specs.SalvageWhole.{Blocks}
 use Rattle.tape_run.specs.SalvageSections.{Labels, read_labels, labels_of, read_blocks}
 use Rattle.tape_run.specs.SalvageSections.{SectionRead, read_section, AreNoHeads, NoneBegins}
@@ -24,7 +27,9 @@ use Rattle.tape_run.proofs.SalvagedSoFar.{expected_after-append}
 use Rattle.tape_run.proofs.SalvageOpened.{may_begin, second_is, closes_it, closed_of}
 use Rattle.tape_run.proofs.SalvageOpened.{trailer_step, key_is, headed, same_headed, none_headed}
 use Rattle.tape_run.proofs.SalvageOpened.{section_after, same_section_after, counted, long}
-use Rattle.tape_run.proofs.SalvageOpened.{trailed, same_trailed, counted_trailed}
+use Rattle.tape_run.proofs.SalvageOpened.{trailed, same_trailed, counted_trailed, after_headed}
+use Rattle.tape_run.proofs.SalvageOpened.{form_headed, after_section, form_section}
+use Rattle.tape_run.proofs.SalvageOpened.{after_trailed, form_trailed}
 
 -- ---- the walk
 
@@ -45,6 +50,12 @@ pub record Walk {A : Type 0} (act : Expected → A → TapeItem → A) (s : Expe
     (xs : List TapeItem) (t : Expected) (b : A) : Type 0 where
   pub after : expected_after s xs ≡ t
   pub gives : gathered act s a xs ≡ b
+
+-- the first of these labels was read
+abbrev pub FirstIsRead : Labels → Type 0
+FirstIsRead [] = ⊥
+FirstIsRead ((true, b) ∷ ls) = Unit {0}
+FirstIsRead ((false, b) ∷ ls) = ⊥
 
 -- labels, and marks between sections, have no results
 pub record Quiet {A : Type 0} (act : Expected → A → TapeItem → A) : Type 0 where
@@ -115,24 +126,31 @@ module _ {A : Type 0} (act : Expected → A → TapeItem → A) where
       (q.headers u a bad) (headers q v a ls)
 
   -- the labels after HDR1, of which there is at least one
-  record AfterHead (u : OpenSection) (a : A) (ls : Labels) : Type 0 where
+  record AfterHead (u : OpenSection) (a : A) (ls : Labels) (b : List ℕ) : Type 0 where
     section : OpenSection
     walk : Walk act (Second u) a (read_labels ls) (Headers section) a
     same : section.key ≡ u.key
     none : section.blocks ≡ u.blocks
+    after : section.after ≡ u.after
+    form : FirstIsRead ls → kind_at b ≡ Some kinds.Hdr2
+        → section.form ≡ form_by u.file_id (head2_at b)
 
   after_head : Quiet act → (u : OpenSection) (a : A) (ls : Labels) (b : List ℕ)
-      (more : List (List ℕ)) → labels_of ls ≡ b ∷ more → AfterHead u a ls
+      (more : List (List ℕ)) → labels_of ls ≡ b ∷ more → AfterHead u a ls b
   after_head q u a [] b more e = absurd (cc e)
   after_head q u a ((true, x) ∷ ls) b more e =
       let two = second_is u (kind_at x) (head2_at x) in
       let v = two.section in
+      let is : x ≡ b = cc e in
       record {
         section = headed v ls;
         walk = first (Second u) (Headers v) (Headers (headed v ls)) a a a (block x)
             (read_labels ls) two.expects (q.second u a (block x)) (headers q v a ls);
         same = same_headed v ls ∙ two.same;
         none = none_headed v ls ∙ two.none;
+        after = after_headed v ls ∙ two.after;
+        form = λ read kind. form_headed v ls ∙ two.form (ap kind_at is ∙ kind)
+            ∙ ap (λ y. form_by u.file_id (head2_at y)) is;
       }
   after_head q u a ((false, x) ∷ ls) b more e =
       let v = doubted u in
@@ -142,6 +160,8 @@ module _ {A : Type 0} (act : Expected → A → TapeItem → A) where
             refl (q.second u a bad) (headers q v a ls);
         same = same_headed v ls;
         none = none_headed v ls;
+        after = after_headed v ls;
+        form = λ read. absurd read;
       }
 
   -- the labels after a trailer label, and the mark after them
@@ -171,6 +191,11 @@ module _ {A : Type 0} (act : Expected → A → TapeItem → A) where
     pub key : section.key ≡ key_of set_id r
     pub blocks : section.blocks ≡ length r.blocks
     pub count : closing.count ≡ label_count (length r.blocks)
+    pub after : section.after ≡ None
+    pub eof : (t : Trail1) → trail1_at r.placed.section.trailer ≡ Ok t → closing.eof ≡ t.eof
+    pub form : (h : Head1) (f : FileForm) → head1_at r.placed.section.hdr1 ≡ Ok h
+        → FirstIsRead r.headers → kind_at r.placed.section.hdr2 ≡ Some kinds.Hdr2
+        → form_by h.file_id (head2_at r.placed.section.hdr2) ≡ Some f → section.form ≡ Some f
 
   pub section_walked : Quiet act → (set_id : List ℕ) (volumes : ℕ) (r : SectionRead)
       (s : Expected) (a b c : A) (ends : OpenSection → Closing → A) → IsRead set_id volumes r
@@ -225,4 +250,10 @@ module _ {A : Type 0} (act : Expected → A → TapeItem → A) where
         key = same_trailed w r.trailers ∙ whose;
         blocks = omega (arith, later, all, two.none);
         count = trailer.count ∙ ap label_count (sym n);
+        after = after_trailed w r.trailers (after_section v r.blocks ∙ two.after);
+        eof = λ t' is. let same : t ≡ t' = cc (sym at ∙ is) in ap (λ (x : Trail1). x.eof) same;
+        form = λ h' f is first kind has.
+            let same : h ≡ h' = cc (sym (head1_again y.hdr1 h header.label) ∙ is) in
+            form_trailed w r.trailers f (form_section v r.blocks ∙ two.form first kind
+            ∙ ap (λ (x : Head1). form_by x.file_id (head2_at y.hdr2)) same ∙ has);
       }

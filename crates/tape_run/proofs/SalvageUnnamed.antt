@@ -1,7 +1,6 @@
 -- A section that is found without its HDR1 has exactly the items between two tape marks.
-use Rattle.std.proofs.Common.{◌≡◌, ◌≢◌, ◌≤◌, inl, inr, ◌⊎◌, ℕ, ◌+◌, ◌==◌, Bool, true, false, List}
-use Rattle.std.proofs.Common.{[], ◌∷◌, ◌++◌, length, Option, Some, None, Result, Ok, Err, refl, sym, ap}
-use Rattle.std.proofs.Common.{◌∙◌, arith}
+use Rattle.std.proofs.Common.{◌≡◌, inl, inr, ◌⊎◌, ℕ, ◌+◌, ◌==◌, Bool, true, false, List, [], ◌∷◌}
+use Rattle.std.proofs.Common.{Option, Some, None, Result, Ok, Err, refl, sym, ap, ◌∙◌, arith}
 use Rattle.std.specs.Prelude.{if◌then◌else◌, nat_lt, min, option_map}
 use Rattle.std.specs.List.{AllByRecursion}
 use Rattle.std.proofs.lemmas.Bool.Decides.{nat_tests}
@@ -15,176 +14,22 @@ use Rattle.tape_label.specs.declared.label.LabelFault.{LabelFault}
 use Rattle.tape_label.specs.Kinds.{kind_at}
 use Rattle.tape_label.specs.Reading.{head1_at, head2_at, trail1_at}
 use Rattle.tape_set.specs.Lawful.{label_count}
-use Rattle.tape_run.specs.declared.section.SectionKey.{SectionKey}
 use Rattle.tape_run.specs.declared.salvage.walk.OpenSection.{OpenSection}
 use Rattle.tape_run.specs.declared.salvage.walk.Closing.{Closing}
 use Rattle.tape_run.specs.declared.salvage.walk.UnnamedItems.{UnnamedItems}
 use Rattle.tape_run.specs.declared.salvage.walk.Expected.{Expected}
 use Rattle.tape_run.specs.declared.salvage.walk.Expected.TheVariants.{Outside, Second, Headers}
-use Rattle.tape_run.specs.declared.salvage.walk.Expected.TheVariants.{Data, Trailer, Trailers}
-use Rattle.tape_run.specs.declared.salvage.walk.Expected.TheVariants.{Next, Over, Skipping}
-use Rattle.tape_run.specs.declared.salvage.walk.Expected.TheVariants.{Unnamed, UnnamedTrailer}
-use Rattle.tape_run.specs.SalvageWalk.{step, begun_by, closed_by, unnamed_by, goes_on_by}
-use Rattle.tape_run.specs.SalvageWalk.{unnamed_after, one_read, one_unreadable, section_by}
-use Rattle.tape_run.specs.SalvageWalk.{second_by, closes, named_by, unclosed_by, FoundAt}
-use Rattle.tape_run.specs.SalvageWalk.{sections_in, and_read}
+use Rattle.tape_run.specs.declared.salvage.walk.Expected.TheVariants.{Data, Trailer, Trailers, Next}
+use Rattle.tape_run.specs.declared.salvage.walk.Expected.TheVariants.{Over, Skipping, Unnamed}
+use Rattle.tape_run.specs.declared.salvage.walk.Expected.TheVariants.{UnnamedTrailer}
+use Rattle.tape_run.specs.SalvageWalk.{step, begun_by, closed_by, unnamed_by, goes_on_by, one_read}
+use Rattle.tape_run.specs.SalvageWalk.{one_unreadable, second_by, closes, named_by, unclosed_by}
+use Rattle.tape_run.specs.SalvageWalk.{FoundAt, sections_in, and_read}
 use Rattle.tape_run.specs.SalvageSections.{IsNoHead}
-use Rattle.tape_run.specs.SalvageClosed.{IsNoMark}
-use Rattle.tape_run.specs.SalvageUnnamed.{IsNoFirst, IsUnnamedIn, IsThereUnnamed, UnnamedAreThere}
-use Rattle.tape_run.proofs.SalvageClosed.{counted, all_counted}
+use Rattle.tape_run.specs.SalvageUnnamed.{IsUnnamedIn, IsThereUnnamed, UnnamedAreThere}
 use Rattle.tape_run.proofs.SalvageLater.{PAt, all_found}
-
--- ---- the items to come
-
--- the section has an HDR1, or not
-abbrev NoHdr1 : Option ℕ → Type 0
-NoHdr1 o = o ≡ None → ⊥
-
--- its trailer label was read
-record IsTrailed (u : OpenSection) (l : Closing) (v : OpenSection) (k : Closing) : Type 0 where
-  key : v.key ≡ u.key
-  blocks : v.blocks ≡ u.blocks
-  after : NoHdr1 u.after
-  closing : k ≡ l
-
--- its trailer label comes next, after n data items
-record TrailerTo (n : ℕ) (xs : List TapeItem) (v : OpenSection) (k : Closing) : Type 0 where
-  trailer : List ℕ
-  trail : Trail1
-  rest : List TapeItem
-  is : xs ≡ block trailer ∷ rest
-  ends : trail1_at trailer ≡ Ok trail
-  key : v.key ≡ (section_by trail.head).key
-  closing : k ≡ record { eof = trail.eof; count = trail.blocks }
-  blocks : v.blocks ≡ n
-  count : trail.blocks ≡ label_count v.blocks
-
--- further data come next, after n data items
-record DataTo (n : ℕ) (xs : List TapeItem) (v : OpenSection) (k : Closing) : Type 0 where
-  data_items : List TapeItem
-  trailer : List ℕ
-  trail : Trail1
-  rest : List TapeItem
-  is : xs ≡ data_items ++ (mark ∷ block trailer ∷ rest)
-  no_data : AllByRecursion IsNoMark data_items
-  no_first : AllByRecursion IsNoFirst data_items
-  ends : trail1_at trailer ≡ Ok trail
-  key : v.key ≡ (section_by trail.head).key
-  closing : k ≡ record { eof = trail.eof; count = trail.blocks }
-  blocks : v.blocks ≡ counted n data_items
-  count : trail.blocks ≡ label_count v.blocks
-
--- its data come next, after a tape mark
-record AfterMark (xs : List TapeItem) (v : OpenSection) (k : Closing) : Type 0 where
-  first : TapeItem
-  more : List TapeItem
-  is : xs ≡ first ∷ more
-  off : IsNoMark first
-  none : IsNoFirst first
-  goes : DataTo 1 more v k
-
-abbrev AfterOne : Bool → List TapeItem → OpenSection → Closing → Type 0
-AfterOne true xs v k = AfterMark xs v k
-AfterOne false xs v k = ⊥
-
-abbrev Open : Expected → List TapeItem → OpenSection → Closing → Type 0
-Open (Outside n) xs v k = AfterOne (n == 1) xs v k
-Open (Second u) xs v k = NoHdr1 u.after
-Open (Headers u) xs v k = NoHdr1 u.after
-Open (Data u) xs v k = NoHdr1 u.after
-Open (Trailer u) xs v k = NoHdr1 u.after
-Open (Trailers u l) xs v k = IsTrailed u l v k
-Open (Unnamed r) xs v k = DataTo r.items xs v k
-Open (UnnamedTrailer r) xs v k = TrailerTo r.items xs v k ⊎ AfterMark xs v k
-Open (Skipping n u) xs v k = Unit {0}
-Open Next xs v k = ⊥
-Open Over xs v k = ⊥
-
--- the section is among the items to come, or its end is
-abbrev Comes : Expected → List TapeItem → OpenSection → Closing → Type 0
-Comes s xs v k = v.after ≢ None → IsUnnamedIn xs v k ⊎ Open s xs v k
-
--- ---- one item more at the start
-
-further : (x : TapeItem) (xs : List TapeItem) (v : OpenSection) (k : Closing)
-    → IsUnnamedIn xs v k → IsUnnamedIn (x ∷ xs) v k
-further x xs v k h = record {
-  front = x ∷ h.front;
-  data_items = h.data_items;
-  trailer = h.trailer;
-  trail = h.trail;
-  rest = h.rest;
-  is = ap (λ (l : List TapeItem). x ∷ l) h.is;
-  some = h.some;
-  no_data = h.no_data;
-  no_first = h.no_first;
-  ends = h.ends;
-  key = h.key;
-  closing = h.closing;
-  blocks = h.blocks;
-  count = h.count;
-}
-
-at_mark : (xs : List TapeItem) (v : OpenSection) (k : Closing) → AfterMark xs v k
-    → IsUnnamedIn (mark ∷ xs) v k
-at_mark xs v k a =
-    let d = a.goes in
-    let few : 1 ≤ 4294967295 = omega arith in
-    let c = all_counted 1 d.data_items few in
-    let b = d.blocks in
-    record {
-      front = [];
-      data_items = a.first ∷ d.data_items;
-      trailer = d.trailer;
-      trail = d.trail;
-      rest = d.rest;
-      is = ap (λ (l : List TapeItem). mark ∷ l)
-          (a.is ∙ ap (λ (l : List TapeItem). a.first ∷ l) d.is);
-      some = λ e. absurd (cc e);
-      no_data = (a.off, d.no_data);
-      no_first = (a.none, d.no_first);
-      ends = d.ends;
-      key = d.key;
-      closing = d.closing;
-      blocks = omega (arith, b, c);
-      count = d.count;
-    }
-
--- one more data item
-with_item : (n : ℕ) (x : TapeItem) (xs : List TapeItem) (v : OpenSection) (k : Closing)
-    → IsNoMark x → IsNoFirst x → DataTo (min (n + 1) 4294967295) xs v k → DataTo n (x ∷ xs) v k
-with_item n x xs v k off none d = record {
-  data_items = x ∷ d.data_items;
-  trailer = d.trailer;
-  trail = d.trail;
-  rest = d.rest;
-  is = ap (λ (l : List TapeItem). x ∷ l) d.is;
-  no_data = (off, d.no_data);
-  no_first = (none, d.no_first);
-  ends = d.ends;
-  key = d.key;
-  closing = d.closing;
-  blocks = d.blocks;
-  count = d.count;
-}
-
--- the mark after the data
-at_trailer : (n : ℕ) (xs : List TapeItem) (v : OpenSection) (k : Closing) → TrailerTo n xs v k
-    → DataTo n (mark ∷ xs) v k
-at_trailer n xs v k t = record {
-  data_items = [];
-  trailer = t.trailer;
-  trail = t.trail;
-  rest = t.rest;
-  is = ap (λ (l : List TapeItem). mark ∷ l) t.is;
-  no_data = tt;
-  no_first = tt;
-  ends = t.ends;
-  key = t.key;
-  closing = t.closing;
-  blocks = t.blocks;
-  count = t.count;
-}
+use Rattle.tape_run.proofs.SalvageUnnamedComing.{NoHdr1, DataTo, AfterMark, AfterOne, Open, Comes}
+use Rattle.tape_run.proofs.SalvageUnnamedComing.{further, at_mark, with_item, at_trailer}
 
 only : (x : TapeItem) (t : Expected) (xs : List TapeItem) (v : OpenSection) (k : Closing)
     → (Open t xs v k → ⊥) → IsUnnamedIn xs v k ⊎ Open t xs v k → IsUnnamedIn (x ∷ xs) v k

@@ -2,11 +2,11 @@
 use Rattle.std.proofs.Common.{◌≡◌, ℕ, List, [], ◌∷◌, ◌++◌, Option, Some, None}
 use Rattle.std.proofs.Common.{true, false, refl, sym, ap, subst, ◌∙◌, append-nil}
 use Rattle.std.proofs.Common.{append_assoc, arith, ◌+◌, ◌&&◌, Bool}
-use Rattle.std.specs.Prelude.{IfSome, if◌then◌else◌}
+use Rattle.std.specs.Prelude.{IfSome, if◌then◌else◌, ◌≤◌}
 use Rattle.std.specs.Io.KnownBytes.{Appends}
 use Rattle.std.proofs.KnownBytes.{Appends-nil, Appends-trans}
 use Rattle.tape_image.specs.Tape.{TapeItem, block, bad, mark}
-use Rattle.tape_image.specs.Begins.{Walks}
+use Rattle.tape_image.specs.Begins.{Walks, image_limit}
 use Rattle.tape_image.specs.Reader.{IfKnown}
 use Rattle.tape_image.specs.Step.{TakesItem, TakesEnd, TakesFault}
 use Rattle.tape_image.specs.declared.item.Ending.{Ending}
@@ -176,11 +176,12 @@ ends_at key s x b is on =
 
 -- the items were read
 placed : (all left : Option (List ℕ)) (q : ℕ) (items : List TapeItem)
-    → IfKnown all left (λ xs ys. Walks 0 xs items q ys)
-    → IfSome all (λ xs. (place : ℕ) × (ys : List ℕ) × Walks 0 xs items place ys)
-placed None left q items h = tt
-placed (Some xs) None q items h = absurd h
-placed (Some xs) (Some ys) q items h = (q, ys, h)
+    → q ≤ image_limit → IfKnown all left (λ xs ys. Walks 0 xs items q ys)
+    → IfSome all (λ xs. (place : ℕ) × (ys : List ℕ) × (place ≤ image_limit)
+    × Walks 0 xs items place ys)
+placed None left q items near h = tt
+placed (Some xs) None q items near h = absurd h
+placed (Some xs) (Some ys) q items near h = (q, ys, near, h)
 
 -- the mark that ends the section's data is not a data item
 pub read_at_mark : (key : SectionKey) (s : Expected) → is_in key s ≡ true
@@ -194,21 +195,22 @@ pub ends_data : {W : Type 0} (contents : W → Option (List ℕ)) (all left next
     (expected : Expected) (item : TapeItem) (old mid new : Recovery W)
     (said says now : Option (List ℕ))
     → (s : SoFar contents all left p origin key most form expected old mid said says)
-    → IfKnown left next (TakesItem p item q) → is_in key expected ≡ true → item ≡ mark
+    → IfKnown left next (TakesItem p item q) → q ≤ image_limit → is_in key expected ≡ true
+    → item ≡ mark
     → (n : ℕ) → n ≡ read_in key expected → closings key origin s.items ≡ 0
     → Recovers contents mid new says now
     (λ g. salvaged_at form g (number_in key most expected) item)
     (λ g. text_at key.sect form g (number_in key most expected) item)
     → RecoversSection contents all next origin key most form old new said now n
 ends_data contents all left next p q origin key most form expected item old mid new said says now s
-    takes is e n count none taken =
+    takes near is e n count none taken =
     let more = one_more contents all left next p q origin key most form expected
     (step expected item).0 item old mid new said says now s takes refl taken in
     record {
       items = more.items;
       is_ended = true;
       reads = record {
-        walked = placed all next q more.items more.known;
+        walked = placed all next q more.items near more.known;
         at_mark = λ _. (
           s.items,
           ap (λ x. s.items ++ x ∷ []) e,
@@ -233,15 +235,16 @@ pub at_end : {W : Type 0} (contents : W → Option (List ℕ)) (all left next : 
     (form : Option FileForm) (expected : Expected) (old new : Recovery W)
     (said says : Option (List ℕ))
     → (s : SoFar contents all left p origin key most form expected old new said says)
-    → IfKnown left next (TakesEnd p [] ending q) → (n : ℕ) → n ≡ read_in key expected
+    → IfKnown left next (TakesEnd p [] ending q) → p ≤ image_limit → (n : ℕ)
+    → n ≡ read_in key expected
     → closings key origin s.items ≡ 0
     → RecoversSection contents all next origin key most form old new said says n
-at_end contents all left next p q ending origin key most form expected old new said says s takes n
-    count unended = record {
+at_end contents all left next p q ending origin key most form expected old new said says s takes near
+    n count unended = record {
       items = s.items;
       is_ended = false;
       reads = record {
-        walked = placed all left p s.items s.known;
+        walked = placed all left p s.items near s.known;
         at_mark = λ f. absurd (cc);
         all = λ _. (
           stop_at ending,
@@ -260,15 +263,16 @@ pub at_fault : {W : Type 0} (contents : W → Option (List ℕ)) (all left next 
     (form : Option FileForm) (expected : Expected) (old new : Recovery W)
     (said says : Option (List ℕ))
     → (s : SoFar contents all left p origin key most form expected old new said says)
-    → IfKnown left next (TakesFault p [] fault) → (n : ℕ) → n ≡ read_in key expected
+    → IfKnown left next (TakesFault p [] fault) → p ≤ image_limit → (n : ℕ)
+    → n ≡ read_in key expected
     → closings key origin s.items ≡ 0
     → RecoversSection contents all next origin key most form old new said says n
-at_fault contents all left next p fault origin key most form expected old new said says s takes n
-    count unended = record {
+at_fault contents all left next p fault origin key most form expected old new said says s takes near
+    n count unended = record {
       items = s.items;
       is_ended = false;
       reads = record {
-        walked = placed all left p s.items s.known;
+        walked = placed all left p s.items near s.known;
         at_mark = λ f. absurd (cc);
         all = λ _. (Fault fault, known_fault all left next 0 p s.items fault s.known takes);
         once = unended;

@@ -117,12 +117,15 @@ pub mod SalvageConflicts
 pub mod SalvageGaps
 pub mod SalvageClosed
 pub mod Salvaging
+pub mod SalvagedSets
 pub mod SalvageWhole
 pub mod SalvageSections
 pub mod SalvageFile
 pub mod SalvageReadings
+pub mod SalvageSets
 pub mod SalvageDamaged
 pub mod SalvageUnnamed
+pub mod SalvageDamagedSets
 -- Examples, which show that the definitions are not too weak.
 pub mod Cases
 pub mod CasesOfRuns
@@ -137,3 +140,4 @@ pub mod CasesOfLaws
 pub mod CasesOfSurveys
 pub mod CasesOfCompared
 pub mod CasesOfUnpacking
+pub mod CasesOfSalvage

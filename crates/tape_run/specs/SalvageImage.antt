@@ -1,8 +1,8 @@
 -- A section recovered from one image.
-use Rattle.std.specs.Prelude.{◌≡◌, ℕ, ◌+◌, ◌&&◌, nat_lt, Bool, true, false, if◌then◌else◌, List, []}
-use Rattle.std.specs.Prelude.{◌∷◌, ◌++◌, Option, Some, None, IfSome}
+use Rattle.std.specs.Prelude.{◌≡◌, ◌≤◌, ℕ, ◌+◌, ◌&&◌, nat_lt, Bool, true, false, List, [], ◌∷◌}
+use Rattle.std.specs.Prelude.{◌++◌, Option, Some, None, IfSome, if◌then◌else◌}
 use Rattle.tape_image.specs.Tape.{TapeItem, mark}
-use Rattle.tape_image.specs.Begins.{Walks}
+use Rattle.tape_image.specs.Begins.{Walks, image_limit}
 use Rattle.tape_image.specs.Reader.{IfKnown}
 use Rattle.tape_set.specs.Lawful.{FileForm}
 use Rattle.tape_run.specs.declared.section.SectionKey.{SectionKey}
@@ -66,7 +66,8 @@ EndsData start key items = (front : List TapeItem) × (items ≡ front ++ mark �
 -- one, otherwise all items.
 pub record ReadsSection (before after : Option (List ℕ)) (start : Expected) (key : SectionKey)
     (items : List TapeItem) (is_ended : Bool) : Type 0 where
-  pub walked : IfSome before (λ xs. (place : ℕ) × (ys : List ℕ) × Walks 0 xs items place ys)
+  pub walked : IfSome before (λ xs. (place : ℕ) × (ys : List ℕ) × (place ≤ image_limit)
+      × Walks 0 xs items place ys)
   pub at_mark : is_ended ≡ true → EndsData start key items
   pub all : is_ended ≡ false → (stop : ImageStop) × IfKnown before after (StopsBehind items stop)
   pub once : closings key start items ≡ (if is_ended then 1 else 0)

@@ -19,6 +19,7 @@ ghost use Rattle.tape_run.specs.CasesOfLaws.{CasesOfRunLaws, CasesOfCatalogueLaw
 ghost use Rattle.tape_run.specs.CasesOfSurveys.{CasesOfGlances, CasesOfWholes, CasesOfSurveys};
 ghost use Rattle.tape_run.specs.CasesOfCompared.{CasesOfCompared};
 ghost use Rattle.tape_run.specs.CasesOfUnpacking.{CasesOfUnpacking};
+ghost use Rattle.tape_run.specs.CasesOfSalvage.{CasesOfSalvage};
 ghost use Rattle.tape_run.specs.Fronts.{FrontsAreMounts, GivenIsHistory};
 ghost use Rattle.tape_run.specs.Lead.{ItemsAreThere};
 ghost use Rattle.tape_run.specs.CrashRuns.{StoodComesBack, StandsAcrossCrashes, ResumedGoesOn};
@@ -86,7 +87,7 @@ pub fn items_are_there()
 {}
 
 /// Examples for the definitions: histories and runs, a reel's answer and the table, catalogues and
-/// reports, surveys, unpacking, recovered files, and the laws.
+/// reports, surveys, unpacking, recovered files, also those with gaps, and the laws.
 pub fn cases()
     ensures mounts { CasesOfMounts }
     ensures histories { CasesOfHistories }
@@ -110,6 +111,7 @@ pub fn cases()
     ensures surveys { CasesOfSurveys }
     ensures compared { CasesOfCompared }
     ensures unpacking { CasesOfUnpacking }
+    ensures salvage { CasesOfSalvage }
     ensures turns { CasesOfTurns }
     ensures outputs { CasesOfOutputs }
     ensures causes { CasesOfCauses }

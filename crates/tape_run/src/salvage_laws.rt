@@ -11,6 +11,12 @@ ghost use Rattle.tape_run.specs.SalvageClosed.{ClosedAreThere};
 ghost use Rattle.tape_run.specs.SalvageDamaged.{ClosedAreExact};
 ghost use Rattle.tape_run.specs.SalvageUnnamed.{UnnamedAreThere};
 ghost use Rattle.tape_run.specs.SalvageFile.{RecoversBlocks, RecoversFile, RecoversUpToGap};
+ghost use Rattle.tape_run.specs.SalvageSets.{RecoversSet};
+ghost use Rattle.tape_run.specs.SalvageDamagedSets.{ClosedOfSetAreExact, FoundAreExact};
+ghost use Rattle.tape_run.specs.SalvagedSets.{RecoversSets};
+
+use crate::extract::images::ImageSource;
+use std::io::{Read, Write};
 
 /// If the parts of a file are in order, and any of its blocks are missing, the recovered records
 /// are exactly those that lie entirely in blocks that were read.
@@ -125,4 +131,28 @@ pub fn closed_sections_are_exact()
 /// marks; its trailer label follows, has its numbers, and counts exactly these items.
 pub fn sections_without_hdr1_are_there()
     ensures { UnnamedAreThere }
+{}
+
+/// From complete readings of volumes of a valid set, in which only data blocks were unreadable, in
+/// any order and with repeats, of each section of a file exactly the blocks that its best image has
+/// are recovered, or none if no image has it, and of these blocks exactly the complete records. Up
+/// to the first missing block no record is left out. If nothing is missing, it is the file.
+pub fn files_of_sets_are_recovered()
+    ensures { RecoversSet }
+{}
+
+/// In a reading of a volume of a valid set, of which any items may be unreadable or missing at the
+/// end, a section that is found by its HDR1 and closes is one of the volume's sections, and has
+/// exactly its blocks, provided that no other block of the set reads as HDR1, EOF1 or EOV1. So of
+/// the copies that `salvage_to` finds, those that close have exactly the blocks of their sections.
+pub fn closed_sections_of_sets_are_exact()
+    ensures readings { ClosedOfSetAreExact }
+    ensures found { FoundAreExact }
+{}
+
+/// So `salvage_to` recovers a file of a valid set from such images, if no reader failed: what it
+/// writes is what `files_of_sets_are_recovered` says. If it returns that nothing is missing, this is
+/// what `extract` writes of the complete file.
+pub fn salvaged_sets_are_recovered<W: Write + Drop, R: Read + Drop, L: ImageSource<R>>()
+    ensures { RecoversSets W.contents L.size L.gives R.remaining }
 {}

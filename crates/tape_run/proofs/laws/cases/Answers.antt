@@ -6,6 +6,7 @@ use Rattle.tape_run.proofs.ExamplesOfCatalogues.{cases_of_catalogues, cases_of_i
 use Rattle.tape_run.proofs.ExamplesOfCatalogues.{cases_of_copies, cases_of_reports}
 use Rattle.tape_run.proofs.ExamplesOfSections.{cases_of_sections}
 use Rattle.tape_run.proofs.ExamplesOfUnpacking.{cases_of_unpacking}
+use Rattle.tape_run.proofs.ExamplesOfSalvage.{cases_of_salvage}
 use Rattle.tape_run.proofs.ExamplesOfSurveys.{cases_of_glances, cases_of_wholes, cases_of_surveys}
 use Rattle.tape_run.proofs.ExamplesOfCompared.{cases_of_compared}
 use Rattle.tape_run.proofs.ExamplesOfExtracts.{cases_of_turns, cases_of_outputs, cases_of_causes}
@@ -101,3 +102,6 @@ returns-clause-run_laws c = cases_of_run_laws
 
 pub returns-clause-catalogue_laws : goal.returns-clause-catalogue_laws
 returns-clause-catalogue_laws c = cases_of_catalogue_laws
+
+pub returns-clause-salvage : goal.returns-clause-salvage
+returns-clause-salvage c = cases_of_salvage

@@ -35,7 +35,7 @@ returns-then-is_end-clause-ok g c =
     c.items.expected item c.args.recovery.now c.items.recovery c.take_item.new.self
     (g.P.Write.contents c.args.report.now)
     (g.P.Write.contents c.items.report) (g.P.Write.contents c.take_item.new.report)
-    c.items.invariant.so_far step.takes at.0 at.1 c.read_in.result c.read_in.ensures
+    c.items.invariant.so_far step.takes step.within at.0 at.1 c.read_in.result c.read_in.ensures
     c.items.invariant.unended given
 
 pub items-preserved : goal.items-preserved
@@ -75,7 +75,7 @@ returns-in-Ok-None-clause-ok g c =
     c.items.image.place next.place met.ending c.args.start c.args.key.now c.args.most
     c.args.form.now c.items.expected c.args.recovery.now c.items.recovery
     (g.P.Write.contents c.args.report.now)
-    (g.P.Write.contents c.items.report) c.items.invariant.so_far met.takes
+    (g.P.Write.contents c.items.report) c.items.invariant.so_far met.takes c.items.invariant.limit
     c.read_in-in-Ok-None.result c.read_in-in-Ok-None.ensures c.items.invariant.unended
 
 pub returns-in-Err-clause-ok : goal.returns-in-Err-clause-ok
@@ -86,5 +86,5 @@ returns-in-Err-clause-ok g c =
     at_fault g.W.Write.contents c.args.image.now.left c.items.image.left next.left
     c.items.image.place c.in-Err.field-0 c.args.start c.args.key.now c.args.most c.args.form.now
     c.items.expected c.args.recovery.now c.items.recovery (g.P.Write.contents c.args.report.now)
-    (g.P.Write.contents c.items.report) c.items.invariant.so_far met.takes c.read_in-in-Err.result
+    (g.P.Write.contents c.items.report) c.items.invariant.so_far met.takes c.items.invariant.limit c.read_in-in-Err.result
     c.read_in-in-Err.ensures c.items.invariant.unended

@@ -1,0 +1,207 @@
+-- The cases of `salvage`.
+use Rattle.std.proofs.Common.{◌≡◌, ◌<◌, ℕ, suc, zero, ◌+◌, true, List, [], ◌∷◌, ◌++◌, length}
+use Rattle.std.proofs.Common.{Option, Some, None, refl, sym, ap, subst, ◌∙◌, arith, inl, inr}
+use Rattle.std.proofs.Common.{length-append}
+use Rattle.std.specs.Prelude.{◌==◌, ◌&&◌, ◌||◌, slice_get}
+use Rattle.std.proofs.lemmas.Bool.Decides.{nat_tests}
+use Rattle.std.specs.Fmt.{digits}
+use Rattle.tape_image.specs.Tape.{TapeItem, block, bad, mark}
+use Rattle.tape_label.proofs.First.{head1_found, trail1_found}
+use Rattle.tape_set.specs.Layout.{all_numbered}
+use Rattle.tape_set.specs.Reading.{Reading}
+use Rattle.tape_run.specs.declared.salvage.copies.SectionCopy.{SectionCopy}
+use Rattle.tape_run.specs.SalvageChoice.{IsBest}
+use Rattle.tape_run.specs.SalvageConflicts.{conflict_text, has_conflict}
+use Rattle.tape_run.specs.SalvageCopies.{rank}
+use Rattle.tape_run.specs.SalvageBlocks.{Salvaged, none_salvaged}
+use Rattle.tape_run.specs.SalvageGaps.{Gap, AreGaps, IsReadable, StartsReadable, salvaged_data}
+use Rattle.tape_run.specs.SalvageSets.{HasBlocks}
+use Rattle.tape_run.specs.CasesOfSalvage.{copy_on, CasesOfConflicts, CasesOfGaps, CasesOfClosed}
+use Rattle.tape_run.specs.CasesOfSalvage.{CasesOfDamaged, CasesOfSalvagedSets, CasesOfSalvage}
+
+-- the first of two equally good copies is the best
+first_is_best : (a b : SectionCopy) (o : Option SectionCopy) → rank a ≡ rank b
+    → IsBest (a ∷ b ∷ []) o → o ≡ Some a
+first_is_best a b None same best = absurd (cc best)
+first_is_best a b (Some c) same ([], rest, is, less, most) =
+    let h : a ≡ c = cc is in ap (λ (x : SectionCopy). Some x) (sym h)
+first_is_best a b (Some c) same (x ∷ [], rest, is, (less, none), most) =
+    let h : a ≡ x = cc is in
+    let k : b ≡ c = cc is in
+    let lt : rank a < rank b = subst (λ y. rank y < rank b) (sym h)
+    (subst (λ y. rank x < rank y) (sym k) less) in
+    absurd (omega (arith, lt, same))
+first_is_best a b (Some c) same (x ∷ y ∷ front, rest, is, less, most) =
+    let n = ap length is in
+    let m = length-append front (c ∷ rest) in
+    absurd (omega (arith, n, m))
+
+cases_of_conflicts : CasesOfConflicts
+unfolding digits
+cases_of_conflicts = record {
+  same = refl;
+  other_digest = refl;
+  other_number = refl;
+  other_section = refl;
+  incomplete = refl;
+  incomplete_best = refl;
+  one_differs = refl;
+  none_differs = refl;
+  no_best = refl;
+  lines = refl;
+  no_sections = λ cs text any h. h;
+  one_section = λ text any (front, earlier, best, (no_text, no_any), is_best, is, all).
+      let a = copy_on 0 1 2 7 in
+      let b = copy_on 1 1 2 8 in
+      let cs = a ∷ b ∷ [] in
+      let e = first_is_best a b best refl is_best in (
+        is ∙ ap (λ (t : List ℕ). t ++ conflict_text best cs) no_text
+            ∙ ap (λ (o : Option SectionCopy). conflict_text o cs) e,
+        all ∙ ap (λ (o : Option SectionCopy). has_conflict o cs || earlier) e,
+      );
+}
+
+-- a run of unreadable items is not split, and its items are not readable
+not_readable : IsReadable bad → ⊥
+not_readable h = h refl
+
+one_run : (b : List ℕ) (gap : Gap)
+    → AreGaps None 0 none_salvaged (block b ∷ bad ∷ bad ∷ []) (gap ∷ [])
+    → (gap.first ≡ 1) × (gap.last ≡ 2) × (gap.records ≡ 1)
+one_run b gap ([], rest, more, is, all, starts, one, next) = absurd (cc is)
+one_run b gap (x ∷ [], rest, zero, is, all, starts, one, next) =
+    let r : bad ∷ [] ≡ rest = cc is in
+    absurd (not_readable (subst StartsReadable (sym r) starts))
+one_run b gap (x ∷ [], rest, suc zero, is, all, starts, one, next) =
+    let h : block b ≡ x = cc is in
+    let first = one.first in
+    let last = one.last in
+    let records = one.records in (
+      omega (arith, first),
+      omega (arith, first, last),
+      records ∙ ap (λ (z : TapeItem). (salvaged_data None 0
+          none_salvaged (z ∷ [])).piece.records) (sym h),
+    )
+one_run b gap (x ∷ [], rest, suc (suc more), is, all, starts, one, next) = absurd (cc is)
+one_run b gap (x ∷ y ∷ before, rest, more, is, (h, (g, all)), starts, one, next) =
+    let k : bad ≡ y = cc is in absurd (not_readable (subst IsReadable (sym k) g))
+
+none_in_nothing : (n : ℕ) (g : Salvaged) (gap : Gap) → AreGaps None n g [] (gap ∷ []) → ⊥
+none_in_nothing n g gap ([], rest, more, is, all, starts, one, next) = absurd (cc is)
+none_in_nothing n g gap (x ∷ before, rest, more, is, all, starts, one, next) = absurd (cc is)
+
+not_split : (x y : Gap) → AreGaps None 0 none_salvaged (bad ∷ bad ∷ []) (x ∷ y ∷ []) → ⊥
+not_split x y ([], rest, zero, is, all, starts, one, next) =
+    let r : bad ∷ [] ≡ rest = cc is in
+    absurd (not_readable (subst StartsReadable (sym r) starts))
+not_split x y ([], rest, suc zero, is, all, starts, one, next) =
+    let r : rest ≡ [] = cc is in
+    let g = salvaged_data None 0 none_salvaged (bad ∷ bad ∷ []) in
+    none_in_nothing (x.last + 1) g y
+    (subst (λ (l : List TapeItem). AreGaps None (x.last + 1) g l (y ∷ [])) r next)
+not_split x y ([], rest, suc (suc more), is, all, starts, one, next) = absurd (cc is)
+not_split x y (z ∷ before, rest, more, is, (h, all), starts, one, next) =
+    let k : bad ≡ z = cc is in absurd (not_readable (subst IsReadable (sym k) h))
+
+no_gap : (b : List ℕ) (gap : Gap) → AreGaps None 0 none_salvaged (block b ∷ []) (gap ∷ []) → ⊥
+no_gap b gap ([], rest, more, is, all, starts, one, next) = absurd (cc is)
+no_gap b gap (x ∷ [], rest, more, is, all, starts, one, next) = absurd (cc is)
+no_gap b gap (x ∷ y ∷ before, rest, more, is, all, starts, one, next) = absurd (cc is)
+
+cases_of_gaps : CasesOfGaps
+cases_of_gaps = record {
+  one_run = one_run;
+  reported = λ (h, none). not_readable h;
+  not_split = not_split;
+  no_gap = no_gap;
+  most = λ a b. refl;
+  other_section = λ a. refl;
+  to_the_mark = λ a. refl;
+  starts = not_readable;
+}
+
+-- ---- sections and volumes
+
+nil_is : {A : Type 0} (front : List A) (x : A) (rest : List A) → [] ≡ front ++ x ∷ rest → ⊥
+nil_is [] x rest e = absurd (cc e)
+nil_is (y ∷ front) x rest e = absurd (cc e)
+
+only_one : {A : Type 0} (x : A) (front : List A) (y : A) (rest : List A)
+    → x ∷ [] ≡ front ++ y ∷ rest → x ≡ y
+only_one x [] y rest e = cc e
+only_one x (z ∷ front) y rest e =
+    let t : [] ≡ front ++ y ∷ rest = cc e in absurd (nil_is front y rest t)
+
+only_image : (n : ℕ) (r q : Reading) → slice_get (Some r ∷ []) n ≡ Some (Some q) → r ≡ q
+only_image zero r q e = cc e
+only_image (suc n) r q e = absurd (cc e)
+
+cases_of_closed : CasesOfClosed
+cases_of_closed = record {
+  no_mark = λ h. h;
+  digest = λ a b. refl;
+  no_items = λ u k h. nil_is h.front (block h.hdr1) _ h.is;
+  too_few = λ a b u k h.
+      let end = mark ∷ block h.trailer ∷ h.rest in
+      let n = ap length h.is in
+      let f = length-append h.front
+      (block h.hdr1 ∷ (h.labels ++ (mark ∷ (h.data_items ++ end)))) in
+      let g = length-append h.labels (mark ∷ (h.data_items ++ end)) in
+      let m = length-append h.data_items end in
+      omega (arith, n, f, g, m);
+  without_hdr1 = λ u k h. nil_is h.front mark _ h.is;
+  not_first = tt;
+  unclosed = λ n u. tt;
+}
+
+cases_of_damaged : CasesOfDamaged
+cases_of_damaged = record {
+  items = λ p f a b c. refl;
+  no_last_mark = refl;
+  plain = record {
+    no_head = λ h e. absurd (let n = (head1_found (65 ∷ []) h e).kind.size in cc n);
+    no_trail = λ t e. absurd (let n = (trail1_found (65 ∷ []) t e).kind.size in cc n);
+  };
+  apart = λ p f a ((h, none), rest).
+      let s : (p.sect == p.sect) ≡ true = grind (arith, nat_tests) in
+      let t : (p.file == p.file) ≡ true = grind (arith, nat_tests) in
+      let e : ((p.sect == p.sect) && (p.file == p.file)) ≡ true = rw (s, t) refl in
+      absurd (cc (sym e ∙ h));
+  among = λ set_id items u k h. nil_is h.among.0 h.section h.among.1 h.among.2;
+  unknown_bytes = λ set h. h;
+  not_opened = λ set. tt;
+  one_of_set = λ set c k e h. nil_is h.among.0 h.placed h.among.1
+      (sym (ap (all_numbered 1) e) ∙ h.among.2);
+}
+
+cases_of_sets : CasesOfSalvagedSets
+cases_of_sets = record {
+  no_volume = λ set k xs e v. absurd (cc (sym e ∙ v.there));
+  no_images = λ k (r, (front, rest, is), at). nil_is front (Some r) rest is;
+  an_image = λ r. (r, (None ∷ [], [], refl), refl);
+  other_volume = λ r k off (q, (front, rest, is), at).
+      let e = only_one (Some r) front (Some q) rest is in
+      let same : r ≡ q = cc e in off (ap (λ (z : Reading). z.volume) same ∙ at);
+  no_copies = λ set file. refl;
+  not_read = λ set rs c h. absurd (cc h.is);
+  none_there = λ p f h. absurd (cc h.missing.0);
+  all_blocks = λ p bs h. h.blocks;
+  not_lost = λ set r cs p bs at (had, none). elim had [
+    | inl (c, q, best, image, x) ↦
+        subst (λ (z : Reading). HasBlocks set z p bs) (sym (only_image c.image r q image)) x
+    | inr x ↦ absurd (x.none (r, ([], [], refl), at))
+  ];
+  each_section = λ set rs cs p h. h;
+  in_order = λ a b c. refl;
+  nothing_found = λ set n. refl;
+  must_open = λ set r h. h;
+}
+
+pub cases_of_salvage : CasesOfSalvage
+cases_of_salvage = record {
+  conflicts = cases_of_conflicts;
+  gaps = cases_of_gaps;
+  closed = cases_of_closed;
+  damaged = cases_of_damaged;
+  sets = cases_of_sets;
+}

@@ -1,0 +1,182 @@
+-- Examples for the definitions of `salvage`. They are the contract of the call `laws::cases`.
+use Rattle.std.specs.Prelude.{◌≡◌, ℕ, ◌%◌, Bool, true, false, List, [], ◌∷◌, codes}
+use Rattle.std.specs.Prelude.{Option, Some, None}
+use Rattle.tape_image.specs.Tape.{TapeItem, block, bad, mark}
+use Rattle.tape_blocks.specs.Tight.{Filled}
+use Rattle.tape_set.specs.Layout.{FileSet, Placed, nth}
+use Rattle.tape_set.specs.Reading.{Reading}
+use Rattle.tape_run.specs.declared.section.SectionKey.{SectionKey}
+use Rattle.tape_run.specs.declared.salvage.copies.SectionCopy.{SectionCopy}
+use Rattle.tape_run.specs.declared.salvage.walk.Closing.{Closing}
+use Rattle.tape_run.specs.declared.salvage.walk.OpenSection.{OpenSection}
+use Rattle.tape_run.specs.declared.salvage.walk.Expected.TheVariants.{Data}
+use Rattle.tape_run.specs.SurveyDigest.{digest_with}
+use Rattle.tape_run.specs.SalvageBlocks.{none_salvaged}
+use Rattle.tape_run.specs.SalvageClosed.{IsNoMark, IsClosedIn, IsThere, digest_items}
+use Rattle.tape_run.specs.SalvageConflicts.{are_conflicting, has_conflict, conflict_text}
+use Rattle.tape_run.specs.SalvageConflicts.{AreConflicts}
+use Rattle.tape_run.specs.SalvageDamaged.{AnySection, any_volume, IsPlain, AreApart, IsExact}
+use Rattle.tape_run.specs.SalvageDamagedSets.{IsOtherHead, IsAnyImage, IsExactCopy}
+use Rattle.tape_run.specs.SalvageGaps.{Gap, AreGaps, data_in, StartsReadable}
+use Rattle.tape_run.specs.SalvageReadings.{IsReadVolume}
+use Rattle.tape_run.specs.SalvageSets.{copies_on, HasVolume, IsReadAgain, HasBlocks, IsOnNone}
+use Rattle.tape_run.specs.SalvageSets.{AreHad, joined}
+use Rattle.tape_run.specs.SalvageUnnamed.{IsNoFirst, IsUnnamedIn}
+use Rattle.tape_run.specs.SalvageSections.{filled_of}
+use Rattle.tape_run.specs.SalvageWhole.{Blocks}
+use Rattle.tape_run.specs.SalvagedSets.{AreItemsOf, IsImage}
+
+-- ---- copies
+
+-- a section with a number, of a number of blocks, which have this digest
+abbrev pub section_with : ℕ → ℕ → ℕ → OpenSection
+section_with sect blocks digest = record {
+  key = record { set_id = []; file = 1; sect = sect };
+  file_id = [];
+  form = None;
+  blocks = blocks;
+  certain = None;
+  unreadable = 0;
+  after = None;
+  digest = digest;
+}
+
+-- a complete copy of it on an image
+abbrev pub copy_on : ℕ → ℕ → ℕ → ℕ → SectionCopy
+copy_on image sect blocks digest = record {
+  image = image;
+  section = section_with sect blocks digest;
+  closed = Some (record { eof = true; count = blocks % 1000000 });
+  skip = None;
+}
+
+-- the same copy without its trailer label
+abbrev pub unclosed : SectionCopy → SectionCopy
+unclosed c = record { image = c.image; section = c.section; closed = None; skip = c.skip }
+
+-- Complete copies of one section that differ in their number of blocks or their digest conflict; no
+-- others do.
+pub record CasesOfConflicts : Type 0 where
+  pub same : are_conflicting (copy_on 0 1 2 7) (copy_on 1 1 2 7) ≡ false
+  pub other_digest : are_conflicting (copy_on 0 1 2 7) (copy_on 1 1 2 8) ≡ true
+  pub other_number : are_conflicting (copy_on 0 1 2 7) (copy_on 1 1 3 7) ≡ true
+  pub other_section : are_conflicting (copy_on 0 1 2 7) (copy_on 1 2 2 8) ≡ false
+  pub incomplete : are_conflicting (copy_on 0 1 2 7) (unclosed (copy_on 1 1 2 8)) ≡ false
+  pub incomplete_best : are_conflicting (unclosed (copy_on 0 1 2 7)) (copy_on 1 1 2 8) ≡ false
+  pub one_differs : has_conflict (Some (copy_on 0 1 2 7))
+      (copy_on 0 1 2 7 ∷ copy_on 1 1 2 8 ∷ copy_on 2 1 2 7 ∷ []) ≡ true
+  pub none_differs : has_conflict (Some (copy_on 0 1 2 7))
+      (copy_on 0 1 2 7 ∷ copy_on 1 1 2 7 ∷ []) ≡ false
+  pub no_best : has_conflict None (copy_on 0 1 2 7 ∷ copy_on 1 1 2 8 ∷ []) ≡ false
+  -- images are counted from 1, the one that is used first
+  pub lines : conflict_text (Some (copy_on 1 3 2 7))
+      (copy_on 0 3 2 8 ∷ copy_on 1 3 2 7 ∷ copy_on 4 3 2 9 ∷ [])
+      ≡ codes "CONFLICT 3 2 1\nCONFLICT 3 2 5\n"
+  -- each section is reported, and none after the last
+  pub no_sections : (cs : List SectionCopy) (text : List ℕ) (any : Bool)
+      → AreConflicts cs 0 text any → (text ≡ []) × (any ≡ false)
+  pub one_section : (text : List ℕ) (any : Bool)
+      → AreConflicts (copy_on 0 1 2 7 ∷ copy_on 1 1 2 8 ∷ []) 1 text any
+      → (text ≡ codes "CONFLICT 1 1 2\n") × (any ≡ true)
+
+-- ---- gaps
+
+pub record CasesOfGaps : Type 0 where
+  -- one gap for a run of unreadable blocks, with the number of records before it
+  pub one_run : (b : List ℕ) (gap : Gap)
+      → AreGaps None 0 none_salvaged (block b ∷ bad ∷ bad ∷ []) (gap ∷ [])
+      → (gap.first ≡ 1) × (gap.last ≡ 2) × (gap.records ≡ 1)
+  pub reported : AreGaps None 0 none_salvaged (bad ∷ []) [] → ⊥
+  pub not_split : (x y : Gap) → AreGaps None 0 none_salvaged (bad ∷ bad ∷ []) (x ∷ y ∷ []) → ⊥
+  pub no_gap : (b : List ℕ) (gap : Gap)
+      → AreGaps None 0 none_salvaged (block b ∷ []) (gap ∷ []) → ⊥
+  -- the first blocks of the section, and no more than asked for
+  pub most : (a b : List ℕ) → data_in (record { set_id = []; file = 1; sect = 1 }) 1
+      (Data (section_with 1 0 0)) (block a ∷ block b ∷ []) ≡ block a ∷ []
+  pub other_section : (a : List ℕ) → data_in (record { set_id = []; file = 1; sect = 2 }) 1
+      (Data (section_with 1 0 0)) (block a ∷ []) ≡ []
+  pub to_the_mark : (a : List ℕ) → data_in (record { set_id = []; file = 1; sect = 1 }) 9
+      (Data (section_with 1 0 0)) (bad ∷ mark ∷ block a ∷ []) ≡ bad ∷ []
+  pub starts : StartsReadable (bad ∷ []) → ⊥
+
+-- ---- sections that close
+
+pub record CasesOfClosed : Type 0 where
+  pub no_mark : IsNoMark mark → ⊥
+  -- only blocks that were read count in a digest
+  pub digest : (a b : List ℕ)
+      → digest_items 0 (block a ∷ bad ∷ block b ∷ []) ≡ digest_with (digest_with 0 a) b
+  pub no_items : (u : OpenSection) (k : Closing) → IsClosedIn [] u k → ⊥
+  pub too_few : (a b : List ℕ) (u : OpenSection) (k : Closing)
+      → IsClosedIn (block a ∷ mark ∷ block b ∷ []) u k → ⊥
+  pub without_hdr1 : (u : OpenSection) (k : Closing) → IsUnnamedIn [] u k → ⊥
+  pub not_first : IsNoFirst bad
+  -- a section that does not close is not claimed to be complete
+  pub unclosed : (n : ℕ) (u : OpenSection) → IsThere [] (n, (u, None))
+
+-- ---- volumes of which any items may be unreadable
+
+-- a section of one block, of which only its HDR1, its block and its trailer label were read
+abbrev pub any_section : Placed → Filled → List ℕ → List ℕ → AnySection
+any_section p f header trailer = record {
+  placed = p;
+  hdr1 = true;
+  headers = (false, header) ∷ [];
+  first_mark = false;
+  blocks = (true, f) ∷ [];
+  second_mark = false;
+  trailer = true;
+  trailers = (false, trailer) ∷ [];
+  last_mark = false;
+}
+
+pub record CasesOfDamaged : Type 0 where
+  pub items : (p : Placed) (f : Filled) (a b c : List ℕ)
+      → any_volume ((true, a) ∷ (false, b) ∷ []) (any_section p f b c ∷ []) true
+      ≡ block a ∷ bad ∷ block p.section.hdr1 ∷ bad ∷ bad ∷ block f.bytes ∷ bad
+      ∷ block p.section.trailer ∷ bad ∷ bad ∷ mark ∷ []
+  pub no_last_mark : any_volume [] [] false ≡ bad ∷ []
+  -- a block of another length than a label cannot be mistaken for one
+  pub plain : IsPlain (codes "ABC001") (65 ∷ [])
+  pub apart : (p : Placed) (f : Filled) (a : List ℕ)
+      → AreApart (any_section p f a a ∷ any_section p f a a ∷ []) → ⊥
+  pub among : (set_id : List ℕ) (items : List TapeItem) (u : OpenSection) (k : Closing)
+      → IsExact set_id [] items u k → ⊥
+  pub unknown_bytes : (set : FileSet) → IsAnyImage set (Some None) → ⊥
+  pub not_opened : (set : FileSet) → IsAnyImage set None
+  pub one_of_set : (set : FileSet) (c : SectionCopy) (k : Closing) → set.files ≡ []
+      → IsExactCopy set c k → ⊥
+
+-- ---- files of a valid set
+
+pub record CasesOfSalvagedSets : Type 0 where
+  pub no_volume : (set : FileSet) (k : ℕ) (xs : List TapeItem) → nth set.volumes k ≡ None
+      → IsReadVolume set k xs → ⊥
+  pub no_images : (k : ℕ) → HasVolume [] k → ⊥
+  pub an_image : (r : Reading) → HasVolume (None ∷ Some r ∷ []) r.volume
+  pub other_volume : (r : Reading) (k : ℕ) → (r.volume ≡ k → ⊥) → HasVolume (Some r ∷ []) k → ⊥
+  pub no_copies : (set : FileSet) (file : ℕ) → copies_on set file 0 (None ∷ None ∷ []) ≡ []
+  pub not_read : (set : FileSet) (rs : List (Option Reading)) (c : SectionCopy)
+      → IsReadAgain set rs c None → ⊥
+  -- without an image of its volume no block of a section is there
+  pub none_there : (p : Placed) (f : Filled) → IsOnNone [] p ((true, f) ∷ []) → ⊥
+  pub all_blocks : (p : Placed) (bs : Blocks) → IsOnNone [] p bs
+      → filled_of bs ≡ p.section.blocks
+  -- with an image its blocks are those that the image has
+  pub not_lost : (set : FileSet) (r : Reading) (cs : List SectionCopy) (p : Placed) (bs : Blocks)
+      → r.volume ≡ p.section.volume → AreHad set (Some r ∷ []) cs (p ∷ []) (bs ∷ [])
+      → HasBlocks set r p bs
+  pub each_section : (set : FileSet) (rs : List (Option Reading)) (cs : List SectionCopy)
+      (p : Placed) → AreHad set rs cs (p ∷ []) [] → ⊥
+  pub in_order : (a b c : Bool × Filled) → joined ((a ∷ b ∷ []) ∷ [] ∷ (c ∷ []) ∷ [])
+      ≡ a ∷ b ∷ c ∷ []
+  pub nothing_found : (set : FileSet) → AreItemsOf set 1 None []
+  pub must_open : (set : FileSet) (r : Reading)
+      → IsImage {R = Option (List ℕ)} set 1 (λ d. d) (Some r) None → ⊥
+
+pub record CasesOfSalvage : Type 0 where
+  pub conflicts : CasesOfConflicts
+  pub gaps : CasesOfGaps
+  pub closed : CasesOfClosed
+  pub damaged : CasesOfDamaged
+  pub sets : CasesOfSalvagedSets

@@ -1,0 +1,90 @@
+-- A file of a valid set as a call of `salvage_to` recovers it from images of the set's volumes.
+use Rattle.std.specs.Prelude.{◌≡◌, ℕ, ◌+◌, Bool, true, List, [], ◌∷◌, length, Option, Some, None}
+use Rattle.std.specs.Prelude.{slice_get}
+use Rattle.std.specs.List.{AllByRecursion}
+use Rattle.std.specs.Io.KnownBytes.{Appends}
+use Rattle.tape_image.specs.Tape.{TapeItem}
+use Rattle.tape_image.specs.Begins.{Stop, Begins}
+use Rattle.tape_set.specs.Layout.{FileSet, Section, numbered, file_of}
+use Rattle.tape_set.specs.Lawful.{IsLawful}
+use Rattle.tape_set.specs.Before.{section_parts}
+use Rattle.tape_set.specs.Reading.{Reading}
+use Rattle.tape_run.specs.declared.salvage.Content.TheVariants.{Records}
+use Rattle.tape_run.specs.declared.salvage.SalvageTask.{SalvageTask}
+use Rattle.tape_run.specs.declared.salvage.copies.SectionCopy.{SectionCopy}
+use Rattle.tape_run.specs.Checked.{Reel}
+use Rattle.tape_run.specs.Reeling.{Mounting}
+use Rattle.tape_run.specs.RecordText.{output_of}
+use Rattle.tape_run.specs.WholeSet.{IsNoDevice}
+use Rattle.tape_run.specs.SalvageWalk.{sections_in}
+use Rattle.tape_run.specs.SalvageCopies.{of_file, start_of}
+use Rattle.tape_run.specs.SalvageRecords.{parts_text}
+use Rattle.tape_run.specs.SalvageBlocks.{Salvaged}
+use Rattle.tape_run.specs.SalvageImage.{EndsData}
+use Rattle.tape_run.specs.SalvageTaking.{Taken}
+use Rattle.tape_run.specs.SalvageSets.{items_read, IsCompleteOr, HasVolume, IsRecovered}
+use Rattle.tape_run.specs.Salvaging.{FindsOnAll, Salvages}
+
+-- ---- the images
+
+-- The items of an image are those of this reading; or, without a reading, no section of the file is
+-- found among them.
+abbrev pub AreItemsOf : FileSet → ℕ → Option Reading → List TapeItem → Type 0
+AreItemsOf set file (Some r) xs = xs ≡ items_read set r
+AreItemsOf set file None xs = (n : ℕ) → of_file set.set_id file n (sections_in xs) ≡ []
+
+-- An image could not be opened, or its reader knows its bytes, and these begin with such items.
+abbrev pub IsImage : {R : Type 0} → FileSet → ℕ → (R → Option (List ℕ)) → Option Reading → Option R
+    → Type 0
+IsImage set file remaining (Some r) None = ⊥
+IsImage set file remaining None None = Unit {0}
+IsImage set file remaining r (Some device) = (bytes : List ℕ) × (xs : List TapeItem) × (end : ℕ)
+    × (stop : Stop) × (remaining device ≡ Some bytes) × Begins 0 bytes xs end stop
+    × AreItemsOf set file r xs
+
+-- each time an image is opened, it is the one with its number
+abbrev pub AreImages : {L R : Type 0} → FileSet → ℕ → Mounting L R → (R → Option (List ℕ))
+    → List (Option Reading) → Type 0
+AreImages {L} {R} set file gives remaining rs = (shelf left : L) (n : ℕ) (image : Option R)
+    → gives shelf n image left
+    → (r : Option Reading) × (slice_get rs n ≡ Some r) × IsImage set file remaining r image
+
+-- ---- no reader failed
+
+-- when the copies were found
+abbrev pub NoneFailed : (set_id : List ℕ) (file n : ℕ) (reels : List Reel)
+    (old new : List SectionCopy) (text : List ℕ) → FindsOnAll set_id file n reels old new text
+    → Type 0
+NoneFailed set_id file n [] old new text found = Unit {0}
+NoneFailed set_id file n (None ∷ reels) old new text found =
+    NoneFailed set_id file (n + 1) reels found.0 new found.2 found.4
+NoneFailed set_id file n (Some before ∷ reels) old new text found = IsNoDevice found.3.1.stop
+    × NoneFailed set_id file (n + 1) reels found.0 new found.2 found.4
+
+-- when a section was read from its best copy: the image was read to the mark after its data
+abbrev pub IsReadToEnd : Taken → Type 0
+IsReadToEnd t = (c : SectionCopy) → t.copy ≡ Some c
+    → (xs : List TapeItem) × (t.items ≡ Some xs) × EndsData (start_of c) c.section.key xs
+
+-- ---- the call
+
+-- The files that a call recovers from such images of a valid set, if no reader failed: what is
+-- written is what `IsRecovered` says. If the call says that nothing is missing, and that no copies
+-- differ, it is exactly what `extract` writes of the complete file.
+abbrev pub RecoversSets : {W L R : Type 0} → (W → Option (List ℕ)) → (L → ℕ) → Mounting L R
+    → (R → Option (List ℕ)) → Type 0
+RecoversSets {W} {L} {R} contents size gives remaining = (task : SalvageTask) (out : W)
+    (shelf left : L) (stands said says : Option (List ℕ)) (complete : Bool)
+    (s : Salvages contents size gives remaining task out shelf left stands said says complete)
+    (set : FileSet) (f : List Section) (rs : List (Option Reading))
+    → IsLawful set → task.set_id ≡ set.set_id → task.content ≡ Records
+    → file_of set task.file ≡ Some f → size shelf ≡ length rs
+    → AllByRecursion (IsCompleteOr set) rs → AreImages set task.file gives remaining rs
+    → AllByRecursion (λ p. p.section.blocks ≡ [] → HasVolume rs p.section.volume)
+    (numbered task.file 1 f)
+    → NoneFailed task.set_id task.file 0 s.finds.reels [] s.copies s.finds.text s.finds.finds
+    → AllByRecursion IsReadToEnd s.taken
+    → (g : Salvaged) × IsRecovered set task.file f rs s.copies g
+    × Appends (contents out) stands (parts_text task.form g.piece.done)
+    × (complete ≡ true
+    → Appends (contents out) stands (output_of task.form (section_parts f)))
