@@ -6,7 +6,7 @@
 
 A proof says no more than the definitions it is about. A definition holds if a change of its meaning
 makes a proof fail; trials/mutations.py generates such changes by rule, of the definitions that
-public contracts reach, and reads the composite ones of trials/composite. Each crate is proved in a
+public contracts reach, and reads the composite ones of trials/composite.txt. Each crate is proved in a
 copy of the repository, over the work kept in out/; run `rt check` in it first.
 
 Up to G mutations of different definitions go into one check. A refusal is attributed to a mutation
