@@ -8,7 +8,6 @@ Each check is named after the rule that a wrong program would violate. Prints ea
 status 1 if something was wrong.
 """
 
-import argparse
 import os
 import re
 import subprocess
@@ -16,8 +15,8 @@ import sys
 import tempfile
 from pathlib import Path
 
-sys.dont_write_bytecode = True
-from fail import CRATE, LINES, ONE, TWO, stage_of, volume
+from common import Results, arguments, files_in, folder_with
+from fail import LINES, ONE, TWO, stage_of
 from make_worked_image import block, first_label, mark, second_label, volume_label, word
 
 CALLS = "openat,write,fsync,fdatasync,rename,renameat,renameat2,link,linkat,unlink,unlinkat,flock,close,ftruncate,fchmod,fchown"
@@ -39,12 +38,10 @@ class Run:
     """One run of the program in its own directory: its result, and its system calls."""
 
     def __init__(self, program, words, files, inject=(), only=None, before=None, out=subprocess.PIPE, watch=True, stdin=b"", env=None):
-        with tempfile.TemporaryDirectory(prefix="tape-order-") as folder:
-            self.root = Path(folder)
+        with folder_with(files) as folder:
+            self.root = folder
             os.chmod(folder, 0o777)
-            (self.root / "d").mkdir()
-            for name, content in files.items():
-                (self.root / name).write_bytes(content)
+            (folder / "d").mkdir(exist_ok=True)
             if before:
                 before(self.root)
             log = self.root.with_suffix(".log")
@@ -59,7 +56,7 @@ class Run:
             )
             self.status, self.err = done.returncode, done.stderr.decode("utf-8", "replace")
             self.out = (done.stdout or b"").decode("utf-8", "replace")
-            self.files = {str(p.relative_to(self.root)): p.read_bytes() for p in self.root.rglob("*") if p.is_file() and not p.is_symlink()}
+            self.files = files_in(folder)
             self.links = [str(p.relative_to(self.root)) for p in self.root.rglob("*") if p.is_symlink()]
             self.modes = {name: (self.root / name).stat().st_mode & 0o7777 for name in self.files}
             self.events = self.read(log) if log.exists() else []
@@ -518,27 +515,18 @@ def names_are_quoted(t):
 
 
 def main():
-    parser = argparse.ArgumentParser(description=__doc__.split("\n\n")[0])
-    parser.add_argument("--program", type=Path, default=CRATE / "out" / "tape_tool", help="the built `tape`")
-    parser.add_argument("names", nargs="*", help="the checks to run [default: all]")
-    options = parser.parse_args()
-    program = str(options.program.resolve())
+    options, results = arguments(__doc__, ("names", [], "the checks to run [default: all]")), Results()
+    program = options.program
 
     def call(words, files, **how):
         return Run(program, words, files, **how)
 
     call.program, call.stage, call.records = program, stage_of(program), LINES
-    count = wrong = 0
     for one in CHECKS:
-        if options.names and one.__name__ not in options.names:
-            continue
-        for is_right, what in one(call):
-            count += 1
-            if not is_right:
-                wrong += 1
-                print(f"{one.__name__}: {what}")
-    print(f"{count} results, {wrong} wrong")
-    return wrong != 0
+        if not options.names or one.__name__ in options.names:
+            for is_right, what in one(call):
+                results.expect(is_right, f"{one.__name__}: {what}")
+    return results.end()
 
 
 if __name__ == "__main__":
