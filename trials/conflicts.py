@@ -140,7 +140,7 @@ class Case:
             section.count += 1
 
     def encoded(self, image):
-        volume = label(f"VOL1{'VOL%03d' % (image[0] + 1):6}{'':69}4")
+        volume = label((f"VOL1{'VOL%03d' % (image[0] + 1):6}{'':69}4", 80))
         end = self.rnd.choice([word(0xFFFFFFFF), b""])
         return volume + b"".join(s.encoded(self) for s in image[1]) + word(0) + end
 

@@ -109,6 +109,13 @@ def is_write(path):
     return lambda name, at, rest: name == "write" and at == path
 
 
+def refused(t, words, files, *kinds):
+    """Each call of some kinds refused in turn: a description, and the run."""
+    for kind, error in kinds:
+        for number in range(1, sum(call in kind.split(",") for call, _, _ in t(words, files).events) + 1):
+            yield f"{kind} {number}", t(words, files, inject=[f"{kind}:error={error}:when={number}"])
+
+
 # ---- syncs and names, in their order ----
 
 
@@ -166,10 +173,8 @@ def a_shared_lock_excludes(t):
 def refused_folder_sync(t):
     for words, files in (([*EXTRACT, "one.tap", "two.tap"], REELS), (["unpack", "d", "one.tap", "two.tap"], REELS),
             (["write", ".", "ABC", "200000", "A=lines"], {"lines": LINES})):
-        count = sum(name == "fsync" for name, _, _ in t(words, files).events)
-        for number in range(1, count + 1):
-            run = t(words, files, inject=[f"fsync:error=EIO:when={number}"])
-            yield run.status == 1 and "COMPLETE 900" not in run.out and "FILES" not in run.out, f"{words[0]}, sync {number} refused: {run.status} {run.out!r}"
+        for what, run in refused(t, words, files, ("fsync", "EIO")):
+            yield run.status == 1 and "COMPLETE 900" not in run.out and "FILES" not in run.out, f"{words[0]}, {what} refused: {run.status} {run.out!r}"
 
 
 @check
@@ -267,10 +272,8 @@ def salvaged_files(t):
         yield run.status == 0 and run.files.get(path) == own[path] + b"more\n", f"{path} that was changed, a complete file: {run.status}"
     run = t([*words, "two.tap"], REELS | own)
     yield run.status == 0 and not set(own) & set(run.files), f"a complete file: {run.status} {list(run.files)}"
-    for kind, error in (("fsync", "EIO"), ("write", "ENOSPC")):
-        for number in range(1, sum(call == kind for call, _, _ in t(words, REELS).events) + 1):
-            run = t(words, REELS, inject=[f"{kind}:error={error}:when={number}"])
-            yield run.status == 1 and all(run.files.get(path, due) == due for path, due in own.items()) and run.drafts() == [], f"{kind} {number}: {run.status} {list(run.files)}"
+    for what, run in refused(t, words, REELS, ("fsync", "EIO"), ("write", "ENOSPC")):
+        yield run.status == 1 and all(run.files.get(path, due) == due for path, due in own.items()) and run.drafts() == [], f"{what}: {run.status} {list(run.files)}"
 
 
 @check
@@ -285,11 +288,9 @@ def log_of_a_merge(t):
         yield run.status == 1 and run.files[path] == b"mine\n" and not set(due) - {path} & set(run.files), f"{path} exists: {run.status} {list(run.files)}"
         run = t(words, REELS, before=lambda root: (root / path).symlink_to("lost"))
         yield run.status == 1 and run.links == [path] and "lost" not in run.files, f"{path} is a link: {run.status}"
-    for kind, error in (("fsync", "EIO"), ("write", "ENOSPC"), ("link,linkat,rename", "EIO")):
-        for number in range(1, sum(call in kind.split(",") for call, _, _ in t(words, REELS).events) + 1):
-            run = t(words, REELS, inject=[f"{kind}:error={error}:when={number}"])
-            there = {path: run.files[path] for path in due if path in run.files}
-            yield run.drafts() == [] and (there == due or run.status == 1 and not there), f"{kind} {number}: {run.status} {list(there)}"
+    for what, run in refused(t, words, REELS, ("fsync", "EIO"), ("write", "ENOSPC"), ("link,linkat,rename", "EIO")):
+        there = {path: run.files[path] for path in due if path in run.files}
+        yield run.drafts() == [] and (there == due or run.status == 1 and not there), f"{what}: {run.status} {list(there)}"
 
 
 @check
@@ -410,11 +411,8 @@ def full_output(t):
 @check
 def each_refused_write(t):
     """More bytes than the buffer: a write of records fails while reels are read."""
-    run = t([*EXTRACT, "one.tap", "two.tap"], REELS)
-    writes = [k for k, (name, at, rest) in enumerate(run.events) if name == "write"]
-    for number in range(1, len(writes) + 1):
-        run = t([*EXTRACT, "one.tap", "two.tap"], REELS, inject=[f"write:error=ENOSPC:when={number}"])
-        yield run.status == 1 and run.err == "tape: file fault 4\n" and "COMPLETE" not in run.out.replace("REEL 2 COMPLETE", ""), f"write {number}: {run.err!r}"
+    for what, run in refused(t, [*EXTRACT, "one.tap", "two.tap"], REELS, ("write", "ENOSPC")):
+        yield run.status == 1 and run.err == "tape: file fault 4\n" and "COMPLETE" not in run.out.replace("REEL 2 COMPLETE", ""), f"{what}: {run.err!r}"
     written = ["write", ".", "ABC", "200000", "A=lines"], {"lines": LINES, "ABC001.tap": BLANK}
     right = t(*written).files["ABC001.tap"]
     for number in range(1, 12):

@@ -100,7 +100,7 @@ def main():
             said = [*(done.stdout or b"").decode().splitlines(), *(f"! {it}".rstrip() for it in done.stderr.decode().splitlines())]
             text = [it for it in lines if it[:2] not in ("> ", "@ ", "# ") and it != ">"]
             if text and text[0] == "...":
-                text, said = text[1:], said[1 - len(text):]
+                text, said = text[1:], said[2 - len(text):]
             if text:
                 results.expect([*said, f"[{done.returncode}]"] == text, f"{line}: {said}, status {done.returncode}")
             for due in (it[1:].strip() for it in lines if it[:1] == ">"):
