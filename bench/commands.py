@@ -149,12 +149,8 @@ def time_write(bench, shape):
 def time_extract(bench, shape):
     out = bench.memory / "out"
     words = ["ABC001", "1", out, *bench.images(shape)]
-    others = {
-        "C, collecting": [bench.build / "extract", *words],
-        "C, streaming": [bench.build / "extract", "--stream", *words],
-    }
-    commands = bench.with_tape(["extract", *words], others)
-    bench.time(front("extract", shape), "C, collecting", commands, lambda: empty(bench.memory))
+    commands = bench.with_tape(["extract", *words], {"C": [bench.build / "extract", *words]})
+    bench.time(front("extract", shape), "C", commands, lambda: empty(bench.memory))
     for command in commands.values():
         empty(bench.memory)
         subprocess.run(command, check=True, stdout=subprocess.DEVNULL)

@@ -299,7 +299,7 @@ class Bench:
             survey = each(lambda image: (tape, "survey", image))
             extract = each(lambda image: (tape, "extract", *words, image))
             stage = each(lambda image: (tape, "extract", *words, image, "--stage", "stage"))
-            plain = each(lambda image: (c, "--stream", *words, image))
+            plain = each(lambda image: (c, *words, image))
             print(f"instructions a block of {length:,}: check {check:,.0f}, survey {survey:,.0f}, extract {extract:,.0f}, "
                 f"extract --stage {stage:,.0f}, C {plain:,.0f}")
             self.line(f"extract over C, blocks of {length:,}", extract / plain, 1.25)
