@@ -146,17 +146,22 @@ def time_write(bench, shape):
 # ---- extract ----
 
 
+def time_lines(bench, shape, base, commands):
+    """Times programs that write the lines, and compares what they wrote."""
+    bench.time(front("extract", shape), base, commands, lambda: empty(bench.memory))
+    for command in commands.values():
+        empty(bench.memory)
+        subprocess.run(command, check=True, stdout=subprocess.DEVNULL)
+        if not filecmp.cmp(bench.memory / "out", bench.lines, shallow=False):
+            sys.exit(f"extract {shape}: the lines differ")
+    empty(bench.memory)
+
+
 def time_extract(bench, shape):
     out = bench.memory / "out"
     words = ["ABC001", "1", out, *bench.images(shape)]
     commands = bench.with_tape(["extract", *words], {"C": [bench.build / "extract", *words]})
-    bench.time(front("extract", shape), "C", commands, lambda: empty(bench.memory))
-    for command in commands.values():
-        empty(bench.memory)
-        subprocess.run(command, check=True, stdout=subprocess.DEVNULL)
-        if not filecmp.cmp(out, bench.lines, shallow=False):
-            sys.exit(f"extract {shape}: the lines differ")
-    empty(bench.memory)
+    time_lines(bench, shape, "C", commands)
 
 
 # ---- stage ----
@@ -166,13 +171,7 @@ def time_stage(bench, shape):
     out, stage = bench.memory / "out", bench.memory / "stage"
     words = [bench.options.program, "extract", "ABC001", "1", out, *bench.images(shape)]
     commands = {"`tape extract --stage`": [*words, "--stage", stage], "`tape extract`": words}
-    bench.time(front("extract", shape), "`tape extract`", commands, lambda: empty(bench.memory))
-    for command in commands.values():
-        empty(bench.memory)
-        subprocess.run(command, check=True, stdout=subprocess.DEVNULL)
-        if not filecmp.cmp(out, bench.lines, shallow=False):
-            sys.exit(f"stage {shape}: the lines differ")
-    empty(bench.memory)
+    time_lines(bench, shape, "`tape extract`", commands)
 
 
 # ---- check ----

@@ -16,7 +16,6 @@ status 1 if there was one.
 import os
 import random
 import resource
-import struct
 import subprocess
 import sys
 import time
@@ -24,6 +23,8 @@ from pathlib import Path
 
 from common import HERE, arguments, folder_with, library
 from fail import KINDS
+from make_worked_image import block, mark, word
+from salvage import BAD, MARK, items_of
 sys.path.insert(0, str(HERE.parent / "bench"))
 from timing import build  # noqa: E402
 
@@ -33,33 +34,14 @@ FULL = "tape: file fault 4\n"
 FILES = 64
 
 
-def items(image):
-    """The blocks of an image, in order, with None for a tape mark, or nothing if the image is incomplete."""
-    found, at = [], 0
-    while True:
-        if at + 4 > len(image):
-            return None
-        (length,) = struct.unpack_from("<I", image, at)
-        if length == 0xFFFFFFFF:
-            return found if at + 4 == len(image) and found[-2:] == [None, None] else None
-        at += 4
-        if length == 0:
-            found.append(None)
-            continue
-        block, at = image[at : at + length], at + length + length % 2
-        if image[at : at + 4] != struct.pack("<I", length):
-            return None
-        found.append(block)
-        at += 4
-
-
 def data(image):
-    """The data blocks of a complete image with one section, joined."""
-    whole = items(image)
-    if whole is None:
+    """The data blocks of a complete image with one section, joined, or None if it is incomplete."""
+    found = items_of(image)
+    encoded = b"".join(mark() if it is MARK else block(it) for it in found if it is not BAD) + word(0xFFFFFFFF)
+    if encoded != image or found[-2:] != [MARK, MARK]:
         return None
-    first = whole.index(None)
-    return b"".join(whole[first + 1 : whole.index(None, first + 1)])
+    first = found.index(MARK)
+    return b"".join(found[first + 1:found.index(MARK, first + 1)])
 
 
 def what_is_wrong(options, folder, content):

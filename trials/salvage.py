@@ -544,7 +544,6 @@ def by_hand(trial):
         for damage in (None, 1, len(blocks) - 1):
             made = list(items)
             if damage is not None:
-                at = len(items) - len(blocks) - (3 if not has_second else 4) - 1 + damage
                 at = items.index(block(blocks[damage]))
                 made[at] = bytes([*made[at][:3], made[at][3] | 0x80, *made[at][4:-1], made[at][-1] | 0x80])
             image = b"".join(made)
