@@ -19,7 +19,6 @@ import resource
 import subprocess
 import sys
 import time
-from pathlib import Path
 
 from common import HERE, arguments, folder_with, library
 from fail import KINDS

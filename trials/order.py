@@ -13,6 +13,7 @@ import re
 import subprocess
 import sys
 import tempfile
+from inspect import isfunction, signature
 from pathlib import Path
 
 from common import Results, arguments, files_in, folder_with
@@ -26,12 +27,6 @@ REELS = {"one.tap": ONE, "two.tap": TWO}
 EXTRACT = ["extract", "ABC001", "1", "OUT"]
 CUT = ONE[:20000]
 BLANK = volume_label("ABC001") + mark() + mark() + word(0xFFFFFFFF)
-CHECKS = []
-
-
-def check(function):
-    CHECKS.append(function)
-    return function
 
 
 class Run:
@@ -119,7 +114,6 @@ def refused(t, words, files, *kinds):
 # ---- syncs and names, in their order ----
 
 
-@check
 def image_is_synced(t):
     for files in ({}, {"ABC001.tap": BLANK}):
         run = t(["write", ".", "ABC", "200000", "A=lines"], {"lines": LINES} | files)
@@ -128,14 +122,12 @@ def image_is_synced(t):
             yield in_order(run.first(is_write("ABC001.tap")), run.last(is_sync(".")), run.printed("FILES")), "the directory of a new image is synced"
 
 
-@check
 def init_is_synced(t):
     run = t(["init", ".", "ABC", "2"], {})
     for name in ("ABC001.tap", "ABC002.tap"):
         yield in_order(run.last(is_write(name)), run.last(is_sync(name)), run.printed("INIT")), f"{name} is synced"
 
 
-@check
 def name_after_sync(t):
     for words, files in (([*EXTRACT, "one.tap", "two.tap"], REELS), ([*EXTRACT, "two.tap", "one.tap", "--again"], REELS | {"OUT": b"old\n"}),
             ([*EXTRACT, "one.tap", "two.tap", "--stage", "s"], REELS), (["unpack", "d", "one.tap", "two.tap"], REELS)):
@@ -149,7 +141,6 @@ def name_after_sync(t):
         yield run.drafts() == [], "the draft has gone"
 
 
-@check
 def stage_is_synced(t):
     run = t([*EXTRACT, "one.tap", "--stage", "s"], REELS)
     yield in_order(run.first(is_write("s")), run.first(is_sync("s")), run.printed("AWAITS")), "a new stage is synced"
@@ -158,7 +149,6 @@ def stage_is_synced(t):
     yield any(name == "flock" and at == "s" and "LOCK_EX" in rest for name, at, rest in run.events), "it is locked for this run alone"
 
 
-@check
 def a_shared_lock_excludes(t):
     def lock(root):
         held.append(subprocess.Popen(["flock", "-s", str(root / "s"), "sleep", "30"]))
@@ -169,7 +159,6 @@ def a_shared_lock_excludes(t):
     yield run.status == 1 and run.err == "tape: stage fault 7\n" and run.files["s"] == t.stage, f"a shared lock: {run.err}"
 
 
-@check
 def refused_folder_sync(t):
     for words, files in (([*EXTRACT, "one.tap", "two.tap"], REELS), (["unpack", "d", "one.tap", "two.tap"], REELS),
             (["write", ".", "ABC", "200000", "A=lines"], {"lines": LINES})):
@@ -177,7 +166,6 @@ def refused_folder_sync(t):
             yield run.status == 1 and "COMPLETE 900" not in run.out and "FILES" not in run.out, f"{words[0]}, {what} refused: {run.status} {run.out!r}"
 
 
-@check
 def input_is_closed(t):
     run = t(["write", ".", "ABC", "200000", "A=a", "B=b"], {"a": LINES, "b": LINES})
     read = [k for k, (name, at, rest) in enumerate(run.events) if name == "openat" and at in "ab"]
@@ -188,7 +176,6 @@ def input_is_closed(t):
 # ---- files that remain, and files that are removed ----
 
 
-@check
 def drafts_are_removed(t):
     full = lambda root: (root / "OUT").symlink_to("/dev/full")
     for words, files in (([*EXTRACT, "one.tap"], REELS), ([*EXTRACT, "one.tap", "--again"], REELS), ([*EXTRACT, "one.tap", "--stage", "s"], REELS),
@@ -206,7 +193,6 @@ def drafts_are_removed(t):
     yield run.status == 1 and run.drafts() == [], f"a damaged stage: {run.status} {run.drafts()}"
 
 
-@check
 def no_new_file(t):
     """No temporary file can be created: OUT is written in place only if it exists and its directory refuses new files."""
     old = {"OUT": b"old\n"}
@@ -224,7 +210,6 @@ def no_new_file(t):
             yield run.status == 1 and "FAILED file fault 2" in run.out and "d/ABC001.1.PAYROLL" not in run.files, f"{error}, unpack: {run.out!r}"
 
 
-@check
 def names_that_are_taken(t):
     def take(root):
         for number in range(1, 12):
@@ -233,14 +218,12 @@ def names_that_are_taken(t):
     yield run.status == 0 and run.files.get("OUT") == t.records, f"eleven names are taken: {run.status} {run.err!r}"
 
 
-@check
 def modes_are_kept(t):
     for mode, wanted in ((0o600, 0o600), (0o640, 0o640), (0o4755, 0o755), (0o2711, 0o711)):
         run = t([*EXTRACT, "one.tap", "two.tap"], REELS | {"OUT": b"old\n"}, before=lambda root: (root / "OUT").chmod(mode))
         yield run.status == 0 and run.modes["OUT"] == wanted, f"{mode:o} became {run.modes['OUT']:o}"
 
 
-@check
 def links_are_left_alone(t):
     run = t(["unpack", "d", "one.tap", "two.tap"], REELS, before=lambda root: (root / "d/ABC001.1.PAYROLL").symlink_to("lost"))
     yield run.links == ["d/ABC001.1.PAYROLL"] and "EXISTS" in run.out and "d/lost" not in run.files, f"a link that leads nowhere: {run.out!r} {run.links}"
@@ -250,7 +233,6 @@ def links_are_left_alone(t):
     yield run.links == ["OUT"] and run.files["real"] == t.records, "OUT that is a link is written through"
 
 
-@check
 def salvaged_files(t):
     """What `unpack --salvage` does to its two files: those of anybody else stay as they are."""
     words, name = ["unpack", "--salvage", "d", "one.tap"], "d/ABC001.1.PAYROLL"
@@ -276,7 +258,6 @@ def salvaged_files(t):
         yield run.status == 1 and all(run.files.get(path, due) == due for path, due in own.items()) and run.drafts() == [], f"{what}: {run.status} {list(run.files)}"
 
 
-@check
 def log_of_a_merge(t):
     """OUT and LOG of `merge --log` are there together, or neither is; files that exist stay as they are."""
     words = ["merge", "--log", "LOG", "OUT", "one.tap", "one.tap"]
@@ -293,14 +274,12 @@ def log_of_a_merge(t):
         yield run.drafts() == [] and (there == due or run.status == 1 and not there), f"{what}: {run.status} {list(there)}"
 
 
-@check
 def a_stage_by_another_path(t):
     for stage, out in (("d/../x", "x"), ("x", "d/../x"), ("./x", "x")):
         run = t(["extract", "ABC001", "1", out, "one.tap", "--stage", stage], REELS)
         yield run.status == 2 and "x" not in run.files, f"OUT {out}, stage {stage}: {run.status}"
 
 
-@check
 def files_on_two_systems(t):
     with tempfile.TemporaryDirectory() as top:
         a, b = Path(top, "a"), Path(top, "b")
@@ -319,7 +298,6 @@ def files_on_two_systems(t):
                 subprocess.run(["umount", str(folder)], check=True)
 
 
-@check
 def inputs_are_tried_first(t):
     run = Run("setpriv", ["--reuid=65534", "--clear-groups", t.program, "write", "d", "ABC", "100000", "A=a", "B=b"], {"a": LINES, "b": LINES},
         before=lambda root: ((root / "b").chmod(0), (root / "d").chmod(0o777)), watch=False)
@@ -329,7 +307,6 @@ def inputs_are_tried_first(t):
 # ---- options and statuses ----
 
 
-@check
 def options_do_something(t):
     run = t(["survey", "one.tap", "--tsv"], REELS)
     yield run.out.startswith("IMAGE\tone.tap\t"), f"survey --tsv: {run.out!r}"
@@ -346,7 +323,6 @@ def options_do_something(t):
     yield t(["list", "lost.tap"], {}).err == "tape: file fault 2\n", "nothing is explained unless it is asked for"
 
 
-@check
 def statuses_of_unpack(t):
     other = ONE.replace(b"PAYROLL", b"LEDGERS")
     second = TWO.replace(b"ABC00100020001", b"ABC00100010002")
@@ -366,7 +342,6 @@ def statuses_of_unpack(t):
     yield t(["unpack", "lost", "one.tap"], REELS).status == 1, "no directory"
 
 
-@check
 def images_of_one_set(t):
     other = ONE.replace(b"ABC001", b"XYZ001")
     run = t(["unpack", "d", "one.tap", "other.tap"], {"one.tap": ONE, "other.tap": other})
@@ -377,7 +352,6 @@ def images_of_one_set(t):
     yield between == {"one.tap"}, f"for ABC001 {between} were opened ({opened})"
 
 
-@check
 def lines_one_by_one(t):
     names = ["a.tap", "b.tap", "c.tap"]
     for command in (["check"], ["survey"], ["survey", "--tsv"]):
@@ -390,7 +364,6 @@ def lines_one_by_one(t):
             yield lines and all(opened[-1] < line for line in lines), f"{command}: nothing before the last image is opened"
 
 
-@check
 def full_output(t):
     calls = (["check", "one.tap"], ["survey", "one.tap"], ["list", "one.tap"], ["init", "d", "ABC", "1"], ["compare", "one.tap", "one.tap"])
     for words in calls:
@@ -408,7 +381,6 @@ def full_output(t):
     yield run.err.startswith("tape: run fault 5\n  Stage: s\n") and run.files["s"] == t.stage, f"a stage of another file: {run.err!r}"
 
 
-@check
 def each_refused_write(t):
     """More bytes than the buffer: a write of records fails while reels are read."""
     for what, run in refused(t, [*EXTRACT, "one.tap", "two.tap"], REELS, ("write", "ENOSPC")):
@@ -424,7 +396,6 @@ def each_refused_write(t):
         yield run.status == 1, f"init, write {number}: {run.status} {run.out!r}"
 
 
-@check
 def each_refused_line(t):
     for words, files in ((["list", "one.tap"], REELS), (["check", "one.tap", "two.tap"], REELS), (["survey", "one.tap", "two.tap"], REELS),
             (["survey", "--tsv", "one.tap", "two.tap"], REELS), (["compare", "one.tap", "two.tap"], REELS), (["merge", "OUT", "one.tap", "one.tap"], REELS),
@@ -436,7 +407,6 @@ def each_refused_line(t):
             yield run.status == 1 and run.err == "tape: file fault 4\n", f"{words}, write {number}: {run.status} {run.err!r}"
 
 
-@check
 def long_numbers(t):
     labels = volume_label("ABC001") + first_label("HDR1", 0) + second_label("HDR2").replace(b"F0080000080", b"F0002000020") + mark()
     image = labels + block(b"x" * 20) * 100_000
@@ -449,7 +419,6 @@ def long_numbers(t):
     yield run.out.endswith("COMPLETE 1000001\n"), f"a million records: {run.out!r} {run.err!r}"
 
 
-@check
 def long_stages(t):
     """A stage of more than 2 GB is written, continued and read."""
     with tempfile.TemporaryDirectory(prefix="tape-order-") as folder:
@@ -469,7 +438,6 @@ def long_stages(t):
         yield run.out.startswith(f"STAGE ABC001 1 {count}\n"), f"a long stage that is shown: {run.out!r} {run.err!r}"
 
 
-@check
 def lines_of_lists(t):
     names = b"".join(b"%d.tap\n" % number for number in range(1, 11)) + b"M\xfcller.tap\n12.tap\n"
     run = t(["check", "--files-from", "names"], {"names": names})
@@ -494,7 +462,6 @@ def odd_calls(name):
     yield ["extract", "--explain", "S", "1", "o", "i", "--stage", folder]
 
 
-@check
 def names_are_quoted(t):
     """No character of a name or of another word acts on a terminal, hides or ends a line, and different ones are printed differently."""
     odd = [0, *range(1, 32), *range(127, 160), 0xAD, 0x61C, *range(0x200B, 0x2010), *range(0x2028, 0x202F), *range(0x2060, 0x2070), 0xFEFF]
@@ -520,10 +487,11 @@ def main():
         return Run(program, words, files, **how)
 
     call.program, call.stage, call.records = program, stage_of(program), LINES
-    for one in CHECKS:
-        if not options.names or one.__name__ in options.names:
-            for is_right, what in one(call):
-                results.expect(is_right, f"{one.__name__}: {what}")
+    # each function with the single parameter `t` is a check
+    checks = {name: it for name, it in globals().items() if isfunction(it) and list(signature(it).parameters) == ["t"]}
+    for name in options.names or checks:
+        for is_right, what in checks[name](call):
+            results.expect(is_right, f"{name}: {what}")
     return results.end()
 
 

@@ -34,7 +34,7 @@ from dataclasses import replace
 from pathlib import Path
 
 from common import Results, arguments
-from reels import File, Item, Reel, block, file_of, label, packed, strangers, volumes_of, word
+from reels import File, Item, Reel, block, file_of, label, strangers, volumes_of, word
 
 MARK, BAD = "mark", "bad"
 UNREADABLE = struct.pack("<I", 1 << 31 | 1) + b"\0\0" + struct.pack("<I", 1 << 31 | 1)

@@ -13,7 +13,6 @@ import re
 import shlex
 import subprocess
 import sys
-from pathlib import Path
 
 from common import HERE, Results, arguments, files_in, folder_with
 from fail import volume
