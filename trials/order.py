@@ -370,13 +370,14 @@ def full_output(t):
         with open("/dev/full", "wb") as full:
             run = t([*words, "--explain"], REELS, out=full)
         yield run.status == 1 and run.err.startswith("tape: file fault 4\n  Output: standard output\n"), f"{words}: {run.err!r}"
-    for words, files in (([*EXTRACT[:3], "/dev/full", "one.tap", "two.tap"], REELS), (["stage", "s", "/dev/full"], {"s": t.stage})):
+    for words, files, reels in (([*EXTRACT[:3], "/dev/full", "one.tap", "two.tap"], REELS, "  REEL 1: one.tap\n  REEL 2: two.tap\n"),
+            (["stage", "s", "/dev/full"], {"s": t.stage}, "")):
         run = t([*words, "--explain"], files)
-        yield run.status == 1 and run.err.startswith("tape: file fault 4\n  OUT: /dev/full\n"), f"{words}: {run.err!r}"
+        yield run.status == 1 and run.err.startswith(f"{reels}tape: file fault 4\n  OUT: /dev/full\n"), f"{words}: {run.err!r}"
     run = t(["extract", "ABC001", "1", "OUT", "one.tap", "--stage", "s", "--explain"], REELS | {"s": b"no stage"})
     yield run.err.startswith("tape: stage fault 1\n  Stage: s\n"), f"a stage: {run.err!r}"
     run = t([*EXTRACT, "one.tap", "--stage", "s", "--explain"], REELS | {"s": t.stage}, inject=["fsync:error=EIO:when=4+"])
-    yield run.err.startswith("tape: run fault 1\n  Stage: s\n"), f"a stage that cannot be synced: {run.err!r}"
+    yield run.err.startswith("  REEL 1: one.tap\ntape: run fault 1\n  Stage: s\n"), f"a stage that cannot be synced: {run.err!r}"
     run = t(["extract", "ABC001", "2", "OUT", "one.tap", "--stage", "s", "--explain"], REELS | {"s": t.stage})
     yield run.err.startswith("tape: run fault 5\n  Stage: s\n") and run.files["s"] == t.stage, f"a stage of another file: {run.err!r}"
 

@@ -271,8 +271,8 @@ def devices(program, folder):
         expect(f'{fail}: a failure is reported', 'FAULT 5' in said, True)
         if len(lines) < len(readings):
             continue
-        read = [cut(reading, text) for reading, text in zip(readings, lines)]
-        right, ends, data, _ = model(read, paths)
+        given = [cut(reading, text) for reading, text in zip(readings, lines)]
+        right, ends, data, _ = model(given, paths)
         expect(fail, (lines, status, line), (right, ends, ''))
         expect(f'{fail}: OUT', read(out), data)
         if os.path.exists(out):
