@@ -6,7 +6,7 @@
 
 COMMAND is list, write, extract, stage or check; the default is all of them.
 
-list: the first image of format F, against lister.c, walk.c and `cat`, with output to /dev/null and to a file in memory;
+list: the first image of format F, against lister.c, the same without its lines, and `cat`, with output to /dev/null and to a file in memory;
 the two listings are compared byte by byte.
 write: lines of 80 characters to images, against write_lines.c; the images are compared byte by byte.
 extract: these lines out of the images again, against extract.c; the lines are compared byte by byte.
@@ -100,7 +100,7 @@ def time_list(bench, shape):
     image = bench.images(shape)[0]
     others = {"C lister": [bench.build / "lister", image]}
     commands = bench.with_tape(["list", image], others)
-    walks = {"C walk (counts only)": [bench.build / "walk", image], "`cat` to a pipe": ["sh", "-c", 'cat "$1" | wc -c', "sh", image]}
+    walks = {"C lister, silent": [bench.build / "lister", "--silent", image], "`cat` to a pipe": ["sh", "-c", 'cat "$1" | wc -c', "sh", image]}
     bench.time(front("list, /dev/null", shape), "C lister", commands | walks)
     outputs = {name: bench.memory / str(at) for at, name in enumerate(commands)}
     bench.time(front("list, file in memory", shape), "C lister", commands, outputs=outputs)
@@ -210,7 +210,7 @@ def main():
         ("commands", [], "list, write, extract, stage, check"))
     with tempfile.TemporaryDirectory(prefix="tape-bench-") as temporary:
         build_folder = Path(temporary)
-        build(build_folder, ("lister", "walk", "write_lines", "extract", "measure"))
+        build(build_folder, ("lister", "write_lines", "extract", "measure"))
         folder = Path(options.folder or build_folder)
         folder.mkdir(parents=True, exist_ok=True)
         with tempfile.TemporaryDirectory(prefix="tape-bench-", dir=options.memory) as memory:
