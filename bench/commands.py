@@ -1,11 +1,13 @@
 #!/usr/bin/env python3
-"""Times `tape write`, `tape extract`, its `--stage` and `tape check` on 1 GB. Run manually; CI does not run it.
+"""Times `tape list`, `write`, `extract`, its `--stage`, and `check` on 1 GB. Run manually; CI does not run it.
 
-    ./commands.py [--program PATH] [--folder FOLDER] [--memory FOLDER] [--count N] [--runs N] [--c-only]
-                  [--instructions] [COMMAND]..
+    ./commands.py [--program PATH] [--folder FOLDER] [--memory FOLDER] [--count N] [--runs N] [--instructions]
+                  [COMMAND]..
 
-COMMAND is write, extract, stage or check; the default is all of them.
+COMMAND is list, write, extract, stage or check; the default is all of them.
 
+list: the first image of format F, against lister.c, the same without its lines, and `cat`, with output to /dev/null and to a file in memory;
+the two listings are compared byte by byte.
 write: lines of 80 characters to images, against write_lines.c; the images are compared byte by byte.
 extract: these lines out of the images again, against extract.c; the lines are compared byte by byte.
 stage: extract with --stage and a new stage, against extract without; both write to one directory.
@@ -19,7 +21,6 @@ With --instructions each program runs once more under valgrind, which counts its
 some fifty times as long, so use a small --count. Times vary on a busy machine, these figures do not.
 """
 
-import argparse
 import filecmp
 import os
 import shutil
@@ -28,27 +29,14 @@ import sys
 import tempfile
 from pathlib import Path
 
-sys.dont_write_bytecode = True
 from timing import HERE, build, in_turn, print_head, print_load, print_rows, read_once
+sys.path.insert(0, str(HERE.parent / "trials"))
+from common import arguments  # noqa: E402
 
-CRATE = HERE.parent / "crates" / "tape_tool"
 RECORD = 80
-CAPACITY = "500000000"
+CAPACITY = "1000000000"
 # format, block length, and the record length if it is specified
 SHAPES = (("F", "8192", "80"), ("F", "80", "80"), ("D", "8192", "0"), ("D", "84", "0"), ("S", "8192", "0"), ("S", "80", "0"))
-
-
-def arguments():
-    parser = argparse.ArgumentParser(description=__doc__.split("\n\n")[0])
-    parser.add_argument("--program", type=Path, default=CRATE / "out" / "tape_tool", help="the built `tape`")
-    parser.add_argument("--folder", type=Path, help="where the lines and the images are kept")
-    parser.add_argument("--memory", type=Path, default=Path("/dev/shm"), help="where the programs write")
-    parser.add_argument("--count", type=int, default=12_500_000, help="how many lines of 80 characters")
-    parser.add_argument("--runs", type=int, default=5, help="how often each program runs")
-    parser.add_argument("--c-only", action="store_true", help="without `tape`")
-    parser.add_argument("--instructions", action="store_true", help="count instructions too, by valgrind")
-    parser.add_argument("commands", nargs="*", metavar="COMMAND", help="write, extract, stage, check")
-    return parser.parse_args()
 
 
 class Bench:
@@ -65,13 +53,13 @@ class Bench:
     def images(self, shape):
         return sorted((self.folder / f"images_{'_'.join(shape)}_{self.options.count}").glob("*.tap"))
 
-    def time(self, front, base, commands, before=None):
-        outputs = dict.fromkeys(commands, os.devnull)
+    def time(self, front, base, commands, before=None, outputs=None):
+        outputs = outputs or dict.fromkeys(commands, os.devnull)
         options = self.options
         print_rows(front, base, in_turn(self.build, commands, outputs, options.runs, before, options.instructions))
 
     def with_tape(self, words, others):
-        return others if self.options.c_only else {f"`tape {words[0]}`": [self.options.program, *words]} | others
+        return {f"`tape {words[0]}`": [self.options.program, *words]} | others
 
 
 def make_lines(path, count):
@@ -101,6 +89,24 @@ def drop_images(bench, shape):
 
 def front(command, shape):
     return [command, shape[0], shape[1]]
+
+
+# ---- list ----
+
+
+def time_list(bench, shape):
+    if shape[0] != "F":
+        return
+    image = bench.images(shape)[0]
+    others = {"C lister": [bench.build / "lister", image]}
+    commands = bench.with_tape(["list", image], others)
+    walks = {"C lister, silent": [bench.build / "lister", "--silent", image], "`cat` to a pipe": ["sh", "-c", 'cat "$1" | wc -c', "sh", image]}
+    bench.time(front("list, /dev/null", shape), "C lister", commands | walks)
+    outputs = {name: bench.memory / str(at) for at, name in enumerate(commands)}
+    bench.time(front("list, file in memory", shape), "C lister", commands, outputs=outputs)
+    if not all(filecmp.cmp(bench.memory / "0", path, shallow=False) for path in outputs.values()):
+        sys.exit(f"list {shape}: the listings differ")
+    empty(bench.memory)
 
 
 # ---- write ----
@@ -140,39 +146,32 @@ def time_write(bench, shape):
 # ---- extract ----
 
 
-def time_extract(bench, shape):
-    out = bench.memory / "out"
-    words = ["ABC001", "1", out, *bench.images(shape)]
-    others = {
-        "C, collecting": [bench.build / "extract", *words],
-        "C, streaming": [bench.build / "extract", "--stream", *words],
-    }
-    commands = bench.with_tape(["extract", *words], others)
-    bench.time(front("extract", shape), "C, collecting", commands, lambda: empty(bench.memory))
+def time_lines(bench, shape, base, commands):
+    """Times programs that write the lines, and compares what they wrote."""
+    bench.time(front("extract", shape), base, commands, lambda: empty(bench.memory))
     for command in commands.values():
         empty(bench.memory)
         subprocess.run(command, check=True, stdout=subprocess.DEVNULL)
-        if not filecmp.cmp(out, bench.lines, shallow=False):
+        if not filecmp.cmp(bench.memory / "out", bench.lines, shallow=False):
             sys.exit(f"extract {shape}: the lines differ")
     empty(bench.memory)
+
+
+def time_extract(bench, shape):
+    out = bench.memory / "out"
+    words = ["ABC001", "1", out, *bench.images(shape)]
+    commands = bench.with_tape(["extract", *words], {"C": [bench.build / "extract", *words]})
+    time_lines(bench, shape, "C", commands)
 
 
 # ---- stage ----
 
 
 def time_stage(bench, shape):
-    if bench.options.c_only:
-        return
     out, stage = bench.memory / "out", bench.memory / "stage"
     words = [bench.options.program, "extract", "ABC001", "1", out, *bench.images(shape)]
     commands = {"`tape extract --stage`": [*words, "--stage", stage], "`tape extract`": words}
-    bench.time(front("extract", shape), "`tape extract`", commands, lambda: empty(bench.memory))
-    for command in commands.values():
-        empty(bench.memory)
-        subprocess.run(command, check=True, stdout=subprocess.DEVNULL)
-        if not filecmp.cmp(out, bench.lines, shallow=False):
-            sys.exit(f"stage {shape}: the lines differ")
-    empty(bench.memory)
+    time_lines(bench, shape, "`tape extract`", commands)
 
 
 # ---- check ----
@@ -180,8 +179,6 @@ def time_stage(bench, shape):
 
 def time_check(bench, shape):
     images = bench.images(shape)
-    if bench.options.c_only:
-        return
     program = bench.options.program
     commands = {
         "`tape check`": [program, "check", *images],
@@ -194,7 +191,7 @@ def time_all(bench):
     if not bench.lines.exists():
         make_lines(bench.lines, bench.options.count)
     read_once(bench.lines)
-    parts = {"write": time_write, "extract": time_extract, "stage": time_stage, "check": time_check}
+    parts = {"list": time_list, "write": time_write, "extract": time_extract, "stage": time_stage, "check": time_check}
     asked = [command for command in parts if bench.has(command)]
     print_load()
     print_head(["Command", "Format", "Block"], bench.options.instructions)
@@ -207,14 +204,14 @@ def time_all(bench):
 
 
 def main():
-    options = arguments()
-    if not options.c_only and not options.program.exists():
-        sys.exit(f"{options.program} does not exist: run `rt run -- --help` in crates/tape_tool, or specify another with --program")
-    options.program = options.program.resolve()
+    options = arguments(__doc__, ("--folder", "", "where the lines and the images are kept"),
+        ("--memory", "/dev/shm", "where the programs write"), ("--count", 12_500_000, "how many lines of 80 characters"),
+        ("--runs", 5, "how often each program runs"), ("--instructions", False, "count instructions too, by valgrind"),
+        ("commands", [], "list, write, extract, stage, check"))
     with tempfile.TemporaryDirectory(prefix="tape-bench-") as temporary:
         build_folder = Path(temporary)
-        build(build_folder, ("write_lines", "extract", "measure"))
-        folder = options.folder or build_folder
+        build(build_folder, ("lister", "write_lines", "extract", "measure"))
+        folder = Path(options.folder or build_folder)
         folder.mkdir(parents=True, exist_ok=True)
         with tempfile.TemporaryDirectory(prefix="tape-bench-", dir=options.memory) as memory:
             time_all(Bench(options, build_folder, folder.resolve(), Path(memory)))

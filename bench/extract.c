@@ -1,10 +1,8 @@
-/* extract [--stream] SET FILE OUT IMAGE..: writes the records of one file of a set as lines, as `tape extract` does, and
+/* extract SET FILE OUT IMAGE..: writes the records of one file of a set as lines, as `tape extract` does, and
    prints the same lines. Plain C over buffered stdio. docs/FORMATS.md, 'Reading a file' and 'Records in blocks', has the
    rules: labels, the order of marks, section and sequence numbers, block counts, counts and indicators of units, span
   order and padding are all checked.
-
-   The lines are collected in memory and written if the file is complete. With --stream they are written as they come:
-   then OUT contains a prefix of the file if it is incomplete. */
+   The lines are written as they come: if the file is incomplete, OUT contains a prefix of it. */
 #define _GNU_SOURCE
 #include <stdlib.h>
 
@@ -14,12 +12,6 @@
 #include "labels.h"
 
 enum state { GOES_ON, SECTION_DONE, COMPLETE, REFUSED };
-
-struct text {
-    unsigned char *bytes;
-    size_t used, room;
-    FILE *out; /* with --stream */
-};
 
 struct extract {
     char set[7];
@@ -31,7 +23,7 @@ struct extract {
     char name[18];
     struct shape shape;
     struct file_label first; /* HDR1 of the current section */
-    struct text text;
+    FILE *out;
     const char *why; /* why the reel was refused */
 };
 
@@ -44,36 +36,13 @@ static void stop(const char *why)
     exit(1);
 }
 
-/* ---- the text ---- */
-
-static inline unsigned char *room_for(struct text *text, size_t more)
-{
-    if (text->room - text->used < more) {
-        size_t room = text->room * 2 > text->used + more ? text->room * 2 : text->used + more;
-        unsigned char *bytes = realloc(text->bytes, room);
-        if (!bytes)
-            stop("no memory");
-        text->bytes = bytes;
-        text->room = room;
-    }
-    return text->bytes + text->used;
-}
-
-static inline void put_text(struct text *text, const unsigned char *bytes, size_t count, int ends)
-{
-    if (text->out) {
-        if (fwrite_unlocked(bytes, 1, count, text->out) != count || (ends && putc_unlocked('\n', text->out) == EOF))
-            stop("the output cannot be written");
-        return;
-    }
-    unsigned char *at = room_for(text, count + 1);
-    memcpy(at, bytes, count);
-    if (ends)
-        at[count] = '\n';
-    text->used += count + (ends != 0);
-}
-
 /* ---- one block ---- */
+
+static inline void put_text(const unsigned char *bytes, size_t count, int ends)
+{
+    if (fwrite_unlocked(bytes, 1, count, extract.out) != count || (ends && putc_unlocked('\n', extract.out) == EOF))
+        stop("the output cannot be written");
+}
 
 static inline enum state refuse(const char *why)
 {
@@ -84,15 +53,13 @@ static inline enum state refuse(const char *why)
 static inline enum state read_block(void)
 {
     struct walk walk;
-    size_t used = extract.text.used;
     unsigned long long records = extract.records;
     begin_walk(&walk, &extract.shape, extract.begun, image.data, image.length);
     while (next_part(&walk, &extract.shape)) {
-        put_text(&extract.text, walk.bytes, walk.count, !walk.begun);
+        put_text(walk.bytes, walk.count, !walk.begun);
         extract.records += !walk.begun;
     }
     if (walk.cause != NO_FAULT) {
-        extract.text.used = used;
         extract.records = records;
         return refuse("BAD BLOCK");
     }
@@ -245,32 +212,22 @@ static enum state read_image(int number, const char *path)
 
 /* ---- the program ---- */
 
-static void write_out(const char *path)
-{
-    struct text *text = &extract.text;
-    if (!text->out)
-        text->out = fopen(path, "wb");
-    if (!text->out || (text->bytes && fwrite(text->bytes, 1, text->used, text->out) != text->used) || fclose(text->out) != 0)
-        stop("the output cannot be written");
-}
-
 int main(int words, char **word)
 {
-    int streams = words > 1 && strcmp(word[1], "--stream") == 0;
     enum state state = GOES_ON;
-    word += streams;
-    if ((words -= streams) < 5)
-        return fputs("usage: extract [--stream] SET FILE OUT IMAGE..\n", stderr), 2;
+    if (words < 5)
+        return fputs("usage: extract SET FILE OUT IMAGE..\n", stderr), 2;
     snprintf(extract.set, sizeof extract.set, "%-6.6s", word[1]);
     extract.file = (unsigned)strtoul(word[2], NULL, 10);
     extract.section = 1;
-    if (streams && !(extract.text.out = fopen(word[3], "wb")))
+    if (!(extract.out = fopen(word[3], "wb")))
         stop("the output cannot be made");
     for (int i = 4; i < words && state != COMPLETE; i++)
         state = read_image(i - 3, word[i]);
     if (state != COMPLETE)
         return printf("AWAITS %u %u %llu\n", extract.file, extract.section, extract.blocks), 3;
-    write_out(word[3]);
+    if (fclose(extract.out) != 0)
+        stop("the output cannot be written");
     printf("COMPLETE %llu\n", extract.records);
     return fflush(stdout) != 0;
 }

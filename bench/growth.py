@@ -7,36 +7,22 @@ Run manually, before a release; CI does not run it.
 Creates sets of volumes from docs/FORMATS.md, runs the built program on them, and compares the counts of the system
 (/proc/PID/io, strace for syncs) with a bound. Prints a line for each measurement, with `WRONG` if it exceeds its bound or
 if the program's result is not the expected one; the status is 1 if there was such a line.
-
---files N       the number of files on one image (5,000)
---large         also 9,999 files on an image of 11.7 MB, 2,000 files over ten images, and a collection of 580 images
---folder DIR    the directory of the images and outputs (default: in memory)
---instructions  also counts instructions with valgrind (some minutes)
+--large: also 9,999 files on an image of 11.7 MB, 2,000 files over ten images, and a collection of 580 images.
 """
 
-import argparse
 import os
 import random
 import re
 import shutil
-import struct
 import subprocess
 import sys
 import tempfile
 from pathlib import Path
 
-sys.dont_write_bytecode = True
-MARK = struct.pack("<I", 0)
-END = struct.pack("<I", 0xFFFFFFFF)
-
-
-def block(data):
-    length = struct.pack("<I", len(data))
-    return length + data + b"\0" * (len(data) % 2) + length
-
-
-def label(text):
-    return block(text.ljust(80).encode())
+from timing import HERE, build
+sys.path.insert(0, str(HERE.parent / "trials"))
+from common import arguments  # noqa: E402
+from make_worked_image import block, label, mark, word  # noqa: E402
 
 
 def section(set_id, file, sect, blocks, ends, length=800, record=80):
@@ -44,15 +30,15 @@ def section(set_id, file, sect, blocks, ends, length=800, record=80):
     name = f"F{file}"
 
     def first(kind, count):
-        return label(f"{kind}{name:17.17}{set_id:6.6}{sect:04}{file:04}000100 85100 00000 {count:06}")
+        return label((f"{kind}{name:17.17}{set_id:6.6}{sect:04}{file:04}000100 85100 00000 {count:06}", 80))
 
     def second(kind):
-        return label(f"{kind}F{length:05}{record:05}{'':35}00")
+        return label((f"{kind}F{length:05}{record:05}{'':35}00", 80))
 
     trailer = "EOF" if ends else "EOV"
     data = b"".join(block(content(file, sect, i, length)) for i in range(blocks))
-    return (first("HDR1", 0) + second("HDR2") + MARK + data + MARK + first(trailer + "1", blocks)
-        + second(trailer + "2") + MARK)
+    return (first("HDR1", 0) + second("HDR2") + mark() + data + mark() + first(trailer + "1", blocks)
+        + second(trailer + "2") + mark())
 
 
 def content(file, sect, number, length):
@@ -66,7 +52,7 @@ def records_of(file, sections, length=800, record=80):
 
 
 def volume(name, sections):
-    return label(f"VOL1{name:6.6}{'':69}4") + b"".join(sections) + MARK + END
+    return label((f"VOL1{name:6.6}{'':69}4", 80)) + b"".join(sections) + mark() + word(0xFFFFFFFF)
 
 
 class Counted:
@@ -87,16 +73,13 @@ class Counted:
 
 class Bench:
     def __init__(self, options, folder):
-        self.program, self.folder, self.wrong = str(Path(options.program).resolve()), folder, 0
+        self.program, self.folder, self.wrong = options.program, folder, 0
         self.large, self.files = options.large, options.files
 
     def memory(self, words, folder):
         """The maximum memory of a run, in MB, as the child of a small program, since the count of a child begins with its parent's."""
-        measure = self.folder / "measure"
-        if not measure.exists():
-            subprocess.run(["cc", "-O2", "-o", measure, Path(__file__).resolve().parent / "measure.c"], check=True)
         report = folder / "report.txt"
-        subprocess.run([measure, report, *words], cwd=folder, stdin=subprocess.DEVNULL, stdout=subprocess.DEVNULL,
+        subprocess.run([self.folder / "measure", report, *words], cwd=folder, stdin=subprocess.DEVNULL, stdout=subprocess.DEVNULL,
             stderr=subprocess.DEVNULL, check=True)
         return int(report.read_text().split()[2]) / 1024
 
@@ -296,7 +279,6 @@ class Bench:
     def ratios(self):
         """Instructions for each block, compared with one another and with the C program that writes records as they come."""
         c = self.folder / "extract"
-        subprocess.run(["cc", "-O2", "-o", c, Path(__file__).resolve().parent / "extract.c"], check=True)
         for length, record, blocks, bounds in ((80, 80, 20_000, (1.15, 1.5)), (8160, 80, 400, (1.15, 2.0))):
             folder = self.fresh("instructions")
             image = volume("VOL001", [section("SETAAA", 1, 1, blocks, True, length, record)])
@@ -317,7 +299,7 @@ class Bench:
             survey = each(lambda image: (tape, "survey", image))
             extract = each(lambda image: (tape, "extract", *words, image))
             stage = each(lambda image: (tape, "extract", *words, image, "--stage", "stage"))
-            plain = each(lambda image: (c, "--stream", *words, image))
+            plain = each(lambda image: (c, *words, image))
             print(f"instructions a block of {length:,}: check {check:,.0f}, survey {survey:,.0f}, extract {extract:,.0f}, "
                 f"extract --stage {stage:,.0f}, C {plain:,.0f}")
             self.line(f"extract over C, blocks of {length:,}", extract / plain, 1.25)
@@ -335,15 +317,10 @@ ORDERS = (("in order", list), ("reversed", lambda names: names[::-1]), ("shuffle
 
 
 def main():
-    here = Path(__file__).resolve().parent
-    parser = argparse.ArgumentParser(description="how the work of tape grows")
-    parser.add_argument("--program", default=here / "../crates/tape_tool/out/tape_tool")
-    parser.add_argument("--files", type=int, default=5000)
-    parser.add_argument("--large", action="store_true")
-    parser.add_argument("--instructions", action="store_true")
-    parser.add_argument("--folder", default="/dev/shm" if os.path.isdir("/dev/shm") else None)
-    options = parser.parse_args()
+    options = arguments(__doc__, ("--files", 5000, "the number of files on one image"), ("--large", False, "larger sets too"),
+        ("--instructions", False, "count instructions too, by valgrind"), ("--folder", "/dev/shm", "of the images and outputs"))
     with tempfile.TemporaryDirectory(dir=options.folder) as folder:
+        build(Path(folder), ("measure", "extract"))
         bench = Bench(options, Path(folder))
         for count in (100, 1000, options.files, *((9999,) if options.large else ())):
             bench.one_image(count)

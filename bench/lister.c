@@ -1,4 +1,4 @@
-/* lister [IMAGE]: prints the items of a tape image, one on each line, as `tape list` does.
+/* lister [--silent] [IMAGE]: prints the items of a tape image, one on each line, as `tape list` does, or only the last line.
    Plain C over buffered stdio. docs/REFERENCE.md, 'list', describes the lines. */
 #include <string.h>
 
@@ -96,11 +96,13 @@ int main(int words, char **word)
 {
     unsigned long long number = 0;
     enum item item;
-    image.in = open_image(words, word);
+    int is_silent = words > 1 && strcmp(word[1], "--silent") == 0;
+    image.in = open_image(words - is_silent, word + is_silent);
     if (!image.in)
         return fputs("tape: file fault 2\n", stderr), 1;
     while ((item = next_item(&image)) <= BAD)
-        print_item(++number, item);
+        if (!is_silent)
+            print_item(++number, item);
     if (item != FAULT)
         printf(item == END_MARKED ? "END MARKED\n" : "END PHYSICAL\n");
     if (fflush(stdout) != 0 || ferror(stdout))

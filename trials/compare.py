@@ -10,17 +10,12 @@ on a pipe. They must print the same, on both streams, and end with the same stat
 only each N-th of the cut and changed images.
 """
 
-import argparse
 import subprocess
 import sys
-import tempfile
-from pathlib import Path
 
-sys.dont_write_bytecode = True
+from common import CRATE, HERE, Results, arguments, folder_with
 from make_worked_image import block, image, mark, second_label, word
 
-HERE = Path(__file__).resolve().parent
-CRATE = HERE.parent / "crates" / "tape_tool"
 END = word(0xFFFFFFFF)
 GAP = word(0xFFFFFFFE)
 
@@ -85,29 +80,21 @@ def outcome(command, data):
 
 
 def main():
-    parser = argparse.ArgumentParser(description=__doc__.split("\n\n")[0])
-    parser.add_argument("--program", type=Path, default=CRATE / "out" / "tape_tool", help="the built `tape`")
-    parser.add_argument("--every", type=int, default=1, help="take each N-th of the cut and changed images")
-    options = parser.parse_args()
-    if not options.program.exists():
-        sys.exit(f"{options.program} does not exist: run `rt run -- --help` in crates/tape_tool, or specify another with --program")
+    options = arguments(__doc__, ("--every", 1, "take each N-th of the cut and changed images"))
     whole = image()
-    stored = CRATE / "stdin"
-    if stored.exists() and stored.read_bytes() != whole:
-        sys.exit(f"{stored} is not the worked image")
+    if (CRATE / "stdin").read_bytes() != whole:
+        sys.exit(f"{CRATE}/stdin is not the worked image")
     many = list(cut_images(whole).items()) + list(changed_images(whole).items())
     cases = many[:: options.every] + list(odd_images().items())
-    differences = 0
-    with tempfile.TemporaryDirectory(prefix="tape-compare-") as folder:
-        lister = Path(folder) / "lister"
+    results = Results()
+    with folder_with() as folder:
+        lister = folder / "lister"
         subprocess.run(["cc", "-O2", "-Wall", "-o", lister, HERE.parent / "bench" / "lister.c"], check=True)
         for name, data in cases:
-            ours, theirs = outcome([options.program.resolve(), "list"], data), outcome([lister], data)
-            if ours != theirs:
-                differences += 1
-                print(f"{name}: tape list {ours[1:]}, C lister {theirs[1:]}, the same lines: {ours[0] == theirs[0]}")
-    print(f"{len(cases)} images, {differences} with another answer")
-    return differences != 0
+            ours, theirs = outcome([options.program, "list"], data), outcome([lister], data)
+            results.expect(ours == theirs,
+                f"{name}: tape list {ours[1:]}, C lister {theirs[1:]}, the same lines: {ours[0] == theirs[0]}")
+    return results.end("images")
 
 
 if __name__ == "__main__":

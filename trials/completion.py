@@ -7,7 +7,6 @@ options that are offered, with its help. Run manually before a release; CI does 
 Prints each wrong completion, and the counts. Exit status 1 if something was wrong.
 """
 
-import argparse
 import os
 import pty
 import re
@@ -17,10 +16,9 @@ import tempfile
 import time
 from pathlib import Path
 
-sys.dont_write_bytecode = True
-from fail import CRATE
+from common import HERE, Results, arguments
 
-SCRIPT = Path(__file__).resolve().parents[1] / "docs" / "tape.bash"
+SCRIPT = HERE.parent / "docs" / "tape.bash"
 COMMANDS = "list check survey compare merge extract unpack salvage stage init write".split()
 NAMES = ["my file.tap", "star*.tap", "starA.tap", "dollar$HOME.tap", "quote'q.tap", 'double"d.tap', "back\\s.tap", "semi;x.tap",
     "paren(x).tap", "amp&.tap", "tick`id`.tap", "brack[a].tap", "ünï.tap", "tilde~.tap", "hash#.tap", "equal=e.tap", "colon:c.tap",
@@ -71,7 +69,7 @@ def options_of(program, *words):
     return set(re.findall(r"^ +(?:-\w, )?(--[a-z-]+)", done.stdout, re.M))
 
 
-def results(program):
+def completions(program):
     for command in COMMANDS:
         for before in ([], ["--explain"]):
             yield offered("tape", *before, command, "--"), options_of(program, command), f"options of {before} {command}"
@@ -91,16 +89,10 @@ def results(program):
 
 
 def main():
-    parser = argparse.ArgumentParser(description=__doc__.split("\n\n")[0])
-    parser.add_argument("--program", type=Path, default=CRATE / "out" / "tape_tool", help="the built `tape`")
-    count = wrong = 0
-    for seen, due, what in results(str(parser.parse_args().program.resolve())):
-        count += 1
-        if seen != due:
-            wrong += 1
-            print(f"{what}: {seen}, not {due}")
-    print(f"{count} results, {wrong} wrong")
-    return wrong != 0
+    program, results = arguments(__doc__).program, Results()
+    for seen, due, what in completions(program):
+        results.expect(seen == due, f"{what}: {seen}, not {due}")
+    return results.end()
 
 
 if __name__ == "__main__":

@@ -16,10 +16,9 @@ Prints each wrong result, and counts; exit status 1 if there is one.
 import random
 import subprocess
 import sys
-import tempfile
 from pathlib import Path
 
-sys.dont_write_bytecode = True
+from common import Results, folder_with
 from make_worked_image import block, label, word
 
 RECORD, BLOCK = 80, 800
@@ -47,8 +46,7 @@ class Section:
         self.count, self.damage = len(blocks), None
 
     def copy(self):
-        other = Section(self.file, self.sect, list(self.blocks), self.ends)
-        return other
+        return Section(self.file, self.sect, list(self.blocks), self.ends)
 
     def is_good(self):
         return self.damage is None and self.count == len(self.blocks)
@@ -142,8 +140,8 @@ class Case:
             section.count += 1
 
     def encoded(self, image):
-        volume = label(f"VOL1{'VOL%03d' % (image[0] + 1):6}{'':69}4")
-        end = rnd_end(self.rnd)
+        volume = label((f"VOL1{'VOL%03d' % (image[0] + 1):6}{'':69}4", 80))
+        end = self.rnd.choice([word(0xFFFFFFFF), b""])
         return volume + b"".join(s.encoded(self) for s in image[1]) + word(0) + end
 
     # ---- what must be reported
@@ -252,19 +250,9 @@ class Case:
                 and all(self.text(file) is not None for file in range(1, self.greatest() + 1)))
 
 
-def rnd_end(rnd):
-    return rnd.choice([word(0xFFFFFFFF), b""])
-
-
-class Trial:
+class Trial(Results):
     def __init__(self, program):
-        self.program, self.wrong, self.seen = program, 0, 0
-
-    def is_so(self, holds, what):
-        self.seen += 1
-        if not holds:
-            self.wrong += 1
-            print(what, flush=True)
+        self.program = program
 
     def run(self, folder, *words):
         return subprocess.run([self.program, *words], cwd=folder, capture_output=True, text=True, check=False)
@@ -279,46 +267,46 @@ def try_case(trial, case, folder, number):
 
     done = trial.run(folder, "survey", "--tsv", *names)
     told = [line.split("\t") for line in done.stdout.splitlines()]
-    trial.is_so([row for row in told if row[0] == "COPIES"] == rows, f"{number}: rows {done.stdout}\nwanted {rows}")
+    trial.expect([row for row in told if row[0] == "COPIES"] == rows, f"{number}: rows {done.stdout}\nwanted {rows}")
     states = [row[2] for row in told if row[0] == "IMAGE"]
     wanted = [{"ok": "WHOLE", "damaged": "PARTIAL", "conflict": "CONFLICT"}[state] for state in case.states()]
-    trial.is_so(states == wanted, f"{number}: states {states}, wanted {wanted}")
+    trial.expect(states == wanted, f"{number}: states {states}, wanted {wanted}")
     marked = {int(row[2]) for row in told if row[0] == "FILE" and row[8] == "CONFLICT"}
-    trial.is_so(marked == {f for f in conflicts}, f"{number}: files in conflict {marked}, expected {conflicts}")
+    trial.expect(marked == {f for f in conflicts}, f"{number}: files in conflict {marked}, expected {conflicts}")
     told = {int(row[2]): row[9] for row in told if row[0] == "FILE" and "-" not in row[2]}
     for file in told:
-        trial.is_so(told[file] == case.problems(file), f"{number}: file {file}: {told[file]!r}, not {case.problems(file)!r}")
-    trial.is_so(done.returncode == (0 if sound else 3), f"{number}: survey --tsv, status {done.returncode}")
+        trial.expect(told[file] == case.problems(file), f"{number}: file {file}: {told[file]!r}, not {case.problems(file)!r}")
+    trial.expect(done.returncode == (0 if sound else 3), f"{number}: survey --tsv, status {done.returncode}")
 
     done = trial.run(folder, "survey", *names)
     lines = done.stdout.splitlines()
     copies = [line for line in lines if " section " in line and (": good, " in line or ": CONFLICT, " in line)]
-    trial.is_so(copies == list(case.lines(rows)), f"{number}: lines {done.stdout}")
+    trial.expect(copies == list(case.lines(rows)), f"{number}: lines {done.stdout}")
     wanted = [f"{name:<24}  {state:<13}volume " for name, state in zip(names, case.states())]
     images = [line for line in lines if ".tap  " in line]
     right = len(images) == len(wanted) and all(map(str.startswith, images, wanted))
-    trial.is_so(right, f"{number}: images {images}, wanted {wanted}")
-    trial.is_so(done.returncode == (0 if sound else 3), f"{number}: survey, status {done.returncode}")
+    trial.expect(right, f"{number}: images {images}, wanted {wanted}")
+    trial.expect(done.returncode == (0 if sound else 3), f"{number}: survey, status {done.returncode}")
     volumes = [line[11:] for line in lines if line.startswith("  Volumes: ")]
-    trial.is_so(volumes == [", ".join(case.listed())], f"{number}: volumes {volumes}, wanted {case.listed()}")
-    trial.is_so(case.tally() in lines[-2:], f"{number}: no line {case.tally()!r} in {lines[-2:]}")
-    trial.is_so(lines[-1].startswith("All files are complete") == sound, f"{number}: the last line {lines[-1]!r}")
+    trial.expect(volumes == [", ".join(case.listed())], f"{number}: volumes {volumes}, wanted {case.listed()}")
+    trial.expect(case.tally() in lines[-2:], f"{number}: no line {case.tally()!r} in {lines[-2:]}")
+    trial.expect(lines[-1].startswith("All files are complete") == sound, f"{number}: the last line {lines[-1]!r}")
 
     out = folder / "out"
     out.mkdir()
     done = trial.run(folder, "unpack", "--form", "raw", "out", *names)
     told = {int(line.split(" ")[-2 if line.endswith("CONFLICT") else 0]) if line.endswith("CONFLICT") else None
             for line in done.stdout.splitlines()} - {None}
-    trial.is_so(told == conflicts, f"{number}: unpack says {done.stdout}, expected {conflicts}")
+    trial.expect(told == conflicts, f"{number}: unpack says {done.stdout}, expected {conflicts}")
     made = {path.name: path.read_bytes() for path in out.iterdir()}
     for file in range(1, case.greatest() + 1):
         text = case.text(file)
         name = [n for n in made if n.split(".")[1] == str(file) and not n.endswith(".stage")]
         if file in conflicts:
-            trial.is_so(not [n for n in made if n.split(".")[1] == str(file)], f"{number}: {file} in conflict, {name}")
+            trial.expect(not [n for n in made if n.split(".")[1] == str(file)], f"{number}: {file} in conflict, {name}")
         elif text is not None:
-            trial.is_so([made[n] for n in name] == [text], f"{number}: file {file} is not as it was, {done.stdout}")
-    trial.is_so((done.returncode == 0) == (not conflicts and done.stdout.count("\n")
+            trial.expect([made[n] for n in name] == [text], f"{number}: file {file} is not as it was, {done.stdout}")
+    trial.expect((done.returncode == 0) == (not conflicts and done.stdout.count("\n")
                 == done.stdout.count(" COMPLETE ") + 1), f"{number}: unpack, status {done.returncode}, {done.stdout}")
     return len(rows), len(conflicts)
 
@@ -329,12 +317,11 @@ def main():
     trial, compared, conflicts = Trial(program), 0, 0
     for number in range(cases):
         case = Case(random.Random(f"{seed} {number}"))
-        with tempfile.TemporaryDirectory() as folder:
-            some, others = try_case(trial, case, Path(folder), number)
+        with folder_with() as folder:
+            some, others = try_case(trial, case, folder, number)
         compared, conflicts = compared + some, conflicts + others
-    print(f"{cases} cases, {compared} sections with more than one good copy, {conflicts} files in conflict: "
-          f"{trial.seen} seen, {trial.wrong} wrong")
-    sys.exit(trial.wrong > 0)
+    print(f"{cases} cases, {compared} sections with more than one good copy, {conflicts} files in conflict")
+    sys.exit(trial.end("seen"))
 
 
 if __name__ == "__main__":

@@ -5,7 +5,7 @@ Run manually; CI does not run it.
     ./fail.py [--program PATH] [COMMAND]..
 
 Each trial is run once unchanged, and then once for each call of a kind with that call refused, by
-fail.c: alone, and with all later ones of its kind. A result is right if
+calls.c: alone, and with all later ones of its kind. A result is right if
 
 - it is status 1 and one line on standard error, with a fault that this refusal may cause (no line if
   writing that line was refused); or what the command reports of an image that is not opened or read;
@@ -16,26 +16,21 @@ fail.c: alone, and with all later ones of its kind. A result is right if
   lists with their reasons: a refusal that the program ignores is wrong.
 
 In one more run reads and writes transfer one byte at a time: nothing may change. Prints a line for each
-group of similar wrong results, and a table. Exit status 1 if a result was wrong. Commands that the
-program does not have are left out.
+group of similar wrong results, and a table. Exit status 1 if a result was wrong.
 """
 
-import argparse
 import errno
 import os
 import re
 import subprocess
 import sys
-import tempfile
 from dataclasses import dataclass, field
 from pathlib import Path
 
-sys.dont_write_bytecode = True
+from common import arguments, files_in, folder_with, library
 from make_worked_image import block, first_label, mark, second_label, volume_label, word
 
-HERE = Path(__file__).resolve().parent
-CRATE = HERE.parent / "crates" / "tape_tool"
-# allocations, openings, reads, writes, syncs, new names, locks, looks, second names, removals, closes, as fail.c
+# allocations, openings, reads, writes, syncs, new names, locks, looks, second names, removals, closes, as calls.c
 # counts them
 KINDS = "aorwynlthdc"
 # the errors that each call is refused with
@@ -209,11 +204,10 @@ DRAFT = re.compile(r"\.tape-\d+\.part")
 
 def stage_of(program):
     """A stage with the records of the first volume, created by the program."""
-    with tempfile.TemporaryDirectory(prefix="tape-fail-") as folder:
-        Path(folder, "one.tap").write_bytes(ONE)
+    with folder_with({"one.tap": ONE}) as folder:
         words = ["extract", "ABC001", "1", "OUT", "one.tap", "--stage", "kept.stage"]
         subprocess.run([program, *words], cwd=folder, capture_output=True, check=False)
-        return Path(folder, "kept.stage").read_bytes()
+        return (folder / "kept.stage").read_bytes()
 
 
 def trials(program):
@@ -259,22 +253,15 @@ def trials(program):
 # ---- one run ----
 
 
-def run(options, library, trial, refusal):
-    with tempfile.TemporaryDirectory(prefix="tape-fail-") as folder:
-        work, counts = Path(folder, "work"), Path(folder, "counts")
-        work.mkdir()
-        for name, content in trial.files.items():
-            (work / name).write_bytes(content)
-        told = os.environ | {"LD_PRELOAD": str(library), "FAIL": refusal, "FAIL_COUNTS": str(counts),
-            "FAIL_PATH": str(Path(folder, "path"))}
-        # a file, not a pipe: each run then has the same reads
-        Path(folder, "stdin").write_bytes(trial.stdin)
-        with open(Path(folder, "stdin"), "rb") as stdin:
-            done = subprocess.run([options.program, *trial.words], cwd=work, env=told, stdin=stdin, capture_output=True, check=False)
-        files = {path.name: path.read_bytes() for path in work.iterdir()}
+def run(options, preload, trial, refusal):
+    # standard input is a file, not a pipe: each run then has the same reads
+    with folder_with(trial.files) as work, folder_with({"stdin": trial.stdin}) as other, open(other / "stdin", "rb") as stdin:
+        counts, path = other / "counts", other / "path"
+        told = os.environ | {"LD_PRELOAD": str(preload), "FAIL": refusal, "FAIL_COUNTS": str(counts), "FAIL_PATH": str(path)}
+        done = subprocess.run([options.program, *trial.words], cwd=work, env=told, stdin=stdin, capture_output=True, check=False)
         numbers = [int(count) for count in counts.read_text().split()] if counts.exists() else []
-        path = Path(folder, "path").read_text() if counts.exists() else ""
-        return Answer(done.returncode, done.stdout.decode(), done.stderr.decode(), files, numbers, path)
+        return Answer(done.returncode, done.stdout.decode(), done.stderr.decode(), files_in(work), numbers,
+            path.read_text() if path.exists() else "")
 
 
 # ---- judging ----
@@ -403,7 +390,7 @@ def print_wrong(trial, wrong):
         print(f"{trial.name}: {why}: status {status}, {err!r}, {out!r}, at {refusals[0]} and {len(refusals) - 1} more")
 
 
-def refuse_each(options, library, trial, kind, number_of_calls, right):
+def refuse_each(options, preload, trial, kind, number_of_calls, right):
     unchanged, wrong = 0, []
     refusals = [
         (f"{kind}{number}{later}:{error}", error)
@@ -412,7 +399,7 @@ def refuse_each(options, library, trial, kind, number_of_calls, right):
         if (later, error) != ("+", errno.EINTR)
     ]
     for refusal, error in refusals:
-        answer = run(options, library, trial, refusal)
+        answer = run(options, preload, trial, refusal)
         if same(answer, right):
             unchanged += 1
             why = None if may_change_nothing(trial, kind, error, answer) else f"nothing was changed ({answer.path})"
@@ -435,43 +422,31 @@ def due(trial, right):
     return {}
 
 
-def try_all(options, library, trial):
+def try_all(options, preload, trial):
     """A row of the table, and the number of wrong results."""
-    right = run(options, library, trial, "")
+    right = run(options, preload, trial, "")
     missing = [kind for kind, count in due(trial, right).items() if right.counts[KINDS.index(kind)] < count]
     if missing:
         print(f"{trial.name}: not so many calls as there have to be, of the kinds {missing}: {right.counts}")
-    each = [refuse_each(options, library, trial, kind, right.counts[place], right) for place, kind in enumerate(KINDS)]
+    each = [refuse_each(options, preload, trial, kind, right.counts[place], right) for place, kind in enumerate(KINDS)]
     runs, unchanged, wrong = (sum(numbers) for numbers in zip(*each))
     wrong += len(missing)
-    if not same(run(options, library, trial, "s"), right):
+    if not same(run(options, preload, trial, "s"), right):
         wrong += 1
         print(f"{trial.name}: another answer where one byte passes at a time")
     calls = " | ".join(str(right.counts[place]) for place in range(len(KINDS)))
     return f"| {trial.name} | {calls} | {runs + 1} | {unchanged} | {wrong} |", wrong
 
 
-def has_command(options, name):
-    return subprocess.run([options.program, name, "--help"], capture_output=True, check=False).returncode == 0
-
-
 def main():
-    parser = argparse.ArgumentParser(description=__doc__.split("\n\n")[0])
-    parser.add_argument("--program", type=Path, default=CRATE / "out" / "tape_tool", help="the built `tape`")
-    parser.add_argument("commands", nargs="*", metavar="COMMAND", help="these commands alone")
-    options = parser.parse_args()
-    if not options.program.exists():
-        sys.exit(f"{options.program} does not exist: run `rt run -- --help` in crates/tape_tool, or specify another with --program")
-    options.program = options.program.resolve()
-    rows, wrong = [], 0
-    with tempfile.TemporaryDirectory(prefix="tape-fail-") as folder:
-        library = Path(folder) / "fail.so"
-        subprocess.run(["cc", "-O2", "-Wall", "-shared", "-fPIC", "-o", library, HERE / "fail.c"], check=True)
+    options, rows, wrong = arguments(__doc__, ("commands", [], "these commands alone")), [], 0
+    with folder_with() as folder:
+        preload = library(folder)
         for trial in trials(options.program):
             name = trial.words[0]
-            if (options.commands and name not in options.commands) or not has_command(options, name):
+            if options.commands and name not in options.commands:
                 continue
-            row, count = try_all(options, library, trial)
+            row, count = try_all(options, preload, trial)
             rows, wrong = [*rows, row], wrong + count
     print("| Trial | Allocations | Openings | Reads | Writes | Syncs | New names | Locks | Looks | Second names | Removals | Closes "
         "| Runs | Nothing changed, as it may | Wrong answers |")

@@ -13,20 +13,18 @@ printed beside that of one input and one volume. Prints a line for each wrong re
 status 1 if there was one.
 """
 
-import argparse
 import os
 import random
 import resource
-import struct
 import subprocess
 import sys
-import tempfile
 import time
-from pathlib import Path
 
-sys.dont_write_bytecode = True
-import fail
-sys.path.insert(0, str(Path(__file__).resolve().parent.parent / "bench"))
+from common import HERE, arguments, folder_with, library
+from fail import KINDS
+from make_worked_image import block, mark, word
+from salvage import BAD, MARK, items_of
+sys.path.insert(0, str(HERE.parent / "bench"))
 from timing import build  # noqa: E402
 
 RECORDS = 30_000
@@ -35,33 +33,14 @@ FULL = "tape: file fault 4\n"
 FILES = 64
 
 
-def items(image):
-    """The blocks of an image, in order, with None for a tape mark, or nothing if the image is incomplete."""
-    found, at = [], 0
-    while True:
-        if at + 4 > len(image):
-            return None
-        (length,) = struct.unpack_from("<I", image, at)
-        if length == 0xFFFFFFFF:
-            return found if at + 4 == len(image) and found[-2:] == [None, None] else None
-        at += 4
-        if length == 0:
-            found.append(None)
-            continue
-        block, at = image[at : at + length], at + length + length % 2
-        if image[at : at + 4] != struct.pack("<I", length):
-            return None
-        found.append(block)
-        at += 4
-
-
 def data(image):
-    """The data blocks of a complete image with one section, joined."""
-    whole = items(image)
-    if whole is None:
+    """The data blocks of a complete image with one section, joined, or None if it is incomplete."""
+    found = items_of(image)
+    encoded = b"".join(mark() if it is MARK else block(it) for it in found if it is not BAD) + word(0xFFFFFFFF)
+    if encoded != image or found[-2:] != [MARK, MARK]:
         return None
-    first = whole.index(None)
-    return b"".join(whole[first + 1 : whole.index(None, first + 1)])
+    first = found.index(MARK)
+    return b"".join(found[first + 1:found.index(MARK, first + 1)])
 
 
 def what_is_wrong(options, folder, content):
@@ -101,9 +80,7 @@ def kill_at_random(options, content):
     """The numbers of killed runs, of volumes that had ended, and of runs with a wrong result."""
     counts, took = [0, 0, 0], None
     while counts[0] < options.kills:
-        with tempfile.TemporaryDirectory(prefix="tape-kills-") as place:
-            folder = Path(place)
-            (folder / "records").write_bytes(content)
+        with folder_with({"records": content}) as folder:
             line = words(options, options.capacity, "RECORDS=records", *SHAPE)
             began = time.monotonic()
             process = subprocess.Popen(line, cwd=folder, stdout=subprocess.DEVNULL, stderr=subprocess.DEVNULL)
@@ -121,21 +98,18 @@ def kill_at_random(options, content):
 def refuse_each(options, content):
     """The same for refused writes and syncs, each alone and with all later ones of its kind."""
     counts = [0, 0, 0]
-    with tempfile.TemporaryDirectory(prefix="tape-kills-") as place:
-        library = Path(place) / "fail.so"
-        subprocess.run(["cc", "-O2", "-Wall", "-shared", "-fPIC", "-o", library, fail.HERE / "fail.c"], check=True)
-        of_kind = dict(zip(fail.KINDS, refuse(options, content, library, "", [0, 0, 0]), strict=False))
+    with folder_with() as folder:
+        preload = library(folder)
+        of_kind = dict(zip(KINDS, refuse(options, content, preload, "", [0, 0, 0]), strict=False))
         for _ in range(options.refusals):
             kind, later = options.random.choice("wy"), options.random.choice(("", "+"))
-            refuse(options, content, library, f"{kind}{options.random.randint(1, of_kind[kind])}{later}", counts)
+            refuse(options, content, preload, f"{kind}{options.random.randint(1, of_kind[kind])}{later}", counts)
     return counts
 
 
-def refuse(options, content, library, refusal, counts):
-    with tempfile.TemporaryDirectory(prefix="tape-kills-") as place:
-        folder = Path(place)
-        (folder / "records").write_bytes(content)
-        told = os.environ | {"LD_PRELOAD": str(library), "FAIL": refusal, "FAIL_COUNTS": str(folder / "counts")}
+def refuse(options, content, preload, refusal, counts):
+    with folder_with({"records": content}) as folder:
+        told = os.environ | {"LD_PRELOAD": str(preload), "FAIL": refusal, "FAIL_COUNTS": str(folder / "counts")}
         line = words(options, options.capacity, "RECORDS=records", *SHAPE)
         done = subprocess.run(line, cwd=folder, env=told, capture_output=True, text=True, check=False)
         wrong, ended = what_is_wrong(options, folder, content)
@@ -148,9 +122,8 @@ def refuse(options, content, library, refusal, counts):
 def fill_disks(options, content):
     """The same for disks of many sizes that are too small."""
     counts = [0, 0, 0]
-    with tempfile.TemporaryDirectory(prefix="tape-kills-") as place:
-        source, disk = Path(place) / "records", Path(place) / "disk"
-        source.write_bytes(content)
+    with folder_with({"records": content}) as folder:
+        source, disk = folder / "records", folder / "disk"
         disk.mkdir()
         for _ in range(options.disks):
             size = options.random.randrange(16, len(content) // 1024)
@@ -183,10 +156,7 @@ def many(options, measure):
     """The maximum memory of runs with one input and one volume, with 9,999 inputs, and with 256 volumes."""
     answers = []
     for inputs, records, capacity in ((1, 10, 4_000_000), (9_999, 1, 100_000_000), (1, 256 * 20, 2_500)):
-        with tempfile.TemporaryDirectory(prefix="tape-kills-") as place:
-            folder = Path(place)
-            for number in range(inputs):
-                (folder / f"f{number}").write_bytes(b"7" * 80 * records)
+        with folder_with({f"f{number}": b"7" * 80 * records for number in range(inputs)}) as folder:
             files = [f"F{number}=f{number}" for number in range(inputs)]
             answers.append(memory(measure, folder, words(options, capacity, *files, *SHAPE)))
             answers.append(len(list(folder.glob("KIL*.tap"))))
@@ -194,17 +164,8 @@ def many(options, measure):
 
 
 def main():
-    parser = argparse.ArgumentParser(description=__doc__, formatter_class=argparse.RawDescriptionHelpFormatter)
-    parser.add_argument("--program", type=Path, default=fail.CRATE / "out" / "tape_tool", help="the built `tape`")
-    parser.add_argument("--kills", type=int, default=200, help="how often it is killed")
-    parser.add_argument("--refusals", type=int, default=200, help="how many writes and syncs are refused")
-    parser.add_argument("--disks", type=int, default=40, help="how many full disks there are")
-    parser.add_argument("--capacity", type=int, default=60_000, help="the capacity of a volume")
-    parser.add_argument("--seed", type=int, default=1)
-    options = parser.parse_args()
-    if not options.program.exists():
-        sys.exit(f"{options.program} does not exist: run `rt run -- --help` in crates/tape_tool, or specify another with --program")
-    options.program = str(options.program.resolve())
+    options = arguments(__doc__, ("--kills", 200, "how often it is killed"), ("--refusals", 200, "how many writes and syncs are refused"),
+        ("--disks", 40, "how many full disks there are"), ("--capacity", 60_000, "the capacity of a volume"), ("--seed", 1, "of all that is random"))
     options.random = random.Random(options.seed)
     content = b"".join(b"%07d" % number + b"x" * 73 for number in range(RECORDS))
     failed = 0
@@ -213,9 +174,9 @@ def main():
         counts = step(options, content)
         failed += counts[2]
         print(f"| {name} | " + " | ".join(str(count) for count in counts) + " |", flush=True)
-    with tempfile.TemporaryDirectory(prefix="tape-kills-") as place:
-        build(Path(place), ["measure"])
-        small, one, inputs, of_inputs, volumes, of_volumes = many(options, Path(place) / "measure")
+    with folder_with() as folder:
+        build(folder, ["measure"])
+        small, one, inputs, of_inputs, volumes, of_volumes = many(options, folder / "measure")
     print(f"one input, {one} volume: {small} KB; 9,999 inputs, {of_inputs} volumes: {inputs} KB; {of_volumes} volumes: {volumes} KB")
     return 1 if failed or None in (small, inputs, volumes) else 0
 

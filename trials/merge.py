@@ -12,20 +12,17 @@ cases of three, the log must have its bytes, or not exist; and no other file may
 """
 import os
 import random
-import struct
 import subprocess
 import sys
 import tempfile
+
+from make_worked_image import word
 
 MARK, BAD = ('mark',), ('bad',)
 
 
 def block(content):
     return ('block', content)
-
-
-def word(number):
-    return struct.pack('<I', number)
 
 
 def encoded(item, rnd):

@@ -2,11 +2,11 @@
 """Mutates the definitions of a crate, and reports what notices each mutation.
 
     trials/mutate.py [--sample N] [--seed S] [--group G] [--minutes M] [--only WORD] [--rules RULE,..]
-                     [--of TSV] [--jobs J] [--call FUNCTION] [--strip] [--list] [--tsv FILE] CRATE..
+                     [--of TSV] [--jobs J] [--call FUNCTION] [--list] [--tsv FILE] CRATE..
 
 A proof says no more than the definitions it is about. A definition holds if a change of its meaning
 makes a proof fail; trials/mutations.py generates such changes by rule, of the definitions that
-public contracts reach, and reads the composite ones of trials/composite. Each crate is proved in a
+public contracts reach, and reads the composite ones of trials/composite.txt. Each crate is proved in a
 copy of the repository, over the work kept in out/; run `rt check` in it first.
 
 Up to G mutations of different definitions go into one check. A refusal is attributed to a mutation
@@ -22,15 +22,13 @@ Mutations without an answer are tried again in other groups, in the end alone. T
 
 The rule `same` changes no meaning: the share of its mutations that are noticed is what the form of
 proofs contributes to the other figures. --call checks one function alone, for example laws::cases;
---strip first removes Cases, Examples, worked sets and Mistakes; --of tries the rows of an earlier
-table; --list only lists. The columns of a table: crate, file, line, definition, rule, old and new
+--of tries the rows of an earlier table; --list only lists. The columns of a table: crate, file, line, definition, rule, old and new
 text, answer, what notices it, mutations in that check, first message. Exit status 1: UNNOTICED.
 """
 import argparse
 import os
 import random
 import re
-import shutil
 import subprocess
 import sys
 import tempfile
@@ -201,20 +199,6 @@ def next_group(known, left, size):
     return group
 
 
-def strip(crate):
-    """Removes the scaffolding: its files, their lines in Lib.antt, and the clauses that state it."""
-    for path in [Path(crate, it) for it in files_of(crate, "specs", "proofs") if SCAFFOLD.match(os.path.basename(it))]:
-        path.unlink()
-        lib = Path(crate, path.relative_to(crate).parts[0], "Lib.antt")
-        lib.write_text(re.sub(rf"(?m)^(pub )?mod {path.stem}\n", "", lib.read_text()))
-    for path in (f"{crate}/{it}" for it in files_of(crate, "src")):
-        cited = (r"(?m)^ *ghost use [^\n]*\.specs\.(?:Cases|Worked|\w*Examples)[^;]*;\n|"
-                 r"^ +ensures (?:\w+ )?\{ (?:CasesOf\w*|\w+(?:Is|Are)Worked) \}\n")
-        Path(path).write_text(re.sub(cited, "", Path(path).read_text()))
-    for at in [at for at, _, _ in os.walk(f"{crate}/proofs") if at.endswith(("/cases", "_worked"))]:
-        shutil.rmtree(at)
-
-
 def accepted():
     """The definitions and rules whose mutations are known to be unnoticed."""
     path = TOP / "trials" / "accepted.txt"
@@ -234,8 +218,6 @@ def try_crate(crate, args):
     if args.list:
         print("\n".join(it.row() for it in chosen))
         return []
-    if args.strip:
-        strip(crate)
     count, known, size, known_rows = 0, Crate(crate, args.call), args.group, accepted()
     if not check(crate, [], args)[2]:
         sys.exit(f"{name} is not proved without a mutation")
@@ -264,7 +246,6 @@ def main():
     for name, default in (("sample", 0), ("seed", 1), ("group", 8), ("minutes", 600), ("jobs", 1),
                           ("only", ""), ("rules", ""), ("of", ""), ("call", ""), ("tsv", "")):
         parser.add_argument(f"--{name}", type=type(default), default=default)
-    parser.add_argument("--strip", action="store_true")
     parser.add_argument("--list", action="store_true")
     args, tried = parser.parse_args(), []
     with tempfile.TemporaryDirectory() as room:

@@ -9,18 +9,15 @@ The rules:
     swap, sibling             exchanges two arguments of one type; reads another field of its type
     same                      exchanges the sides of an equation. This changes no meaning: it is a control
 
-Cases, examples and worked sets are not mutated. Composite mutations, which change several places at
-once, are listed in trials/composite/CRATE.txt, one in each paragraph:
+Cases, examples and worked sets are not mutated. Mutations that no rule makes, most of which change
+several places at once, are listed in trials/composite.txt:
 
-    break: NAME
-    misleads: what a reader of the changed definition would wrongly believe
-    file: specs/FILE.antt
-    in: DEFINITION
-    old: TEXT
-    new: TEXT
+    CRATE FILE.DEFINITION [FIELD FIELD]: the fact that is lost
+        OLD => NEW
 
-TEXT occurs once in the definition, or once in the file if there is no line `in:`; `\\n` is the end
-of a line. More lines `file:`, `in:`, `old:`, `new:` may follow.
+These fields become trivially true, if there are any, and in the definition the text OLD, which it
+contains once, becomes NEW (`true`: trivially true). `=> NEW` may be on a line of its own, `\\n` is the
+end of a line, and PATH.antt: before OLD names another file.
 """
 import os
 import random
@@ -34,7 +31,7 @@ PRIVATE_FN = re.compile(r"(?ms)^( *)(?:pub\([a-z]+\) )?(?:const )?fn .*?(?=^\1\{
 WORD, BINDER = re.compile(r"[\w']+"), re.compile(r"[({][\w' ]+ : ")
 SCAFFOLD = re.compile(r"^(Cases\w*|\w*Examples\w*|Worked\w*|Mistakes\w*)\.antt$")
 TRUE, FALSE = "Unit {0}", "⊥"
-SIGNS = {"≤": "◌≤◌", "<": "◌<◌", "&&": "◌&&◌", "||": "◌||◌"}
+SIGNED = re.compile(r"nat_le|nat_lt|not|true|false|decimal|\[\]|≤|<|&&|\|\||≢|⊎| \+ | - ")
 TURNS = {r"≤": "<", r"<": "≤", r"\bnat_lt\b": "nat_le", r"\bnat_le\b": "nat_lt", r"&&": "||",
          r"\|\|": "&&", r"\bnot (?=[(\w])": "", r"(?<=≡ )true\b": "false", r"(?<=≡ )false\b": "true"}
 
@@ -230,28 +227,30 @@ def generated(crate):
 
 
 def listed(crate):
-    """The composite mutations of a crate's list."""
-    path = Path(__file__).parent / "composite" / f"{os.path.basename(crate)}.txt"
-    paragraphs = path.read_text().split("\n\n") if path.exists() else []
-    return [of_paragraph(crate, it) for it in paragraphs if not it.startswith("#") and it.strip()]
+    """The composite mutations of a crate."""
+    text = (Path(__file__).parent / "composite.txt").read_text()
+    form = r"(?m)^%s (\w+)\.([\w']+)(?: \[([\w ]+)\])?: (.*)\n((?:    .*\n)*)"
+    return [composite(crate, f"specs/{it[0]}.antt", *it[1:])
+            for it in re.findall(form % os.path.basename(crate), text)]
 
 
-def of_paragraph(crate, paragraph):
-    now, edits = {}, []
-    for line in paragraph.strip("\n").split("\n"):
-        word, _, text = line.partition(":")
-        now[word] = text.removeprefix(" ").replace("\\n", "\n")
-        if word == "file":
-            now.pop("in", None)
-        if word == "new":
-            text, name = Path(crate, now["file"]).read_text(), now.get("in", "")
-            start = re.search(rf"(?m)^ *(?:\w+ )*{re.escape(name)}\b", text).start() if name else 0
-            end = text.find("\n\n", start) if name and "\n\n" in text[start:] else len(text)
-            if text.count(now["old"], start, end) != 1:
-                raise SystemExit(f"{now['break']}: `{now['old']}` is not in {now['file']} exactly once")
-            first = text.find(now["old"], start)
-            edits.append((now["file"], first, first + len(now["old"]), now["new"]))
-    return Mutation(crate, now["break"], "composite", edits, now["misleads"])
+def composite(crate, file, name, fields, why, changes):
+    """A mutation from the list: fields that become trivially true, and changes of texts."""
+    edits, text = [], Path(crate, file).read_text()
+    start = re.search(rf"(?m)^ *(?:\w+ )*{re.escape(name)}\b", text).start()
+    end = text.find("\n\n", start) if "\n\n" in text[start:] else len(text)
+    for field in fields.split():
+        its = re.compile(rf"(?m)^ +pub {field} : ").search(text, start, end)
+        after = re.compile(r"(?m)^ +pub \w+ : ").search(text, its.end(), end)
+        edits.append((file, *trim(masked(text), its.end(), after.start() if after else end), TRUE))
+    for other, old, new in re.findall(r"    (?:(\S+\.antt): )?(.*?)(?:\n   )? => (.*)\n", changes):
+        old, new = (it.replace("\\n", "\n") for it in (old, new))
+        its = (Path(crate, other).read_text(),) if other else (text, start, end)
+        if its[0].count(old, *its[1:]) != 1:
+            raise SystemExit(f"{name}: `{old}` is not in {other or file} exactly once")
+        first = its[0].find(old, *its[1:])
+        edits.append((other or file, first, first + len(old), TRUE if new == "true" else new))
+    return Mutation(crate, name, "composite", edits, why)
 
 
 def drawn(mutations, seed):
@@ -273,7 +272,7 @@ def with_mutations(group):
         texts[file] = text[:first] + (f"({TRUE})" if new == TRUE else new) + text[last:]
     for file, text in texts.items():
         new = " ".join(edit[4] for edit in edits if edit[1] == file)
-        names = {SIGNS.get(x, x) for x in re.findall(r"nat_le|nat_lt|not|true|false|≤|<|&&|\|\|", new)}
+        names = {x if re.match(r"\w|\[", x) else f"◌{x.strip()}◌" for x in SIGNED.findall(new)}
         wanted = [it for it in names if not re.search(rf"(?m)^use [^\n]*[{{ ]{re.escape(it)}[,}}]", text)]
         imports = f"use Rattle.std.specs.Prelude.{{{', '.join(wanted)}}}"
         texts[file] = re.sub("^[^\n]*", imports, text) if wanted and file.startswith("specs/") else text

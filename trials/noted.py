@@ -1,11 +1,11 @@
-"""The records that record.c wrote during a run, and conclusions about the run's output. For power.py."""
+"""The records that calls.c wrote during a run, and conclusions about the run's output. For power.py."""
 
 import re
 import struct
 
 
 def notes(path):
-    """The records of record.c."""
+    """The records of calls.c."""
     log, at, found = path.read_bytes() if path.exists() else b"", 0, []
     while at < len(log):
         place, length = struct.unpack("<QQ", log[at + 1:at + 17])

@@ -8,16 +8,16 @@ Each check is named after the rule that a wrong program would violate. Prints ea
 status 1 if something was wrong.
 """
 
-import argparse
 import os
 import re
 import subprocess
 import sys
 import tempfile
+from inspect import isfunction, signature
 from pathlib import Path
 
-sys.dont_write_bytecode = True
-from fail import CRATE, LINES, ONE, TWO, stage_of, volume
+from common import Results, arguments, files_in, folder_with
+from fail import LINES, ONE, TWO, stage_of
 from make_worked_image import block, first_label, mark, second_label, volume_label, word
 
 CALLS = "openat,write,fsync,fdatasync,rename,renameat,renameat2,link,linkat,unlink,unlinkat,flock,close,ftruncate,fchmod,fchown"
@@ -27,24 +27,16 @@ REELS = {"one.tap": ONE, "two.tap": TWO}
 EXTRACT = ["extract", "ABC001", "1", "OUT"]
 CUT = ONE[:20000]
 BLANK = volume_label("ABC001") + mark() + mark() + word(0xFFFFFFFF)
-CHECKS = []
-
-
-def check(function):
-    CHECKS.append(function)
-    return function
 
 
 class Run:
     """One run of the program in its own directory: its result, and its system calls."""
 
     def __init__(self, program, words, files, inject=(), only=None, before=None, out=subprocess.PIPE, watch=True, stdin=b"", env=None):
-        with tempfile.TemporaryDirectory(prefix="tape-order-") as folder:
-            self.root = Path(folder)
+        with folder_with(files) as folder:
+            self.root = folder
             os.chmod(folder, 0o777)
-            (self.root / "d").mkdir()
-            for name, content in files.items():
-                (self.root / name).write_bytes(content)
+            (folder / "d").mkdir(exist_ok=True)
             if before:
                 before(self.root)
             log = self.root.with_suffix(".log")
@@ -59,7 +51,7 @@ class Run:
             )
             self.status, self.err = done.returncode, done.stderr.decode("utf-8", "replace")
             self.out = (done.stdout or b"").decode("utf-8", "replace")
-            self.files = {str(p.relative_to(self.root)): p.read_bytes() for p in self.root.rglob("*") if p.is_file() and not p.is_symlink()}
+            self.files = files_in(folder)
             self.links = [str(p.relative_to(self.root)) for p in self.root.rglob("*") if p.is_symlink()]
             self.modes = {name: (self.root / name).stat().st_mode & 0o7777 for name in self.files}
             self.events = self.read(log) if log.exists() else []
@@ -112,10 +104,16 @@ def is_write(path):
     return lambda name, at, rest: name == "write" and at == path
 
 
+def refused(t, words, files, *kinds):
+    """Each call of some kinds refused in turn: a description, and the run."""
+    for kind, error in kinds:
+        for number in range(1, sum(call in kind.split(",") for call, _, _ in t(words, files).events) + 1):
+            yield f"{kind} {number}", t(words, files, inject=[f"{kind}:error={error}:when={number}"])
+
+
 # ---- syncs and names, in their order ----
 
 
-@check
 def image_is_synced(t):
     for files in ({}, {"ABC001.tap": BLANK}):
         run = t(["write", ".", "ABC", "200000", "A=lines"], {"lines": LINES} | files)
@@ -124,14 +122,12 @@ def image_is_synced(t):
             yield in_order(run.first(is_write("ABC001.tap")), run.last(is_sync(".")), run.printed("FILES")), "the directory of a new image is synced"
 
 
-@check
 def init_is_synced(t):
     run = t(["init", ".", "ABC", "2"], {})
     for name in ("ABC001.tap", "ABC002.tap"):
         yield in_order(run.last(is_write(name)), run.last(is_sync(name)), run.printed("INIT")), f"{name} is synced"
 
 
-@check
 def name_after_sync(t):
     for words, files in (([*EXTRACT, "one.tap", "two.tap"], REELS), ([*EXTRACT, "two.tap", "one.tap", "--again"], REELS | {"OUT": b"old\n"}),
             ([*EXTRACT, "one.tap", "two.tap", "--stage", "s"], REELS), (["unpack", "d", "one.tap", "two.tap"], REELS)):
@@ -145,7 +141,6 @@ def name_after_sync(t):
         yield run.drafts() == [], "the draft has gone"
 
 
-@check
 def stage_is_synced(t):
     run = t([*EXTRACT, "one.tap", "--stage", "s"], REELS)
     yield in_order(run.first(is_write("s")), run.first(is_sync("s")), run.printed("AWAITS")), "a new stage is synced"
@@ -154,7 +149,6 @@ def stage_is_synced(t):
     yield any(name == "flock" and at == "s" and "LOCK_EX" in rest for name, at, rest in run.events), "it is locked for this run alone"
 
 
-@check
 def a_shared_lock_excludes(t):
     def lock(root):
         held.append(subprocess.Popen(["flock", "-s", str(root / "s"), "sleep", "30"]))
@@ -165,17 +159,13 @@ def a_shared_lock_excludes(t):
     yield run.status == 1 and run.err == "tape: stage fault 7\n" and run.files["s"] == t.stage, f"a shared lock: {run.err}"
 
 
-@check
 def refused_folder_sync(t):
     for words, files in (([*EXTRACT, "one.tap", "two.tap"], REELS), (["unpack", "d", "one.tap", "two.tap"], REELS),
             (["write", ".", "ABC", "200000", "A=lines"], {"lines": LINES})):
-        count = sum(name == "fsync" for name, _, _ in t(words, files).events)
-        for number in range(1, count + 1):
-            run = t(words, files, inject=[f"fsync:error=EIO:when={number}"])
-            yield run.status == 1 and "COMPLETE 900" not in run.out and "FILES" not in run.out, f"{words[0]}, sync {number} refused: {run.status} {run.out!r}"
+        for what, run in refused(t, words, files, ("fsync", "EIO")):
+            yield run.status == 1 and "COMPLETE 900" not in run.out and "FILES" not in run.out, f"{words[0]}, {what} refused: {run.status} {run.out!r}"
 
 
-@check
 def input_is_closed(t):
     run = t(["write", ".", "ABC", "200000", "A=a", "B=b"], {"a": LINES, "b": LINES})
     read = [k for k, (name, at, rest) in enumerate(run.events) if name == "openat" and at in "ab"]
@@ -186,7 +176,6 @@ def input_is_closed(t):
 # ---- files that remain, and files that are removed ----
 
 
-@check
 def drafts_are_removed(t):
     full = lambda root: (root / "OUT").symlink_to("/dev/full")
     for words, files in (([*EXTRACT, "one.tap"], REELS), ([*EXTRACT, "one.tap", "--again"], REELS), ([*EXTRACT, "one.tap", "--stage", "s"], REELS),
@@ -204,7 +193,6 @@ def drafts_are_removed(t):
     yield run.status == 1 and run.drafts() == [], f"a damaged stage: {run.status} {run.drafts()}"
 
 
-@check
 def no_new_file(t):
     """No temporary file can be created: OUT is written in place only if it exists and its directory refuses new files."""
     old = {"OUT": b"old\n"}
@@ -222,7 +210,6 @@ def no_new_file(t):
             yield run.status == 1 and "FAILED file fault 2" in run.out and "d/ABC001.1.PAYROLL" not in run.files, f"{error}, unpack: {run.out!r}"
 
 
-@check
 def names_that_are_taken(t):
     def take(root):
         for number in range(1, 12):
@@ -231,14 +218,12 @@ def names_that_are_taken(t):
     yield run.status == 0 and run.files.get("OUT") == t.records, f"eleven names are taken: {run.status} {run.err!r}"
 
 
-@check
 def modes_are_kept(t):
     for mode, wanted in ((0o600, 0o600), (0o640, 0o640), (0o4755, 0o755), (0o2711, 0o711)):
         run = t([*EXTRACT, "one.tap", "two.tap"], REELS | {"OUT": b"old\n"}, before=lambda root: (root / "OUT").chmod(mode))
         yield run.status == 0 and run.modes["OUT"] == wanted, f"{mode:o} became {run.modes['OUT']:o}"
 
 
-@check
 def links_are_left_alone(t):
     run = t(["unpack", "d", "one.tap", "two.tap"], REELS, before=lambda root: (root / "d/ABC001.1.PAYROLL").symlink_to("lost"))
     yield run.links == ["d/ABC001.1.PAYROLL"] and "EXISTS" in run.out and "d/lost" not in run.files, f"a link that leads nowhere: {run.out!r} {run.links}"
@@ -248,7 +233,6 @@ def links_are_left_alone(t):
     yield run.links == ["OUT"] and run.files["real"] == t.records, "OUT that is a link is written through"
 
 
-@check
 def salvaged_files(t):
     """What `unpack --salvage` does to its two files: those of anybody else stay as they are."""
     words, name = ["unpack", "--salvage", "d", "one.tap"], "d/ABC001.1.PAYROLL"
@@ -270,13 +254,10 @@ def salvaged_files(t):
         yield run.status == 0 and run.files.get(path) == own[path] + b"more\n", f"{path} that was changed, a complete file: {run.status}"
     run = t([*words, "two.tap"], REELS | own)
     yield run.status == 0 and not set(own) & set(run.files), f"a complete file: {run.status} {list(run.files)}"
-    for kind, error in (("fsync", "EIO"), ("write", "ENOSPC")):
-        for number in range(1, sum(call == kind for call, _, _ in t(words, REELS).events) + 1):
-            run = t(words, REELS, inject=[f"{kind}:error={error}:when={number}"])
-            yield run.status == 1 and all(run.files.get(path, due) == due for path, due in own.items()) and run.drafts() == [], f"{kind} {number}: {run.status} {list(run.files)}"
+    for what, run in refused(t, words, REELS, ("fsync", "EIO"), ("write", "ENOSPC")):
+        yield run.status == 1 and all(run.files.get(path, due) == due for path, due in own.items()) and run.drafts() == [], f"{what}: {run.status} {list(run.files)}"
 
 
-@check
 def log_of_a_merge(t):
     """OUT and LOG of `merge --log` are there together, or neither is; files that exist stay as they are."""
     words = ["merge", "--log", "LOG", "OUT", "one.tap", "one.tap"]
@@ -288,21 +269,17 @@ def log_of_a_merge(t):
         yield run.status == 1 and run.files[path] == b"mine\n" and not set(due) - {path} & set(run.files), f"{path} exists: {run.status} {list(run.files)}"
         run = t(words, REELS, before=lambda root: (root / path).symlink_to("lost"))
         yield run.status == 1 and run.links == [path] and "lost" not in run.files, f"{path} is a link: {run.status}"
-    for kind, error in (("fsync", "EIO"), ("write", "ENOSPC"), ("link,linkat,rename", "EIO")):
-        for number in range(1, sum(call in kind.split(",") for call, _, _ in t(words, REELS).events) + 1):
-            run = t(words, REELS, inject=[f"{kind}:error={error}:when={number}"])
-            there = {path: run.files[path] for path in due if path in run.files}
-            yield run.drafts() == [] and (there == due or run.status == 1 and not there), f"{kind} {number}: {run.status} {list(there)}"
+    for what, run in refused(t, words, REELS, ("fsync", "EIO"), ("write", "ENOSPC"), ("link,linkat,rename", "EIO")):
+        there = {path: run.files[path] for path in due if path in run.files}
+        yield run.drafts() == [] and (there == due or run.status == 1 and not there), f"{what}: {run.status} {list(there)}"
 
 
-@check
 def a_stage_by_another_path(t):
     for stage, out in (("d/../x", "x"), ("x", "d/../x"), ("./x", "x")):
         run = t(["extract", "ABC001", "1", out, "one.tap", "--stage", stage], REELS)
         yield run.status == 2 and "x" not in run.files, f"OUT {out}, stage {stage}: {run.status}"
 
 
-@check
 def files_on_two_systems(t):
     with tempfile.TemporaryDirectory() as top:
         a, b = Path(top, "a"), Path(top, "b")
@@ -321,7 +298,6 @@ def files_on_two_systems(t):
                 subprocess.run(["umount", str(folder)], check=True)
 
 
-@check
 def inputs_are_tried_first(t):
     run = Run("setpriv", ["--reuid=65534", "--clear-groups", t.program, "write", "d", "ABC", "100000", "A=a", "B=b"], {"a": LINES, "b": LINES},
         before=lambda root: ((root / "b").chmod(0), (root / "d").chmod(0o777)), watch=False)
@@ -331,7 +307,6 @@ def inputs_are_tried_first(t):
 # ---- options and statuses ----
 
 
-@check
 def options_do_something(t):
     run = t(["survey", "one.tap", "--tsv"], REELS)
     yield run.out.startswith("IMAGE\tone.tap\t"), f"survey --tsv: {run.out!r}"
@@ -348,7 +323,6 @@ def options_do_something(t):
     yield t(["list", "lost.tap"], {}).err == "tape: file fault 2\n", "nothing is explained unless it is asked for"
 
 
-@check
 def statuses_of_unpack(t):
     other = ONE.replace(b"PAYROLL", b"LEDGERS")
     second = TWO.replace(b"ABC00100020001", b"ABC00100010002")
@@ -368,7 +342,6 @@ def statuses_of_unpack(t):
     yield t(["unpack", "lost", "one.tap"], REELS).status == 1, "no directory"
 
 
-@check
 def images_of_one_set(t):
     other = ONE.replace(b"ABC001", b"XYZ001")
     run = t(["unpack", "d", "one.tap", "other.tap"], {"one.tap": ONE, "other.tap": other})
@@ -379,7 +352,6 @@ def images_of_one_set(t):
     yield between == {"one.tap"}, f"for ABC001 {between} were opened ({opened})"
 
 
-@check
 def lines_one_by_one(t):
     names = ["a.tap", "b.tap", "c.tap"]
     for command in (["check"], ["survey"], ["survey", "--tsv"]):
@@ -392,32 +364,28 @@ def lines_one_by_one(t):
             yield lines and all(opened[-1] < line for line in lines), f"{command}: nothing before the last image is opened"
 
 
-@check
 def full_output(t):
     calls = (["check", "one.tap"], ["survey", "one.tap"], ["list", "one.tap"], ["init", "d", "ABC", "1"], ["compare", "one.tap", "one.tap"])
     for words in calls:
         with open("/dev/full", "wb") as full:
             run = t([*words, "--explain"], REELS, out=full)
         yield run.status == 1 and run.err.startswith("tape: file fault 4\n  Output: standard output\n"), f"{words}: {run.err!r}"
-    for words, files in (([*EXTRACT[:3], "/dev/full", "one.tap", "two.tap"], REELS), (["stage", "s", "/dev/full"], {"s": t.stage})):
+    for words, files, reels in (([*EXTRACT[:3], "/dev/full", "one.tap", "two.tap"], REELS, "  REEL 1: one.tap\n  REEL 2: two.tap\n"),
+            (["stage", "s", "/dev/full"], {"s": t.stage}, "")):
         run = t([*words, "--explain"], files)
-        yield run.status == 1 and run.err.startswith("tape: file fault 4\n  OUT: /dev/full\n"), f"{words}: {run.err!r}"
+        yield run.status == 1 and run.err.startswith(f"{reels}tape: file fault 4\n  OUT: /dev/full\n"), f"{words}: {run.err!r}"
     run = t(["extract", "ABC001", "1", "OUT", "one.tap", "--stage", "s", "--explain"], REELS | {"s": b"no stage"})
     yield run.err.startswith("tape: stage fault 1\n  Stage: s\n"), f"a stage: {run.err!r}"
     run = t([*EXTRACT, "one.tap", "--stage", "s", "--explain"], REELS | {"s": t.stage}, inject=["fsync:error=EIO:when=4+"])
-    yield run.err.startswith("tape: run fault 1\n  Stage: s\n"), f"a stage that cannot be synced: {run.err!r}"
+    yield run.err.startswith("  REEL 1: one.tap\ntape: run fault 1\n  Stage: s\n"), f"a stage that cannot be synced: {run.err!r}"
     run = t(["extract", "ABC001", "2", "OUT", "one.tap", "--stage", "s", "--explain"], REELS | {"s": t.stage})
     yield run.err.startswith("tape: run fault 5\n  Stage: s\n") and run.files["s"] == t.stage, f"a stage of another file: {run.err!r}"
 
 
-@check
 def each_refused_write(t):
     """More bytes than the buffer: a write of records fails while reels are read."""
-    run = t([*EXTRACT, "one.tap", "two.tap"], REELS)
-    writes = [k for k, (name, at, rest) in enumerate(run.events) if name == "write"]
-    for number in range(1, len(writes) + 1):
-        run = t([*EXTRACT, "one.tap", "two.tap"], REELS, inject=[f"write:error=ENOSPC:when={number}"])
-        yield run.status == 1 and run.err == "tape: file fault 4\n" and "COMPLETE" not in run.out.replace("REEL 2 COMPLETE", ""), f"write {number}: {run.err!r}"
+    for what, run in refused(t, [*EXTRACT, "one.tap", "two.tap"], REELS, ("write", "ENOSPC")):
+        yield run.status == 1 and run.err == "tape: file fault 4\n" and "COMPLETE" not in run.out.replace("REEL 2 COMPLETE", ""), f"{what}: {run.err!r}"
     written = ["write", ".", "ABC", "200000", "A=lines"], {"lines": LINES, "ABC001.tap": BLANK}
     right = t(*written).files["ABC001.tap"]
     for number in range(1, 12):
@@ -429,7 +397,6 @@ def each_refused_write(t):
         yield run.status == 1, f"init, write {number}: {run.status} {run.out!r}"
 
 
-@check
 def each_refused_line(t):
     for words, files in ((["list", "one.tap"], REELS), (["check", "one.tap", "two.tap"], REELS), (["survey", "one.tap", "two.tap"], REELS),
             (["survey", "--tsv", "one.tap", "two.tap"], REELS), (["compare", "one.tap", "two.tap"], REELS), (["merge", "OUT", "one.tap", "one.tap"], REELS),
@@ -441,7 +408,6 @@ def each_refused_line(t):
             yield run.status == 1 and run.err == "tape: file fault 4\n", f"{words}, write {number}: {run.status} {run.err!r}"
 
 
-@check
 def long_numbers(t):
     labels = volume_label("ABC001") + first_label("HDR1", 0) + second_label("HDR2").replace(b"F0080000080", b"F0002000020") + mark()
     image = labels + block(b"x" * 20) * 100_000
@@ -454,7 +420,6 @@ def long_numbers(t):
     yield run.out.endswith("COMPLETE 1000001\n"), f"a million records: {run.out!r} {run.err!r}"
 
 
-@check
 def long_stages(t):
     """A stage of more than 2 GB is written, continued and read."""
     with tempfile.TemporaryDirectory(prefix="tape-order-") as folder:
@@ -474,7 +439,6 @@ def long_stages(t):
         yield run.out.startswith(f"STAGE ABC001 1 {count}\n"), f"a long stage that is shown: {run.out!r} {run.err!r}"
 
 
-@check
 def lines_of_lists(t):
     names = b"".join(b"%d.tap\n" % number for number in range(1, 11)) + b"M\xfcller.tap\n12.tap\n"
     run = t(["check", "--files-from", "names"], {"names": names})
@@ -499,7 +463,6 @@ def odd_calls(name):
     yield ["extract", "--explain", "S", "1", "o", "i", "--stage", folder]
 
 
-@check
 def names_are_quoted(t):
     """No character of a name or of another word acts on a terminal, hides or ends a line, and different ones are printed differently."""
     odd = [0, *range(1, 32), *range(127, 160), 0xAD, 0x61C, *range(0x200B, 0x2010), *range(0x2028, 0x202F), *range(0x2060, 0x2070), 0xFEFF]
@@ -518,27 +481,19 @@ def names_are_quoted(t):
 
 
 def main():
-    parser = argparse.ArgumentParser(description=__doc__.split("\n\n")[0])
-    parser.add_argument("--program", type=Path, default=CRATE / "out" / "tape_tool", help="the built `tape`")
-    parser.add_argument("names", nargs="*", help="the checks to run [default: all]")
-    options = parser.parse_args()
-    program = str(options.program.resolve())
+    options, results = arguments(__doc__, ("names", [], "the checks to run [default: all]")), Results()
+    program = options.program
 
     def call(words, files, **how):
         return Run(program, words, files, **how)
 
     call.program, call.stage, call.records = program, stage_of(program), LINES
-    count = wrong = 0
-    for one in CHECKS:
-        if options.names and one.__name__ not in options.names:
-            continue
-        for is_right, what in one(call):
-            count += 1
-            if not is_right:
-                wrong += 1
-                print(f"{one.__name__}: {what}")
-    print(f"{count} results, {wrong} wrong")
-    return wrong != 0
+    # each function with the single parameter `t` is a check
+    checks = {name: it for name, it in globals().items() if isfunction(it) and list(signature(it).parameters) == ["t"]}
+    for name in options.names or checks:
+        for is_right, what in checks[name](call):
+            results.expect(is_right, f"{name}: {what}")
+    return results.end()
 
 
 if __name__ == "__main__":

@@ -9,17 +9,14 @@ each run that ends with status 0 exist completely; a run that ends otherwise cha
 each wrong result, and a table of the pairs. The exit status is 1 if one was wrong.
 """
 
-import argparse
 import random
 import subprocess
 import sys
-import tempfile
 import time
 from dataclasses import dataclass
-from pathlib import Path
 
-sys.dont_write_bytecode = True
-from fail import CRATE, LINES, ONE, TWO, mark, volume_label, word
+from common import arguments, files_in, folder_with
+from fail import LINES, ONE, TWO, mark, volume_label, word
 
 BLANK = volume_label("ABC001") + mark() + mark() + word(0xFFFFFFFF)
 OTHER = b"another\n" * 4000
@@ -45,12 +42,10 @@ class Pair:
 
 def alone(program, words, files, made):
     """The bytes of the file that a run creates alone."""
-    with tempfile.TemporaryDirectory(prefix="tape-pairs-") as folder:
-        for name, content in files.items():
-            Path(folder, name).write_bytes(content)
-        Path(folder, "d").mkdir()
+    with folder_with(files) as folder:
+        (folder / "d").mkdir()
         subprocess.run([program, *words], cwd=folder, capture_output=True, check=True)
-        return Path(folder, made).read_bytes()
+        return (folder / made).read_bytes()
 
 
 def pairs(program):
@@ -96,11 +91,8 @@ def judge(pair, done, files):
 
 
 def run_pair(program, pair, pause):
-    with tempfile.TemporaryDirectory(prefix="tape-pairs-", dir="/dev/shm") as folder:
-        root = Path(folder)
-        for name, content in pair.files.items():
-            (root / name).write_bytes(content)
-        (root / "d").mkdir()
+    with folder_with(pair.files, "/dev/shm") as folder:
+        (folder / "d").mkdir()
         started = []
         for words in (pair.first, pair.second):
             started.append(subprocess.Popen([program, *words], cwd=folder, stdout=subprocess.PIPE, stderr=subprocess.PIPE, text=True))
@@ -109,17 +101,12 @@ def run_pair(program, pair, pause):
         for process in started:
             out, err = process.communicate(timeout=60)
             done.append((process.returncode, out, err))
-        files = {str(path.relative_to(root)): path.read_bytes() for path in root.rglob("*") if path.is_file()}
-        return done, files
+        return done, files_in(folder)
 
 
 def main():
-    parser = argparse.ArgumentParser(description=__doc__.split("\n\n")[0])
-    parser.add_argument("--program", type=Path, default=CRATE / "out" / "tape_tool", help="the built `tape`")
-    parser.add_argument("--rounds", type=int, default=250)
-    parser.add_argument("--seed", type=int, default=1)
-    options = parser.parse_args()
-    program, chance = options.program.resolve(), random.Random(options.seed)
+    options = arguments(__doc__, ("--rounds", 250, "how often each pair runs"), ("--seed", 1, "of the pauses"))
+    program, chance = options.program, random.Random(options.seed)
     wrong = 0
     print("| Pair | Rounds | Both | One | None | Wrong |\n|---|---|---|---|---|---|")
     for pair in pairs(program):

@@ -1,7 +1,7 @@
 """The files that a power cut may leave of a stage, and how `tape extract --stage` continues from each. For stage.py.
 
 Sets of volumes are made by `tape write`; copies of their reels are cut and damaged; over some days the program reads
-them with a stage. record.c records each write, cut and sync of the stage's file. For each moment of these days files
+them with a stage. calls.c records each write, cut and sync of the stage's file. For each moment of these days files
 are made that a power cut could leave then: any subset of the writes and cuts since the last sync, in any order, each of
 them complete or torn (at sectors, at any byte, or with other bytes in its range), and any length between. If a sync
 fails, its data are left in the same way; and the run is continued with a copy of the file that the system then shows.
@@ -224,7 +224,7 @@ class Trial:
     wrong: int = 0
 
     def run(self, images, content, noted=False, refused=0):
-        """The result of a run on a file, the file after it, OUT, and the records of record.c."""
+        """The result of a run on a file, the file after it, OUT, and the records of calls.c."""
         kept, out, log = (self.folder / name for name in ("kept", "OUT", "log"))
         for path in (kept, out, log):
             path.unlink(missing_ok=True)

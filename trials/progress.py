@@ -13,46 +13,32 @@ full, and the results the same. Prints each wrong result, and how many runs ther
 one was wrong.
 """
 
-import argparse
 import os
 import pty
 import re
-import struct
 import subprocess
 import sys
-import tempfile
 import threading
 import time
 from pathlib import Path
 
-sys.dont_write_bytecode = True
-from fail import CRATE
+from common import Results, arguments, folder_with
+from make_worked_image import block, first_label, mark, second_label, volume_label, word
 
 BLOCK = 8192
 SHOWN = re.compile(rb"image \d+ of \d+: \d+ MB")
 
 
-def label(text):
-    return word(80) + text.ljust(80).encode() + word(80)
-
-
-def word(length):
-    return struct.pack("<I", length)
-
-
 def image(path, megabytes):
     """A volume with one file of format F, in blocks of 8,192 bytes."""
     blocks = megabytes * 1_000_000 // (BLOCK + 8)
-    count = f"{blocks % 1_000_000:06d}"
-    one = word(BLOCK) + b"x" * BLOCK + word(BLOCK)
-    head = "1BIG              ABC00100010001000100 00000 00000 "
+    one = block(b"x" * BLOCK)
+    second = [second_label(kind).replace(b"F0080000080", b"F0819200080") for kind in ("HDR2", "EOF2")]
     with open(path, "wb") as out:
-        out.write(label("VOL1ABC001" + " " * 69 + "3") + label("HDR" + head + "000000")
-                  + label("HDR2F0819200080" + " " * 35 + "00") + word(0))
+        out.write(volume_label("ABC001") + first_label("HDR1", 0) + second[0] + mark())
         for _ in range(blocks // 64):
             out.write(one * 64)
-        out.write(one * (blocks % 64) + word(0) + label("EOF" + head + count)
-                  + label("EOF2F0819200080" + " " * 35 + "00") + word(0) * 2 + b"\xff" * 4)
+        out.write(one * (blocks % 64) + mark() + first_label("EOF1", blocks % 1_000_000) + second[1] + mark() * 2 + word(0xFFFFFFFF))
 
 
 def screen(data):
@@ -126,13 +112,9 @@ def feed_slowly(paths):
 
 
 def main():
-    parser = argparse.ArgumentParser()
-    parser.add_argument("--program", default=str(CRATE / "out" / "tape_tool"))
-    parser.add_argument("--megabytes", type=int, default=600)
-    given = parser.parse_args()
-    program = os.path.abspath(given.program)
-    runs, wrong = 0, 0
-    with tempfile.TemporaryDirectory(prefix="tape-progress-") as folder:
+    given, results = arguments(__doc__, ("--megabytes", 600, "the size of the large image")), Results()
+    program = given.program
+    with folder_with() as folder:
         big = Path(folder, "a.tap")
         image(big, given.megabytes)
         for name in "bcdef":
@@ -153,7 +135,6 @@ def main():
             lines = screen(plain[1]["pipe"])
             for out, err in (("tty", "tty"), ("pipe", "tty"), ("pipe", "pipe"), ("pipe", "closed")):
                 status, got = run(program, words, folder, out, err, feed)
-                runs += 1
                 told = []
                 if status != plain[0]:
                     told.append(f"status {status} in place of {plain[0]}")
@@ -165,11 +146,8 @@ def main():
                     told.append(f"the terminal shows {screen(got['tty'])} in the end")
                 if err != "tty" and got["tty"]:
                     told.append("something on a terminal that is not used")
-                for text in told:
-                    wrong += 1
-                    print(f"{' '.join(words)}, output {out}, errors {err}: {text}")
-    print(f"{runs} runs, {wrong} wrong")
-    return 1 if wrong else 0
+                results.expect(not told, f"{' '.join(words)}, output {out}, errors {err}: {'; '.join(told)}")
+    return results.end("runs")
 
 
 if __name__ == "__main__":

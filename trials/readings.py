@@ -21,9 +21,11 @@ import sys
 import tempfile
 import threading
 
-from merge import BAD, MARK, Reading, block, model, run, word, written
+from common import library
+from fail import KINDS
+from make_worked_image import word
+from merge import BAD, MARK, Reading, block, model, read, run, written
 
-HERE = os.path.dirname(os.path.abspath(__file__))
 wrong = 0
 
 # A backslash, control characters, and invisible characters
@@ -35,13 +37,6 @@ def expect(what, got, right):
     if got != right:
         wrong += 1
         print(f'WRONG {what}:\n  got      {str(got)[:600]}\n  expected {str(right)[:600]}')
-
-
-def text_of(path):
-    if not os.path.exists(path):
-        return None
-    with open(path, 'rb') as file:
-        return file.read()
 
 
 class Plain(Reading):
@@ -75,7 +70,7 @@ def judge(what, program, folder, readings, names, words=None):
     lines, status, data, _ = model(readings, [printed(name) for name in names])
     out = os.path.join(folder, 'out')
     expect(f'{what}: merge', run(program, 'merge', out, *(words or names)), (lines, status, ''))
-    expect(f'{what}: OUT', text_of(out), data)
+    expect(f'{what}: OUT', read(out), data)
     expect(f'{what}: compare', run(program, 'compare', *(words or names)), (lines, status, ''))
     if data is not None:
         os.remove(out)
@@ -133,7 +128,7 @@ def pipes(program, folder):
         for thread in feeds:
             thread.start()
         expect(f'pipes {case}', run(program, 'merge', out, *names), (lines, status, ''))
-        expect(f'pipes {case}: OUT', text_of(out), data)
+        expect(f'pipes {case}: OUT', read(out), data)
         for thread in feeds:
             thread.join()
         if data is not None:
@@ -221,22 +216,18 @@ def large(program, folder):
     expect('merged image over 4 GB', answer[1:], (1, f'tape: image fault 4 at {full * 65536}\n'))
 
 
-PRELOAD = os.path.join(HERE, 'fail.c')
-
-
-def failing(program, folder, library, fail, words):
+def failing(program, folder, preload, fail, words):
     counts = os.path.join(folder, 'counts')
-    environment = dict(os.environ, LD_PRELOAD=library, FAIL_COUNTS=counts)
+    environment = dict(os.environ, LD_PRELOAD=preload, FAIL_COUNTS=counts)
     if fail:
         environment['FAIL'] = fail
     done = subprocess.run([program, *words], capture_output=True, text=True, env=environment)
-    return done.stdout, done.returncode, done.stderr, text_of(counts)
+    return done.stdout, done.returncode, done.stderr, read(counts)
 
 
 def prepared(folder, sizes, count):
     """The library that refuses calls, and readings in their own directory."""
-    library = os.path.join(folder, 'fail.so')
-    subprocess.run(['cc', '-O2', '-shared', '-fPIC', '-o', library, PRELOAD], check=True)
+    preload = library(folder)
     rnd = random.Random(3)
     items = [MARK if rnd.random() < .2 else block(rnd.randbytes(rnd.choice(sizes)))
              for _ in range(count)]
@@ -244,17 +235,17 @@ def prepared(folder, sizes, count):
                 for end in ('MARKED', 'PHYSICAL', 'PHYSICAL')]
     inside = os.path.join(folder, 'inside')
     os.mkdir(inside)
-    return library, readings, put(inside, readings), os.path.join(inside, 'out')
+    return preload, readings, put(inside, readings), os.path.join(inside, 'out')
 
 
-def each_call(program, folder, library, kinds, words, out):
+def each_call(program, folder, preload, kinds, words, out):
     """The result with each call of some kinds refused, alone and with all later ones."""
-    numbers = failing(program, folder, library, '', words)[3].split()
+    numbers = failing(program, folder, preload, '', words)[3].split()
     os.remove(out)
     for kind in kinds:
-        for number in range(1, int(numbers['aorwynlthdc'.index(kind)]) + 1):
+        for number in range(1, int(numbers[KINDS.index(kind)]) + 1):
             for fail in (f'{kind}{number}', f'{kind}{number}+'):
-                yield fail, *failing(program, folder, library, fail, words)[:3]
+                yield fail, *failing(program, folder, preload, fail, words)[:3]
 
 
 def cut(reading, line):
@@ -271,29 +262,29 @@ def cut(reading, line):
 
 
 def devices(program, folder):
-    library, readings, paths, out = prepared(folder, [1, 800, 20_000, 50_000], 40)
+    preload, readings, paths, out = prepared(folder, [1, 800, 20_000, 50_000], 40)
     tried = 0
-    for fail, said, status, line in each_call(program, folder, library, 'r',
+    for fail, said, status, line in each_call(program, folder, preload, 'r',
                                               ['merge', out, *paths], out):
         tried += 1
         lines = said.split('\n')[:-1]
         expect(f'{fail}: a failure is reported', 'FAULT 5' in said, True)
         if len(lines) < len(readings):
             continue
-        read = [cut(reading, text) for reading, text in zip(readings, lines)]
-        right, ends, data, _ = model(read, paths)
+        given = [cut(reading, text) for reading, text in zip(readings, lines)]
+        right, ends, data, _ = model(given, paths)
         expect(fail, (lines, status, line), (right, ends, ''))
-        expect(f'{fail}: OUT', text_of(out), data)
+        expect(f'{fail}: OUT', read(out), data)
         if os.path.exists(out):
             os.remove(out)
     print(f'  {tried} runs')
 
 
 def refused(program, folder):
-    library, readings, paths, out = prepared(folder, [1, 800, 20_000], 40)
+    preload, readings, paths, out = prepared(folder, [1, 800, 20_000], 40)
     lines, status, data, _ = model(readings, paths)
     tried = 0
-    for fail, said, got, line in each_call(program, folder, library, 'aowynlthdc',
+    for fail, said, got, line in each_call(program, folder, preload, KINDS.replace('r', ''),
                                            ['merge', out, *paths], out):
         tried += 1
         what = f'{fail} ({got}, {line!r})'
@@ -301,16 +292,16 @@ def refused(program, folder):
         expect(f'{what}: a prefix of the lines', whole.startswith(said), True)
         if got == 1:
             # OUT may exist only if the failure came after OUT had its name
-            expect(f'{what}: OUT', text_of(out) in (None, data), True)
+            expect(f'{what}: OUT', read(out) in (None, data), True)
         else:
-            expect(what, (got, said, text_of(out)), (status, whole, data))
+            expect(what, (got, said, read(out)), (status, whole, data))
         if os.path.exists(out):
             os.remove(out)
         left = set(os.listdir(os.path.dirname(out))) - {os.path.basename(path) for path in paths}
         expect(f'{what}: files', [name for name in left if not name.startswith('.tape-')], [])
         for name in left:
             os.remove(os.path.join(os.path.dirname(out), name))
-    expect('the images', [text_of(path) for path in paths], [r.data for r in readings])
+    expect('the images', [read(path) for path in paths], [r.data for r in readings])
     print(f'  {tried} runs')
 
 

@@ -21,7 +21,6 @@ unreadable labels and tape marks, and copies that differ, with lines written by 
 Prints each wrong answer, and counts; the exit status is 1 if there is one.
 """
 
-import argparse
 import hashlib
 import random
 import resource
@@ -34,10 +33,9 @@ import time
 from dataclasses import replace
 from pathlib import Path
 
-sys.dont_write_bytecode = True
-from reels import File, Item, Reel, block, file_of, label, packed, strangers, volumes_of, word
+from common import Results, arguments
+from reels import File, Item, Reel, block, file_of, label, strangers, volumes_of, word
 
-HERE = Path(__file__).resolve().parent
 MARK, BAD = "mark", "bad"
 UNREADABLE = struct.pack("<I", 1 << 31 | 1) + b"\0\0" + struct.pack("<I", 1 << 31 | 1)
 
@@ -396,18 +394,11 @@ def damaged_image(rng, reel, way):
 WAYS = ["whole", "whole", "data", "data", "run", "any", "both", "cut", "count", "changed", "first", "first"]
 
 
-class Trial:
+class Trial(Results):
     """The runs of the program, and the wrong results."""
 
     def __init__(self, options, folder):
-        self.options, self.folder, self.wrong, self.seen = options, Path(folder), 0, 0
-        self.states = {}
-
-    def is_so(self, holds, what):
-        self.seen += 1
-        if not holds:
-            self.wrong += 1
-            print(what)
+        self.options, self.folder, self.states = options, Path(folder), {}
 
     def run(self, *words):
         return subprocess.run([self.options.program, *map(str, words)], cwd=self.folder, capture_output=True, check=False)
@@ -425,9 +416,9 @@ def check_file(trial, set_id, number, images, names, form):
     status = 3 if expected.missing else 0
     got = out.read_bytes() if out.exists() else None
     what = f"{set_id} {number} {form} {' '.join(names)}:"
-    trial.is_so((done.returncode, done.stderr) == (status, b""), f"{what} status {done.returncode}, expected {status}, {done.stderr!r}")
-    trial.is_so(done.stdout.decode() == lines, f"{what} lines\n{done.stdout.decode()}expected\n{lines}")
-    trial.is_so(got == text, f"{what} {got and len(got)} bytes of output, expected {len(text)}")
+    trial.expect((done.returncode, done.stderr) == (status, b""), f"{what} status {done.returncode}, expected {status}, {done.stderr!r}")
+    trial.expect(done.stdout.decode() == lines, f"{what} lines\n{done.stdout.decode()}expected\n{lines}")
+    trial.expect(got == text, f"{what} {got and len(got)} bytes of output, expected {len(text)}")
     trial.states[status] = trial.states.get(status, 0) + 1
     return expected, got, status
 
@@ -455,12 +446,12 @@ def check_unpacked(trial, set_id, images, names):
             text = b"".join(record + b"\n" for record in expected.records)
             wanted = [f"FROM {at} {it}" for at, it in enumerate(taken, 1)] + expected.lines
             what = f"unpack --salvage {name} {number} {' '.join(names)}:"
-            trial.is_so(own <= set(taken), f"{what} {own} are not among {taken}")
-            trial.is_so(records == text, f"{what} {len(records)} bytes, expected {len(text)}")
-            trial.is_so(front.decode().split("\n") == wanted, f"{what} {front.decode()}\nexpected {wanted}")
-            trial.is_so(sums.decode().split() == ["SUMS", hashlib.sha256(records).hexdigest(), hashlib.sha256(front + b"\n").hexdigest()], f"{what} {sums}")
-            trial.is_so(second == f"FILE {name} {number} {expected.lines[-1]} {path}.salvaged", f"{what} {second}")
-        trial.is_so(not found, f"unpack --salvage {' '.join(names)}: {found} have no line")
+            trial.expect(own <= set(taken), f"{what} {own} are not among {taken}")
+            trial.expect(records == text, f"{what} {len(records)} bytes, expected {len(text)}")
+            trial.expect(front.decode().split("\n") == wanted, f"{what} {front.decode()}\nexpected {wanted}")
+            trial.expect(sums.decode().split() == ["SUMS", hashlib.sha256(records).hexdigest(), hashlib.sha256(front + b"\n").hexdigest()], f"{what} {sums}")
+            trial.expect(second == f"FILE {name} {number} {expected.lines[-1]} {path}.salvaged", f"{what} {second}")
+        trial.expect(not found, f"unpack --salvage {' '.join(names)}: {found} have no line")
     shutil.rmtree(folder)
 
 
@@ -502,14 +493,14 @@ def check_set(trial, rng, number):
         places = [(item.section, item.number) for items in volumes for item in items if item.kind == "data" and item.file == file.number]
         if form != "blocks" and not miscounts:
             whole = records_with(file, places, expected)
-            trial.is_so(whole == expected.records, f"{set_id} {file.number}: the records of the file with all blocks are others")
+            trial.expect(whole == expected.records, f"{set_id} {file.number}: the records of the file with all blocks are others")
         if form == "lines" and is_single:
             (trial.folder / "again").unlink(missing_ok=True)
             done = trial.run("extract", set_id, file.number, "again", *names, "--again")
             if done.returncode == 0:
-                trial.is_so(status == 0 and (trial.folder / "again").read_bytes() == got, f"{set_id} {file.number}: extract completes it")
+                trial.expect(status == 0 and (trial.folder / "again").read_bytes() == got, f"{set_id} {file.number}: extract completes it")
         if form == "lines" and status == 0 and not miscounts:
-            trial.is_so(got == file.text, f"{set_id} {file.number}: COMPLETE, and not the file")
+            trial.expect(got == file.text, f"{set_id} {file.number}: COMPLETE, and not the file")
     if number % 3 == 0:
         check_unpacked(trial, set_id, images, names)
     for name, image in zip(names, images):
@@ -553,18 +544,17 @@ def by_hand(trial):
         for damage in (None, 1, len(blocks) - 1):
             made = list(items)
             if damage is not None:
-                at = len(items) - len(blocks) - (3 if not has_second else 4) - 1 + damage
                 at = items.index(block(blocks[damage]))
                 made[at] = bytes([*made[at][:3], made[at][3] | 0x80, *made[at][4:-1], made[at][-1] | 0x80])
             image = b"".join(made)
             (trial.folder / "hand.tap").write_bytes(image)
             expected, got, status = check_file(trial, "HAND01", 1, [image], ["hand.tap"], "blocks")
             left = b"".join(data for at, data in enumerate(blocks) if at != damage)
-            trial.is_so(got == left and status == (0 if damage is None else 3), f"{kind}: the blocks are others")
+            trial.expect(got == left and status == (0 if damage is None else 3), f"{kind}: the blocks are others")
             expected, got, status = check_file(trial, "HAND01", 1, [image], ["hand.tap"], "lines")
-            trial.is_so(status == 3 and got == b"", f"{kind}: records of a format that is not read")
+            trial.expect(status == 3 and got == b"", f"{kind}: records of a format that is not read")
             extracted = trial.run("extract", "HAND01", 1, "extracted", "hand.tap")
-            trial.is_so(extracted.returncode == 3, f"{kind}: extract ends with {extracted.returncode}")
+            trial.expect(extracted.returncode == 3, f"{kind}: extract ends with {extracted.returncode}")
 
 
 def traps(trial):
@@ -614,7 +604,7 @@ def traps(trial):
     for what, items, file, lines, text in rows:
         (trial.folder / "trap.tap").write_bytes(b"".join(items))
         expected, got, status = check_file(trial, "TRAPS1", file, [b"".join(items)], ["trap.tap"], "raw")
-        trial.is_so((expected.lines, got) == (lines, text), f"{what}: the model has {expected.lines}, written are {got and len(got)} bytes")
+        trial.expect((expected.lines, got) == (lines, text), f"{what}: the model has {expected.lines}, written are {got and len(got)} bytes")
 
 
 def conflicts(trial):
@@ -646,7 +636,7 @@ def conflicts(trial):
         for name, content in zip(names, images):
             (trial.folder / name).write_bytes(content)
         expected, got, status = check_file(trial, "CONFL1", 1, images, names, "raw")
-        trial.is_so((expected.lines, got) == (lines, text), f"{what}: the model has {expected.lines}, written are {got and len(got)} bytes")
+        trial.expect((expected.lines, got) == (lines, text), f"{what}: the model has {expected.lines}, written are {got and len(got)} bytes")
 
 
 # ---- times
@@ -677,15 +667,8 @@ def times(trial):
 
 
 def main():
-    parser = argparse.ArgumentParser(description=__doc__.splitlines()[0])
-    parser.add_argument("--program", default=str(HERE.parent / "crates/tape_tool/out/tape_tool"))
-    parser.add_argument("--seed", type=int, default=1)
-    parser.add_argument("--sets", type=int, default=500)
-    parser.add_argument("--keep")
-    parser.add_argument("--hand", action="store_true")
-    parser.add_argument("--times", action="store_true")
-    options = parser.parse_args()
-    options.program = str(Path(options.program).resolve())
+    options = arguments(__doc__, ("--seed", 1, "of the sets"), ("--sets", 500, "how many there are"),
+        ("--keep", "", "keep the images in this directory"), ("--hand", False, "images written by hand"), ("--times", False, "measure times"))
     with tempfile.TemporaryDirectory() as made:
         trial = Trial(options, options.keep or made)
         if options.hand:
@@ -697,8 +680,8 @@ def main():
         else:
             for number in range(options.sets):
                 check_set(trial, random.Random(options.seed * 1_000_000 + number), number)
-        print(f"{trial.seen} answers, {trial.wrong} wrong; by status {trial.states}")
-        return 1 if trial.wrong else 0
+        print(f"by status {trial.states}")
+        return trial.end("answers")
 
 
 if __name__ == "__main__":

@@ -17,7 +17,6 @@ if there is one.
 --times: `survey` against `list` of each image, `unpack` against `extract` of each file, and 10,000 names from a list.
 """
 
-import argparse
 import resource
 import subprocess
 import sys
@@ -25,23 +24,15 @@ import tempfile
 import time
 from pathlib import Path
 
-sys.dont_write_bytecode = True
+from common import Results, arguments
 from reels import headers_of, lacking, listed_volumes, make_shelf, sections_of, truly_there, wanted
 
-HERE = Path(__file__).resolve().parent
 
-
-class Trial:
+class Trial(Results):
     """The runs of the program, and the wrong results."""
 
     def __init__(self, options, folder):
-        self.options, self.folder, self.wrong, self.seen = options, folder, 0, 0
-
-    def is_so(self, holds, what):
-        self.seen += 1
-        if not holds:
-            self.wrong += 1
-            print(what)
+        self.options, self.folder = options, folder
 
     def run(self, *words, names=None):
         text = None if names is None else "\0".join(names)
@@ -53,23 +44,23 @@ class Trial:
 def check_survey(trial, shelf, there, names):
     """The rows of files, each against the catalogue's description."""
     done = trial.run("survey", "--tsv", names=names)
-    trial.is_so((done.returncode, done.stderr) == (3, ""), f"survey: status {done.returncode}, {done.stderr!r}")
+    trial.expect((done.returncode, done.stderr) == (3, ""), f"survey: status {done.returncode}, {done.stderr!r}")
     rows = [line.split("\t") for line in done.stdout.splitlines()]
     told = {(row[1], int(row[2])): row for row in rows if row[0] == "FILE"}
     for set_id, files in shelf.files.items():
         if set_id == shelf.mixed:
-            trial.is_so(told[set_id, 1][8] == "CONFLICT", f"survey: {told[set_id, 1]}")
+            trial.expect(told[set_id, 1][8] == "CONFLICT", f"survey: {told[set_id, 1]}")
             continue
         reels = [reel for reel in there if reel.set_id == set_id]
         met = {key[0] for reel in reels for key in sections_of(reel)}
         for file in files:
             row = told.get((set_id, file.number))
-            trial.is_so((row is None) == (file.number > max(met, default=0)), f"survey: {set_id} {file.number}: {row}")
+            trial.expect((row is None) == (file.number > max(met, default=0)), f"survey: {set_id} {file.number}: {row}")
             if row is not None:
                 section = lacking(file.number, reels)
                 want = ["COMPLETE", ""] if section is None else [row[5], str(section)]
                 right = row[5:7] == want and (section is None) == (row[5] == "COMPLETE")
-                trial.is_so(right, f"survey: {set_id} {file.number}: {row}, {section}")
+                trial.expect(right, f"survey: {set_id} {file.number}: {row}, {section}")
     return len(rows)
 
 
@@ -89,19 +80,19 @@ def lines_of_volumes(text):
 def check_volumes(trial, shelf, there, names):
     """The volumes of each set, with those that are missing; and the lines are at most 100 columns long."""
     done = trial.run("survey", names=names)
-    trial.is_so((done.returncode, done.stderr) == (3, ""), f"survey: status {done.returncode}, {done.stderr!r}")
-    trial.is_so(all(len(line) <= 100 for line in done.stdout.splitlines() if line.startswith("  ")), "survey: a long line")
+    trial.expect((done.returncode, done.stderr) == (3, ""), f"survey: status {done.returncode}, {done.stderr!r}")
+    trial.expect(all(len(line) <= 100 for line in done.stdout.splitlines() if line.startswith("  ")), "survey: a long line")
     told, missing, by_hand = lines_of_volumes(done.stdout), 0, 0
     for set_id in shelf.files:
         reels = [reel for reel in there if reel.set_id == set_id]
         want = listed_volumes(reels)
-        trial.is_so(told.pop(set_id, []) == want, f"survey: volumes of {set_id}, wanted {want}")
+        trial.expect(told.pop(set_id, []) == want, f"survey: volumes of {set_id}, wanted {want}")
         missing += sum(volume.startswith("missing") for volume in want)
         if want and set_id != shelf.mixed:
             true = truly_there([reel for reel in shelf.reels if reel.set_id == set_id], lambda reel: reel in there)
             by_hand += true is not None
-            trial.is_so(true in (None, want), f"survey: volumes of {set_id}, wanted {want}, truly {true}")
-    trial.is_so(not told, f"survey: volumes of no set: {told}")
+            trial.expect(true in (None, want), f"survey: volumes of {set_id}, wanted {want}, truly {true}")
+    trial.expect(not told, f"survey: volumes of no set: {told}")
     return f"{missing} volumes missing, {by_hand} sets of which each volume is whole or lost"
 
 
@@ -110,15 +101,15 @@ def check_unpack(trial, shelf, there, names, day):
     out = trial.folder / "out"
     before = {path.name: path.read_bytes() for path in out.iterdir()}
     done = trial.run("unpack", "out", names=names)
-    trial.is_so(done.stderr == "" and done.returncode in (0, 3), f"unpack: status {done.returncode}, {done.stderr!r}")
+    trial.expect(done.stderr == "" and done.returncode in (0, 3), f"unpack: status {done.returncode}, {done.stderr!r}")
     lines = done.stdout.splitlines()
     total = lines.pop()
     unread = [line for line in lines if line.startswith("INCOMPLETE IMAGE ")]
-    trial.is_so(unread and unread == lines[-len(unread):], f"unpack: the images that were not read: {unread}")
+    trial.expect(unread and unread == lines[-len(unread):], f"unpack: the images that were not read: {unread}")
     lines = [line.split(" ", 3) for line in lines[:-len(unread)]]
-    trial.is_so(all(line[0] == "FILE" for line in lines), f"unpack: {done.stdout[:200]!r}")
+    trial.expect(all(line[0] == "FILE" for line in lines), f"unpack: {done.stdout[:200]!r}")
     told = {(line[1], int(line[2])): line[3] for line in lines}
-    trial.is_so(len(told) == len(lines), "unpack: a file is reported twice")
+    trial.expect(len(told) == len(lines), "unpack: a file is reported twice")
     counts = dict.fromkeys(["complete", "exists", "awaits", "not found", "conflict"], 0)
     for set_id, files in shelf.files.items():
         reels = [reel for reel in there if reel.set_id == set_id]
@@ -141,16 +132,16 @@ def check_unpack(trial, shelf, there, names, day):
             else:
                 fate, right = "awaits", line.startswith(f"AWAITS {file.number} {want[0]} {want[1]} ") and not made
             counts[fate] += 1
-            trial.is_so(right, f"unpack, day {day}: {set_id} {file.number}: {line!r}, {fate}, expected {want}")
-    trial.is_so(not told, f"unpack: lines for no file: {told}")
+            trial.expect(right, f"unpack, day {day}: {set_id} {file.number}: {line!r}, {fate}, expected {want}")
+    trial.expect(not told, f"unpack: lines for no file: {told}")
     kinds = [len([line for line in lines if line[3].startswith(word)]) for word in ("COMPLETE ", "EXISTS ", "AWAITS ", "CONFLICT", "NOT FOUND")]
     want = "TOTAL {} complete {} existing {} incomplete {} in conflict {} not found 0 failed".format(*kinds)
-    trial.is_so(total == want, f"unpack, day {day}: {total!r}, wanted {want!r}")
-    trial.is_so(done.returncode == 3, f"unpack: status {done.returncode}")
+    trial.expect(total == want, f"unpack, day {day}: {total!r}, wanted {want!r}")
+    trial.expect(done.returncode == 3, f"unpack: status {done.returncode}")
     for name, content in before.items():
         if not name.endswith(".stage"):
-            trial.is_so((out / name).read_bytes() == content, f"unpack: {name} was written over")
-    trial.is_so(not list(out.glob("*.part*")), "unpack: a draft was left")
+            trial.expect((out / name).read_bytes() == content, f"unpack: {name} was written over")
+    trial.expect(not list(out.glob("*.part*")), "unpack: a draft was left")
     return counts
 
 
@@ -190,16 +181,10 @@ def take_times(trial, shelf, names):
 
 
 def main():
-    parser = argparse.ArgumentParser(description=__doc__.split("\n", maxsplit=1)[0])
-    parser.add_argument("--program", default=HERE.parent / "crates/tape_tool/out/tape_tool", type=Path)
-    parser.add_argument("--seed", type=int, default=1)
-    parser.add_argument("--sets", type=int, default=66)
-    parser.add_argument("--keep", type=Path, help="create the images in this new directory, and keep it")
-    parser.add_argument("--times", action="store_true")
-    options = parser.parse_args()
-    options.program = options.program.resolve()
+    options = arguments(__doc__, ("--seed", 1, "of the images"), ("--sets", 66, "how many sets there are"),
+        ("--keep", "", "create the images in this new directory, and keep it"), ("--times", False, "measure times too"))
     with tempfile.TemporaryDirectory(prefix="tape-shelf-") as place:
-        folder = options.keep or Path(place) / "shelf"
+        folder = Path(options.keep or f"{place}/shelf")
         (folder / "out").mkdir(parents=True)
         shelf, trial = make_shelf(options.seed, options.sets), Trial(options, folder)
         for name, content in shelf.others.items():
@@ -220,8 +205,7 @@ def main():
         print(f"unpack with the lost reels: {check_unpack(trial, shelf, shelf.reels, names, 2)}")
         if options.times:
             take_times(trial, shelf, names)
-        print(f"{trial.seen} seen, {trial.wrong} wrong")
-    return 1 if trial.wrong else 0
+    return trial.end("seen")
 
 
 if __name__ == "__main__":

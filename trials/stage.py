@@ -4,7 +4,7 @@ Run manually; CI does not run it.
 
     ./stage.py [--program PATH] [--kills N] [--damages N] [--sets N] [--seed N]
 
-First each allocation, opening, read, write, sync, new name and lock is refused in turn by fail.c, alone
+First each allocation, opening, read, write, sync, new name and lock is refused in turn by calls.c, alone
 and with all later ones of its kind: the result must be status 1 with one fault line, or what the report
 says of an image that is not read; and the same command run again, with nothing refused, must complete the
 file. A stage whose creation was interrupted is not a stage: its file must be removed, and then the command
@@ -19,26 +19,24 @@ days, and each is continued: power.py defines what is right.
 Prints a line for each wrong result and two tables; exit status 1 if there was one.
 """
 
-import argparse
 import fcntl
 import os
 import random
 import re
 import subprocess
 import sys
-import tempfile
 import time
-from pathlib import Path
 
-sys.dont_write_bytecode = True
 import fail
 import power
+from common import arguments, folder_with, library
 
+REELS = {"one.tap": fail.ONE, "two.tap": fail.TWO}
 WORDS = ["extract", "ABC001", "1", "OUT"]
 KEEP = ["--stage", "kept"]
 FAULTS = r"tape: (run fault [14]|stage fault [347]|file fault [24]|image fault 6 at 0)\n"
 # records on each of the reels on which the program is killed
-RECORDS, REELS = 100_000, 20
+RECORDS, MANY = 100_000, 20
 
 
 def run(options, folder, images, preload=None, refusal=""):
@@ -56,69 +54,52 @@ def is_unmade(folder, done):
     return unmade
 
 
-def fresh(folder):
-    for name, content in (("one.tap", fail.ONE), ("two.tap", fail.TWO)):
-        (folder / name).write_bytes(content)
-
-
-def wrong_refusal(options, library, refusal):
+def wrong_refusal(options, preload, refusal):
     """The fault after a refused call, if there is one, and the number of calls of each kind."""
-    with tempfile.TemporaryDirectory(prefix="tape-stage-") as place:
-        folder = Path(place)
-        fresh(folder)
-        images = ["one.tap", "two.tap"]
-        done = run(options, folder, images, library, refusal)
+    with folder_with(REELS) as folder:
+        done = run(options, folder, REELS, preload, refusal)
         counts = [int(count) for count in (folder / "counts").read_text().split()]
         if done.returncode == 1 and done.stderr and not re.fullmatch(FAULTS, done.stderr):
             return f"the fault line {done.stderr!r}", counts
         if done.returncode not in (0, 1, 3) or (done.returncode == 0 and (folder / "OUT").read_bytes() != fail.LINES):
             return f"status {done.returncode}", counts
-        again = run(options, folder, images)
+        again = run(options, folder, REELS)
         if is_unmade(folder, again) and done.stderr in ("", "tape: stage fault 3\n"):
-            again = run(options, folder, images)
+            again = run(options, folder, REELS)
         if again.returncode != 0 or (folder / "OUT").read_bytes() != fail.LINES:
             return f"the run after it: status {again.returncode}, {again.stderr!r}, {again.stdout!r}", counts
         return None, counts
 
 
-def wrong_locks(options, library):
+def wrong_locks(options, preload):
     """The fault without locks, and if another run uses the stage."""
-    with tempfile.TemporaryDirectory(prefix="tape-stage-") as place:
-        folder = Path(place)
-        fresh(folder)
+    with folder_with(REELS) as folder:
         with open(folder / "kept", "wb") as held:
             fcntl.flock(held, fcntl.LOCK_EX)
-            done = run(options, folder, ["one.tap", "two.tap"])
+            done = run(options, folder, REELS)
             if (done.returncode, done.stdout, done.stderr) != (1, "", "tape: stage fault 7\n") or os.fstat(held.fileno()).st_size:
                 return f"two runs on one stage: status {done.returncode}, {done.stderr!r}"
-            unlocked = run(options, folder, ["one.tap", "two.tap"], library, "u")
+            unlocked = run(options, folder, REELS, preload, "u")
         if unlocked.returncode != 0 or (folder / "OUT").read_bytes() != fail.LINES:
             return f"no locks: status {unlocked.returncode}, {unlocked.stderr!r}"
         return None
 
 
-def compiled(name, folder):
-    """A library that is loaded before the C library."""
-    library = folder / f"{name}.so"
-    subprocess.run(["cc", "-O2", "-Wall", "-shared", "-fPIC", "-o", library, fail.HERE / f"{name}.c"], check=True)
-    return library
-
-
 def refuse_each(options):
     """The numbers of runs and of wrong results."""
     runs, wrong = 0, 0
-    with tempfile.TemporaryDirectory(prefix="tape-stage-") as place:
-        library = compiled("fail", Path(place))
-        why, counts = wrong_refusal(options, library, "")
+    with folder_with() as folder:
+        preload = library(folder)
+        why, counts = wrong_refusal(options, preload, "")
         if why:
             sys.exit(f"with nothing refused: {why}")
-        why = wrong_locks(options, library)
+        why = wrong_locks(options, preload)
         if why:
             wrong += 1
             print(why)
         for kind, count in zip(fail.KINDS, counts):
             for refusal in (f"{kind}{n}{behind}" for n in range(1, count + 1) for behind in ("", "+")):
-                why, _ = wrong_refusal(options, library, refusal)
+                why, _ = wrong_refusal(options, preload, refusal)
                 runs += 1
                 if why:
                     wrong += 1
@@ -129,18 +110,17 @@ def refuse_each(options):
 def many_reels(folder):
     """A file on many reels, each with one section; returns their names and the lines of the file."""
     lines = []
-    for n in range(REELS):
+    for n in range(MANY):
         numbers = [i % 10_000 for i in range(n * RECORDS, (n + 1) * RECORDS)]
-        (folder / f"reel{n}.tap").write_bytes(fail.volume(n + 1, n == REELS - 1, numbers))
+        (folder / f"reel{n}.tap").write_bytes(fail.volume(n + 1, n == MANY - 1, numbers))
         lines.append(b"".join(b"%04d" % i + b" " * 76 + b"\n" for i in numbers))
-    return [f"reel{n}.tap" for n in range(REELS)], b"".join(lines)
+    return [f"reel{n}.tap" for n in range(MANY)], b"".join(lines)
 
 
 def kill_at_random(options):
     """The numbers of killed runs, of completed files, and of wrong files."""
     killed = completed = wrong = 0
-    with tempfile.TemporaryDirectory(prefix="tape-stage-") as place:
-        folder = Path(place)
+    with folder_with() as folder:
         names, lines = many_reels(folder)
         began = time.monotonic()
         run(options, folder, names)
@@ -208,8 +188,7 @@ def damage_stages(options):
     """The numbers of damaged stages shown and of wrong results."""
     wrong = 0
     kept = fail.stage_of(options.program)
-    with tempfile.TemporaryDirectory(prefix="tape-stage-") as place:
-        folder = Path(place)
+    with folder_with() as folder:
         for number in range(options.damages):
             damaged = damaged_at_random(kept)
             parts, broken = walked(damaged, len(kept) - 256)
@@ -234,13 +213,13 @@ def cut_the_power(options):
     rows, wrong = [], 0
     # the disk is that of power.py: a real disk would only add the time of its syncs
     memory = "/dev/shm" if os.access("/dev/shm", os.W_OK) else None
-    with tempfile.TemporaryDirectory(prefix="tape-stage-", dir=memory) as place:
-        library = compiled("record", Path(place))
+    with folder_with(place=memory) as place:
+        preload = library(place)
         for number in range(options.sets):
             rng = random.Random(f"{options.seed} {number}")
-            folder = Path(place) / f"set{number}"
+            folder = place / f"set{number}"
             folder.mkdir()
-            trial = power.Trial(options, library, folder, power.make_plan(options, folder, rng, number), rng)
+            trial = power.Trial(options, preload, folder, power.make_plan(options, folder, rng, number), rng)
             trial.live()
             wrong += trial.wrong
             rows.append(f"| {trial.plan.name} | {len(trial.plan.days)} | {trial.states} | {len(trial.judged)} | {trial.unmade} | {trial.wrong} |")
@@ -249,16 +228,9 @@ def cut_the_power(options):
 
 
 def main():
-    parser = argparse.ArgumentParser(description=__doc__.split("\n\n")[0])
-    parser.add_argument("--program", type=Path, default=fail.CRATE / "out" / "tape_tool", help="the built `tape`")
-    parser.add_argument("--kills", type=int, default=300, help="how often the program is killed")
-    parser.add_argument("--damages", type=int, default=1_000, help="how many damaged stages are shown")
-    parser.add_argument("--sets", type=int, default=12, help="over how many sets the power is cut")
-    parser.add_argument("--seed", type=int, default=1, help="of the random instants, sets and cuts")
-    options = parser.parse_args()
-    if not options.program.exists():
-        sys.exit(f"{options.program} does not exist: run `rt run -- --help` in crates/tape_tool, or specify another with --program")
-    options.program = options.program.resolve()
+    options = arguments(__doc__, ("--kills", 300, "how often the program is killed"),
+        ("--damages", 1_000, "how many damaged stages are shown"), ("--sets", 12, "over how many sets the power is cut"),
+        ("--seed", 1, "of the random instants, sets and cuts"))
     random.seed(options.seed)
     counts, runs, wrong = refuse_each(options)
     killed, completed, torn = kill_at_random(options)

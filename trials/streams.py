@@ -11,16 +11,13 @@ closed streams. Prints each wrong result, and how many calls there were. Exit st
 wrong.
 """
 
-import argparse
 import itertools
 import os
 import subprocess
 import sys
-import tempfile
-from pathlib import Path
 
-sys.dont_write_bytecode = True
-from fail import CRATE, LINES, ONE, TWO, stage_of
+from common import Results, arguments, files_in, folder_with
+from fail import LINES, ONE, TWO, stage_of
 
 CLOSED = [set(numbers) for count in (1, 2, 3) for numbers in itertools.combinations((0, 1, 2), count)]
 STAND_INS = {0: ("/", os.O_RDONLY), 1: ("/dev/full", os.O_WRONLY), 2: ("/dev/full", os.O_WRONLY)}
@@ -68,33 +65,23 @@ def run(program, words, files, closed, stand_ins):
                 assert os.open(path, flags) == number
                 os.set_inheritable(number, True)
 
-    with tempfile.TemporaryDirectory(prefix="tape-streams-") as folder:
-        for name, content in files.items():
-            Path(folder, name).write_bytes(content)
+    with folder_with(files) as folder:
         done = subprocess.run(
             [program, *words], cwd=folder, stdin=subprocess.DEVNULL, stdout=subprocess.DEVNULL,
             stderr=subprocess.DEVNULL, preexec_fn=prepare, check=False, timeout=60,
         )
-        return done.returncode, {path.name: path.read_bytes() for path in Path(folder).iterdir()}
+        return done.returncode, files_in(folder)
 
 
 def main():
-    parser = argparse.ArgumentParser(description=__doc__.split("\n\n")[0])
-    parser.add_argument("--program", type=Path, default=CRATE / "out" / "tape_tool", help="the built `tape`")
-    options = parser.parse_args()
-    program = options.program.resolve()
-    count = wrong = 0
+    program, results = arguments(__doc__).program, Results()
     for words, files in calls(program):
         for closed in CLOSED:
-            count += 1
-            answer = run(program, words, files, closed, False)
-            right = run(program, words, files, closed, True)
-            if answer != right:
-                wrong += 1
-                changed = [name for name in right[1].keys() | answer[1].keys() if right[1].get(name) != answer[1].get(name)]
-                print(f"{' '.join(words)}, {sorted(closed)} closed: status {answer[0]}, not {right[0]}; files {changed}")
-    print(f"{count} calls, {wrong} wrong")
-    return wrong != 0
+            answer, right = (run(program, words, files, closed, stand_ins) for stand_ins in (False, True))
+            changed = [name for name in right[1].keys() | answer[1].keys() if right[1].get(name) != answer[1].get(name)]
+            results.expect(answer == right,
+                f"{' '.join(words)}, {sorted(closed)} closed: status {answer[0]}, not {right[0]}; files {changed}")
+    return results.end("calls")
 
 
 if __name__ == "__main__":

@@ -1,48 +1,114 @@
 #!/usr/bin/env python3
-"""Runs tables of whole calls of the program: arguments, exit status, both streams and files, byte by byte.
-Run manually; CI does not run it, since it would have to prove these tests too.
+"""Runs the built program as whole.txt says, and compares exit status, both streams, files and opened files.
+Run manually; CI does not run it. Needs strace.
 
-    ./whole.py
+    ./whole.py [--program PATH]
 
-In a copy of the repository the files of trials/whole are added to the tests of tape_tool. `rt try` compiles and
-runs them, over a system that is the real one except for its arguments and streams, and that records what is opened.
-Prints what `rt` reports of each test; exit status 1 if one failed.
+The calls share a directory, in which each file has a name of its own; `list` gets an image of one mark on standard
+input. The images are written here from the format descriptions. Prints each wrong result, and the counts; exit status 1
+if there was one.
 """
 
-import shutil
+import re
+import shlex
 import subprocess
 import sys
-import tempfile
-from pathlib import Path
 
-REPOSITORY = Path(__file__).resolve().parent.parent
-TABLES = REPOSITORY / "trials" / "whole"
-ENDING = ".rt.txt"
+from common import HERE, Results, arguments, files_in, folder_with
+from fail import volume
+from make_worked_image import block, image, label, mark, volume_label, word
+
+END = mark() + word(0xFFFFFFFF)
 
 
-def put_tables(crate):
-    """Copies the tables to the crate's tests, and lists them there."""
-    names = sorted(path.name.removesuffix(ENDING) for path in TABLES.glob("*" + ENDING))
-    for name in names:
-        shutil.copy(TABLES / (name + ENDING), crate / "src" / "tests" / f"{name}.rt")
-    tests = crate / "src" / "tests.rt"
-    tests.write_text(tests.read_text() + "".join(f"mod {name};\n" for name in names))
+def section(number, name, set_id, second, blocks):
+    """A section that ends its file: its labels, with these fields in the second ones, and its blocks."""
+    def labels(kind, count):
+        first = f"{kind}1{name:17}{set_id}0001{number:04}000100 00000 00000 {count:06}"
+        return label((first, 80)) + label((f"{kind}2{second}", 80)) + mark()
+    return labels("HDR", 0) + b"".join(blocks) + mark() + labels("EOF", len(blocks))
+
+
+def volume_with(name, set_id, second, blocks):
+    """A volume with one file."""
+    return volume_label(set_id) + section(1, name, set_id, second, blocks) + END
+
+
+SPANNED = [block(b"100180123456789ABC"), block(b"20018DEFGHIJKLMNOP"), block(b"30009QRST^^^^^^^^^")]
+S_18 = f"S0001800000{'':35}00"
+SPAN = volume_with("SPAN", "STG001", S_18, SPANNED)
+UNREADABLE = SPANNED[0].replace(b"\x12\0\0\0", b"\x12\0\0\x80")
+STAGE = (
+    b"O000000000000001TPCK2STG00100010001000000000000000R00 0000000                 000000000000000" + b" " * 35
+    + b"O000000000000002TPCK2STG00100010001000000000200000R11S0000000SPAN             000000000000036" + b" " * 35
+    + b"1\0\0\0\x0d0123456789ABC2\0\0\0\x0dDEFGHIJKLMNOP"
+)
+LONG = b"L" * 1_999
+D_40 = f"D0004000030{'':35}03"
+TWO = (
+    volume_label("TWO001") + section(1, "ONE", "TWO001", D_40, [block(b"   0006AB0007CDE".ljust(40, b"^"))])
+    + section(2, "TWO", "TWO001", D_40, [block(b"   0005F".ljust(40, b"^"))]) + END
+)
+FIRST, SECOND = volume(1, False, range(1, 26)), volume(2, True, [])
+PUT = {
+    "shown.tap": image()[:2288], "heap1.tap": image(), "heap2.tap": image()[:2288], "seen1.tap": image(),
+    **{f"{name}1.tap": FIRST for name in ("whole", "last", "open", "shut")},
+    **{f"{name}2.tap": SECOND for name in ("whole", "last", "open", "shut")},
+    "whole.names": b"nowhere.tap\n\nwhole1.tap", "whole.nulls": b"nowhere.tap\0whole2.tap\0", "heap.names": b"heap1.tap\n",
+    "open.names": b"lost.tap\n\nopen1.tap", "open.nulls": b"open1.tap\0\0open2.tap\0lost.tap\0", "empty.names": b"\n\n",
+    "stg_front.tap": SPAN[:SPAN.index(SPANNED[2])], "stg_damaged.tap": SPAN.replace(SPANNED[0], UNREADABLE),
+    "full/ABC001.1.PAYROLL.stage": b"noise",
+    "one.txt": b"AB\nCDE\n", "two.txt": b"F\n", "a=b.txt": b"G\n", "nil.txt": b"", "span.bin": b"9" * 290,
+    "long.txt": (LONG + b"\n") * 12,
+}
+# what files contain after the calls that whole.txt gives them to
+HELD = {
+    "stg.stage": STAGE, "stg_front.txt": b"", "stg.txt": b"0123456789ABCDEFGHIJKLMNOPQRST\n",
+    "stg_raw.txt": b"0123456789ABCDEFGHIJKLMNOPQRST", "full/ABC001.1.PAYROLL.stage": b"noise",
+    "TWO001.tap": TWO, "EQL001.tap": volume_with("E", "EQL001", f"D0204802048{'':35}00", [block(b"0005G".ljust(18, b"^"))]),
+    "one_again.bin": b"ABCDE", "two_again.txt": b"F\n", "nil_again.txt": b"", "nil_behind.txt": b"",
+    "INT011.tap": volume_label("INT011") + mark() + END,
+    "LNG001.tap": volume_with("LONG", "LNG001", f"D2000009999{'':35}00", [block((b"2003" + LONG) * count) for count in (9, 3)]),
+    "long_again.txt": PUT["long.txt"],
+}
+OPEN = re.compile(r'openat\(AT_FDCWD, "([^/"][^"]*)".* = (-?)')
+
+
+def opened(log):
+    """The relative paths that a run opened, each followed by a question mark if that failed."""
+    found = (OPEN.match(line) for line in log.read_text().splitlines())
+    return " ".join(it[1].removeprefix("./") + "?" * (it[2] != "") for it in found if it)
 
 
 def main():
-    with tempfile.TemporaryDirectory() as folder:
-        copy = Path(folder) / "copy"
-        subprocess.run(["git", "clone", "--quiet", REPOSITORY, copy], check=True)
-        crate = copy / "crates" / "tape_tool"
-        put_tables(crate)
-        tried = subprocess.run(["rt", "try", "--test"], cwd=crate, stdout=subprocess.PIPE, text=True)
-    failed = False
-    for line in tried.stdout.splitlines():
-        if line.startswith("test "):
-            failed = line.endswith("FAILED")
-        if failed or line.startswith(("test tests::whole", "test result")):
-            print(line)
-    return 0 if "\ntest result: ok." in tried.stdout else 1
+    options, results = arguments(__doc__), Results()
+    with folder_with(PUT) as folder:
+        (folder / "nil_link.txt").symlink_to("nil_behind.txt")
+        for name in ("heap", "seen"):
+            (folder / name).mkdir()
+        log = folder.with_suffix(".log")
+        for row in (HERE / "whole.txt").read_text().split("\n$ ")[1:]:
+            line, *lines = row.rstrip("\n").split("\n")
+            words, out = line.replace("LOST", "lost.tap " * 255).partition(" > ")[::2]
+            strace = ["strace", "-o", str(log), "-e", "trace=openat"]
+            if " FUL " in line:
+                strace += ["-P", f"{folder}/FUL001.tap", "-e", "trace=write", "-e", "inject=write:error=ENOSPC"]
+            with open(out or log, "wb") as to:
+                done = subprocess.run([*strace, options.program, *shlex.split(words)], cwd=folder, input=END,
+                    stdout=to if out else subprocess.PIPE, stderr=subprocess.PIPE, check=False)
+            said = [*(done.stdout or b"").decode().splitlines(), *(f"! {it}".rstrip() for it in done.stderr.decode().splitlines())]
+            text = [it for it in lines if it[:2] not in ("> ", "@ ", "# ") and it != ">"]
+            if text and text[0] == "...":
+                text, said = text[1:], said[2 - len(text):]
+            if text:
+                results.expect([*said, f"[{done.returncode}]"] == text, f"{line}: {said}, status {done.returncode}")
+            for due in (it[1:].strip() for it in lines if it[:1] == ">"):
+                results.expect(opened(log) == due, f"{line}: opened {opened(log)}")
+            there = files_in(folder)
+            for name in (it[2:] for it in lines if it[:2] == "@ "):
+                results.expect(there.get(name) == HELD[name], f"{line}: {name} is another")
+        log.unlink()
+    return results.end()
 
 
 if __name__ == "__main__":

@@ -1,7 +1,6 @@
 -- The state of a disk after opening a stage was refused.
 use Rattle.std.proofs.Common.{◌≡◌, ℕ, ◌+◌, ◌≤◌, List, take, length, Some, Result, Ok, Err}
 use Rattle.std.proofs.Common.{OnErr, sym, ap, ◌∙◌, subst, arith}
-use Rattle.std.specs.Prelude.{IfErr}
 use Rattle.std.proofs.lemmas.List.{take-take, length-take-le}
 use Rattle.tape_blocks.specs.Block.{Portion}
 use Rattle.tape_core.specs.Point.{Point}
@@ -14,10 +13,6 @@ use Rattle.tape_stage.specs.declared.disk.Disk.{Ghosts}
 use Rattle.tape_stage.specs.declared.stage.Found.{Found}
 use Rattle.tape_stage.proofs.Finds.{best_of}
 use Rattle.tape_stage.proofs.Passing.{stands, weaken, follow}
-
-pub each_err : {A B : Type 0} (r : Result A B) {P : B → Type 0} → ((e : B) → P e) → IfErr r P
-each_err (Ok x) each = tt
-each_err (Err e) each = each e
 
 pub on_each_err : {A B : Type 0} (r : Result A B) {P : Type 0} → P → OnErr r P
 on_each_err (Ok x) p = tt

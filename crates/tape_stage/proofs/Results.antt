@@ -1,5 +1,5 @@
 -- Clauses about the result of a call.
-use Rattle.std.proofs.Common.{ℕ, List, ◌≡◌, Result, Ok, Err, OnOk}
+use Rattle.std.proofs.Common.{ℕ, List, Result, Ok, Err, OnOk}
 use Rattle.std.specs.Prelude.{IfErr, IfOk}
 use Rattle.tape_stage.specs.declared.stage.StageFault.{StageFault}
 use Rattle.tape_stage.specs.Faults.{SaysNone, OnBadFrame}
@@ -21,11 +21,6 @@ pub if_err : {A B : Type 0} (r : Result A B) {P Q : B → Type 0} → ((e : B) �
     → IfErr r Q
 if_err (Ok x) also p = tt
 if_err (Err e) also p = also e p
-
--- an error that is passed on
-pub err_bad : {A : Type 0} (P : StageFault → Type 0) (r : Result A StageFault) (e : StageFault)
-    → r ≡ Err e → P e → IfErr r P
-err_bad P r e is h = rw is h
 
 pub no_frame_says : (bytes : List ℕ) (fault : StageFault) → (SaysNone fault → RemainsNone bytes)
     → OnBadFrame fault (λ place. ⊥) → IsFaultOf bytes fault

@@ -1,9 +1,7 @@
 -- The labels that are written are labels with their fields.
-use Rattle.std.proofs.Common.{◌≡◌, ◌≤◌, ℕ, List, length, Bool, true, false, refl, arith}
+use Rattle.std.proofs.Common.{◌≡◌, ◌≤◌, ℕ, List, Bool, true, false, refl, arith}
 use Rattle.std.specs.Prelude.{◌%◌}
 use Rattle.tape_label.specs.declared.values.Vol1.{Vol1}
-use Rattle.tape_label.specs.declared.values.Head1.{Head1}
-use Rattle.tape_label.specs.declared.values.Head2.{Head2}
 use Rattle.tape_label.specs.declared.values.Kind.{Kind}
 use Rattle.tape_label.specs.declared.values.Kind.TheVariants as kinds
 use Rattle.tape_label.specs.declared.values.Format.{Format}
@@ -17,8 +15,6 @@ use Rattle.tape_label.specs.Head1.{IsHead1}
 use Rattle.tape_label.specs.Head2.{IsHead2, Head2Fits}
 use Rattle.tape_label.specs.Trail1.{IsTrail1}
 use Rattle.tape_label.specs.Reading.{begins_as}
-use Rattle.tape_label.specs.Written.{HaveWidths, vol1_pieces, head_pieces, head2_pieces}
-use Rattle.tape_label.proofs.DigitLaws.{length-digits}
 use Rattle.tape_label.proofs.Texts.{vol1_text_is, head1_text_is, head2_text_is, trail1_text_is}
 use Rattle.tape_blocks.specs.declared.parts.Shape.{Shape}
 use Rattle.tape_blocks.specs.Packing.{IsWritable, HasWritableRecords}
@@ -27,59 +23,7 @@ use Rattle.tape_writer.specs.declared.course.Opened.{Opened}
 use Rattle.tape_label.specs.Widths.{IsWide, IsWideVolume}
 use Rattle.tape_writer.specs.Labels.{IsReady, head_at, trailer_at, volume_label, first_label}
 use Rattle.tape_writer.specs.Labels.{second_label, trailer_label}
-
-four : (kind : Kind) → length (identifier kind) ≡ 4
-four kinds.Vol1 = refl
-four kinds.Hdr1 = refl
-four kinds.Hdr2 = refl
-four kinds.Eof1 = refl
-four kinds.Eof2 = refl
-four kinds.Eov1 = refl
-four kinds.Eov2 = refl
-
-vol1_wide : (v : Vol1) → IsWideVolume v → HaveWidths (vol1_pieces v)
-vol1_wide v w =
-    (refl, (w.volume, (refl, (refl, (w.implementation, (w.owner, (refl, (refl, tt))))))))
-
-head_wide : (kind : Kind) (h : Head1) (blocks : ℕ) → IsWide h
-    → HaveWidths (head_pieces kind h blocks)
-head_wide kind h blocks w = (
-  four kind,
-  (
-    w.file_id,
-    (
-      w.set_id,
-      (
-        length-digits 4 h.sect,
-        (
-          length-digits 4 h.sequence,
-          (
-            w.generation,
-            (
-              w.gen_version,
-              (
-                w.created,
-                (w.expires, (refl, (length-digits 6 blocks, (w.implementation, (refl, tt))))),
-              ),
-            ),
-          ),
-        ),
-      ),
-    ),
-  ),
-)
-
-head2_wide : (kind : Kind) (h : Head2) → HaveWidths (head2_pieces kind h)
-head2_wide kind h = (
-  four kind,
-  (
-    refl,
-    (
-      length-digits 5 h.block_len,
-      (length-digits 5 h.rec_len, (refl, (length-digits 2 h.offset, (refl, tt)))),
-    ),
-  ),
-)
+use Rattle.tape_label.proofs.Widths.{vol1_wide, head_wide, head2_wide}
 
 rec_fits : (format : Format) (rec_len block_len offset : ℕ) (pad_full : Bool) → block_len ≤ 99999
     → HasWritableRecords format rec_len block_len offset pad_full

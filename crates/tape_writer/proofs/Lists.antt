@@ -28,11 +28,6 @@ pub all_weaken : {A : Type 0} (P Q : A → Type 0) → ((x : A) → P x → Q x)
 all_weaken P Q f [] h = tt
 all_weaken P Q f (x ∷ xs) h = (f x h.0, all_weaken P Q f xs h.1)
 
-pub all_append : {A : Type 0} (P : A → Type 0) (xs ys : List A) → AllByRecursion P xs
-    → AllByRecursion P ys → AllByRecursion P (xs ++ ys)
-all_append P [] ys h k = k
-all_append P (x ∷ xs) ys h k = (h.0, all_append P xs ys h.1 k)
-
 pub chain_push : {A : Type 0} (R : A → A → Type 0) (xs : List A) (y : A) → Chain R xs
     → ((ys : List A) (x : A) → xs ≡ ys ++ x ∷ [] → R x y) → Chain R (xs ++ y ∷ [])
 chain_push R [] y c h = tt

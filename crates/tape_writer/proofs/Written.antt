@@ -119,10 +119,6 @@ under_way_is : (items : List TapeItem) (image : Option Writer) (u : Writer) → 
     → IsUnderWay items image → IsImageSoFar items u
 under_way_is items image u e s = subst (IsUnderWay items) e s
 
-none_under_way : (items : List TapeItem) (image : Option Writer) → image ≡ None
-    → IsUnderWay items image → ⊥
-none_under_way items image e s = subst (IsUnderWay items) e s
-
 no_image : (image : Option Writer) (u : Writer) → image ≡ Some u → image ≡ None → ⊥
 no_image image u a b = cc
 

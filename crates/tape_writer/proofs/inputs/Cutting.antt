@@ -1,9 +1,9 @@
 -- The records of the bytes read so far.
 use Rattle.std.proofs.Common.{◌≡◌, ℕ, List, [], ◌++◌, Bool, true, false, Option, Some, None}
-use Rattle.std.proofs.Common.{take, drop, refl, sym, ap, subst, ◌∙◌, append_assoc}
+use Rattle.std.proofs.Common.{take, drop, sym, ap, subst, ◌∙◌, append_assoc}
 use Rattle.std.proofs.Common.{take-append-drop}
 use Rattle.std.specs.Io.KnownBytes.{Consumes, Keeps, prepend_known}
-use Rattle.std.proofs.KnownBytes.{Consumes-trans, Consumes-nil, Consumes-kept}
+use Rattle.std.proofs.KnownBytes.{Consumes-trans, Consumes-kept}
 use Rattle.tape_image.specs.Reader.{IfKnown}
 use Rattle.tape_writer.specs.declared.inputs.cut.Cut.{Cut}
 use Rattle.tape_writer.specs.Records.{records_from, records_of, to_come, given, Adds}
@@ -12,12 +12,6 @@ use Rattle.tape_writer.specs.Records.{records_from, records_of, to_come, given, 
 pub record SoFar (cut : Cut) (all left : Option (List ℕ)) (r : List ℕ) : Type 0 where
   pub consumed : Consumes all left r
   pub same : (ys : List ℕ) → records_from cut [] (r ++ ys) ≡ records_from cut r ys
-
-pub nothing_yet : (cut : Cut) (all : Option (List ℕ)) (r : List ℕ) → r ≡ [] → SoFar cut all all r
-nothing_yet cut all r none = subst (SoFar cut all all) (sym none) record {
-  consumed = Consumes-nil all;
-  same = λ ys. refl;
-}
 
 -- bytes were read ahead
 pub read_ahead : (cut : Cut) (all left next : Option (List ℕ)) (r : List ℕ) → SoFar cut all left r

@@ -1,5 +1,5 @@
 -- Files that are written one after another.
-use Rattle.std.proofs.Common.{◌≡◌, ℕ, suc, ◌+◌, ◌<◌, List, [], ◌∷◌, ◌++◌, Option, Some, None}
+use Rattle.std.proofs.Common.{◌≡◌, ℕ, suc, ◌+◌, ◌<◌, List, [], ◌∷◌, ◌++◌, Option}
 use Rattle.std.proofs.Common.{length, map, drop, get_or, slice_set, refl, sym, ap, subst, ◌∙◌}
 use Rattle.std.proofs.Common.{arith, append_assoc, append-nil, length-append}
 use Rattle.std.specs.Prelude.{IfSome}
@@ -10,6 +10,7 @@ use Rattle.tape_writer.specs.Told.{Told, opened_by}
 use Rattle.tape_writer.specs.declared.inputs.cut.Cut.{Cut}
 use Rattle.tape_writer.specs.Records.{records_of}
 use Rattle.tape_writer.specs.ToldFiles.{told_files, IfAllKnown}
+use Rattle.tape_writer.proofs.inputs.Finished.{if_known}
 
 -- the files before index `at` are written, and the others are unchanged
 pub record Wrote (X : Type 0) (view : X → Head1 × Option (List ℕ)) (set_id : List ℕ) (shape : Shape)
@@ -30,11 +31,6 @@ wrote_none X view set_id shape cut first old = record {
   told = λ told h. subst old (sym (append-nil told)) h;
 }
 
-some_then : (known : Option (List ℕ)) (P Q : List ℕ → Type 0) → IfSome known P
-    → ((b : List ℕ) → P b → Q b) → IfSome known Q
-some_then None P Q h f = tt
-some_then (Some b) P Q h f = f b h
-
 -- one more input
 known_push : (xs : List (Head1 × Option (List ℕ))) (h : Head1) (known : Option (List ℕ))
     (P Q : List (Head1 × List ℕ) → Type 0) → IfAllKnown xs P
@@ -42,7 +38,7 @@ known_push : (xs : List (Head1 × Option (List ℕ))) (h : Head1) (known : Optio
     → IfAllKnown (xs ++ (h, known) ∷ []) Q
 known_push [] h known P Q p f = f [] p
 known_push (x ∷ xs) h known P Q p f =
-    some_then x.1 _ _ p (λ b q. known_push xs h known
+    if_known x.1 _ _ p (λ b q. known_push xs h known
     (λ fs. P ((x.0, b) ∷ fs)) (λ fs. Q ((x.0, b) ∷ fs)) q (λ fs r. f ((x.0, b) ∷ fs) r))
 
 told_files-length : (set_id : List ℕ) (shape : Shape) (cut : Cut) (n : ℕ) (fs : List (Head1
@@ -109,7 +105,7 @@ wrote_one X view set_id shape cut first now at old mid new x y d within is w ste
           (λ fs. new (told ++ told_files set_id shape cut (length told + 1) fs)))
           (sym (map-append view w.done (x ∷ [])))
           (known_push (map view w.done) (view x).0 (view x).1 _ _ (w.told told h)
-          (λ fs m. some_then (view x).1 _ _ (step _ m)
+          (λ fs m. if_known (view x).1 _ _ (step _ m)
           (λ b n. one_told new set_id shape cut told fs (view x).0 b n)));
     }
 

@@ -31,7 +31,7 @@ last_line_of_one_byte_dropped κs s h =
 -- line_gathered_to_its_end: of an infinite line, one byte more is buffered than any record may have
 line_gathered_to_its_end : (R : _) (L : _) (g : _) (d : _) (h : _) (κs : _) (a : _) (answer : _)
     (s : _) → next.Learnt-named R L g d h κs a answer s
-    → length s.0.now.record.items ≡ a.0.now.limit + 1 → ⊥
+    → length s.0.now.content.items ≡ a.0.now.limit + 1 → ⊥
 line_gathered_to_its_end R L g d h κs a answer s l w = absurd (omega (arith, l.within, w))
 
 -- bytes_lost_at_a_failed_read: two bytes of a record were read, the reader fails, and the bytes are
@@ -39,10 +39,10 @@ line_gathered_to_its_end R L g d h κs a answer s l w = absurd (omega (arith, l.
 bytes_lost_at_a_failed_read : (R : _) (L : _) (g : _) (d : _) (h : _) (κs : _) (a : _) (s : _)
     → next.Learnt-named R L g d h κs a (Err ReadFailed) s
     → left_of g.remaining a.0.now ≡ Some (codes "AB") → left_of g.remaining s.0.now ≡ Some []
-    → s.0.now.record.items ≡ [] → ⊥
+    → s.0.now.content.items ≡ [] → ⊥
 bytes_lost_at_a_failed_read R L g d h κs a s l old new none =
-    let k : (xs ys : List ℕ) → Type 0 = λ xs ys. xs ≡ s.0.now.record.items ++ ys in
-    let e : codes "AB" ≡ s.0.now.record.items ++ [] =
+    let k : (xs ys : List ℕ) → Type 0 = λ xs ys. xs ≡ s.0.now.content.items ++ ys in
+    let e : codes "AB" ≡ s.0.now.content.items ++ [] =
     subst (λ v. IfKnown (Some (codes "AB")) v k) new
     (subst (λ v. IfKnown v (left_of g.remaining s.0.now) k) old l.taken) in
     absurd (let n : 2 ≡ 0 = ap length e ∙ ap (λ r. length (r ++ [])) none in omega arith)

@@ -30,7 +30,7 @@ pub struct Records<R> {
     pub limit: u32,
     /// Whether the end of the input was reached.
     pub over: bool,
-    pub record: Vec<u8>,
+    pub content: Vec<u8>,
     pub ahead: Chunk,
 }
 
@@ -50,16 +50,16 @@ impl<R: Read + Drop> Records<R> {
             cut,
             limit,
             over: false,
-            record: Vec::new(alloc),
+            content: Vec::new(alloc),
             ahead,
         })
     }
 
     /// Returns the record that was read last.
     pub fn record(&self) -> &[u8]
-        ensures { result.now ≡ self.now.record.items }
+        ensures { result.now ≡ self.now.content.items }
     {
-        self.record.as_slice()
+        self.content.as_slice()
     }
 
     /// Reads the next record, and returns false if no record is left. Does not call the reader
@@ -74,29 +74,29 @@ impl<R: Read + Drop> Records<R> {
         ensures given { IfOk result (λ more.
             IfKnown (left_of R.remaining self.old) (left_of R.remaining self.new) (λ xs ys.
             to_come self.old.cut self.old.over xs
-            ≡ given more self.new.record.items (to_come self.new.cut self.new.over ys))) }
+            ≡ given more self.new.content.items (to_come self.new.cut self.new.over ys))) }
         ensures end { IfOk result (λ more. more ≡ false → self.new.over ≡ true) }
         // Even after an error, at most `limit` bytes of a record are kept.
-        ensures within { length self.new.record.items ≤ self.old.limit }
+        ensures within { length self.new.content.items ≤ self.old.limit }
         ensures long { IfErr result (λ fault. fault ≡ InputFault.TooLong
             → IfSome (left_of R.remaining self.old) (λ xs.
             IsFirstLong self.old.limit (to_come self.old.cut self.old.over xs))) }
         // Memory is needed only if the next record is longer than the capacity of the buffer.
         ensures memory { IfErr result (λ fault. fault ≡ InputFault.OutOfMemory
             → IfSome (left_of R.remaining self.old) (λ xs. IsFirstLong
-            (vec_capacity self.old.record) (to_come self.old.cut self.old.over xs))) }
-        ensures room { (vec_capacity self.old.record ≤ vec_capacity self.new.record)
-            × (length self.new.record.items ≤ vec_capacity self.new.record) }
+            (vec_capacity self.old.content) (to_come self.old.cut self.old.over xs))) }
+        ensures room { (vec_capacity self.old.content ≤ vec_capacity self.new.content)
+            × (length self.new.content.items ≤ vec_capacity self.new.content) }
         // The reader is called only if no unused bytes are left, and not after its end.
         ensures due { IfErr result (λ fault. fault ≡ InputFault.ReadFailed
             → (self.old.over ≡ false) × (self.new.ahead ≡ [])) }
         // An error loses no bytes of the input.
         ensures taken { OnErr result (IfKnown (left_of R.remaining self.old)
-            (left_of R.remaining self.new) (λ xs ys. xs ≡ self.new.record.items ++ ys)) }
+            (left_of R.remaining self.new) (λ xs ys. xs ≡ self.new.content.items ++ ys)) }
         ensures cut { self.new.cut ≡ self.old.cut }
         ensures limit { self.new.limit ≡ self.old.limit }
     {
-        self.record.clear();
+        self.content.clear();
         if self.over {
             return Ok(false);
         }
@@ -104,14 +104,14 @@ impl<R: Read + Drop> Records<R> {
             self.ahead.fill(&mut self.device)?;
             if self.ahead.is_empty() {
                 self.over = true;
-                return Ok(self.cut.is_last(self.record.len()));
+                return Ok(self.cut.is_last(self.content.len()));
             }
             let bytes = self.ahead.as_slice();
-            let piece = self.cut.piece(self.record.len(), bytes);
-            if piece.content > self.limit as usize - self.record.len() {
+            let piece = self.cut.piece(self.content.len(), bytes);
+            if piece.content > self.limit as usize - self.content.len() {
                 return Err(InputFault::TooLong);
             }
-            match self.record.extend_from_slice(&bytes[..piece.content]) {
+            match self.content.extend_from_slice(&bytes[..piece.content]) {
                 Ok(()) => self.ahead.skip(piece.taken),
                 Err(_) => return Err(InputFault::OutOfMemory),
             }

@@ -22,7 +22,7 @@ records-preserved g c = record {
   stays = λ file is. c.in-Ok.ensures.stays file (c.records.invariant.stays file is);
   files = c.put.ensures.files ∙ c.records.invariant.files;
   grew = grows_then _ _ _ c.records.invariant.grew c.put.ensures.lasting.count;
-  so_far = within_one _ _ _ _ _ _ _ _ _ _ _ _ c.next.new.self.record.items
+  so_far = within_one _ _ _ _ _ _ _ _ _ _ _ _ c.next.new.self.content.items
       c.records.invariant.so_far
       (given_cut _ _ _ _ _ c.in-Ok-true.field-0 _ _ _ _ c.records.invariant.cut
       c.next.ensures.cut c.in-Ok-true.field-0-test c.in-Ok-true.ensures.given)
@@ -33,7 +33,7 @@ records-preserved g c = record {
 
 pub returns-in-Err-put-clause-due : goal.returns-in-Err-put-clause-due
 returns-in-Err-put-clause-due g c = λ file is _.
-    let r = c.next.new.self.record.items in
+    let r = c.next.new.self.content.items in
     put_fault file c.records.writer.phase c.record.result.now r _ c.in-Err-put.fault
     (c.records.invariant.stays file is) c.record.ensures c.in-Err-put.ensures.due
     (put_other file.shape _ _ _ _ _ _ _ _ _ r c.records.invariant.so_far.put
@@ -63,7 +63,7 @@ records-init g c = record {
 pub returns-in-Err-put-clause-stuck : goal.returns-in-Err-put-clause-stuck
 returns-in-Err-put-clause-stuck g c = λ e told held.
     let f : c.in-Err-put.fault ≡ OutOfVolumes = cc in
-    let r = c.next.new.self.record.items in
+    let r = c.next.new.self.content.items in
     gave_up (g.T.TapeOut.holds c.put.new.self.out) c.put.new.self _ _ _ _ _ _ _ _ _ r
     c.records.invariant.so_far.put
     (given_cut _ _ _ _ _ c.in-Ok-true.field-0 _ _ _ _ c.records.invariant.cut c.next.ensures.cut
@@ -86,7 +86,7 @@ returns-in-Err-put-clause-count g c =
 
 pub returns-in-Err-put-clause-front : goal.returns-in-Err-put-clause-front
 returns-in-Err-put-clause-front g c = λ file is told held.
-    let r = c.next.new.self.record.items in
+    let r = c.next.new.self.content.items in
     put_left (λ out. g.T.TapeOut.holds out) c.records.writer c.put.new.self _ file _ _ _ _ _ _ _ _ r
     c.in-Err-put.fault c.records.invariant.so_far.put (c.records.invariant.stays file is)
     (given_cut _ _ _ _ _ c.in-Ok-true.field-0 _ _ _ _ c.records.invariant.cut c.next.ensures.cut

@@ -18,7 +18,7 @@ invariant-records g l = record {
   stays : (file : Opened) → IsInFile file l.fn.writer.phase → IsInFile file l.writer.phase;
   files : l.writer.files ≡ l.fn.writer.files;
   grew : Grows (g.T.TapeOut.failures l.fn.writer.out) (g.T.TapeOut.failures l.writer.out);
-  so_far : PutWithin (vec_capacity l.records.record) l.fn.records.cut l.fn.records.over
+  so_far : PutWithin (vec_capacity l.records.content) l.fn.records.cut l.fn.records.over
       l.records.over
       (left_of g.R.Read.remaining l.fn.records) (left_of g.R.Read.remaining l.records)
       (IsWriting (g.T.TapeOut.holds l.fn.writer.out) l.fn.writer)

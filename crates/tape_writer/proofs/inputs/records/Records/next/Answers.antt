@@ -9,7 +9,7 @@ use Rattle.tape_writer.proofs.inputs.records.Records.next.Goals as goal
 
 pub pieces-preserved : goal.pieces-preserved
 pieces-preserved g c =
-    let old = c.pieces.self.record.items in
+    let old = c.pieces.self.content.items in
     let piece = c.piece-piece in
     let moved = piece_taken c.pieces.self.cut old c.extend_from_slice.new.self.items
     c.as_slice-bytes.result.now _ _ piece.result.content piece.result.taken piece.result.ended
@@ -32,7 +32,7 @@ pieces-preserved g c =
 -- the record ends with the piece
 pub returns-then-piece-clause-given : goal.returns-then-piece-clause-given
 returns-then-piece-clause-given g c =
-    let old = c.pieces.self.record.items in
+    let old = c.pieces.self.content.items in
     let piece = c.piece-piece in
     let new = c.extend_from_slice.new.self.items in
     let moved = piece_taken c.pieces.self.cut old new c.as_slice-bytes.result.now _ _
@@ -53,7 +53,7 @@ returns-in_err-fill-clause-taken g c =
 -- the record is longer than the limit, or than the capacity of the buffer
 pub returns-then-piece-self-clause-long : goal.returns-then-piece-self-clause-long
 returns-then-piece-self-clause-long g c = λ _.
-    let old = c.pieces.self.record.items in
+    let old = c.pieces.self.content.items in
     let piece = c.piece-piece in
     no_room _ c.pieces.self.limit _ c.pieces.self.cut _ old _ _ _ _ c.pieces.invariant.so_far
     c.fill.ensures.bytes (omega (arith, c.pieces.invariant.limit)) c.pieces.invariant.cut
@@ -65,8 +65,8 @@ returns-then-piece-self-clause-long g c = λ _.
 
 pub returns-in-Err-clause-memory : goal.returns-in-Err-clause-memory
 returns-in-Err-clause-memory g c = λ _.
-    let old = c.pieces.self.record.items in
-    let most = vec_capacity c.pieces.self.record in
+    let old = c.pieces.self.content.items in
+    let most = vec_capacity c.pieces.self.content in
     let piece = c.piece-piece in
     no_room _ most _ c.pieces.self.cut _ old _ _ _ _ c.pieces.invariant.so_far
     c.fill.ensures.bytes c.pieces.invariant.room c.pieces.invariant.cut c.pieces.invariant.fresh

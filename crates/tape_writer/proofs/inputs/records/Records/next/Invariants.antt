@@ -9,12 +9,12 @@ invariant-pieces g l = record {
   limit : l.self.limit ≡ l.fn.self.limit;
   over : l.self.over ≡ false;
   fresh : l.fn.self.over ≡ false;
-  within : length l.self.record.items ≤ l.fn.self.limit;
-  room : vec_capacity l.fn.self.record ≤ vec_capacity l.self.record;
-  fits : length l.self.record.items ≤ vec_capacity l.self.record;
+  within : length l.self.content.items ≤ l.fn.self.limit;
+  room : vec_capacity l.fn.self.content ≤ vec_capacity l.self.content;
+  fits : length l.self.content.items ≤ vec_capacity l.self.content;
   so_far : SoFar l.fn.self.cut (left_of g.R.Read.remaining l.fn.self)
-      (left_of g.R.Read.remaining l.self) l.self.record.items;
+      (left_of g.R.Read.remaining l.self) l.self.content.items;
 }
 
 abbrev pub decreases-pieces : goal.decreases-pieces
-decreases-pieces g l = l.self.limit - length l.self.record.items + 1
+decreases-pieces g l = l.self.limit - length l.self.content.items + 1

@@ -1,7 +1,8 @@
-/* Refuses calls of a built program, to test its reaction. Loaded before the C library:
+/* Refuses or records calls of a built program, to test its reaction. Loaded before the C library:
 
-       cc -O2 -shared -fPIC -o fail.so fail.c
-       FAIL=r3 LD_PRELOAD=./fail.so tape list reel.tap
+       cc -O2 -shared -fPIC -o calls.so calls.c
+       FAIL=r3 LD_PRELOAD=./calls.so tape list reel.tap
+       RECORD=kept RECORD_LOG=log LD_PRELOAD=./calls.so tape extract .. --stage kept
 
    FAIL is a letter and a number: a (allocations), o (files opened), r (reads), w (writes), y (syncs, of directories
    too), n (new names), l (locks: another run has it), t (looks at files), h (second names), d (names removed),
@@ -9,9 +10,14 @@
    A colon and a number after that select the error, instead of the one below. FAIL=s refuses
    no call, but limits each read and write to one byte; FAIL=u refuses each lock like a file system without locks. If
    FAIL_COUNTS is the path of a file, the numbers of calls are written to it at the end, in the order of the letters,
-   followed by the number of bytes read.
+   followed by the number of bytes read. If FAIL_PATH is the path of a file, the path in the last refused call, if it has
+   one, is written to it.
 
-   If FAIL_PATH is the path of a file, the path in the last refused call, if it has one, is written to it.
+   RECORD_LOG gets a record for each successful call on the file RECORD: a letter, an offset and a length (8 bytes each,
+   least byte first), followed by bytes of that length. W: the bytes were written at the offset. T: the file was truncated
+   to the offset. Y: the file was synced. F: a sync of the file failed. D: a directory was synced. P: the bytes were
+   written to standard output. N: a file got this name; the offset is 1 if it had bytes that were not synced, otherwise 0.
+   RECORD_FAIL=N: only the N-th sync of the file fails; with 0 no sync fails.
 
    The C library's own calls are not seen here, so the program must do its input and output without stdio. */
 #define _GNU_SOURCE
@@ -35,10 +41,22 @@ static const char letters[KINDS + 1] = "aorwynlthdc";
 static long counts[KINDS], given; /* calls of each kind; bytes returned by reads */
 static char refused[4096]; /* the path in the last refused call */
 
+#define FILES 1024
+/* above the numbers that the program's own files get */
+#define LOG 900
+
+static int is_open_log;
+static char is_noted[FILES];
+static long syncs;
+/* regular files with bytes that were not synced, including closed files */
+static ino_t unsynced[FILES];
+
 void *__libc_malloc(size_t size);
 void *__libc_calloc(size_t count, size_t size);
 void *__libc_realloc(void *old, size_t size);
 void *__libc_memalign(size_t alignment, size_t size);
+
+/* ---- refusals ---- */
 
 static int is_refused(enum kind kind)
 {
@@ -75,6 +93,95 @@ static int refuse(int error)
     return -1;
 }
 
+/* ---- records ---- */
+
+static void note(char letter, uint64_t place, const void *bytes, uint64_t length)
+{
+    char head[17];
+    const char *path = getenv("RECORD_LOG");
+    if (!path)
+        return;
+    if (!is_open_log) {
+        long file = syscall(SYS_openat, AT_FDCWD, path, O_WRONLY | O_CREAT | O_APPEND, 0600);
+        syscall(SYS_dup3, file, LOG, O_CLOEXEC);
+        syscall(SYS_close, file);
+        is_open_log = 1;
+    }
+    head[0] = letter;
+    memcpy(head + 1, &place, 8);
+    memcpy(head + 9, &length, 8);
+    struct iovec pieces[2] = {{head, sizeof head}, {(void *)bytes, length}};
+    if (syscall(SYS_writev, LOG, pieces, 2) != (long)(sizeof head + length))
+        abort();
+}
+
+static int noted(int file)
+{
+    return file >= 0 && file < FILES && is_noted[file];
+}
+
+/* the index of the file among those with bytes that were not synced, or of a free entry */
+static int place_of(ino_t inode)
+{
+    int at = 0;
+    while (at < FILES - 1 && unsynced[at] && unsynced[at] != inode)
+        at++;
+    return at;
+}
+
+static void mark(int file, int is_unsynced)
+{
+    struct stat is;
+    if (!getenv("RECORD_LOG") || fstat(file, &is) != 0 || !S_ISREG(is.st_mode))
+        return;
+    int at = place_of(is.st_ino), last = place_of(0);
+    if (is_unsynced)
+        unsynced[at] = is.st_ino;
+    else if (unsynced[at])
+        unsynced[at] = unsynced[last - 1], unsynced[last - 1] = 0;
+}
+
+static ssize_t written(int file, uint64_t place, const void *bytes, ssize_t done)
+{
+    if (done > 0)
+        mark(file, 1);
+    if (done > 0 && noted(file))
+        note('W', place, bytes, (uint64_t)done);
+    else if (done > 0 && file == STDOUT_FILENO)
+        note('P', 0, bytes, (uint64_t)done);
+    return done;
+}
+
+static int synced(int file, long call)
+{
+    struct stat is;
+    const char *fails = getenv("RECORD_FAIL");
+    if (is_refused(SYNC))
+        return refuse(EIO);
+    if (noted(file) && fails && ++syncs == atol(fails)) {
+        note('F', 0, NULL, 0);
+        return refuse(EIO);
+    }
+    int done = (int)syscall(call, file);
+    if (done == 0)
+        mark(file, 0);
+    if (done == 0 && noted(file))
+        note('Y', 0, NULL, 0);
+    else if (done == 0 && fstat(file, &is) == 0 && S_ISDIR(is.st_mode))
+        note('D', 0, NULL, 0);
+    return done;
+}
+
+static int named(int done, const char *to)
+{
+    struct stat is;
+    if (done == 0 && stat(to, &is) == 0)
+        note('N', unsynced[place_of(is.st_ino)] != 0, to, strlen(to));
+    return done;
+}
+
+/* ---- memory ---- */
+
 static void *no_memory(void)
 {
     errno = ENOMEM;
@@ -110,34 +217,36 @@ int posix_memalign(void **at, size_t alignment, size_t size)
     return 0;
 }
 
-static int open_file(int folder, const char *path, int flags, mode_t mode)
+/* ---- files ---- */
+
+static int open_file(int folder, const char *path, int flags, va_list rest)
 {
+    const char *name = getenv("RECORD");
+    mode_t mode = flags & (O_CREAT | __O_TMPFILE) ? va_arg(rest, mode_t) : 0;
     if (is_refused_at(OPEN, path))
         return refuse(EACCES);
-    return (int)syscall(SYS_openat, folder, path, flags, mode);
-}
-
-static mode_t mode_of(int flags, va_list rest)
-{
-    return flags & (O_CREAT | __O_TMPFILE) ? va_arg(rest, mode_t) : 0;
+    int file = (int)syscall(SYS_openat, folder, path, flags, mode);
+    if (file >= 0 && file < FILES)
+        is_noted[file] = name && strcmp(path, name) == 0;
+    return file;
 }
 
 int open(const char *path, int flags, ...)
 {
     va_list rest;
     va_start(rest, flags);
-    mode_t mode = mode_of(flags, rest);
+    int file = open_file(AT_FDCWD, path, flags, rest);
     va_end(rest);
-    return open_file(AT_FDCWD, path, flags, mode);
+    return file;
 }
 
 int openat(int folder, const char *path, int flags, ...)
 {
     va_list rest;
     va_start(rest, flags);
-    mode_t mode = mode_of(flags, rest);
+    int file = open_file(folder, path, flags, rest);
     va_end(rest);
-    return open_file(folder, path, flags, mode);
+    return file;
 }
 
 int open64(const char *path, int flags, ...) __attribute__((alias("open")));
@@ -152,7 +261,8 @@ ssize_t read(int file, void *bytes, size_t count)
 
 ssize_t write(int file, const void *bytes, size_t count)
 {
-    return is_refused(WRITE) ? refuse(EIO) : syscall(SYS_write, file, bytes, allowed(count));
+    uint64_t place = noted(file) ? (uint64_t)syscall(SYS_lseek, file, 0, SEEK_CUR) : 0;
+    return is_refused(WRITE) ? refuse(EIO) : written(file, place, bytes, syscall(SYS_write, file, bytes, allowed(count)));
 }
 
 /* a call may always accept a part of its bytes: here the first piece that is not empty */
@@ -164,19 +274,36 @@ ssize_t writev(int file, const struct iovec *pieces, int count)
     return count > 0 ? write(file, pieces[at].iov_base, pieces[at].iov_len) : 0;
 }
 
+ssize_t pwrite(int file, const void *bytes, size_t count, off_t place)
+{
+    return written(file, (uint64_t)place, bytes, syscall(SYS_pwrite64, file, bytes, count, place));
+}
+
+ssize_t pwrite64(int file, const void *bytes, size_t count, off_t place) __attribute__((alias("pwrite")));
+
+int ftruncate(int file, off_t length)
+{
+    int done = (int)syscall(SYS_ftruncate, file, length);
+    if (done == 0 && noted(file))
+        note('T', (uint64_t)length, NULL, 0);
+    return done;
+}
+
+int ftruncate64(int file, off_t length) __attribute__((alias("ftruncate")));
+
 int fsync(int file)
 {
-    return is_refused(SYNC) ? refuse(EIO) : (int)syscall(SYS_fsync, file);
+    return synced(file, SYS_fsync);
 }
 
 int fdatasync(int file)
 {
-    return is_refused(SYNC) ? refuse(EIO) : (int)syscall(SYS_fdatasync, file);
+    return synced(file, SYS_fdatasync);
 }
 
 int rename(const char *from, const char *to)
 {
-    return is_refused_at(NAME, from) ? refuse(EIO) : (int)syscall(SYS_renameat2, AT_FDCWD, from, AT_FDCWD, to, 0);
+    return is_refused_at(NAME, from) ? refuse(EIO) : named((int)syscall(SYS_renameat2, AT_FDCWD, from, AT_FDCWD, to, 0), to);
 }
 
 int flock(int file, int how)
@@ -198,7 +325,7 @@ int statx(int folder, const char *restrict path, int flags, unsigned mask, struc
 
 int link(const char *from, const char *to)
 {
-    return is_refused_at(LINK, from) ? refuse(EPERM) : (int)syscall(SYS_linkat, AT_FDCWD, from, AT_FDCWD, to, 0);
+    return is_refused_at(LINK, from) ? refuse(EPERM) : named((int)syscall(SYS_linkat, AT_FDCWD, from, AT_FDCWD, to, 0), to);
 }
 
 int unlink(const char *path)
@@ -209,6 +336,8 @@ int unlink(const char *path)
 /* the file is closed even if the call fails, as on Linux */
 int close(int file)
 {
+    if (file >= 0 && file < FILES)
+        is_noted[file] = 0;
     int is_wrong = is_refused(CLOSE);
     int done = (int)syscall(SYS_close, file);
     return is_wrong ? refuse(EIO) : done;
@@ -221,7 +350,7 @@ static void write_file(const char *path, const char *text, size_t length)
         syscall(SYS_close, file);
 }
 
-__attribute__((destructor)) static void tell_counts(void)
+__attribute__((destructor)) static void write_counts(void)
 {
     char text[400];
     int length = 0;
