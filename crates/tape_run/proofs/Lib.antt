@@ -127,6 +127,7 @@ mod SalvageDamaged
 mod SalvageUnnamedComing
 mod SalvageUnnamed
 mod SalvageFile
+mod SalvageSetGaps
 mod SalvageReadings
 mod SalvageGood
 mod SalvageAgain

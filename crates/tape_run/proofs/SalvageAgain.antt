@@ -215,7 +215,8 @@ module _ (set : FileSet) (file : ℕ) (all : List (Option Reading)) (copies : Li
         unread = a.unread;
         splits = sym (v.is ∙ ap (read_volume v.labels) g.is)
             ∙ ap (items_read set) (sym one) ∙ a.splits;
-        ends = subst (λ (z : SectionCopy). EndsData (start_of z) z.section.key a.read) g.copy a.ends;
+        ends = subst (λ (z : SectionCopy). EndsData (start_of z) z.section.key a.read) g.copy
+            a.ends;
       }
 
   -- a section that is on one of the images

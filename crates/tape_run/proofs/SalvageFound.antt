@@ -204,7 +204,8 @@ finds_all set_id volumes (r ∷ rs) s before (read, all) may =
     record {
       found = subst (AreFound set_id (r ∷ rs)) (sym is) (one.is_found, rest.found);
       may = subst MayBegin
-          (sym (expected_after-append s xs ys ∙ ap (λ (e : Expected). expected_after e ys) one.after))
+          (sym (expected_after-append s xs ys
+          ∙ ap (λ (e : Expected). expected_after e ys) one.after))
           rest.may;
     }
 

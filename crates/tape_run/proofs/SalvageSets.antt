@@ -189,7 +189,8 @@ module _ (set : FileSet) (file : ℕ) (f : List Section) (all : List (Option Rea
       let x = goes u i w ss g at best read off in
       let h = after_one u g in
       one_more i w ss g h (after_all Records known (front ++ t ∷ []) h) x.step x.piece
-      (ended front t (i + 1) ss h (next i w ss at) (more_follow i (length front) w ss at ends within)
+      (ended front t (i + 1) ss h (next i w ss at) (more_follow i (length front) w ss at ends
+      within)
       rest go eof (omega (arith, within)))
 
   -- none of the sections ends the file, and no later one is on an image
