@@ -188,10 +188,12 @@ cases_of_sets = record {
   none_there = λ p f h. absurd (cc h.missing.0);
   all_blocks = λ p bs h. h.blocks;
   not_lost = λ set r cs p bs at (had, none). elim had [
-    | inl (c, q, best, image, x) ↦
+    | inl (c, q, best, image, x, ranks) ↦
         subst (λ (z : Reading). HasBlocks set z p bs) (sym (only_image c.image r q image)) x
     | inr x ↦ absurd (x.none (r, ([], [], refl), at))
   ];
+  complete_first = λ a. refl;
+  fewer = λ a b. refl;
   each_section = λ set rs cs p h. h;
   in_order = λ a b c. refl;
   stopped = λ c h. let x = h c refl in absurd (cc x.1);

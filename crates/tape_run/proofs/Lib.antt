@@ -129,6 +129,7 @@ mod SalvageUnnamed
 mod SalvageFile
 mod SalvageSetGaps
 mod SalvageReadings
+mod SalvageRanks
 mod SalvageGood
 mod SalvageAgain
 mod SalvageSetBlocks

@@ -20,7 +20,7 @@ use Rattle.tape_run.specs.SalvageDamagedSets.{IsOtherHead, IsAnyImage, IsExactCo
 use Rattle.tape_run.specs.SalvageGaps.{Gap, AreGaps, data_in, StartsReadable}
 use Rattle.tape_run.specs.SalvageReadings.{IsReadVolume}
 use Rattle.tape_run.specs.SalvageSets.{copies_on, HasVolume, IsReadAgain, HasBlocks, IsOnNone}
-use Rattle.tape_run.specs.SalvageSets.{AreHad, joined, IsComplete}
+use Rattle.tape_run.specs.SalvageSets.{AreHad, joined, IsComplete, rank_of}
 use Rattle.tape_run.specs.SalvageUnnamed.{IsNoFirst, IsUnnamedIn}
 use Rattle.tape_run.specs.SalvageSections.{filled_of}
 use Rattle.tape_run.specs.SalvageWhole.{Blocks}
@@ -166,6 +166,9 @@ pub record CasesOfSalvagedSets : Type 0 where
   pub not_lost : (set : FileSet) (r : Reading) (cs : List SectionCopy) (p : Placed) (bs : Blocks)
       → r.volume ≡ p.section.volume → AreHad set (Some r ∷ []) cs (p ∷ []) (bs ∷ [])
       → HasBlocks set r p bs
+  -- all blocks, then more blocks
+  pub complete_first : (a : Filled) → rank_of ((true, a) ∷ []) ≡ 4294967297
+  pub fewer : (a b : Filled) → rank_of ((true, a) ∷ (false, b) ∷ []) ≡ 1
   pub each_section : (set : FileSet) (rs : List (Option Reading)) (cs : List SectionCopy)
       (p : Placed) → AreHad set rs cs (p ∷ []) [] → ⊥
   pub in_order : (a b c : Bool × Filled) → joined ((a ∷ b ∷ []) ∷ [] ∷ (c ∷ []) ∷ [])
