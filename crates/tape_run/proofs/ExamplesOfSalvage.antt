@@ -1,6 +1,6 @@
 -- The cases of `salvage`.
-use Rattle.std.proofs.Common.{◌≡◌, ◌<◌, ℕ, suc, zero, ◌+◌, true, List, [], ◌∷◌, ◌++◌, length}
-use Rattle.std.proofs.Common.{Option, Some, None, refl, sym, ap, subst, ◌∙◌, arith, inl, inr}
+use Rattle.std.proofs.Common.{◌≡◌, ◌<◌, ℕ, suc, zero, ◌+◌, Bool, true, false, List, [], ◌∷◌, ◌++◌}
+use Rattle.std.proofs.Common.{length, Option, Some, None, refl, sym, ap, subst, ◌∙◌, arith, inl, inr}
 use Rattle.std.proofs.Common.{length-append}
 use Rattle.std.specs.Prelude.{◌==◌, ◌&&◌, ◌||◌, slice_get}
 use Rattle.std.proofs.lemmas.Bool.Decides.{nat_tests}
@@ -9,6 +9,7 @@ use Rattle.tape_image.specs.Tape.{TapeItem, block, bad, mark}
 use Rattle.tape_label.proofs.First.{head1_found, trail1_found}
 use Rattle.tape_set.specs.Layout.{all_numbered}
 use Rattle.tape_set.specs.Reading.{Reading}
+use Rattle.tape_set.specs.Reach.{passes}
 use Rattle.tape_run.specs.declared.salvage.copies.SectionCopy.{SectionCopy}
 use Rattle.tape_run.specs.SalvageChoice.{IsBest}
 use Rattle.tape_run.specs.SalvageConflicts.{conflict_text, has_conflict}
@@ -187,12 +188,18 @@ cases_of_sets = record {
   none_there = λ p f h. absurd (cc h.missing.0);
   all_blocks = λ p bs h. h.blocks;
   not_lost = λ set r cs p bs at (had, none). elim had [
-    | inl (c, q, best, image, x) ↦
+    | inl (c, q, best, image, x, ranks) ↦
         subst (λ (z : Reading). HasBlocks set z p bs) (sym (only_image c.image r q image)) x
     | inr x ↦ absurd (x.none (r, ([], [], refl), at))
   ];
+  complete_first = λ a. refl;
+  fewer = λ a b. refl;
   each_section = λ set rs cs p h. h;
   in_order = λ a b c. refl;
+  stopped = λ c h. let x = h c refl in absurd (cc x.1);
+  no_section = λ c e. absurd (cc e);
+  bad_label = λ set k e es off is h. absurd (cc (sym h.labels ∙ ap (passes (false ∷ [])) is
+      ∙ ap (λ (b : Bool). (false || b) && passes [] es) off));
   nothing_found = λ set n. refl;
   must_open = λ set r h. h;
 }

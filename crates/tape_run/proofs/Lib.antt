@@ -127,7 +127,9 @@ mod SalvageDamaged
 mod SalvageUnnamedComing
 mod SalvageUnnamed
 mod SalvageFile
+mod SalvageSetGaps
 mod SalvageReadings
+mod SalvageRanks
 mod SalvageGood
 mod SalvageAgain
 mod SalvageSetBlocks

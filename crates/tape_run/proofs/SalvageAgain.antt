@@ -34,10 +34,11 @@ use Rattle.tape_run.specs.SalvageSections.{SectionRead, IsRead, IsOther, filled_
 use Rattle.tape_run.specs.SalvageSections.{read_volume}
 use Rattle.tape_run.specs.SalvageFile.{closed_copy, IsTakenFrom}
 use Rattle.tape_run.specs.SalvageSets.{items_read, IsCompleteOr, copies_on, HasVolume, IsReadAgain}
-use Rattle.tape_run.specs.SalvageSets.{IsHad}
+use Rattle.tape_run.specs.SalvageSets.{IsHad, IsRanked}
 use Rattle.tape_run.proofs.SalvageReadings.{all_in_two, others, placed_of}
 use Rattle.tape_run.proofs.SalvageFile.{AreRead, taken_adds}
-use Rattle.tape_run.proofs.SalvageGood.{IsGood, copies_good, has_copy, good_placed}
+use Rattle.tape_run.proofs.SalvageChoice.{all_map}
+use Rattle.tape_run.proofs.SalvageGood.{IsGood, copies_good, has_copy, good_placed, good_sect}
 use Rattle.tape_run.proofs.StayingGood.{key_again}
 
 -- ---- the copies that are considered
@@ -135,6 +136,24 @@ module _ (set : FileSet) (file : ℕ) (all : List (Option Reading)) (copies : Li
   copies_are = subst (AllByRecursion (IsGood set file all)) (sym same)
       (copies_good set file all l complete)
 
+  -- the copies have the ranks of what the images have
+  pub ranked_are : AllByRecursion (IsRanked set all) copies
+  ranked_are = all_map (IsGood set file all) (IsRanked set all) (λ c g. record {
+    reading = g.reading;
+    image = g.image;
+    placed = g.section.placed;
+    sect = good_sect set file all c g;
+    blocks = g.section.blocks;
+    had = record {
+      volume = g.volume;
+      section = g.section;
+      among = (g.before, g.rest, g.is);
+      is = refl;
+      blocks = refl;
+    };
+    rank_is = g.rank_is;
+  }) copies copies_are
+
   -- section i of the file
   abbrev pub IsAt : ℕ → Section → Type 0
   IsAt i w = section_of set file i ≡ Some w
@@ -215,7 +234,8 @@ module _ (set : FileSet) (file : ℕ) (all : List (Option Reading)) (copies : Li
         unread = a.unread;
         splits = sym (v.is ∙ ap (read_volume v.labels) g.is)
             ∙ ap (items_read set) (sym one) ∙ a.splits;
-        ends = subst (λ (z : SectionCopy). EndsData (start_of z) z.section.key a.read) g.copy a.ends;
+        ends = subst (λ (z : SectionCopy). EndsData (start_of z) z.section.key a.read) g.copy
+            a.ends;
       }
 
   -- a section that is on one of the images
@@ -254,6 +274,7 @@ module _ (set : FileSet) (file : ℕ) (all : List (Option Reading)) (copies : Li
               is = p;
               blocks = refl;
             },
+            x.rank_is,
           );
           done = adds.done;
           none = adds.none;

@@ -102,11 +102,11 @@ module _ (key : SectionKey) where
   not_open (UnnamedTrailer r) may = absurd may
   not_open (Skipping n u) may = absurd may
 
-  record Once (xs : List TapeItem) : Type 0 where
-    once : closings key (Outside 0) xs ≡ 1
-    done : is_in key (expected_after (Outside 0) xs) ≡ false
+  pub record Once (xs : List TapeItem) : Type 0 where
+    pub once : closings key (Outside 0) xs ≡ 1
+    pub done : is_in key (expected_after (Outside 0) xs) ≡ false
 
-  volume_once : (set_id : List ℕ) (volumes : ℕ) (v : Volume) (ls : Labels)
+  pub volume_once : (set_id : List ℕ) (volumes : ℕ) (v : Volume) (ls : Labels)
       (before : List SectionRead) (r : SectionRead) (rest : List SectionRead) → IsVolume v
       → AreLabels v ls → AllByRecursion (IsRead set_id volumes) before
       → AllByRecursion (IsOther set_id key) before → AllByRecursion (IsRead set_id volumes) rest

@@ -43,8 +43,8 @@ abbrev pub is_own : SectionKey → Trail1 → Bool
 is_own key t = (t.head.sect == key.sect) && (t.head.sequence == key.file)
 
 -- its trailer label comes next
-pub record TrailerTo (key : SectionKey) (blocks digest : ℕ) (certain : Option ℕ) (xs : List TapeItem)
-    (v : OpenSection) (k : Closing) : Type 0 where
+pub record TrailerTo (key : SectionKey) (blocks digest : ℕ) (certain : Option ℕ)
+    (xs : List TapeItem) (v : OpenSection) (k : Closing) : Type 0 where
   pub trailer : List ℕ
   pub trail : Trail1
   pub rest : List TapeItem
@@ -75,8 +75,8 @@ pub record DataTo (key : SectionKey) (blocks digest : ℕ) (certain : Option ℕ
   pub closing : k ≡ record { eof = trail.eof; count = trail.blocks }
 
 -- labels come next
-pub record HeadersTo (key : SectionKey) (blocks digest : ℕ) (certain : Option ℕ) (xs : List TapeItem)
-    (v : OpenSection) (k : Closing) : Type 0 where
+pub record HeadersTo (key : SectionKey) (blocks digest : ℕ) (certain : Option ℕ)
+    (xs : List TapeItem) (v : OpenSection) (k : Closing) : Type 0 where
   pub labels : List TapeItem
   pub more : List TapeItem
   pub is : xs ≡ labels ++ (mark ∷ more)

@@ -258,7 +258,8 @@ module _ (set_id : List ℕ) where
         ∙ ap head1_at s.same ∙ c.begins) in
         let whose : u.key ≡ key = c.key ∙ ap (λ (z : Head1). (section_by z).key) (sym heads)
         ∙ key_is h set_id r.placed.file r.placed.sect header.set_id header.file header.sect in
-        let mine : is_own set_id key c.trail ≡ true = ap (λ (z : SectionKey). is_own set_id z c.trail) (sym whose)
+        let mine : is_own set_id key c.trail ≡ true =
+        ap (λ (z : SectionKey). is_own set_id z c.trail) (sym whose)
         ∙ c.same in
         let after = after_trailer r ++ (any_sections s.rest ++ tail) in
         let prefix = c.labels ++ (mark ∷ (c.data_items ++ (mark ∷ []))) in

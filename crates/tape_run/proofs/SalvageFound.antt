@@ -25,7 +25,8 @@ use Rattle.tape_run.specs.SalvageSections.{SectionRead, IsRead, Labels, AreLabel
 use Rattle.tape_run.specs.SalvageSections.{read_section, read_sections, read_volume, key_of}
 use Rattle.tape_run.specs.SalvageSections.{MayBegin, after_trailers, FindsSection}
 use Rattle.tape_run.proofs.SalvagedSoFar.{expected_after-append}
-use Rattle.tape_run.proofs.SalvageOpened.{trailer_step, may_after}
+use Rattle.tape_run.specs.SalvageWhole.{not_read}
+use Rattle.tape_run.proofs.SalvageOpened.{trailer_step, may_after, AllRead}
 use Rattle.tape_run.proofs.SalvageSteps.{gathered, Quiet, quiet_data, section_walked, outside}
 use Rattle.tape_run.proofs.SalvageSteps.{FirstIsRead}
 use Rattle.tape_run.proofs.SalvageVolumes.{volume_no_heads}
@@ -123,6 +124,9 @@ pub record IsFound (set_id : List ℕ) (r : SectionRead) (found : FoundAt) : Typ
   pub blocks : section.blocks ≡ length r.blocks
   pub count : closing.count ≡ label_count (length r.blocks)
   pub after : section.after ≡ None
+  pub unread : section.unreadable ≡ not_read r.blocks
+  pub certain : AllRead r.headers → not_read r.blocks ≡ 0 → section.certain ≡ None
+  pub doubt : section.certain ≡ None → not_read r.blocks ≡ 0
   pub eof : (t : Trail1) → trail1_at r.placed.section.trailer ≡ Ok t → closing.eof ≡ t.eof
   pub form : (h : Head1) (f : FileForm) → head1_at r.placed.section.hdr1 ≡ Ok h
       → FirstIsRead r.headers → kind_at r.placed.section.hdr2 ≡ Some kinds.Hdr2
@@ -154,6 +158,9 @@ finds_one set_id volumes r s before read may =
         blocks = w.blocks;
         count = w.count;
         after = w.after;
+        unread = w.unread;
+        certain = w.certain;
+        doubt = w.doubt;
         eof = w.eof;
         form = w.form;
       };
@@ -204,7 +211,8 @@ finds_all set_id volumes (r ∷ rs) s before (read, all) may =
     record {
       found = subst (AreFound set_id (r ∷ rs)) (sym is) (one.is_found, rest.found);
       may = subst MayBegin
-          (sym (expected_after-append s xs ys ∙ ap (λ (e : Expected). expected_after e ys) one.after))
+          (sym (expected_after-append s xs ys
+          ∙ ap (λ (e : Expected). expected_after e ys) one.after))
           rest.may;
     }
 

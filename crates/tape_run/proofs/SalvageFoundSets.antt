@@ -122,7 +122,8 @@ module _ (set : FileSet) (file n : ℕ) (l : IsLawful set) where
       x.among in
       let size : length s.blocks ≡ length s.placed.section.blocks =
       sym (long s.blocks) ∙ ap length p.are_blocks in
-      let here = every_stands (IsOn set k) (on k (sections set)) s.placed (sections_on_are set k l) (
+      let here =
+      every_stands (IsOn set k) (on k (sections set)) s.placed (sections_on_are set k l) (
         placed_of x.among.0,
         placed_of x.among.1,
         sym are.all ∙ ap placed_of x.among.2 ∙ placed_at x.among.0 s x.among.1,

@@ -1,80 +1,40 @@
 -- The copies of a file's sections on complete readings of the volumes of a valid set.
-use Rattle.std.proofs.Common.{◌≡◌, ◌≤◌, ℕ, ◌+◌, ◌-◌, ◌==◌, ◌&&◌, Bool, true, false, List, [], ◌∷◌}
-use Rattle.std.proofs.Common.{◌++◌, length, Option, Some, None, refl, sym, ap, subst, ◌∙◌, arith}
-use Rattle.std.proofs.Common.{append_assoc, suc, inl, inr}
-use Rattle.std.specs.Prelude.{if◌then◌else◌, nat_le, option_map, slice_get}
+use Rattle.std.proofs.Common.{◌≡◌, ℕ, ◌+◌, ◌-◌, ◌==◌, ◌&&◌, Bool, true, false, List, [], ◌∷◌, ◌++◌}
+use Rattle.std.proofs.Common.{length, Option, Some, None, refl, sym, ap, subst, ◌∙◌, arith}
+use Rattle.std.proofs.Common.{append_assoc, suc}
+use Rattle.std.specs.Prelude.{if◌then◌else◌, option_map, slice_get}
 use Rattle.std.specs.List.{AllByRecursion}
 use Rattle.std.specs.Str.{bytes_eq}
 use Rattle.std.proofs.lemmas.Bool.{and_parts}
 use Rattle.std.proofs.lemmas.Bool.Decides.{nat_tests}
 use Rattle.tape_label.specs.declared.values.Kind.TheVariants as kinds
-use Rattle.tape_label.specs.declared.values.Format.{Format}
-use Rattle.tape_label.specs.declared.values.Format.TheVariants.{Fixed, Counted, Spanned}
-use Rattle.tape_label.specs.Formats.{least_record}
-use Rattle.tape_label.specs.Head2.{HasOffset}
-use Rattle.tape_label.specs.Reading.{head2_at}
 use Rattle.tape_label.proofs.First.{head1_again, trail1_again}
-use Rattle.tape_label.proofs.Second.{head2_again}
 use Rattle.tape_label.proofs.Apart.{kind_again}
 use Rattle.tape_set.specs.Layout.{FileSet, Section, Placed, nth, on, sections, section_of}
 use Rattle.tape_set.specs.Layout.{ends_file}
-use Rattle.tape_set.specs.Lawful.{IsLawful, FileForm, TellsForm, binding_len}
+use Rattle.tape_set.specs.Lawful.{IsLawful, FileForm, TellsForm}
 use Rattle.tape_set.specs.Laws.{StandsIn}
 use Rattle.tape_set.proofs.Everywhere.{every_stands, stands_behind, stands_before}
 use Rattle.tape_set.proofs.Numbering.{placed}
 use Rattle.tape_set.proofs.Volumes.{IsOn, sections_on_are, wanted_lies}
 use Rattle.tape_set.proofs.Forms.{trailer_ends}
-use Rattle.tape_core.specs.Known.{known_of}
-use Rattle.tape_core.specs.Range.{form_in_range}
 use Rattle.tape_set.specs.Reading.{Reading}
 use Rattle.tape_run.specs.declared.salvage.copies.SectionCopy.{SectionCopy}
 use Rattle.tape_run.specs.declared.salvage.walk.OpenSection.{OpenSection}
 use Rattle.tape_run.specs.declared.salvage.walk.Closing.{Closing}
-use Rattle.tape_run.specs.SalvageWalk.{FoundAt, sections_in, form_by, form_of}
-use Rattle.tape_run.specs.SalvageCopies.{is_of, copy_of, of_file}
+use Rattle.tape_run.specs.SalvageWalk.{FoundAt, sections_in}
+use Rattle.tape_run.specs.SalvageCopies.{is_of, copy_of, of_file, rank}
 use Rattle.tape_run.specs.SalvageSections.{SectionRead, IsRead, key_of}
 use Rattle.tape_run.specs.SalvageFile.{closed_copy}
 use Rattle.tape_run.specs.SalvageReadings.{IsReadVolume}
-use Rattle.tape_run.specs.SalvageSets.{items_read, IsCompleteOr, copies_on, HasVolume}
+use Rattle.tape_run.specs.SalvageSets.{items_read, IsCompleteOr, copies_on, HasVolume, rank_of}
 use Rattle.tape_run.proofs.SalvageChoice.{all_append}
 use Rattle.tape_run.proofs.SalvageFound.{IsFound, AreFound, volume_found}
 use Rattle.tape_run.proofs.SalvageReadings.{placed_of, ReadVolume, volume_read}
-use Rattle.tape_run.proofs.SalvageSteps.{FirstIsRead}
+use Rattle.tape_run.proofs.SalvageSteps.{AreHeads}
 use Rattle.tape_run.proofs.StayingGood.{key_again}
 use Rattle.tape_run.proofs.WholeVolumes.{some_of}
-
--- ---- the form that the labels record
-
-in_range_by : (format : Format) (n m : ℕ) (file_id : List ℕ) → least_record format ≤ n
-    → n ≤ 99999 → m ≤ 99
-    → form_in_range (known_of format (binding_len format n) m file_id) ≡ true
-in_range_by Fixed n m file_id least most fits =
-    let a : nat_le 1 n ≡ true = grind (arith, nat_tests) in
-    let b : nat_le n 99999 ≡ true = grind (arith, nat_tests) in
-    let c : nat_le m 99 ≡ true = grind (arith, nat_tests) in
-    rw (a, b, c) refl
-in_range_by Counted n m file_id least most fits =
-    let c : nat_le m 99 ≡ true = grind (arith, nat_tests) in rw c refl
-in_range_by Spanned n m file_id least most fits =
-    let c : nat_le m 99 ≡ true = grind (arith, nat_tests) in rw c refl
-
-few_digits : (label : List ℕ) (n : ℕ) → HasOffset label n → n ≤ 99
-few_digits label n (inl h) = let f = h.fits in omega (arith, f)
-few_digits label n (inr (spaces, e)) = omega (arith, e)
-
-form_read : (form : FileForm) (s : Section) (t : TellsForm form s)
-    → form_by t.head.file_id (head2_at s.hdr2) ≡ Some form
-form_read form s t =
-    let g = t.second in
-    let len = t.hdr2.rec_len in
-    let most = len.fits in
-    ap (form_by t.head.file_id) (head2_again s.hdr2 kinds.Hdr2 g t.hdr2)
-    ∙ ap (λ (b : Bool). if b then Some (form_of t.head.file_id g) else None)
-    (in_range_by g.format g.rec_len g.offset t.head.file_id len.at_least
-    (omega (arith, most)) (few_digits s.hdr2 g.offset t.hdr2.offset))
-    ∙ ap (λ (f : FileForm). Some f) t.told
-
--- ---- a copy
+use Rattle.tape_run.proofs.SalvageRanks.{form_read, found_rank}
 
 module _ (set : FileSet) (file : ℕ) (all : List (Option Reading)) where
   -- A copy is a section of the file on one of the images, which was found as it is.
@@ -94,10 +54,11 @@ module _ (set : FileSet) (file : ℕ) (all : List (Option Reading)) where
     pub blocks : found.blocks ≡ length section.blocks
     pub eof : closing.eof ≡ ends_file section.placed.section
     pub form : (form : FileForm) → TellsForm form section.placed.section → found.form ≡ Some form
+    pub rank_is : rank c ≡ rank_of section.blocks
 
   good_copy : (n : ℕ) (r : Reading) (v : IsReadVolume set r.volume (items_read set r))
       (before : List SectionRead) (s : SectionRead) (rest : List SectionRead) (t : FoundAt)
-      → slice_get all n ≡ Some (Some r) → v.reads ≡ before ++ s ∷ rest → FirstIsRead s.headers
+      → slice_get all n ≡ Some (Some r) → v.reads ≡ before ++ s ∷ rest → AreHeads s.headers
       → IsRead set.set_id (length set.volumes) s → IsFound set.set_id s t
       → is_of set.set_id file t.1 ≡ true → IsGood (copy_of n t)
   good_copy n r v before s rest t at is first read f own =
@@ -109,6 +70,13 @@ module _ (set : FileSet) (file : ℕ) (all : List (Option Reading)) where
       ap (λ (z : FoundAt). is_of set.set_id file z.1) (sym f.is) ∙ own in
       let same = (and_parts (bytes_eq u.key.set_id set.set_id) (u.key.file == file) here).1 in
       let number : u.key.file ≡ file = grind (arith, nat_tests, same) in
+      let copy : copy_of n t ≡ closed_copy n u k =
+      ap (copy_of n) f.is ∙ ap (λ (a : Option ℕ). record {
+        image = n;
+        section = u;
+        closed = Some k;
+        skip = option_map (λ m. f.place - m - u.blocks) a;
+      }) f.after in
       record {
         reading = r;
         image = at;
@@ -119,26 +87,22 @@ module _ (set : FileSet) (file : ℕ) (all : List (Option Reading)) where
         is = is;
         found = u;
         closing = k;
-        copy = ap (copy_of n) f.is ∙ ap (λ (a : Option ℕ). record {
-          image = n;
-          section = u;
-          closed = Some k;
-          skip = option_map (λ m. f.place - m - u.blocks) a;
-        }) f.after;
+        copy = copy;
         key = f.key;
         own = ap (λ (z : _). z.file) (sym f.key) ∙ number;
         blocks = f.blocks;
         eof = f.eof label (trail1_again x.trailer label trailer.label)
             ∙ trailer_ends x label trailer.label;
-        form = λ form told. f.form told.head form (head1_again x.hdr1 told.head told.hdr1) first
+        form = λ form told. f.form told.head form (head1_again x.hdr1 told.head told.hdr1) first.0
             (kind_again x.hdr2 kinds.Hdr2 told.hdr2.kind) (form_read form x told);
+        rank_is = ap rank copy ∙ found_rank set.set_id n s t f first.1;
       }
 
   module _ (n : ℕ) (r : Reading) (v : IsReadVolume set r.volume (items_read set r))
       (at : slice_get all n ≡ Some (Some r)) where
     of_file_good : (before reads : List SectionRead) (ts : List FoundAt)
         → v.reads ≡ before ++ reads
-        → AllByRecursion (λ (s : SectionRead). FirstIsRead s.headers) reads
+        → AllByRecursion (λ (s : SectionRead). AreHeads s.headers) reads
         → AllByRecursion (IsRead set.set_id (length set.volumes)) reads
         → AreFound set.set_id reads ts
         → AllByRecursion IsGood (of_file set.set_id file n ts)

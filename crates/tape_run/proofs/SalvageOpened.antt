@@ -24,7 +24,8 @@ use Rattle.tape_run.specs.SalvageWalk.{step, section_by, begun_by, with_item, wi
 use Rattle.tape_run.specs.SalvageWalk.{with_unreadable}
 use Rattle.tape_run.specs.SalvageWalk.{doubted, closes, closed_by, second_by, unclosed_by}
 use Rattle.tape_run.specs.SalvageWalk.{with_trailer, unnamed_after, one_read, form_by, form_or}
-use Rattle.tape_run.specs.SalvageWhole.{Blocks}
+use Rattle.tape_run.specs.SalvageWalk.{first_of}
+use Rattle.tape_run.specs.SalvageWhole.{Blocks, not_read}
 use Rattle.tape_run.specs.SalvageSections.{Labels, filled_of, MayBegin, after_trailers}
 
 -- ---- labels
@@ -51,6 +52,8 @@ pub record Heads (u : OpenSection) (k : Option Kind) (r : Result Head2 LabelFaul
   pub same : section.key ≡ u.key
   pub none : section.blocks ≡ u.blocks
   pub after : section.after ≡ u.after
+  pub unread : section.unreadable ≡ u.unreadable
+  pub certain : section.certain ≡ u.certain
   pub form : k ≡ Some kinds.Hdr2 → section.form ≡ form_by u.file_id r
 
 no_second : (u : OpenSection) (k : Option Kind) (r : Result Head2 LabelFault)
@@ -61,6 +64,8 @@ no_second u k r e other = record {
   same = refl;
   none = refl;
   after = refl;
+  unread = refl;
+  certain = refl;
   form = λ f. absurd (other f);
 }
 
@@ -72,6 +77,8 @@ second_is u (Some kinds.Hdr2) r = record {
   same = refl;
   none = refl;
   after = refl;
+  unread = refl;
+  certain = refl;
   form = λ e. refl;
 }
 second_is u (Some kinds.Vol1) r = no_second u (Some kinds.Vol1) r refl (λ e. absurd (cc e))
@@ -145,6 +152,25 @@ form_headed u [] = refl
 form_headed u ((true, b) ∷ ls) = form_headed u ls
 form_headed u ((false, b) ∷ ls) = form_headed (doubted u) ls
 
+pub unread_headed : (u : OpenSection) (ls : Labels) → (headed u ls).unreadable ≡ u.unreadable
+unfolding headed
+unread_headed u [] = refl
+unread_headed u ((true, b) ∷ ls) = unread_headed u ls
+unread_headed u ((false, b) ∷ ls) = unread_headed (doubted u) ls
+
+-- all of these labels were read
+abbrev pub AllRead : Labels → Type 0
+AllRead [] = Unit {0}
+AllRead ((true, b) ∷ ls) = AllRead ls
+AllRead ((false, b) ∷ ls) = ⊥
+
+pub certain_headed : (u : OpenSection) (ls : Labels) → AllRead ls
+    → (headed u ls).certain ≡ u.certain
+unfolding headed
+certain_headed u [] all = refl
+certain_headed u ((true, b) ∷ ls) all = certain_headed u ls all
+certain_headed u ((false, b) ∷ ls) all = absurd all
+
 -- after these data items
 unfoldable pub section_after : OpenSection → Blocks → OpenSection
 section_after u [] = u
@@ -168,6 +194,37 @@ unfolding section_after
 form_section u [] = refl
 form_section u ((true, f) ∷ bs) = form_section (with_data f.bytes u) bs
 form_section u ((false, f) ∷ bs) = form_section (with_item (with_unreadable u)) bs
+
+pub unread_section : (u : OpenSection) (bs : Blocks) → u.unreadable + length bs ≤ 4294967295
+    → (section_after u bs).unreadable ≡ u.unreadable + not_read bs
+unfolding section_after
+unread_section u [] few = omega arith
+unread_section u ((true, f) ∷ bs) few =
+    unread_section (with_data f.bytes u) bs (omega (arith, few))
+unread_section u ((false, f) ∷ bs) few =
+    let n : min (u.unreadable + 1) 4294967295 ≡ u.unreadable + 1 = omega (arith, few) in
+    let r = unread_section (with_item (with_unreadable u)) bs (omega (arith, n, few)) in
+    omega (arith, n, r)
+
+pub certain_section : (u : OpenSection) (bs : Blocks) → u.certain ≡ None → not_read bs ≡ 0
+    → (section_after u bs).certain ≡ None
+unfolding section_after
+certain_section u [] e none = e
+certain_section u ((true, f) ∷ bs) e none = certain_section (with_data f.bytes u) bs e none
+certain_section u ((false, f) ∷ bs) e none = absurd (omega (arith, none))
+
+some_first : (o : Option ℕ) (n : ℕ) → first_of o n ≡ None → ⊥
+some_first None n e = absurd (cc e)
+some_first (Some m) n e = absurd (cc e)
+
+pub doubt_section : (u : OpenSection) (bs : Blocks) → (section_after u bs).certain ≡ None
+    → (u.certain ≡ None) × (not_read bs ≡ 0)
+unfolding section_after
+doubt_section u [] e = (e, refl)
+doubt_section u ((true, f) ∷ bs) e = doubt_section (with_data f.bytes u) bs e
+doubt_section u ((false, f) ∷ bs) e =
+    let r = doubt_section (with_item (with_unreadable u)) bs e in
+    absurd (some_first u.certain u.blocks r.0)
 
 pub one_more : (n : ℕ) → n < 4294967295 → min (n + 1) 4294967295 ≡ n + 1
 one_more n lt = omega (arith, lt)
@@ -206,6 +263,13 @@ unfolding trailed
 counted_trailed u [] = refl
 counted_trailed u ((true, b) ∷ ls) = counted_trailed (with_trailer u (head2_at b)) ls
 counted_trailed u ((false, b) ∷ ls) = refl
+
+pub unread_trailed : (u : OpenSection) (ls : Labels)
+    → ((trailed u ls).unreadable ≡ u.unreadable) × ((trailed u ls).certain ≡ u.certain)
+unfolding trailed
+unread_trailed u [] = (refl, refl)
+unread_trailed u ((true, b) ∷ ls) = unread_trailed (with_trailer u (head2_at b)) ls
+unread_trailed u ((false, b) ∷ ls) = (refl, refl)
 
 pub after_trailed : (u : OpenSection) (ls : Labels) → u.after ≡ None → (trailed u ls).after ≡ None
 unfolding trailed

@@ -1,30 +1,29 @@
 -- A reading in which only data blocks were unreadable, as labels and sections that were read.
-use Rattle.std.proofs.Common.{◌≡◌, ◌<◌, ℕ, ◌+◌, ◌==◌, ◌&&◌, ◌||◌, Bool, true, false, List, [], ◌∷◌}
-use Rattle.std.proofs.Common.{◌++◌, length, map, Option, Some, None, refl, sym, ap, subst, ◌∙◌}
-use Rattle.std.proofs.Common.{arith, append_assoc}
-use Rattle.std.specs.Prelude.{if◌then◌else◌, IsSome}
+use Rattle.std.proofs.Common.{◌≡◌, ◌<◌, ℕ, ◌==◌, ◌&&◌, ◌||◌, Bool, true, false, List, [], ◌∷◌, ◌++◌}
+use Rattle.std.proofs.Common.{length, map, Option, Some, refl, sym, ap, subst, ◌∙◌, arith}
+use Rattle.std.proofs.Common.{append_assoc}
+use Rattle.std.specs.Prelude.{if◌then◌else◌}
 use Rattle.std.specs.List.{AllByRecursion}
 use Rattle.std.specs.Str.{bytes_eq}
 use Rattle.std.proofs.lemmas.Bool.Decides.{nat_tests}
 use Rattle.tape_image.specs.Tape.{TapeItem, block, bad, mark}
 use Rattle.tape_blocks.specs.Tight.{Filled}
-use Rattle.tape_set.specs.Layout.{FileSet, Volume, Placed, Section, Entry, a_label, a_data_block}
-use Rattle.tape_set.specs.Layout.{a_mark, item_of, is_data, items, entries, entries_on, nth, on}
-use Rattle.tape_set.specs.Layout.{sections, section_entries, all_entries, header_group, data_group}
-use Rattle.tape_set.specs.Layout.{trailer_group, volume_group}
-use Rattle.tape_set.specs.Lawful.{IsLawful, IsVolume, IsSection, FileForm}
-use Rattle.tape_set.specs.Reading.{Reading, IsReadingOf, as_read}
+use Rattle.tape_set.specs.Layout.{FileSet, Volume, Placed, Entry, a_label, a_mark, item_of, is_data}
+use Rattle.tape_set.specs.Layout.{items, entries, entries_on, nth, on, sections, section_entries}
+use Rattle.tape_set.specs.Layout.{all_entries, header_group, data_group, trailer_group}
+use Rattle.tape_set.specs.Layout.{volume_group}
+use Rattle.tape_set.specs.Lawful.{IsLawful, IsVolume, IsSection}
+use Rattle.tape_set.specs.Reading.{as_read}
 use Rattle.tape_set.specs.Reach.{passes}
-use Rattle.tape_set.proofs.Everywhere.{every, every_at, nth_found}
+use Rattle.tape_set.proofs.Everywhere.{every_at, nth_found}
 use Rattle.tape_set.proofs.Volumes.{IsOn, Rising, sections_on_are, sections_on_rise}
-use Rattle.tape_run.specs.declared.section.SectionKey.{SectionKey}
-use Rattle.tape_run.specs.Noted.{same_key}
 use Rattle.tape_run.specs.SalvageWhole.{Blocks}
 use Rattle.tape_run.specs.SalvageSections.{SectionRead, IsRead, Labels, labels_of, read_labels}
 use Rattle.tape_run.specs.SalvageSections.{read_blocks, filled_of, read_section, read_sections}
 use Rattle.tape_run.specs.SalvageSections.{read_volume, NoneBegins, IsOther, IsReadTo, key_of}
 use Rattle.tape_run.specs.SalvageReadings.{IsReadVolume, RecoversReading}
-use Rattle.tape_run.proofs.SalvageSteps.{FirstIsRead}
+use Rattle.tape_run.proofs.SalvageOpened.{AllRead}
+use Rattle.tape_run.proofs.SalvageSteps.{AreHeads}
 use Rattle.tape_run.proofs.SalvageClosings.{recovers_from_reading}
 use Rattle.tape_run.proofs.StayingGood.{key_again}
 use Rattle.tape_run.proofs.WholeVolumes.{some_of}
@@ -84,6 +83,10 @@ none_begins : (bs : List (List ℕ)) → NoneBegins (good_labels bs)
 none_begins [] = tt
 none_begins (b ∷ bs) = none_begins bs
 
+all_read : (bs : List (List ℕ)) → AllRead (good_labels bs)
+all_read [] = tt
+all_read (b ∷ bs) = all_read bs
+
 labels_read : (gs : List Bool) (bs : List (List ℕ)) → passes gs (map a_label bs) ≡ true
     → read_as gs (map a_label bs) ≡ read_labels (good_labels bs)
 labels_read [] [] h = refl
@@ -134,7 +137,7 @@ record ReadSection (p : Placed) (gs : List Bool) : Type 0 where
   blocks : filled_of read.blocks ≡ p.section.blocks
   trailers : labels_of read.trailers ≡ p.section.trailers
   none : NoneBegins read.trailers
-  first : FirstIsRead read.headers
+  first : AreHeads read.headers
   is : read_as gs (section_entries p.section) ≡ read_section read
 
 section_read : (p : Placed) (gs : List Bool) → passes gs (section_entries p.section) ≡ true
@@ -176,7 +179,7 @@ section_read p gs h =
       blocks = fs.1;
       trailers = same_labels s.trailers;
       none = none_begins s.trailers;
-      first = tt;
+      first = (tt, all_read s.headers);
       is = a.is
           ∙ ap (λ (l : List TapeItem). l ++ read_as a.more (trailer_group s))
           (c.is ∙ ap (λ (l : List TapeItem). l ++ read_as c.more (data_group s.blocks)) headers_are
@@ -190,7 +193,7 @@ record ReadSections (set : FileSet) (ps : List Placed) (gs : List Bool) : Type 0
   reads : List SectionRead
   all : map (λ (r : SectionRead). r.placed) reads ≡ ps
   are_read : AllByRecursion (IsRead set.set_id (length set.volumes)) reads
-  firsts : AllByRecursion (λ (r : SectionRead). FirstIsRead r.headers) reads
+  firsts : AllByRecursion (λ (r : SectionRead). AreHeads r.headers) reads
   is : read_as gs (all_entries ps) ≡ read_sections reads
 
 sections_read : (set : FileSet) (k : ℕ) (ps : List Placed) (gs : List Bool)
@@ -234,7 +237,7 @@ sections_read set k (p ∷ ps) gs (here, all) h =
 -- a volume whose second labels were read
 pub record ReadVolume (set : FileSet) (k : ℕ) (xs : List TapeItem) : Type 0 where
   pub volume : IsReadVolume set k xs
-  pub firsts : AllByRecursion (λ (r : SectionRead). FirstIsRead r.headers) volume.reads
+  pub firsts : AllByRecursion (λ (r : SectionRead). AreHeads r.headers) volume.reads
 
 pub volume_read : (set : FileSet) (k : ℕ) (v : Volume) (gs : List Bool) → IsLawful set
     → nth set.volumes k ≡ Some v → passes gs (entries set k) ≡ true

@@ -44,7 +44,7 @@ module _ (key : SectionKey) where
   rest_none false n e = omega (arith, e)
 
   -- data that never end are still being read at the end
-  open_to_end : (s : Expected) (xs : List TapeItem) → is_in key s ≡ true → closings key s xs ≡ 0
+  pub open_to_end : (s : Expected) (xs : List TapeItem) → is_in key s ≡ true → closings key s xs ≡ 0
       → is_in key (expected_after s xs) ≡ true
   open_to_end s [] h none = h
   open_to_end s (x ∷ xs) h none =

@@ -19,7 +19,7 @@ use Rattle.tape_run.specs.SalvageRecords.{nothing}
 use Rattle.tape_run.specs.SalvageBlocks.{Salvaged}
 use Rattle.tape_run.specs.SalvageWhole.{Blocks, IsBlock, all_parts, piece_after}
 use Rattle.tape_run.specs.SalvageSections.{IsRead, filled_of}
-use Rattle.tape_run.specs.SalvageSets.{IsHad, AreHad, joined, IsRecovered}
+use Rattle.tape_run.specs.SalvageSets.{IsRanked, IsHad, AreHad, joined, IsRecovered}
 use Rattle.tape_run.proofs.SalvageWhole.{gives_whole, all_whole}
 use Rattle.tape_run.proofs.SalvageGrows.{never_less}
 use Rattle.tape_run.proofs.SalvageFile.{AreRead}
@@ -40,7 +40,7 @@ of_filled P (b ∷ bs) (h, all) = (h, of_filled P bs all)
 module _ (set : FileSet) (file : ℕ) (f : List Section) (all : List (Option Reading))
     (copies : List SectionCopy) (form : FileForm) where
   filled_one : (p : Placed) (b : Blocks) → IsHad set all copies p b → filled_of b ≡ p.section.blocks
-  filled_one p b (inl (c, r, best, image, x)) =
+  filled_one p b (inl (c, r, best, image, x, ranks)) =
       let read = every_stands (IsRead set.set_id (length set.volumes)) x.volume.reads x.section
       x.volume.are_read x.among in
       ap filled_of x.blocks ∙ read.blocks ∙ ap (λ (q : Placed). q.section.blocks) x.is
@@ -80,11 +80,12 @@ module _ (set : FileSet) (file : ℕ) (f : List Section) (all : List (Option Rea
   blocks_hold (b ∷ bs) (h, hs) (s, ss) =
       (record { holds = h; some = s }, blocks_hold bs hs ss)
 
-  pub recovered : AllByRecursion (HasForm form) f → InOrder false (section_parts f) false
+  pub recovered : AllByRecursion (HasForm form) f → AllByRecursion (IsRanked set all) copies
+      → InOrder false (section_parts f) false
       → (g : Salvaged) (bs : List Blocks) → AreHad set all copies (numbered file 1 f) bs
       → g.piece.done ≡ (piece_after form nothing (joined bs)).done
       → (g.missing ≡ false → AreRead (joined bs)) → IsRecovered set file f all copies g
-  recovered forms order g bs had done none =
+  recovered forms ranked order g bs had done none =
       let b = joined bs in
       let filled = filled_had 1 f bs had in
       let hold = of_filled HasParts b (subst (AllByRecursion HasParts) (sym filled)
@@ -95,6 +96,7 @@ module _ (set : FileSet) (file : ℕ) (f : List Section) (all : List (Option Rea
       record {
         form = form;
         is_form = forms;
+        ranked = ranked;
         sections = bs;
         had = had;
         whole = λ some. done ∙ gives_whole form b false (blocks_hold b hold some) fine;

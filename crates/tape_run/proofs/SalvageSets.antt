@@ -29,8 +29,8 @@ use Rattle.tape_run.proofs.SalvageChoice.{all_append, all_map, last_at, last_mos
 use Rattle.tape_run.proofs.SalvageGrows.{after_append}
 use Rattle.tape_run.proofs.SalvageFile.{AreRead}
 use Rattle.tape_run.proofs.SalvageGood.{IsGood, has_copy, good_on, good_sect}
-use Rattle.tape_run.proofs.SalvageAgain.{lost, filled_lost, none_read, lost_done, copies_are, Step}
-use Rattle.tape_run.proofs.SalvageAgain.{known_step, lost_step, get_less}
+use Rattle.tape_run.proofs.SalvageAgain.{ranked_are, lost, filled_lost, none_read, lost_done}
+use Rattle.tape_run.proofs.SalvageAgain.{copies_are, Step, known_step, lost_step, get_less}
 use Rattle.tape_run.proofs.SalvageSetBlocks.{recovered}
 
 -- ---- the end of the file
@@ -189,7 +189,8 @@ module _ (set : FileSet) (file : ℕ) (f : List Section) (all : List (Option Rea
       let x = goes u i w ss g at best read off in
       let h = after_one u g in
       one_more i w ss g h (after_all Records known (front ++ t ∷ []) h) x.step x.piece
-      (ended front t (i + 1) ss h (next i w ss at) (more_follow i (length front) w ss at ends within)
+      (ended front t (i + 1) ss h (next i w ss at) (more_follow i (length front) w ss at ends
+      within)
       rest go eof (omega (arith, within)))
 
   -- none of the sections ends the file, and no later one is on an image
@@ -311,6 +312,7 @@ recovers_set set file f rs copies taken l there complete fits same read sections
     let (form, forms) = is.alike in
     let at = at_start set file f rs copies form l there complete same forms fits in
     let most = within set file f rs copies form l there complete same in
+    let ranked = ranked_are set file rs copies form l complete same in
     let known = form_of_file copies in
     let known_all = after_all Records known taken none_salvaged in
     elim sections [
@@ -322,7 +324,7 @@ recovers_set set file f rs copies taken l there complete fits same read sections
           let g = after_file Records copies taken none_salvaged in
           let off = is_missing set file f rs copies form l there complete same taken 1 f
           none_salvaged at read go few in
-          recovered set file f rs copies form forms is.order g r.sections
+          recovered set file f rs copies form forms ranked is.order g r.sections
           r.had (last_done (last_end Records known taken) known_all ∙ r.done)
           (λ e. absurd (never (sym off ∙ e)))
       | inr (front, t, splits, go, eof, count) ↦
@@ -339,7 +341,7 @@ recovers_set set file f rs copies taken l there complete fits same read sections
           ap (λ (e : SectionEnd). at_last e known_all) end
           ∙ ap (λ (ts : List Taken). after_all Records known ts none_salvaged) splits in
           subst (IsRecovered set file f rs copies) (sym whole)
-          (recovered set file f rs copies form forms is.order
+          (recovered set file f rs copies form forms ranked is.order
           (after_all Records known (front ++ t ∷ []) none_salvaged) r.sections r.had r.done
           (λ e. (r.none e).1))
     ]

@@ -19,7 +19,7 @@ use Rattle.tape_run.specs.declared.salvage.walk.Expected.TheVariants.{Next}
 use Rattle.tape_run.specs.SalvageWalk.{step, expected_after, section_by, begun_by, with_item}
 use Rattle.tape_run.specs.SalvageWalk.{with_data, with_unreadable, doubted, closes, with_trailer}
 use Rattle.tape_run.specs.SalvageWalk.{form_by}
-use Rattle.tape_run.specs.SalvageWhole.{Blocks}
+use Rattle.tape_run.specs.SalvageWhole.{Blocks, not_read}
 use Rattle.tape_run.specs.SalvageSections.{Labels, read_labels, labels_of, read_blocks}
 use Rattle.tape_run.specs.SalvageSections.{SectionRead, read_section, AreNoHeads, NoneBegins}
 use Rattle.tape_run.specs.SalvageSections.{IsRead, key_of, MayBegin, after_trailers}
@@ -29,7 +29,9 @@ use Rattle.tape_run.proofs.SalvageOpened.{trailer_step, key_is, headed, same_hea
 use Rattle.tape_run.proofs.SalvageOpened.{section_after, same_section_after, counted, long}
 use Rattle.tape_run.proofs.SalvageOpened.{trailed, same_trailed, counted_trailed, after_headed}
 use Rattle.tape_run.proofs.SalvageOpened.{form_headed, after_section, form_section}
-use Rattle.tape_run.proofs.SalvageOpened.{after_trailed, form_trailed}
+use Rattle.tape_run.proofs.SalvageOpened.{after_trailed, form_trailed, unread_headed, AllRead}
+use Rattle.tape_run.proofs.SalvageOpened.{certain_headed, unread_section, certain_section}
+use Rattle.tape_run.proofs.SalvageOpened.{doubt_section, unread_trailed}
 
 -- ---- the walk
 
@@ -56,6 +58,10 @@ abbrev pub FirstIsRead : Labels → Type 0
 FirstIsRead [] = ⊥
 FirstIsRead ((true, b) ∷ ls) = Unit {0}
 FirstIsRead ((false, b) ∷ ls) = ⊥
+
+-- these labels after HDR1 were read
+abbrev pub AreHeads : Labels → Type 0
+AreHeads ls = FirstIsRead ls × AllRead ls
 
 -- labels, and marks between sections, have no results
 pub record Quiet {A : Type 0} (act : Expected → A → TapeItem → A) : Type 0 where
@@ -132,6 +138,8 @@ module _ {A : Type 0} (act : Expected → A → TapeItem → A) where
     same : section.key ≡ u.key
     none : section.blocks ≡ u.blocks
     after : section.after ≡ u.after
+    unread : section.unreadable ≡ u.unreadable
+    certain : AllRead ls → section.certain ≡ u.certain
     form : FirstIsRead ls → kind_at b ≡ Some kinds.Hdr2
         → section.form ≡ form_by u.file_id (head2_at b)
 
@@ -149,6 +157,8 @@ module _ {A : Type 0} (act : Expected → A → TapeItem → A) where
         same = same_headed v ls ∙ two.same;
         none = none_headed v ls ∙ two.none;
         after = after_headed v ls ∙ two.after;
+        unread = unread_headed v ls ∙ two.unread;
+        certain = λ all. certain_headed v ls all ∙ two.certain;
         form = λ read kind. form_headed v ls ∙ two.form (ap kind_at is ∙ kind)
             ∙ ap (λ y. form_by u.file_id (head2_at y)) is;
       }
@@ -161,6 +171,8 @@ module _ {A : Type 0} (act : Expected → A → TapeItem → A) where
         same = same_headed v ls;
         none = none_headed v ls;
         after = after_headed v ls;
+        unread = unread_headed v ls;
+        certain = λ all. absurd all;
         form = λ read. absurd read;
       }
 
@@ -192,6 +204,9 @@ module _ {A : Type 0} (act : Expected → A → TapeItem → A) where
     pub blocks : section.blocks ≡ length r.blocks
     pub count : closing.count ≡ label_count (length r.blocks)
     pub after : section.after ≡ None
+    pub unread : section.unreadable ≡ not_read r.blocks
+    pub certain : AllRead r.headers → not_read r.blocks ≡ 0 → section.certain ≡ None
+    pub doubt : section.certain ≡ None → not_read r.blocks ≡ 0
     pub eof : (t : Trail1) → trail1_at r.placed.section.trailer ≡ Ok t → closing.eof ≡ t.eof
     pub form : (h : Head1) (f : FileForm) → head1_at r.placed.section.hdr1 ≡ Ok h
         → FirstIsRead r.headers → kind_at r.placed.section.hdr2 ≡ Some kinds.Hdr2
@@ -251,6 +266,12 @@ module _ {A : Type 0} (act : Expected → A → TapeItem → A) where
         blocks = omega (arith, later, all, two.none);
         count = trailer.count ∙ ap label_count (sym n);
         after = after_trailed w r.trailers (after_section v r.blocks ∙ two.after);
+        unread =
+            let e = unread_section v r.blocks (omega (arith, two.unread, n, read.is.few)) in
+            let f = (unread_trailed w r.trailers).0 in omega (arith, e, f, two.unread);
+        certain = λ heads none. (unread_trailed w r.trailers).1
+            ∙ certain_section v r.blocks (two.certain heads) none;
+        doubt = λ e. (doubt_section v r.blocks (sym (unread_trailed w r.trailers).1 ∙ e)).1;
         eof = λ t' is. let same : t ≡ t' = cc (sym at ∙ is) in ap (λ (x : Trail1). x.eof) same;
         form = λ h' f is first kind has.
             let same : h ≡ h' = cc (sym (head1_again y.hdr1 h header.label) ∙ is) in

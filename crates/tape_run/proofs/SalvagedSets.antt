@@ -231,7 +231,8 @@ recovers_sets contents size gives remaining task out shelf left stands said says
     copies_are set file task.set_id same gives remaining rs images 0 rs x.reels shelf s.middle []
     copies x.text (λ i. let e : i ≡ 0 + i = omega arith in ap (λ v. slice_get rs v) e)
     (x.all ∙ count) x.mounted x.finds calm in
-    let good = subst (AllByRecursion (IsGood set file rs)) (sym is) (copies_good set file rs l cs) in
+    let good = subst (AllByRecursion (IsGood set file rs)) (sym is)
+    (copies_good set file rs l cs) in
     let have = all_map (IsGood set file rs)
     (HasReading set file task.set_id same gives remaining rs images)
     (λ c g. have_reading c g) copies good in
@@ -242,7 +243,8 @@ recovers_sets contents size gives remaining task out shelf left stands said says
     let r = recovers_set set file f rs copies s.taken l there cs fits is read sections in
     let g = after_file Records copies s.taken none_salvaged in
     let wrote = subst (λ (z : Content). Appends (contents out) stands
-    (parts_text task.form (after_file z copies s.taken none_salvaged).piece.done)) records s.wrote in (
+    (parts_text task.form (after_file z copies s.taken none_salvaged).piece.done)) records
+    s.wrote in (
       g,
       r,
       wrote,

@@ -239,8 +239,8 @@ pub at_end : {W : Type 0} (contents : W → Option (List ℕ)) (all left next : 
     → n ≡ read_in key expected
     → closings key origin s.items ≡ 0
     → RecoversSection contents all next origin key most form old new said says n
-at_end contents all left next p q ending origin key most form expected old new said says s takes near
-    n count unended = record {
+at_end contents all left next p q ending origin key most form expected old new said says s takes
+    near n count unended = record {
       items = s.items;
       is_ended = false;
       reads = record {

@@ -3,7 +3,7 @@ use Rattle.std.specs.Prelude.{◌≡◌, ℕ, ◌%◌, Bool, true, false, List, 
 use Rattle.std.specs.Prelude.{Option, Some, None}
 use Rattle.tape_image.specs.Tape.{TapeItem, block, bad, mark}
 use Rattle.tape_blocks.specs.Tight.{Filled}
-use Rattle.tape_set.specs.Layout.{FileSet, Placed, nth}
+use Rattle.tape_set.specs.Layout.{FileSet, Placed, Entry, nth, entries, is_data}
 use Rattle.tape_set.specs.Reading.{Reading}
 use Rattle.tape_run.specs.declared.section.SectionKey.{SectionKey}
 use Rattle.tape_run.specs.declared.salvage.copies.SectionCopy.{SectionCopy}
@@ -20,11 +20,11 @@ use Rattle.tape_run.specs.SalvageDamagedSets.{IsOtherHead, IsAnyImage, IsExactCo
 use Rattle.tape_run.specs.SalvageGaps.{Gap, AreGaps, data_in, StartsReadable}
 use Rattle.tape_run.specs.SalvageReadings.{IsReadVolume}
 use Rattle.tape_run.specs.SalvageSets.{copies_on, HasVolume, IsReadAgain, HasBlocks, IsOnNone}
-use Rattle.tape_run.specs.SalvageSets.{AreHad, joined}
+use Rattle.tape_run.specs.SalvageSets.{AreHad, joined, IsComplete, rank_of}
 use Rattle.tape_run.specs.SalvageUnnamed.{IsNoFirst, IsUnnamedIn}
 use Rattle.tape_run.specs.SalvageSections.{filled_of}
 use Rattle.tape_run.specs.SalvageWhole.{Blocks}
-use Rattle.tape_run.specs.SalvagedSets.{AreItemsOf, IsImage}
+use Rattle.tape_run.specs.SalvagedSets.{AreItemsOf, IsImage, IsReadToEnd}
 
 -- ---- copies
 
@@ -166,10 +166,19 @@ pub record CasesOfSalvagedSets : Type 0 where
   pub not_lost : (set : FileSet) (r : Reading) (cs : List SectionCopy) (p : Placed) (bs : Blocks)
       → r.volume ≡ p.section.volume → AreHad set (Some r ∷ []) cs (p ∷ []) (bs ∷ [])
       → HasBlocks set r p bs
+  -- all blocks, then more blocks
+  pub complete_first : (a : Filled) → rank_of ((true, a) ∷ []) ≡ 4294967297
+  pub fewer : (a b : Filled) → rank_of ((true, a) ∷ (false, b) ∷ []) ≡ 1
   pub each_section : (set : FileSet) (rs : List (Option Reading)) (cs : List SectionCopy)
       (p : Placed) → AreHad set rs cs (p ∷ []) [] → ⊥
   pub in_order : (a b c : Bool × Filled) → joined ((a ∷ b ∷ []) ∷ [] ∷ (c ∷ []) ∷ [])
       ≡ a ∷ b ∷ c ∷ []
+  -- a section whose second reading stopped was not read to its end
+  pub stopped : (c : SectionCopy) → IsReadToEnd (record { copy = Some c; items = None }) → ⊥
+  pub no_section : IsReadToEnd (record { copy = None; items = None })
+  -- all labels and marks of a complete reading were readable
+  pub bad_label : (set : FileSet) (k : ℕ) (e : Entry) (es : List Entry) → is_data e ≡ false
+      → entries set k ≡ e ∷ es → IsComplete set (record { volume = k; good = false ∷ [] }) → ⊥
   pub nothing_found : (set : FileSet) → AreItemsOf set 1 None []
   pub must_open : (set : FileSet) (r : Reading)
       → IsImage {R = Option (List ℕ)} set 1 (λ d. d) (Some r) None → ⊥

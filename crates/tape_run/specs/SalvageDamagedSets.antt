@@ -1,7 +1,7 @@
 -- What is found on images of a valid set's volumes, of which any items may be unreadable or missing
 -- at the end, also labels and tape marks.
-use Rattle.std.specs.Prelude.{◌≡◌, ◌≢◌, ◌⊎◌, ℕ, List, [], ◌∷◌, ◌++◌, length, map, Option, Some, None}
-use Rattle.std.specs.Prelude.{Ok}
+use Rattle.std.specs.Prelude.{◌≡◌, ◌≢◌, ◌⊎◌, ℕ, List, [], ◌∷◌, ◌++◌, length, map, Option, Some}
+use Rattle.std.specs.Prelude.{None, Ok}
 use Rattle.std.specs.List.{AllByRecursion}
 use Rattle.tape_image.specs.Tape.{TapeItem, block, bad, mark}
 use Rattle.tape_image.specs.Begins.{Stop, Begins}
@@ -82,8 +82,8 @@ pub record IsExactCopy (set : FileSet) (c : SectionCopy) (k : Closing) : Type 0 
 abbrev pub IsExactIf : FileSet → SectionCopy → Type 0
 IsExactIf set c = (k : Closing) → c.closed ≡ Some k → c.section.after ≡ None → IsExactCopy set c k
 
--- Of the copies that `salvage_to` finds (`FindsAll`) on such images, in any order and whether or not
--- a reader failed, each one that was found by its HDR1 and closes is exact.
+-- Of the copies that `salvage_to` finds (`FindsAll`) on such images, in any order and whether or
+-- not a reader failed, each one that was found by its HDR1 and closes is exact.
 abbrev pub FoundAreExact : Type 0
 FoundAreExact = (set : FileSet) (file n : ℕ) (reels : List Reel) (old copies : List SectionCopy)
     (text : List ℕ) → IsLawful set → IsPlainSet set → AllByRecursion (IsAnyImage set) reels

@@ -21,7 +21,8 @@ use Rattle.tape_run.specs.SalvageTaking.{Taken, form_for, after_all}
 use Rattle.tape_run.specs.SalvageWhole.{Blocks, IsBlock, all_parts, parts_with, whole_parts}
 use Rattle.tape_run.specs.SalvageWhole.{piece_after}
 use Rattle.tape_run.specs.SalvageSections.{SectionRead, IsRead, IsOther, Labels, AreLabels, key_of}
-use Rattle.tape_run.specs.SalvageSections.{read_volume}
+use Rattle.tape_run.specs.SalvageSections.{read_volume, read_blocks}
+use Rattle.tape_run.specs.SalvageGaps.{data_in}
 
 -- a copy of a section that closes, found by its HDR1
 abbrev pub closed_copy : ℕ → OpenSection → Closing → SectionCopy
@@ -57,6 +58,14 @@ pub record IsTakenFrom (set_id : List ℕ) (volumes : ℕ) (known : Option FileF
   pub unread : List TapeItem
   pub splits : read_volume labels (before ++ r ∷ rest) ≡ items ++ unread
   pub ends : EndsData (Outside 0) section.key items
+
+-- The data items that the report on such a section is about are its blocks. So its gaps are exactly
+-- the longest runs of its unreadable blocks (`GapsAreRuns`).
+abbrev pub ReportsBlocks : Type 0
+ReportsBlocks = (set_id : List ℕ) (volumes : ℕ) (known : Option FileForm) (form : FileForm)
+    (eof : Bool) (t : Taken) (r : SectionRead)
+    → (x : IsTakenFrom set_id volumes known form eof t r)
+    → data_in x.section.key x.section.blocks (Outside 0) x.items ≡ read_blocks r.blocks
 
 -- consecutive sections, none of which ends the file
 abbrev pub AreTakenFrom : List ℕ → ℕ → Option FileForm → FileForm → List Taken → List SectionRead

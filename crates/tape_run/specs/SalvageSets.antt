@@ -1,7 +1,7 @@
 -- The records recovered of a file of a valid set from images of the set's volumes, which are
 -- complete copies of which only data blocks were unreadable.
 use Rattle.std.specs.Prelude.{◌≡◌, ◌≢◌, ◌⊎◌, ℕ, ◌+◌, Bool, true, false, List, [], ◌∷◌, ◌++◌, Option}
-use Rattle.std.specs.Prelude.{Some, None, slice_get}
+use Rattle.std.specs.Prelude.{Some, None, slice_get, length, ◌-◌, ◌==◌, if◌then◌else◌}
 use Rattle.std.specs.List.{AllByRecursion}
 use Rattle.tape_image.specs.Tape.{TapeItem}
 use Rattle.tape_blocks.specs.Block.{Portion}
@@ -14,13 +14,14 @@ use Rattle.tape_set.specs.Laws.{StandsIn}
 use Rattle.tape_run.specs.declared.salvage.Content.TheVariants.{Records}
 use Rattle.tape_run.specs.declared.salvage.copies.SectionCopy.{SectionCopy}
 use Rattle.tape_run.specs.SalvageWalk.{sections_in}
-use Rattle.tape_run.specs.SalvageCopies.{of_file, start_of}
+use Rattle.tape_run.specs.SalvageCopies.{of_file, start_of, rank}
 use Rattle.tape_run.specs.SalvageRecords.{nothing}
 use Rattle.tape_run.specs.SalvageBlocks.{Salvaged, none_salvaged}
 use Rattle.tape_run.specs.SalvageChoice.{firsts, IsBest, form_of_file}
 use Rattle.tape_run.specs.SalvageImage.{EndsData}
 use Rattle.tape_run.specs.SalvageTaking.{Taken, AreAllSections, after_file}
 use Rattle.tape_run.specs.SalvageWhole.{Blocks, parts_with, whole_parts, piece_after, all_parts}
+use Rattle.tape_run.specs.SalvageWhole.{not_read}
 use Rattle.tape_run.specs.SalvageSections.{SectionRead, filled_of}
 use Rattle.tape_run.specs.SalvageReadings.{IsReadVolume}
 
@@ -93,11 +94,26 @@ pub record IsOnNone (rs : List (Option Reading)) (p : Placed) (bs : Blocks) : Ty
   pub blocks : filled_of bs ≡ p.section.blocks
   pub missing : AllByRecursion (λ b. b.0 ≡ false) bs
 
+-- the rank of a copy of which these blocks were read: copies of which all were read come first,
+-- then those of which more were read
+abbrev pub rank_of : Blocks → ℕ
+rank_of bs = (if not_read bs == 0 then 4294967296 else 0) + (length bs - not_read bs)
+
+-- A copy is a section that an image has, and its rank is that of the blocks that the image has.
+pub record IsRanked (set : FileSet) (rs : List (Option Reading)) (c : SectionCopy) : Type 0 where
+  pub reading : Reading
+  pub image : slice_get rs c.image ≡ Some (Some reading)
+  pub placed : Placed
+  pub sect : c.section.key.sect ≡ placed.sect
+  pub blocks : Blocks
+  pub had : HasBlocks set reading placed blocks
+  pub rank_is : rank c ≡ rank_of blocks
+
 -- the blocks that the image of the section's best copy has; none if no image has the section
 abbrev pub IsHad : FileSet → List (Option Reading) → List SectionCopy → Placed → Blocks → Type 0
 IsHad set rs copies p bs = ((c : SectionCopy) × (r : Reading)
     × IsBest (firsts p.sect None copies) (Some c) × (slice_get rs c.image ≡ Some (Some r))
-    × HasBlocks set r p bs) ⊎ IsOnNone rs p bs
+    × HasBlocks set r p bs × (rank c ≡ rank_of bs)) ⊎ IsOnNone rs p bs
 
 -- the same for sections, one after another
 abbrev pub AreHad : FileSet → List (Option Reading) → List SectionCopy → List Placed
@@ -120,6 +136,7 @@ pub record IsRecovered (set : FileSet) (file : ℕ) (f : List Section) (rs : Lis
     (copies : List SectionCopy) (g : Salvaged) : Type 0 where
   pub form : FileForm
   pub is_form : AllByRecursion (HasForm form) f
+  pub ranked : AllByRecursion (IsRanked set rs) copies
   pub sections : List Blocks
   pub had : AreHad set rs copies (numbered file 1 f) sections
   pub whole : AllByRecursion (λ b. b.0 ≡ false → b.1.parts ≢ []) (joined sections)

@@ -1,7 +1,7 @@
 -- The records recovered of a file with missing blocks: exactly those that lie entirely in blocks
 -- that were read.
-use Rattle.std.specs.Prelude.{◌≡◌, ◌≢◌, ◌&&◌, Bool, true, false, if◌then◌else◌, List, []}
-use Rattle.std.specs.Prelude.{◌∷◌, ◌++◌, Some}
+use Rattle.std.specs.Prelude.{◌≡◌, ◌≢◌, ℕ, ◌+◌, ◌&&◌, Bool, true, false, List, []}
+use Rattle.std.specs.Prelude.{◌∷◌, ◌++◌, Some, if◌then◌else◌}
 use Rattle.std.specs.List.{AllByRecursion}
 use Rattle.tape_blocks.specs.Block.{Portion, Holds}
 use Rattle.tape_blocks.specs.Spans.{leaves, InOrder}
@@ -27,6 +27,12 @@ parts_with (b ∷ bs) = parts_of_block b.0 b.1.parts ++ parts_with bs
 abbrev pub all_parts : Blocks → List Portion
 all_parts [] = []
 all_parts (b ∷ bs) = b.1.parts ++ all_parts bs
+
+-- the number of blocks that were not read
+abbrev pub not_read : Blocks → ℕ
+not_read [] = 0
+not_read ((true, f) ∷ bs) = not_read bs
+not_read ((false, f) ∷ bs) = not_read bs + 1
 
 -- The parts of the records that end here and were all read. `front` contains the parts of the
 -- unfinished record so far, and `all` says whether they were all read.

@@ -11,6 +11,7 @@ ghost use Rattle.tape_run.specs.SalvageClosed.{ClosedAreThere};
 ghost use Rattle.tape_run.specs.SalvageDamaged.{ClosedAreExact};
 ghost use Rattle.tape_run.specs.SalvageUnnamed.{UnnamedAreThere};
 ghost use Rattle.tape_run.specs.SalvageFile.{RecoversBlocks, RecoversFile, RecoversUpToGap};
+ghost use Rattle.tape_run.specs.SalvageFile.{ReportsBlocks};
 ghost use Rattle.tape_run.specs.SalvageSets.{RecoversSet};
 ghost use Rattle.tape_run.specs.SalvageDamagedSets.{ClosedOfSetAreExact, FoundAreExact};
 ghost use Rattle.tape_run.specs.SalvagedSets.{RecoversSets};
@@ -108,9 +109,11 @@ pub fn files_are_recovered_up_to_the_gap()
 {}
 
 /// Each gap that is reported for a section is a longest run of unreadable blocks, and each such run
-/// is reported as one gap, with the number of records before it.
+/// is reported as one gap, with the number of records before it. If the section is one of a valid
+/// set, and was read from a reading of its volume, these are the section's own blocks.
 pub fn gaps_are_the_missing_blocks()
-    ensures { GapsAreRuns }
+    ensures runs { GapsAreRuns }
+    ensures sections { ReportsBlocks }
 {}
 
 /// On any image, a section that is found by its HDR1 and closes is exactly the items between the
@@ -151,8 +154,8 @@ pub fn closed_sections_of_sets_are_exact()
 {}
 
 /// So `salvage_to` recovers a file of a valid set from such images, if no reader failed: what it
-/// writes is what `files_of_sets_are_recovered` says. If it returns that nothing is missing, this is
-/// what `extract` writes of the complete file.
+/// writes is what `files_of_sets_are_recovered` says. If it returns that nothing is missing, this
+/// is what `extract` writes of the complete file.
 pub fn salvaged_sets_are_recovered<W: Write + Drop, R: Read + Drop, L: ImageSource<R>>()
     ensures { RecoversSets W.contents L.size L.gives R.remaining }
 {}
