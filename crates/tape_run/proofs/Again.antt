@@ -21,6 +21,8 @@ use Rattle.tape_image.proofs.Pieces.{front_more, front_behind}
 use Rattle.tape_run.proofs.Extracted.{ended, tells_then}
 use Rattle.tape_run.proofs.Lasting.{last_then, stood_walked}
 use Rattle.tape_run.proofs.Left.{left_walked, left_behind}
+use Rattle.tape_run.proofs.StoppedThere.{stopped_walked}
+use Rattle.tape_run.specs.declared.fault.EngineFault.{EngineFault}
 use Rattle.tape_run.proofs.Turns.{follows_then}
 use Rattle.tape_run.proofs.Rounds.{all_turns, lines_of_all, front_of_all}
 
@@ -86,15 +88,16 @@ extracted_again {S} {L} {R} gs size gives remaining old mid new
 pub stops_in_round : {S L R W : Type 0} (gs : Ghosts S) (size : L → ℕ)
     (gives : Mounting L R) (remaining : R → Option (List ℕ))
     (old new : SessionState S) (shelf left : L) (form : Form) (contents : W → Option (List ℕ))
-    (out : W) (said says : Option (List ℕ)) (back : Bool) → back ≡ goes_back old.notes
+    (out : W) (said says : Option (List ℕ)) (back : Bool) (fault : EngineFault)
+    → back ≡ goes_back old.notes
     → StopsInRound gs (size shelf) gives remaining back old new shelf
-    left said says
+    left said says fault
     → StopsAgain gs size gives remaining old new shelf left form
-    contents out out said says
+    contents out out said says fault
 stops_in_round {S} {L} {R} {W} gs size gives remaining old new
-    shelf left form contents out said says back same stopped =
+    shelf left form contents out said says back fault same stopped =
     let s = subst (λ b. StopsInRound gs (size shelf) gives remaining b
-    old new shelf left said says) same stopped in
+    old new shelf left said says fault) same stopped in
     let lines = front_of_all said s.told says (turns_of s.rounds) s.last.turns s.last.more
     s.gone.lines s.last.lines in
     record {
@@ -103,6 +106,7 @@ stops_in_round {S} {L} {R} {W} gs size gives remaining old new
       are_rounds = s.gone.are_rounds;
       brought = s.gone.brought;
       turns = s.last.turns;
+      image = s.last.image;
       are_turns = s.last.are_turns;
       more = s.last.more;
       few = s.last.few;
@@ -112,7 +116,7 @@ stops_in_round {S} {L} {R} {W} gs size gives remaining old new
       lines = front_more said says _ (last_line None 0) lines;
       follows = λ held was kept.
           let (mid, has, (still, f, before)) = s.gone.follows held was kept in
-          let (core, now, one, leaves) = s.last.follows mid has still in (
+          let (core, now, one, leaves, stopped) = s.last.follows mid has still in (
             core,
             now,
             (
@@ -121,7 +125,7 @@ stops_in_round {S} {L} {R} {W} gs size gives remaining old new
               subst (λ c. Follows (goes_back old.notes) true c (seen gs s.mid mid) s.last.turns
                   core now) s.gone.at one,
             ),
-            left_behind gs old s.mid new held mid now before leaves,
+            (left_behind gs old s.mid new held mid now before leaves, stopped),
             inl lines,
             inl refl,
           );
@@ -132,15 +136,15 @@ pub stops_at_end_again : {S L R W : Type 0} (gs : Ghosts S)
     (old new end : SessionState S)
     (shelf left : L) (form : Form)
     (contents : W → Option (List ℕ)) (out written : W) (said between says : Option (List ℕ))
-    (back : Bool) → back ≡ goes_back old.notes
+    (back : Bool) (fault : EngineFault) → back ≡ goes_back old.notes
     → TakesRounds gs (size shelf) gives remaining back old new shelf
     left said between
     → IsWalked gs new end
     → StopsAtEnd gs new form contents out written between says
     → StopsAgain gs size gives remaining old end shelf left form
-    contents out written said says
+    contents out written said says fault
 stops_at_end_again {S} {L} {R} {W} gs size gives remaining old new
-    end shelf left form contents out written said between says back same took walked e =
+    end shelf left form contents out written said between says back fault same took walked e =
     let t = subst (λ b. TakesRounds gs (size shelf) gives remaining b
     old new shelf left
     said between) same took in
@@ -154,7 +158,8 @@ stops_at_end_again {S} {L} {R} {W} gs size gives remaining old new
       are_rounds = t.gone.are_rounds;
       brought = t.gone.brought;
       turns = t.last.turns;
-      are_turns = (left, t.last.are_turns, inl refl);
+      image = None;
+      are_turns = (left, t.last.are_turns, inl (refl, refl));
       more = [];
       few = omega arith;
       most = omega (arith, t.last.most);
@@ -172,9 +177,13 @@ stops_at_end_again {S} {L} {R} {W} gs size gives remaining old new
               subst (λ c. Follows (goes_back old.notes) true c (seen gs t.mid mid) t.last.turns
                   new.core (seen gs new now)) t.gone.at one,
             ),
-            left_walked gs back old new end held now
-                (last_then gs old t.mid new held mid now before last) walked
-                has_now,
+            (
+              left_walked gs back old new end held now
+                  (last_then gs old t.mid new held mid now before last) walked
+                  has_now,
+              stopped_walked gs remaining (goes_back old.notes) true new end now fault has_now
+                  walked,
+            ),
             tells_then said between says _ e.want e.records (seen gs new now) lines
                 (e.tells now has_now),
             e.is_written now has_now,

@@ -8,7 +8,9 @@ use Rattle.tape_set.specs.Lawful.{IsLawful}
 use Rattle.tape_core.specs.Place.{IsPlaced}
 use Rattle.tape_run.specs.Given.{is_device, IsGiven}
 use Rattle.tape_run.specs.Mount.{IsMountOf, foreign_reel}
-use Rattle.tape_run.specs.Reeling.{Opened, IsNoted, goes_back}
+use Rattle.tape_run.specs.Reeling.{Opened, IsNoted, Follows, goes_back}
+use Rattle.tape_run.specs.Stopping.{NotNoted, StopsAt}
+use Rattle.tape_core.specs.State.{State}
 use Rattle.tape_run.specs.Reeling.{IsKeptFor, counts_differ, Turn, IsTurn, Took}
 use Rattle.tape_run.specs.Reeling.{AreTurns, AreFirstTurns, answer_of}
 use Rattle.tape_run.specs.Seen.{Seen, seen}
@@ -29,8 +31,8 @@ use Rattle.tape_run.specs.CasesOfExtracts.{CasesOfCauses, FailsEmpty, FailsUnkno
 use Rattle.tape_core.specs.Weight.{Rose}
 use Rattle.tape_core.specs.declared.sink.SinkFault.{SinkFault}
 use Rattle.tape_core.specs.declared.sink.SinkFault.TheVariants.{Device, Failed}
-use Rattle.tape_run.specs.declared.fault.EngineFault.TheVariants.{Run}
-use Rattle.tape_run.specs.declared.fault.RunFault.TheVariants.{Sink}
+use Rattle.tape_run.specs.declared.fault.EngineFault.TheVariants.{Run, WriteFailed}
+use Rattle.tape_run.specs.declared.fault.RunFault.TheVariants.{Sink, OutOfMemory}
 use Rattle.tape_run.specs.Causes.{CannotEnd}
 use Rattle.tape_run.specs.Extracting.{IsWritten, TellsEnd}
 use Rattle.tape_set.specs.declared.position.Want.{Want}
@@ -71,21 +73,39 @@ two_mounted a b s t left (i, x, (at, then), first, (j, y, (next, last), second, 
   same ∙ (last ∙ ap (λ l. set l 1 None) then),
 )
 
-one_more : (a b : Option Known) (left : List (Option Known))
-    → AreFirstTurns Took (λ r. r) (a ∷ b ∷ []) [] left
-    → (left ≡ a ∷ b ∷ []) ⊎ (left ≡ None ∷ b ∷ [])
-one_more a b left (mid, are, inl same) = inl (same ∙ are)
-one_more a b left (mid, are, inr (image, (is, then))) = inr (then ∙ ap (λ l. set l 0 None) are)
+one_more : (a b c : Option Known) (left : List (Option Known))
+    → AreFirstTurns Took (λ r. r) (a ∷ b ∷ []) [] c left
+    → ((c ≡ None) × (left ≡ a ∷ b ∷ [])) ⊎ ((c ≡ a) × (left ≡ None ∷ b ∷ []))
+one_more a b c left (mid, are, inl (none, same)) = inl (none, same ∙ are)
+one_more a b c left (mid, are, inr (is, then)) =
+    inr (is ∙ ap (λ l. get_or l 0 None) are, then ∙ ap (λ l. set l 0 None) are)
 
-first_turn : (a b : Option Known) (t : Turn) (left : List (Option Known))
-    → AreFirstTurns Took (λ r. r) (a ∷ b ∷ []) (t ∷ []) left → IsTurn (λ r. r) a t
+first_turn : (a b c : Option Known) (t : Turn) (left : List (Option Known))
+    → AreFirstTurns Took (λ r. r) (a ∷ b ∷ []) (t ∷ []) c left → IsTurn (λ r. r) a t
     × ((left ≡ None ∷ b ∷ []) ⊎ (left ≡ None ∷ None ∷ []))
-first_turn a b t left (mid, (i, x, (at, then), first, same), inl rest) =
+first_turn a b c t left (mid, (i, x, (at, then), first, same), inl (none, rest)) =
     (subst (λ z. IsTurn (λ r. r) z t) at first, inl (rest ∙ (same ∙ then)))
-first_turn a b t left (mid, (i, x, (at, then), first, same), inr (image, (is, last))) = (
+first_turn a b c t left (mid, (i, x, (at, then), first, same), inr (is, last)) = (
   subst (λ z. IsTurn (λ r. r) z t) at first,
   inr (last ∙ ap (λ l. set l 1 None) (same ∙ then)),
 )
+
+stopped_in_reel : (bytes : List ℕ) (core next : State) (old new : Seen)
+    → StopsAt (λ (r : Known). r) false false core old (Some (Some bytes)) (Run OutOfMemory) next new
+    → new.notes ≡ old.notes
+stopped_in_reel bytes core next old new (inl same) = ap (λ (s : Seen). s.notes) same
+stopped_in_reel bytes core next old new (inr (left, answer, mid, r, n)) =
+    ap (λ (s : Seen). s.notes) (by (counts_differ answer.answer) n) ∙ r.notes
+  where
+    by : (doubtful : Bool) → NotNoted false doubtful OutOfMemory mid new → new ≡ mid
+    by false same = same
+    by true none = absurd none
+
+stopped_behind : (bytes : List ℕ) (core next : State) (old new : Seen)
+    → StopsAt (λ (r : Known). r) false false core old (Some (Some bytes)) WriteFailed next new
+    → (o : Opened) × (o.had ≡ Some bytes) × Follows false false core old (Some o ∷ []) next new
+stopped_behind bytes core next old new (None, is, follows) = absurd is
+stopped_behind bytes core next old new (Some o, is, follows) = (o, is.0, follows)
 
 pub cases_of_turns : CasesOfTurns
 cases_of_turns = record {
@@ -110,6 +130,12 @@ cases_of_turns = record {
   has_note = λ c. (refl, refl);
   went_to_last = went_to_last;
   its_own_notes = λ s k. k;
+  not_saved = λ back cause old new n. n;
+  not_back = λ cause old new n. n;
+  no_point = λ old new c one n. omega (arith, n.0, ap length one);
+  not_asked = λ fault old new n. n;
+  stopped_in_reel = stopped_in_reel;
+  stopped_behind = stopped_behind;
   steps_behind = (refl, refl, refl, refl, refl);
   counted = (refl, refl, refl);
   steps = λ o p. refl;
@@ -181,7 +207,7 @@ last_line_of_now : (session : Listed) (shelf left : Readers) (form : Form)
     (reel_lines 1 (map answer_of s.turns ++ s.more))) s.want s.records p
     × ((now ≡ out) ⊎ (p.place.position ≡ Finished))
 last_line_of_now session shelf left form out now said says s =
-    let (last, seen, follows, tells, wrote) = s.follows session.sink refl in
+    let (last, seen, follows, stood, tells, wrote) = s.follows session.sink refl in
     (seen, tells, elim wrote [ inl same ↦ inl same.0 | inr more ↦ inr more.0 ])
 
 complete_is_named : (session : Listed) (shelf left : Readers) (form : Form)
@@ -190,7 +216,7 @@ complete_is_named : (session : Listed) (shelf left : Readers) (form : Form)
     (reel_lines 1 (map answer_of s.turns ++ s.more)) → ⊥)
     → (p : Seen) × (now ≡ Some (output_of form p.parts))
 complete_is_named session shelf left form out now said says s none more =
-    let (last, seen, follows, tells, wrote) = s.follows session.sink refl in elim wrote [
+    let (last, seen, follows, stood, tells, wrote) = s.follows session.sink refl in elim wrote [
       | inl (same, inl less) ↦ absurd (more less)
       | inl (same, inr some) ↦ absurd (some none)
       | inr (done, inl (same, less)) ↦ absurd (more less)
@@ -203,7 +229,7 @@ output_stopped_now : (session : Listed) (shelf left : Readers) (form : Form)
     → (now ≡ out)
     ⊎ ((s : Seen) × (s.place.position ≡ Finished) × (now ≡ Some (output_of form s.parts)))
 output_stopped_now session shelf left form out now said says s =
-    let (last, seen, follows, tells, wrote) = s.follows session.sink refl in elim wrote [
+    let (last, seen, follows, stood, tells, wrote) = s.follows session.sink refl in elim wrote [
       | inl same ↦ inl same.0
       | inr more ↦ elim more.1 [
         | inl same ↦ inl same.0
@@ -231,9 +257,12 @@ cases_of_outputs = record {
   lines = λ session behind shelf left form out now said says want e. (e.lines, e.are_turns);
   left_unread_now = λ session shelf left form stands said says want e. (e.most, e.all);
   lines_now = λ session shelf left form stands said says want e. (e.lines, e.are_turns);
-  ends_as_told = λ session shelf left form stands said says want e. e.ends session.sink refl;
+  ends_as_told = λ session shelf left form stands said says want e.
+      let (ends, stood) = e.ends session.sink refl in ends;
   one_line_more = λ session behind shelf left form out now said says s. (s.few, s.lines);
   one_line_more_now = λ session shelf left form out now said says s. (s.few, s.lines);
+  stopped_there = λ s behind now fault stopped.
+      stopped.1 (λ lost. let e = lost.0 in absurd (cc e)) ∙ stopped.2.parts;
   stopped_turns = λ session behind shelf left form out now said says s. (s.most, s.are_turns);
   stopped_turns_now = λ session shelf left form out now said says s. (s.most, s.are_turns);
   taken = λ form out weight records begun parts t. (t.weighs, t.counted);

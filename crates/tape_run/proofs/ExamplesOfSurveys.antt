@@ -144,7 +144,7 @@ cases_of_surveys = record {
   no_conflict = refl;
   surveyed = λ y names shelf left old new all s.
       (s.each, s.viewed, s.wrote, s.is_so);
-  surveyed_in_part = λ y names shelf old new s. (s.each, s.viewed, s.wrote);
+  surveyed_in_part = λ y names shelf left old new s. (s.each, s.viewed, s.wrote);
   disputes = λ y names shelf left old new all s image. s.disputes image;
   left_there = λ law items n w h. law items n w h;
   ended_there = λ law items h. law items h;

@@ -18,12 +18,15 @@ use Rattle.tape_blocks.specs.declared.parts.Form.{Form}
 use Rattle.tape_image.specs.Written.{AppendsFront}
 use Rattle.tape_run.specs.RecordText.{output_of}
 use Rattle.tape_run.specs.ReelLine.{reel_lines, last_line}
-use Rattle.tape_run.specs.Reeling.{Turn, answer_of, TakesAll, StopsReading, Follows, goes_back}
+use Rattle.tape_run.specs.Reeling.{Turn, answer_of, TakesAll, Follows, goes_back}
+use Rattle.tape_run.specs.Stopping.{StopsReading}
+use Rattle.tape_run.specs.declared.fault.EngineFault.{EngineFault}
 use Rattle.tape_run.specs.Reeling.{Mounting}
 use Rattle.tape_run.specs.Extracting.{Ends, Extracts, Stops, EndsFile, StopsAtEnd, TellsEnd}
 use Rattle.tape_image.proofs.Pieces.{front_more, front_behind}
 use Rattle.tape_run.proofs.Lasting.{stood_walked}
 use Rattle.tape_run.proofs.Left.{left_walked}
+use Rattle.tape_run.proofs.StoppedThere.{stopped_walked}
 use Rattle.tape_run.proofs.TurnSteps.{are_steps}
 
 -- A session that ended its file is where its images lead.
@@ -79,17 +82,19 @@ extracted {S} {L} {R} gs size gives remaining old mid new shelf
 pub stops_reading : {S L R W : Type 0} (gs : Ghosts S) (size : L → ℕ)
     (gives : Mounting L R) (remaining : R → Option (List ℕ))
     (old new : SessionState S) (shelf left : L) (form : Form) (contents : W → Option (List ℕ))
-    (out : W) (said says : Option (List ℕ)) (back : Bool) → back ≡ goes_back old.notes
+    (out : W) (said says : Option (List ℕ)) (back : Bool) (fault : EngineFault)
+    → back ≡ goes_back old.notes
     → StopsReading gs (size shelf) 0 gives remaining back false old new shelf
-    left said says
+    left said says fault
     → Stops gs size gives remaining old new shelf left form contents
-    out out said says
+    out out said says fault
 stops_reading {S} {L} {R} {W} gs size gives remaining old new shelf
-    left form contents out said says back same stopped =
+    left form contents out said says back fault same stopped =
     let s = subst (λ b. StopsReading gs (size shelf) 0 gives remaining
-    b false old new shelf left said says) same stopped in
+    b false old new shelf left said says fault) same stopped in
     record {
       turns = s.turns;
+      image = s.image;
       are_turns = s.are_turns;
       more = s.more;
       few = s.few;
@@ -98,8 +103,8 @@ stops_reading {S} {L} {R} {W} gs size gives remaining old new shelf
       records = 0;
       lines = front_more said says _ (last_line None 0) s.lines;
       follows = λ held was kept.
-          let (core, now, f, leaves) = s.follows held was kept in
-          (core, now, f, leaves, inl s.lines, inl refl);
+          let (core, now, f, leaves, stopped) = s.follows held was kept in
+          (core, now, f, (leaves, stopped), inl s.lines, inl refl);
     }
 
 -- after the lines of all images, nothing of the last line
@@ -122,22 +127,23 @@ pub stops_at_end : {S L R W : Type 0} (gs : Ghosts S)
     (old mid new : SessionState S)
     (shelf left : L) (form : Form)
     (contents : W → Option (List ℕ)) (out written : W) (said between says : Option (List ℕ))
-    (back : Bool) → back ≡ goes_back old.notes
+    (back : Bool) (fault : EngineFault) → back ≡ goes_back old.notes
     → TakesAll gs (size shelf) 0 gives remaining back false old mid shelf
     left said between
     → IsWalked gs mid new
     → StopsAtEnd gs mid form contents out written between says
     → Stops gs size gives remaining old new shelf left form contents
-    out written said says
+    out written said says fault
 stops_at_end {S} {L} {R} {W} gs size gives remaining old mid new
-    shelf left form contents out written said between says back same took walked e =
+    shelf left form contents out written said between says back fault same took walked e =
     let t = subst (λ b. TakesAll gs (size shelf) 0 gives remaining b false
     old mid shelf left said between) same took in
     let lines = subst (λ l. Appends said between (reel_lines 1 l))
     (sym (append-nil (map answer_of t.turns))) t.lines in
     record {
       turns = t.turns;
-      are_turns = (left, t.are_turns, inl refl);
+      image = None;
+      are_turns = (left, t.are_turns, inl (refl, refl));
       more = [];
       few = omega arith;
       most = omega (arith, t.most);
@@ -149,7 +155,10 @@ stops_at_end {S} {L} {R} {W} gs size gives remaining old mid new
             mid.core,
             seen gs mid now,
             f,
-            left_walked gs back old mid new held now last walked has,
+            (
+              left_walked gs back old mid new held now last walked has,
+              stopped_walked gs remaining (goes_back old.notes) false mid new now fault has walked,
+            ),
             tells_then said between says _ e.want e.records (seen gs mid now) lines
                 (e.tells now has),
             e.is_written now has,

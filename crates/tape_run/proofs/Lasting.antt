@@ -190,7 +190,7 @@ last_went g a b held now n count went adds =
     }
 
 -- if only a walk over the sink was made, the state of the session is unchanged
-walked_seen : {S : Type 0} (g : Ghosts S) (a b : SessionState S) (parts : List Portion)
+pub walked_seen : {S : Type 0} (g : Ghosts S) (a b : SessionState S) (parts : List Portion)
     → IsWalked g a b → g.refusals b.sink ≡ g.refusals a.sink
     → seen g a parts ≡ seen g b parts
 walked_seen g a b parts w calm =

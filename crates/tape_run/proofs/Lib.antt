@@ -89,6 +89,7 @@ mod Streams
 mod QuotedNames
 pub mod RecordFronts
 mod Turns
+mod StoppedThere
 mod TurnSteps
 mod Rounds
 mod Extracted

@@ -148,7 +148,7 @@ complete_reported_before_the_name : (W : _) (R : _) (L : _) (O : _) (P : _) (LW 
     → o.stands s.1.1.1.0.now ≡ None → ⊥
 complete_reported_before_the_name W R L O P LW LR LL LO LP w f h e m n o k p q i j κs a fault s held
     l was tells none more unnamed =
-    let (last, now, follows, ends, leaves) = l.err.follows held was in elim leaves [
+    let (last, now, follows, stopped, ends, leaves) = l.err.follows held was in elim leaves [
       | inl (same, inl less) ↦ more less
       | inl (same, inr some) ↦ some none
       | inr (done, inl (same, less)) ↦ more less

@@ -13,26 +13,32 @@ use Rattle.tape_run.specs.SessionState.{SessionState}
 use Rattle.tape_blocks.specs.declared.parts.Form.{Form}
 use Rattle.tape_image.specs.Written.{AppendsFront}
 use Rattle.tape_run.specs.ReelLine.{reel_lines, last_line}
-use Rattle.tape_run.specs.Reeling.{answer_of, TakesAll, StopsReading, Mounting}
+use Rattle.tape_run.specs.Crash.{IsWalked}
+use Rattle.tape_run.specs.Reeling.{answer_of, TakesAll, Mounting}
+use Rattle.tape_run.specs.Stopping.{StopsReading}
+use Rattle.tape_run.specs.declared.fault.EngineFault.{EngineFault}
 use Rattle.tape_run.specs.ExtractingNow.{IsPut, ExtractsNow, LeavesName, StopsNow}
 use Rattle.tape_run.proofs.Extracted.{tells_then, less_then}
 use Rattle.tape_image.proofs.Pieces.{front_more, front_behind}
+use Rattle.tape_run.proofs.Lasting.{walked_seen}
+use Rattle.tape_run.proofs.StoppedThere.{stopped_walked}
 use Rattle.tape_run.proofs.TurnSteps.{are_steps}
 
 pub extracted_now : {S L R : Type 0} (gs : Ghosts S)
     (size : L → ℕ) (gives : Mounting L R) (remaining : R → Option (List ℕ))
-    (old mid : SessionState S)
+    (old mid new : SessionState S)
     (shelf left : L) (form : Form) (tells : Type 0)
     (stands said between says : Option (List ℕ)) (want : Option Want) (records : ℕ)
+    → IsWalked gs mid new → gs.refusals new.sink ≡ gs.refusals mid.sink
     → TakesAll gs (size shelf) 0 gives remaining false false old mid shelf
     left said between
     → want ≡ want_at mid.core.file mid.core.position → Appends between says (last_line want records)
     → ((held : List Portion) → gs.holds mid.sink held → IsPut want tells records form stands held)
-    → ExtractsNow gs size gives remaining old shelf left form tells stands said
+    → ExtractsNow gs size gives remaining old new shelf left form tells stands said
     says want
-extracted_now {S} {L} {R} gs size gives remaining old mid shelf
+extracted_now {S} {L} {R} gs size gives remaining old mid new shelf
     left form tells stands said between
-    says want records t is last wrote = record {
+    says want records walked calm t is last wrote = record {
       turns = t.turns;
       are_turns = t.are_turns;
       most = t.most;
@@ -40,31 +46,34 @@ extracted_now {S} {L} {R} gs size gives remaining old mid shelf
       records = records;
       lines = Appends-trans said between says _ _ t.lines last;
       ends = λ held was.
-          let (now, has, (still, f, last)) = t.follows held was tt in
-          record {
-            last = mid.core;
-            now = seen gs mid now;
-            follows = f;
-            are_steps =
-                are_steps false false old.core (seen gs old held) t.turns mid.core
-                (seen gs mid now) f;
-            wanted = is;
-            is_put = wrote now has;
-          };
+          let (now, has, (still, f, last)) = t.follows held was tt in (
+            record {
+              last = mid.core;
+              now = seen gs mid now;
+              follows = f;
+              are_steps =
+                  are_steps false false old.core (seen gs old held) t.turns mid.core
+                  (seen gs mid now) f;
+              wanted = is;
+              is_put = wrote now has;
+            },
+            (now, walked.kept now has, walked_seen gs mid new now walked calm),
+          );
     }
 
 pub stops_reading_now : {S L R O : Type 0} (gs : Ghosts S) (size : L → ℕ)
     (gives : Mounting L R) (remaining : R → Option (List ℕ))
     (old new : SessionState S) (shelf left : L) (form : Form) (tells : Type 0)
-    (stands : O → Option (List ℕ)) (out : O) (said says : Option (List ℕ))
+    (stands : O → Option (List ℕ)) (out : O) (said says : Option (List ℕ)) (fault : EngineFault)
     → StopsReading gs (size shelf) 0 gives remaining false false old new
-    shelf left said says
-    → StopsNow gs size gives remaining old shelf left form tells stands out out
-    said says
+    shelf left said says fault
+    → StopsNow gs size gives remaining old new shelf left form tells stands out out
+    said says fault
 stops_reading_now {S} {L} {R} {O} gs size gives remaining old new
-    shelf left form tells stands out said says s =
+    shelf left form tells stands out said says fault s =
     record {
       turns = s.turns;
+      image = s.image;
       are_turns = s.are_turns;
       more = s.more;
       few = s.few;
@@ -73,8 +82,8 @@ stops_reading_now {S} {L} {R} {O} gs size gives remaining old new
       records = 0;
       lines = front_more said says _ (last_line None 0) s.lines;
       follows = λ held was.
-          let (core, now, f, leaves) = s.follows held was tt in
-          (core, now, f, inl s.lines, inl (refl, inl s.lines));
+          let (core, now, f, leaves, stopped) = s.follows held was tt in
+          (core, now, f, stopped, inl s.lines, inl (refl, inl s.lines));
     }
 
 leaves_then : {O : Type 0} (said between says : Option (List ℕ)) (lines : List ℕ)
@@ -94,25 +103,26 @@ leaves_then said between says lines want form tells stands out put now before
 
 pub stops_at_end_now : {S L R O : Type 0} (gs : Ghosts S)
     (size : L → ℕ) (gives : Mounting L R) (remaining : R → Option (List ℕ))
-    (old mid : SessionState S)
+    (old mid new : SessionState S)
     (shelf left : L) (form : Form) (tells : Type 0)
     (stands : O → Option (List ℕ)) (out put : O) (said between says : Option (List ℕ))
-    (want : Option Want) (records : ℕ)
+    (want : Option Want) (records : ℕ) (fault : EngineFault) → IsWalked gs mid new
     → TakesAll gs (size shelf) 0 gives remaining false false old mid shelf
     left said between
     → AppendsFront between says (last_line want records)
     → IfSeen gs mid (TellsEnd (AppendsFront between says []) want records)
     → IfSeen gs mid (LeavesName (AppendsFront between says []) want form tells stands out put)
-    → StopsNow gs size gives remaining old shelf left form tells stands out put
-    said says
-stops_at_end_now {S} {L} {R} {O} gs size gives remaining old mid
+    → StopsNow gs size gives remaining old new shelf left form tells stands out put
+    said says fault
+stops_at_end_now {S} {L} {R} {O} gs size gives remaining old mid new
     shelf left form tells stands out put
-    said between says want records t last told wrote =
+    said between says want records fault walked t last told wrote =
     let lines = subst (λ l. Appends said between (reel_lines 1 l))
     (sym (append-nil (map answer_of t.turns))) t.lines in
     record {
       turns = t.turns;
-      are_turns = (left, t.are_turns, inl refl);
+      image = None;
+      are_turns = (left, t.are_turns, inl (refl, refl));
       more = [];
       few = omega arith;
       most = omega (arith, t.most);
@@ -124,6 +134,7 @@ stops_at_end_now {S} {L} {R} {O} gs size gives remaining old mid
             mid.core,
             seen gs mid now,
             f,
+            stopped_walked gs remaining false false mid new now fault has walked,
             tells_then said between says _ want records (seen gs mid now) lines (told now has),
             leaves_then said between says _ want form tells stands out put (seen gs mid now)
                 lines (wrote now has),

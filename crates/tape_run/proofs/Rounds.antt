@@ -18,7 +18,8 @@ use Rattle.tape_run.specs.ReelLine.{reel_lines}
 use Rattle.tape_image.specs.Written.{AppendsFront}
 use Rattle.tape_run.specs.declared.reel_reader.ReelAnswer.{ReelAnswer}
 use Rattle.tape_run.specs.Reeling.{Turn, answer_of, AreTurns, Follows, Mounting, TakesAll}
-use Rattle.tape_run.specs.Reeling.{StopsReading}
+use Rattle.tape_run.specs.Stopping.{StopsReading}
+use Rattle.tape_run.specs.declared.fault.EngineFault.{EngineFault}
 use Rattle.tape_run.specs.Rounds.{Round, turns_of, core_behind, wanted, AreRounds, IsEnough}
 use Rattle.tape_run.specs.Rounds.{MadeProgress, FollowsRounds, HasGone, TakesRounds}
 use Rattle.tape_run.specs.Rounds.{StopsInRound}
@@ -245,18 +246,18 @@ takes_rounds {S} {L} {R} gs size count before gives remaining back
 pub stops_round : {S L R : Type 0} (gs : Ghosts S)
     (size count before : ℕ) (gives : Mounting L R) (remaining : R → Option (List ℕ)) (back : Bool)
     (old mid new : SessionState S) (shelf between left : L) (said told says : Option (List ℕ))
-    (rounds : List Round) → count ≡ size → before ≡ length (turns_of rounds)
+    (rounds : List Round) (fault : EngineFault) → count ≡ size → before ≡ length (turns_of rounds)
     → HasGone gs count gives remaining back old mid shelf between said
     told rounds
     → StopsReading gs count before gives remaining back true mid new
-    between left told says
+    between left told says fault
     → StopsInRound gs size gives remaining back old new shelf left said
-    says
+    says fault
 stops_round {S} {L} {R} gs size count before gives remaining back
     old mid new shelf between left said
-    told says rounds all lines h stopped =
+    told says rounds fault all lines h stopped =
     subst (λ n. StopsInRound gs n gives remaining back old new shelf
-    left said says) all
+    left said says fault) all
     (record {
       rounds = rounds;
       mid = mid;
@@ -265,7 +266,7 @@ stops_round {S} {L} {R} gs size count before gives remaining back
       gone = h;
       last = subst (λ n. StopsReading gs count n gives remaining back true
           mid new between left
-          told says) lines stopped;
+          told says fault) lines stopped;
     })
 
 -- whether this was the last pass, from the part that is missing

@@ -235,12 +235,11 @@ pub surveyed_in_part : {L R : Type 0} (y : Wording) (gives : Mounting L R)
     (old new : Option (List ℕ)) → length sights ≡ length names
     → AreViewed gives remaining shelf 0 sights nothing_found left d → seen ≡ sights
     → AppendsFront old new (survey_text y names seen d)
-    → SurveysInPart y gives remaining names shelf old new
+    → SurveysInPart y gives remaining names shelf left old new
 surveyed_in_part y gives remaining names shelf left sights seen d old new each viewed same wrote =
     inr (record {
       sights = sights;
       found = d;
-      left = left;
       each = each;
       viewed = viewed;
       wrote = subst (λ l. AppendsFront old new (survey_text y names l d)) same wrote;

@@ -47,7 +47,8 @@ use Rattle.tape_run.specs.Reeling.{goes_back, IsKeptFor, AreFirstTurns, Took}
 use Rattle.tape_run.specs.Reeling.{step_behind, notes_behind, steps_of, AreTold, AreSteps}
 use Rattle.tape_run.specs.Reels.{Reads}
 use Rattle.tape_run.specs.Seen.{Seen, IsKept, seen}
-use Rattle.tape_run.specs.Steps.{Saved, WentBack}
+use Rattle.tape_run.specs.Steps.{Saved, Unmoved, WentBack}
+use Rattle.tape_run.specs.Stopping.{IsStopped, NotNoted, StopsAt}
 use Rattle.tape_run.specs.declared.script.Step.TheVariants.{Reel, Save, Restart}
 use Rattle.tape_core.specs.Point.{Point}
 use Rattle.tape_run.specs.SessionState.{SessionState}
@@ -75,12 +76,12 @@ pub record CasesOfTurns : Type 0 where
       → AreTurns Took (λ r. r) (a ∷ b ∷ []) 0 (s ∷ t ∷ []) left
       → IsTurn (λ r. r) a s × IsTurn (λ r. r) b t × (left ≡ None ∷ None ∷ [])
   -- at a fault at most one more image has been opened
-  pub one_more : (a b : Option (Option (List ℕ))) (left : List (Option (Option (List ℕ))))
-      → AreFirstTurns Took (λ r. r) (a ∷ b ∷ []) [] left
-      → (left ≡ a ∷ b ∷ []) ⊎ (left ≡ None ∷ b ∷ [])
-  pub first_turn : (a b : Option (Option (List ℕ))) (t : Turn)
+  pub one_more : (a b c : Option (Option (List ℕ))) (left : List (Option (Option (List ℕ))))
+      → AreFirstTurns Took (λ r. r) (a ∷ b ∷ []) [] c left
+      → ((c ≡ None) × (left ≡ a ∷ b ∷ [])) ⊎ ((c ≡ a) × (left ≡ None ∷ b ∷ []))
+  pub first_turn : (a b c : Option (Option (List ℕ))) (t : Turn)
       (left : List (Option (Option (List ℕ))))
-      → AreFirstTurns Took (λ r. r) (a ∷ b ∷ []) (t ∷ []) left → IsTurn (λ r. r) a t
+      → AreFirstTurns Took (λ r. r) (a ∷ b ∷ []) (t ∷ []) c left → IsTurn (λ r. r) a t
       × ((left ≡ None ∷ b ∷ []) ⊎ (left ≡ None ∷ None ∷ []))
   -- a reel with a wrong count is suspect, also if an earlier one had it; then nothing is saved
   pub doubtful : counts_differ (Useless (BlockCount 3 4)) ≡ true
@@ -103,6 +104,24 @@ pub record CasesOfTurns : Type 0 where
   pub went_to_last : (old new : Seen) (c d : Point) → old.notes ≡ c ∷ d ∷ []
       → IsNoted true false true false old new → WentBack 1 old new
   pub its_own_notes : (s : Seen) → IsKeptFor true s → IsKept s
+  -- a refused save or rollback leaves a session unmoved, and one that does not roll back is never
+  -- refused that
+  pub not_saved : (back : Bool) (cause : SinkFault) (old new : Seen)
+      → NotNoted back false (Sink cause) old new → Unmoved old new
+  pub not_back : (cause : SinkFault) (old new : Seen) → NotNoted true true (Sink cause) old new
+      → Unmoved old new
+  pub no_point : (old new : Seen) (c : Point) → old.notes ≡ c ∷ []
+      → NotNoted true true NoSuchPoint old new → ⊥
+  pub not_asked : (fault : RunFault) (old new : Seen) → NotNoted false true fault old new → ⊥
+  -- so without memory no reel changes the checkpoints; if only its line was not reported, the
+  -- session is where the reel leads
+  pub stopped_in_reel : (bytes : List ℕ) (core next : State) (old new : Seen)
+      → StopsAt (λ (r : Option (List ℕ)). r) false false core old (Some (Some bytes))
+      (Run OutOfMemory) next new → new.notes ≡ old.notes
+  pub stopped_behind : (bytes : List ℕ) (core next : State) (old new : Seen)
+      → StopsAt (λ (r : Option (List ℕ)). r) false false core old (Some (Some bytes)) WriteFailed
+      next new
+      → (o : Opened) × (o.had ≡ Some bytes) × Follows false false core old (Some o ∷ []) next new
   -- as steps: each reel is followed by a save if a checkpoint was made, by nothing if the reel is
   -- suspect, or by the rollback
   pub steps_behind : (step_behind true false true 2 ≡ Save ∷ [])
@@ -163,16 +182,18 @@ abbrev pub StopsListed : Listed → Listed → Readers → Readers → Form → 
     → Type 0
 StopsListed session behind shelf left form out written said says =
     Stops as_sink length Took (λ r. r) session behind shelf left form (λ w. w) out written said says
+    WriteFailed
 
 abbrev pub ExtractsListedNow : Listed → Readers → Readers → Form → Known → Known → Known
     → Option Want → Type 0
 ExtractsListedNow session shelf left form stands said says want =
-    ExtractsNow as_sink length Took (λ r. r) session shelf left form ⊤ stands said says want
+    ExtractsNow as_sink length Took (λ r. r) session session shelf left form ⊤ stands said says want
 
 abbrev pub StopsListedNow : Listed → Readers → Readers → Form → Known → Known → Known → Known
     → Type 0
 StopsListedNow session shelf left form out put said says =
-    StopsNow as_sink length Took (λ r. r) session shelf left form ⊤ (λ o. o) out put said says
+    StopsNow as_sink length Took (λ r. r) session session shelf left form ⊤ (λ o. o) out put said says
+    WriteFailed
 
 -- of what was written
 pub record CasesOfOutputs : Type 0 where
@@ -255,15 +276,19 @@ pub record CasesOfOutputs : Type 0 where
       (s : StopsListedNow session shelf left form out now said says) → (length s.more ≤ 1)
       × AppendsFront said says
       (reel_lines 1 (map answer_of s.turns ++ s.more) ++ last_line s.want s.records)
+  -- if no image was open, the sink contains the same parts
+  pub stopped_there : (s behind : Listed) (now : Seen) (fault : EngineFault)
+      → IsStopped as_sink (λ (r : Known). r) false false s.core now None fault behind
+      → behind.sink ≡ now.parts
   -- these are turns of the first images
   pub stopped_turns : (session behind : Listed) (shelf left : Readers) (form : Form)
       (out now said says : Known) (s : StopsListed session behind shelf left form out now said says)
       → (length s.turns + length s.more ≤ length shelf)
-      × AreFirstTurns Took (λ r. r) shelf s.turns left
+      × AreFirstTurns Took (λ r. r) shelf s.turns s.image left
   pub stopped_turns_now : (session : Listed) (shelf left : Readers) (form : Form)
       (out now said says : Known) (s : StopsListedNow session shelf left form out now said says)
       → (length s.turns + length s.more ≤ length shelf)
-      × AreFirstTurns Took (λ r. r) shelf s.turns left
+      × AreFirstTurns Took (λ r. r) shelf s.turns s.image left
   -- and the output was not touched, or the file is complete and a prefix of its records was written
   pub output_stopped : (session behind : Listed) (shelf left : Readers) (form : Form)
       (out now said says : Known)

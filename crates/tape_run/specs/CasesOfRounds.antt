@@ -17,6 +17,7 @@ use Rattle.tape_run.specs.Reeling.{IsKeptFor, goes_back}
 use Rattle.tape_run.specs.Rounds.{Round, turns_of, core_behind, wanted, AreRounds}
 use Rattle.tape_run.specs.Rounds.{MadeProgress, IsEnough, FollowsRounds, GoesRound}
 use Rattle.tape_run.specs.Seen.{Seen, seen}
+use Rattle.tape_run.specs.declared.fault.EngineFault.TheVariants.{WriteFailed}
 
 -- what `extract` promises for passes over readers in a list
 abbrev pub AgainListed : Listed → Listed → Readers → Readers → Form → Known → Known → Known → Known
@@ -29,7 +30,7 @@ abbrev pub StopsAgainListed : Listed → Listed → Readers → Readers → Form
     → Known → Type 0
 StopsAgainListed session behind shelf left form out written said says =
     StopsAgain as_sink length Took (λ r. r) session behind shelf left form (λ w. w) out written said
-    says
+    says WriteFailed
 
 -- of passes
 pub record CasesOfRounds : Type 0 where
@@ -111,7 +112,7 @@ pub record CasesOfRounds : Type 0 where
       (s : StopsAgainListed session behind shelf left form out now said says) → (length s.more ≤ 1)
       × (length s.turns + length s.more ≤ length shelf)
       × AreRounds Took (λ r. r) shelf s.rounds s.between
-      × AreFirstTurns Took (λ r. r) s.between s.turns left
+      × AreFirstTurns Took (λ r. r) s.between s.turns s.image left
       × MadeProgress (length shelf) session.core s.rounds
       × AppendsFront said says
       (reel_lines 1 (map answer_of (turns_of s.rounds ++ s.turns) ++ s.more)

@@ -313,10 +313,10 @@ pub record CasesOfSurveys : Type 0 where
       × Appends old new (survey_text y names s.sights s.found)
       × (all ≡ is_all s.found)
   -- after a fault a prefix of the survey of all images was written, if anything was
-  pub surveyed_in_part : (y : Wording) (names : List (List ℕ)) (shelf : Readers) (old new : Known)
-      (s : SurveysFront y Took (λ r. r) names shelf old new)
+  pub surveyed_in_part : (y : Wording) (names : List (List ℕ)) (shelf left : Readers)
+      (old new : Known) (s : SurveysFront y Took (λ r. r) names shelf left old new)
       → (length s.sights ≡ length names)
-      × AreViewed Took (λ r. r) shelf 0 s.sights nothing_found s.left s.found
+      × AreViewed Took (λ r. r) shelf 0 s.sights nothing_found left s.found
       × AppendsFront old new (survey_text y names s.sights s.found)
   -- of two images with good copies that differ each is in conflict, and no other image
   pub disputes : (y : Wording) (names : List (List ℕ)) (shelf left : Readers) (old new : Known)

@@ -10,6 +10,8 @@ use Rattle.tape_set.specs.Position.{want_at}
 use Rattle.tape_core.specs.State.{State}
 use Rattle.tape_core.specs.declared.sink.PartSink.{Ghosts}
 use Rattle.tape_run.specs.Crash.{LeavesSaved}
+use Rattle.tape_run.specs.Stopping.{IsStopped}
+use Rattle.tape_run.specs.declared.fault.EngineFault.{EngineFault}
 use Rattle.tape_run.specs.declared.reel_reader.ReelAnswer.{ReelAnswer}
 use Rattle.tape_run.specs.Seen.{Seen, IfSeen}
 use Rattle.tape_run.specs.SessionState.{SessionState}
@@ -91,9 +93,10 @@ pub record Extracts {S L R : Type 0} (g : Ghosts S) (size : L → ℕ) (gives : 
 pub record Stops {S L R W : Type 0} (g : Ghosts S) (size : L → ℕ) (gives : Mounting L R)
     (remaining : R → Option (List ℕ)) (old new : SessionState S) (shelf left : L) (form : Form)
     (contents : W → Option (List ℕ)) (out written : W) (said says : Option (List ℕ))
-    : Type 0 where
+    (fault : EngineFault) : Type 0 where
   pub turns : List Turn
-  pub are_turns : AreFirstTurns gives remaining shelf turns left
+  pub image : Option R
+  pub are_turns : AreFirstTurns gives remaining shelf turns image left
   pub more : List (Option ReelAnswer)
   pub few : length more ≤ 1
   pub most : length turns + length more ≤ size shelf
@@ -103,7 +106,9 @@ pub record Stops {S L R W : Type 0} (g : Ghosts S) (size : L → ℕ) (gives : M
       (reel_lines 1 (map answer_of turns ++ more) ++ last_line want records)
   pub follows : IfSeen g old (λ was. IsKeptFor (goes_back old.notes) was → (last : State)
       × (now : Seen) × Follows (goes_back old.notes) false old.core was turns last now
-      × LeavesSaved g old was.parts now new × TellsEnd (AppendsFront said says
+      × (LeavesSaved g old was.parts now new
+      × IsStopped g remaining (goes_back old.notes) false last now image fault new)
+      × TellsEnd (AppendsFront said says
       (reel_lines 1 (map answer_of turns ++ more))) want records now
       × ((written ≡ out) ⊎ ((now.place.position ≡ Finished)
       × AppendsFront (contents out) (contents written) (output_of form now.parts))))

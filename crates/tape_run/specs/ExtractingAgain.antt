@@ -8,6 +8,8 @@ use Rattle.tape_set.specs.declared.position.Want.{Want}
 use Rattle.tape_core.specs.State.{State}
 use Rattle.tape_core.specs.declared.sink.PartSink.{Ghosts}
 use Rattle.tape_run.specs.Crash.{LeavesSaved}
+use Rattle.tape_run.specs.Stopping.{IsStopped}
+use Rattle.tape_run.specs.declared.fault.EngineFault.{EngineFault}
 use Rattle.tape_run.specs.declared.reel_reader.ReelAnswer.{ReelAnswer}
 use Rattle.tape_run.specs.Extracting.{Ends, TellsEnd}
 use Rattle.tape_image.specs.Written.{AppendsFront}
@@ -52,13 +54,14 @@ pub record ExtractsAgain {S L R : Type 0} (g : Ghosts S) (size : L → ℕ) (giv
 pub record StopsAgain {S L R W : Type 0} (g : Ghosts S) (size : L → ℕ) (gives : Mounting L R)
     (remaining : R → Option (List ℕ)) (old new : SessionState S) (shelf left : L) (form : Form)
     (contents : W → Option (List ℕ)) (out written : W) (said says : Option (List ℕ))
-    : Type 0 where
+    (fault : EngineFault) : Type 0 where
   pub rounds : List Round
   pub between : L
   pub are_rounds : AreRounds gives remaining shelf rounds between
   pub brought : MadeProgress (size shelf) old.core rounds
   pub turns : List Turn
-  pub are_turns : AreFirstTurns gives remaining between turns left
+  pub image : Option R
+  pub are_turns : AreFirstTurns gives remaining between turns image left
   pub more : List (Option ReelAnswer)
   pub few : length more ≤ 1
   pub most : length turns + length more ≤ size shelf
@@ -68,7 +71,9 @@ pub record StopsAgain {S L R W : Type 0} (g : Ghosts S) (size : L → ℕ) (give
       (reel_lines 1 (map answer_of (turns_of rounds ++ turns) ++ more) ++ last_line want records)
   pub follows : IfSeen g old (λ was. IsKeptFor (goes_back old.notes) was → (last : State)
       × (now : Seen) × GoesRound (goes_back old.notes) old.core was rounds turns last now
-      × LeavesSaved g old was.parts now new × TellsEnd (AppendsFront said says
+      × (LeavesSaved g old was.parts now new
+      × IsStopped g remaining (goes_back old.notes) true last now image fault new)
+      × TellsEnd (AppendsFront said says
       (reel_lines 1 (map answer_of (turns_of rounds ++ turns) ++ more))) want records now
       × ((written ≡ out) ⊎ ((now.place.position ≡ Finished)
       × AppendsFront (contents out) (contents written) (output_of form now.parts))))

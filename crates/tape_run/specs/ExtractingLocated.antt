@@ -18,6 +18,7 @@ use Rattle.tape_core.specs.Table.{mount_of}
 use Rattle.tape_core.specs.declared.event.Phase.TheVariants.{Broken}
 use Rattle.tape_core.specs.declared.sink.PartSink.{Ghosts}
 use Rattle.tape_run.specs.ByTable.{IsLed}
+use Rattle.tape_run.specs.Crash.{IsWalked}
 use Rattle.tape_run.specs.ExtractingNow.{IsPut}
 use Rattle.tape_run.specs.Given.{IsGiven}
 use Rattle.tape_run.specs.GoesBehind.{PassedOver}
@@ -207,13 +208,15 @@ pub record ReadsSections {S L R : Type 0} (g : Ghosts S) (gives : Mounting L R)
   pub gathers : IfSeen g old (λ was. IsSeen g new (λ is. GathersOf stretches was is))
   pub ends : EndsReading gives locations stretches new.core mid left complete
 
--- A file was read in this way. If it is complete, exactly its records have the output's name.
+-- A file was read in this way, and the session is where that led. If the file is complete, exactly
+-- its records have the output's name.
 pub record ExtractsLocated {S L R : Type 0} (g : Ghosts S) (gives : Mounting L R)
-    (remaining : R → Option (List ℕ)) (locations : List Located) (session : SessionState S)
+    (remaining : R → Option (List ℕ)) (locations : List Located) (session new : SessionState S)
     (shelf left : L) (opened : Bool) (whole : Option (List ℕ)) (after : Option (Mounted R))
     (form : Form) (tells : Type 0) (stands : Option (List ℕ)) (records : Option ℕ) : Type 0 where
   pub last : SessionState S
   pub reads : ReadsSections g gives remaining locations (is_some records) session last shelf left
       opened whole after
+  pub same : IsWalked g last new
   pub complete : (n : ℕ) → records ≡ Some n → (parts : List Portion) → g.holds last.sink parts
       → IsPut None tells n form stands parts

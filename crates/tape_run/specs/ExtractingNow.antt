@@ -10,10 +10,12 @@ use Rattle.tape_set.specs.Position.{want_at}
 use Rattle.tape_core.specs.State.{State}
 use Rattle.tape_core.specs.declared.sink.PartSink.{Ghosts}
 use Rattle.tape_run.specs.declared.reel_reader.ReelAnswer.{ReelAnswer}
-use Rattle.tape_run.specs.Seen.{Seen, IfSeen}
+use Rattle.tape_run.specs.Seen.{Seen, IfSeen, IsSeen}
 use Rattle.tape_run.specs.SessionState.{SessionState}
 use Rattle.tape_blocks.specs.declared.parts.Form.{Form}
 use Rattle.tape_run.specs.Extracting.{TellsEnd}
+use Rattle.tape_run.specs.Stopping.{IsStopped}
+use Rattle.tape_run.specs.declared.fault.EngineFault.{EngineFault}
 use Rattle.tape_image.specs.Written.{AppendsFront}
 use Rattle.tape_run.specs.RecordText.{output_of}
 use Rattle.tape_run.specs.ReelLine.{reel_lines, last_line}
@@ -42,7 +44,7 @@ pub record EndsNow (first : State) (old : Seen) (turns : List Turn) (want : Opti
 -- reported for each, and a last one; and if nothing is missing, the file with the output's name
 -- contains exactly the records.
 pub record ExtractsNow {S L R : Type 0} (g : Ghosts S) (size : L → ℕ) (gives : Mounting L R)
-    (remaining : R → Option (List ℕ)) (session : SessionState S) (shelf left : L) (form : Form)
+    (remaining : R → Option (List ℕ)) (session new : SessionState S) (shelf left : L) (form : Form)
     (tells : Type 0) (stands said says : Option (List ℕ)) (want : Option Want) : Type 0 where
   pub turns : List Turn
   pub are_turns : AreTurns gives remaining shelf 0 turns left
@@ -51,7 +53,8 @@ pub record ExtractsNow {S L R : Type 0} (g : Ghosts S) (size : L → ℕ) (gives
   pub records : ℕ
   pub lines : Appends said says (reel_lines 1 (map answer_of turns) ++ last_line want records)
   pub ends : IfSeen g session (λ was.
-      EndsNow session.core was turns want records form tells stands)
+      (e : EndsNow session.core was turns want records form tells stands)
+      × IsSeen g new (λ is. e.now ≡ is))
 
 -- The output's name after a fault: it was not touched, and the last line, if anything of it was
 -- reported, does not say that the file is complete; or the file is complete, nothing of the last
@@ -66,11 +69,12 @@ LeavesName less want form tells stands out put now = ((put ≡ out) × (less ⊎
 -- the output's name was not touched, or the file is complete, and the file with the output's name
 -- is unchanged or contains exactly the records.
 pub record StopsNow {S L R O : Type 0} (g : Ghosts S) (size : L → ℕ) (gives : Mounting L R)
-    (remaining : R → Option (List ℕ)) (session : SessionState S) (shelf left : L) (form : Form)
+    (remaining : R → Option (List ℕ)) (session new : SessionState S) (shelf left : L) (form : Form)
     (tells : Type 0) (stands : O → Option (List ℕ)) (out put : O) (said says : Option (List ℕ))
-    : Type 0 where
+    (fault : EngineFault) : Type 0 where
   pub turns : List Turn
-  pub are_turns : AreFirstTurns gives remaining shelf turns left
+  pub image : Option R
+  pub are_turns : AreFirstTurns gives remaining shelf turns image left
   pub more : List (Option ReelAnswer)
   pub few : length more ≤ 1
   pub most : length turns + length more ≤ size shelf
@@ -79,7 +83,8 @@ pub record StopsNow {S L R O : Type 0} (g : Ghosts S) (size : L → ℕ) (gives 
   pub lines : AppendsFront said says
       (reel_lines 1 (map answer_of turns ++ more) ++ last_line want records)
   pub follows : IfSeen g session (λ was. (last : State) × (now : Seen)
-      × Follows false false session.core was turns last now × TellsEnd (AppendsFront said says
+      × Follows false false session.core was turns last now
+      × IsStopped g remaining false false last now image fault new × TellsEnd (AppendsFront said says
       (reel_lines 1 (map answer_of turns ++ more))) want records now
       × LeavesName (AppendsFront said says (reel_lines 1 (map answer_of turns ++ more))) want form
       tells stands out put now)

@@ -86,6 +86,7 @@ pub mod RecordFront
 pub mod OutSinks
 pub mod Causes
 pub mod Reeling
+pub mod Stopping
 pub mod Extracting
 pub mod Rounds
 pub mod ExtractingAgain

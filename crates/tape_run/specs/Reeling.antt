@@ -21,7 +21,7 @@ use Rattle.tape_core.specs.declared.sink.PartSink.{Ghosts}
 use Rattle.tape_run.specs.declared.reel_reader.ReelAnswer.{ReelAnswer}
 use Rattle.tape_core.specs.Stands.{weight_of}
 use Rattle.tape_core.specs.Table.{saved}
-use Rattle.tape_run.specs.Crash.{KeepsLast, LeavesSaved, IsLast}
+use Rattle.tape_run.specs.Crash.{KeepsLast, IsLast}
 use Rattle.tape_run.specs.Given.{is_device, IsGiven}
 use Rattle.tape_run.specs.Mount.{MountEvent, IsMountOf, after_mount}
 use Rattle.tape_run.specs.Lead.{Lead, over_reel}
@@ -82,12 +82,12 @@ abbrev pub AreTurns : {L R : Type 0} → Mounting L R → (R → Option (List �
 AreTurns gives remaining = AreMounted gives (IsTurn remaining)
 
 -- The first images of a source are these turns, and of the others only the next may have been
--- opened.
-abbrev pub AreFirstTurns : {L R : Type 0} → Mounting L R → (R → Option (List ℕ)) → L → List Turn → L
-    → Type 0
-AreFirstTurns gives remaining shelf turns last = (mid : _)
+-- opened, as `image`; it is `None` if that one was not opened, or could not be.
+abbrev pub AreFirstTurns : {L R : Type 0} → Mounting L R → (R → Option (List ℕ)) → L → List Turn
+    → Option R → L → Type 0
+AreFirstTurns gives remaining shelf turns image last = (mid : _)
     × AreTurns gives remaining shelf 0 turns mid
-    × ((last ≡ mid) ⊎ ((image : Option _) × gives mid (length turns) image last))
+    × (((image ≡ None) × (last ≡ mid)) ⊎ gives mid (length turns) image last)
 
 -- whether the trailer label of the reel, or of a reel before it, gave a different number of blocks
 abbrev pub counts_differ : Answer → Bool
@@ -246,19 +246,3 @@ abbrev pub StoodSaved : {S : Type 0} → Ghosts S → SessionState S → List Po
     → Seen → Type 0
 StoodSaved g old held new now = (parts : List Portion) × g.holds new.sink parts
     × (now ≡ seen g new parts) × KeepsLast g old held new parts
-
--- Images were read in their order until a fault ended the run: a line was reported for each of
--- them, and a prefix of one for one more. The images after that one were not opened.
-pub record StopsReading {S L R : Type 0} (g : Ghosts S) (size before : ℕ) (gives : Mounting L R)
-    (remaining : R → Option (List ℕ)) (back spares : Bool) (old new : SessionState S)
-    (shelf left : L)
-    (said says : Option (List ℕ)) : Type 0 where
-  pub turns : List Turn
-  pub are_turns : AreFirstTurns gives remaining shelf turns left
-  pub fewer : length turns < size
-  pub more : List (Option ReelAnswer)
-  pub few : length more ≤ 1
-  pub lines : AppendsFront said says (reel_lines (before + 1) (map answer_of turns ++ more))
-  pub follows : IfSeen g old (λ was. IsKeptFor back was → (core : State) × (now : Seen)
-      × Follows back spares old.core was turns core now
-      × LeavesSaved g old was.parts now new)

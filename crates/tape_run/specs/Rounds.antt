@@ -8,7 +8,8 @@ use Rattle.tape_core.specs.State.{State}
 use Rattle.tape_core.specs.declared.sink.PartSink.{Ghosts}
 use Rattle.tape_run.specs.ReelLine.{reel_lines}
 use Rattle.tape_run.specs.Reeling.{Turn, answer_of, AreTurns, Follows, Mounting, Carries, TakesAll}
-use Rattle.tape_run.specs.Reeling.{StopsReading}
+use Rattle.tape_run.specs.Stopping.{StopsReading}
+use Rattle.tape_run.specs.declared.fault.EngineFault.{EngineFault}
 use Rattle.tape_run.specs.Seen.{Seen}
 use Rattle.tape_run.specs.SessionState.{SessionState}
 
@@ -93,11 +94,11 @@ pub record TakesRounds {S L R : Type 0} (g : Ghosts S) (size : ℕ) (gives : Mou
 -- Passes were made, and a fault ended the next one.
 pub record StopsInRound {S L R : Type 0} (g : Ghosts S) (size : ℕ) (gives : Mounting L R)
     (remaining : R → Option (List ℕ)) (back : Bool) (old new : SessionState S) (shelf left : L)
-    (said says : Option (List ℕ)) : Type 0 where
+    (said says : Option (List ℕ)) (fault : EngineFault) : Type 0 where
   pub rounds : List Round
   pub mid : SessionState S
   pub between : L
   pub told : Option (List ℕ)
   pub gone : HasGone g size gives remaining back old mid shelf between said told rounds
   pub last : StopsReading g size (length (turns_of rounds)) gives remaining back true mid new
-      between left told says
+      between left told says fault

@@ -57,16 +57,15 @@ pub record Surveys {L R : Type 0} (y : Wording) (gives : Mounting L R)
 -- The images were read, and a prefix of their survey was written.
 pub record SurveysFront {L R : Type 0} (y : Wording) (gives : Mounting L R)
     (remaining : R → Option (List ℕ))
-    (names : List (List ℕ)) (shelf : L) (old new : Option (List ℕ)) : Type 0 where
+    (names : List (List ℕ)) (shelf left : L) (old new : Option (List ℕ)) : Type 0 where
   pub sights : List (Option ImageSurvey)
   pub found : Found
-  pub left : L
   pub each : length sights ≡ length names
   pub viewed : AreViewed gives remaining shelf 0 sights nothing_found left found
   pub wrote : AppendsFront old new (survey_text y names sights found)
 
 -- nothing was written, or all images were read
 abbrev pub SurveysInPart : {L R : Type 0} → Wording → Mounting L R → (R → Option (List ℕ))
-    → List (List ℕ) → L → Option (List ℕ) → Option (List ℕ) → Type 0
-SurveysInPart y gives remaining names shelf old new =
-    (new ≡ old) ⊎ SurveysFront y gives remaining names shelf old new
+    → List (List ℕ) → L → L → Option (List ℕ) → Option (List ℕ) → Type 0
+SurveysInPart y gives remaining names shelf left old new =
+    (new ≡ old) ⊎ SurveysFront y gives remaining names shelf left old new

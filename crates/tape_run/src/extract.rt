@@ -49,7 +49,8 @@ use tape_set::Want;
 /// and nothing is saved. Images after the one that completes the file are not opened. `out` is
 /// written and flushed if the file is complete, and not touched otherwise; then the last line of
 /// the report is written, and the report flushed. The session remains the caller's, with what was
-/// delivered to its sink; after an error the contract says only what a crash leaves of it.
+/// delivered to its sink. After an error it is where the images read before led it, or at the part
+/// that the sink refused, or after the reel that was not saved or not reported.
 ///
 /// Allocates only for the session, a buffer while a reel is read, checkpoints, and what opening
 /// takes.
@@ -73,7 +74,7 @@ pub fn extract_to<S: PartWalk, R: Read + Drop, L: ImageSource<R>, W: Write, P: W
         (P.contents report.old) (P.contents report.new)) }
     // While something of the file is missing, `out` is not touched at all.
     ensures untouched { IfOk result (λ want. want ≢ None → out.new ≡ out.old) }
-    ensures err { OnErr result (Stops S.PartSink L.size L.gives R.remaining session.old session.new
+    ensures err { IfErr result (Stops S.PartSink L.size L.gives R.remaining session.old session.new
         images.old images.new form W.contents out.old out.new
         (P.contents report.old) (P.contents report.new)) }
     // The sink refused a call, or memory ran out, or a write failed; a session without a checkpoint

@@ -87,7 +87,8 @@ pub fn survey_to<R: Read + Drop, L: ImageSource<R>, P: Write>(
         images.old images.new (P.contents report.old) (P.contents report.new)) }
     // On any error nothing was written, or the images were read and a prefix of their survey was.
     ensures front { OnErr result (SurveysInPart wording L.gives R.remaining
-        (map (λ n. n.now) names.now) images.old (P.contents report.old) (P.contents report.new)) }
+        (map (λ n. n.now) names.now) images.old images.new (P.contents report.old)
+        (P.contents report.new)) }
     ensures fault { IfErr result IsCheckFault }
 {
     let mut findings = Findings::new(alloc);

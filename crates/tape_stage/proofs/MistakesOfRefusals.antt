@@ -5,6 +5,8 @@ use Rattle.std.specs.Prelude.{Option, Some, None, Ok, Err, option_map, unwrap_or
 use Rattle.tape_core.specs.Point.{Point}
 use Rattle.tape_stage.specs.declared.disk.DiskFault.TheVariants as disk_faults
 use Rattle.tape_stage.specs.declared.stage.StageFault.TheVariants.{Device, Full, NoPoint}
+use Rattle.tape_stage.specs.declared.stage.StageFault.TheVariants.{OutOfMemory}
+use Rattle.tape_stage.specs.Faults.{IsNotDevice}
 use Rattle.tape_stage.specs.Stages.{RefusesCreating}
 use Rattle.tape_stage.specs.Found.{IsFaultOf}
 use Rattle.tape_stage.specs.Salvaged.{Remains}
@@ -50,6 +52,15 @@ bad_frame_told_as_no_stage D L g d κs a refused s n point place parts l honest 
     = subst (IsFaultOf (g.seen a.1.0)) w (l.refused.says honest) in
     says n point (Some place) parts is
 
+-- disk_cut_without_memory: there was no memory to create a stage, and the disk was changed
+disk_cut_without_memory : (D : _) (L : _) (g : _) (d : _) (κs : _) (a : _) (refused : _) (s : _)
+    → create.Learnt-named D L g d κs a (Err refused) s → refused.fault ≡ OutOfMemory
+    → g.moment a.1.0 ≡ 0 → g.moment refused.disk ≡ 1 → ⊥
+disk_cut_without_memory D L g d κs a refused s l w before later =
+    let n : 1 ≡ 0 =
+    sym later ∙ ap g.moment (l.unwritten (subst IsNotDevice (sym w) tt)) ∙ before in
+    absurd (omega (arith, n))
+
 -- ---- the checkpoint that was being saved
 
 -- the weight of a pending checkpoint, or 1 if there is none
@@ -73,6 +84,16 @@ pending_is_the_acknowledged : (D : _) (L : _) (g : _) (d : _) (κs : _) (a : _) 
 pending_is_the_acknowledged D L g d κs a s l heavy light older =
     let e : Some a.0.now.acknowledged ≡ Some a.1.0.now = sym older ∙ l.pending refl in
     let n : 0 ≡ 85 = sym light ∙ ap weight_pending e ∙ heavy in
+    absurd (omega (arith, n))
+
+-- acknowledged_though_not_saved: a checkpoint of weight 85 could not be saved, but is acknowledged in
+-- place of the earlier one of weight 0
+acknowledged_though_not_saved : (D : _) (L : _) (g : _) (d : _) (κs : _) (a : _) (s : _)
+    → save.Learnt-named D L g d κs a (Err Device) s
+    → a.1.0.now.staged ≡ 85 → a.0.now.acknowledged.staged ≡ 0
+    → s.0.now.acknowledged ≡ a.1.0.now → ⊥
+acknowledged_though_not_saved D L g d κs a s l heavy light is =
+    let n : 0 ≡ 85 = sym light ∙ ap (λ (p : Point). p.staged) (sym l.stays ∙ is) ∙ heavy in
     absurd (omega (arith, n))
 
 -- ---- a disk over a file

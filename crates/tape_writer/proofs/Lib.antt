@@ -27,5 +27,6 @@ pub mod ExamplesOfWritten
 pub mod ExamplesOfFronts
 pub mod ExamplesOfDrafts
 pub mod ExamplesOfHolding
+pub mod Paths
 mod Mistakes
 mod MistakesOfBlanks

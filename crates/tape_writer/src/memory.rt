@@ -155,7 +155,7 @@ impl MemoryTapes {
 }
 
 impl TapeOut for MemoryTapes {
-    ghost use Rattle.std.specs.Prelude.{Err, IfErr, ◌∷◌};
+    ghost use Rattle.std.specs.Prelude.{Err, IfErr, ◌∷◌, ◌↔◌};
     ghost use Rattle.tape_image.specs.Tape.{IsTapeItem, block, mark};
     ghost use Rattle.tape_writer.specs.Kept.{failures_in};
     ghost use Rattle.tape_writer.specs.Tapes.{Takes, Changes, Closes, Keeps, Grows};
@@ -175,8 +175,8 @@ impl TapeOut for MemoryTapes {
         ensures count { Grows (failures_in self.old) (failures_in self.new) }
         ensures cause { HasCause OutFault.Device OutFault.OutOfMemory
             (failures_in self.old) result (failures_in self.new) }
-        ensures misuse { result ≡ Err OutFault.Device
-            → self.old.tapes ≡ Ended (all_volumes self.old.tapes) }
+        ensures misuse { (result ≡ Err OutFault.Device)
+            ↔ (self.old.tapes ≡ Ended (all_volumes self.old.tapes)) }
     {
         let Some(items) = &mut self.current else {
             return Err(self.misuse());
@@ -197,8 +197,8 @@ impl TapeOut for MemoryTapes {
         ensures count { Grows (failures_in self.old) (failures_in self.new) }
         ensures cause { HasCause OutFault.Device OutFault.OutOfMemory
             (failures_in self.old) result (failures_in self.new) }
-        ensures misuse { result ≡ Err OutFault.Device
-            → self.old.tapes ≡ Ended (all_volumes self.old.tapes) }
+        ensures misuse { (result ≡ Err OutFault.Device)
+            ↔ (self.old.tapes ≡ Ended (all_volumes self.old.tapes)) }
     {
         let Some(items) = &mut self.current else {
             return Err(self.misuse());

@@ -40,7 +40,7 @@ pub fn extract_in_passes<S: PartWalk, R: Read + Drop, L: ImageSource<R>, W: Writ
         (W.contents out.new) (P.contents report.old) (P.contents report.new)) }
     // While something of the file is missing, `out` is not touched at all.
     ensures untouched { IfOk result (λ want. want ≢ None → out.new ≡ out.old) }
-    ensures err { OnErr result (StopsAgain S.PartSink L.size L.gives R.remaining
+    ensures err { IfErr result (StopsAgain S.PartSink L.size L.gives R.remaining
         session.old session.new images.old images.new form W.contents out.old out.new
         (P.contents report.old) (P.contents report.new)) }
     // The sink refused a call, or memory ran out, or a write failed; a session without a checkpoint
@@ -66,7 +66,7 @@ fn read_rounds<S: PartSink, R: Read + Drop, L: ImageSource<R>, P: Write>(
     ensures ok { OnOk result (TakesRounds S.PartSink (L.size images.old) L.gives R.remaining back
         session.old session.new images.old images.new
         (P.contents report.old) (P.contents report.new)) }
-    ensures err { OnErr result (StopsInRound S.PartSink (L.size images.old) L.gives R.remaining back
+    ensures err { IfErr result (StopsInRound S.PartSink (L.size images.old) L.gives R.remaining back
         session.old session.new images.old images.new
         (P.contents report.old) (P.contents report.new)) }
     ensures cause { IfErr result (λ fault.

@@ -5,8 +5,10 @@ ghost use Rattle.std.specs.Prelude.{ℕ, IfOk, IfErr, length};
 ghost use Rattle.tape_set.specs.declared.position.Position.TheVariants.{Finished};
 ghost use Rattle.tape_run.specs.Causes.{ReadingFails, IsCalm};
 ghost use Rattle.tape_run.specs.Crash.{KeepsLast, LeavesStep};
-ghost use Rattle.tape_run.specs.Seen.{IsKept, IfSeen, IsSeen};
-ghost use Rattle.tape_run.specs.Reeling.{Takes, TakesAll, StopsReading, IsReported, counts_differ};
+ghost use Rattle.tape_run.specs.Seen.{IsKept, IfSeen, IsSeen, IsSeenUnless};
+ghost use Rattle.tape_run.specs.Reeling.{Takes, TakesAll, IsReported, counts_differ};
+ghost use Rattle.tape_run.specs.Steps.{SaveFails};
+ghost use Rattle.tape_run.specs.Stopping.{NotNoted, IsStopped, StopsReading};
 ghost use Rattle.tape_run.specs.Reeling.{IsNoted, WentToLast, IsKeptFor, Mounting, Took};
 
 use crate::extract::line::ReelLine;
@@ -16,7 +18,7 @@ use crate::session::Session;
 use crate::text::write_line;
 use std::alloc::AllocError;
 use std::io::{Read, Write};
-use tape_core::{Answer, PartSink, Reason};
+use tape_core::{Answer, PartSink, Reason, SinkFault};
 
 /// A source of images, each of which is opened by its number.
 pub trait ImageSource<R: Read> {
@@ -71,7 +73,7 @@ pub fn read_images<S: PartSink, R: Read + Drop, L: ImageSource<R>, P: Write>(
     ensures ok { OnOk result (TakesAll S.PartSink (L.size images.old) 0 L.gives R.remaining back
         spares session.old session.new images.old images.new
         (P.contents report.old) (P.contents report.new)) }
-    ensures err { OnErr result (StopsReading S.PartSink (L.size images.old) 0 L.gives R.remaining
+    ensures err { IfErr result (StopsReading S.PartSink (L.size images.old) 0 L.gives R.remaining
         back spares session.old session.new images.old images.new
         (P.contents report.old) (P.contents report.new)) }
     ensures cause { IfErr result (λ fault.
@@ -96,7 +98,7 @@ pub fn read_round<S: PartSink, R: Read + Drop, L: ImageSource<R>, P: Write>(
     ensures ok { OnOk result (TakesAll S.PartSink count lines L.gives R.remaining back
         spares session.old session.new images.old images.new
         (P.contents report.old) (P.contents report.new)) }
-    ensures err { OnErr result (StopsReading S.PartSink count lines L.gives R.remaining back
+    ensures err { IfErr result (StopsReading S.PartSink count lines L.gives R.remaining back
         spares session.old session.new images.old images.new
         (P.contents report.old) (P.contents report.new)) }
     ensures cause { IfErr result (λ fault.
@@ -131,6 +133,9 @@ fn take_image<S: PartSink, R: Read + Drop, P: Write>(
     ensures err { OnErr result (IsReported number (P.contents report.old) (P.contents report.new)) }
     ensures left { OnErr result (IfSeen S.PartSink session.old (λ old. IsKeptFor back old
         → LeavesStep S.PartSink back session.old old.parts session.new)) }
+    ensures stops { IfErr result (λ fault. IfSeen S.PartSink session.old (λ old. IsKeptFor back old
+        → IsStopped S.PartSink R.remaining back spares session.old.core old image fault
+        session.new)) }
     ensures cause { IfErr result (λ fault.
         ReadingFails S.PartSink back fault session.old session.new) }
     ensures calm { OnOk result (IsCalm S.PartSink session.old session.new) }
@@ -163,6 +168,9 @@ fn take_reel<S: PartSink, R: Read, P: Write>(
         → P.contents report.new ≡ P.contents report.old) }
     ensures left { OnErr result (IfSeen S.PartSink session.old (λ old. IsKeptFor back old
         → LeavesStep S.PartSink back session.old old.parts session.new)) }
+    ensures stops { IfErr result (λ fault. IfSeen S.PartSink session.old (λ old. IsKeptFor back old
+        → IsStopped S.PartSink R.remaining back spares session.old.core old (Some device.old)
+        fault session.new)) }
     ensures cause { IfErr result (λ fault.
         ReadingFails S.PartSink back fault session.old session.new) }
     ensures calm { OnOk result (IsCalm S.PartSink session.old session.new) }
@@ -187,6 +195,9 @@ fn settle<S: PartSink>(
         × KeepsLast S.PartSink session.old old.parts session.new new.parts))) }
     ensures left { IfSeen S.PartSink session.old (λ old. IsKeptFor back old
         → LeavesStep S.PartSink back session.old old.parts session.new) }
+    ensures stays { IfErr result (λ fault. IfSeen S.PartSink session.old (λ old. IsKeptFor back old
+        → IsSeenUnless ((back ≡ true) × (fault ≡ RunFault.Sink SinkFault.Device)) S.PartSink
+        session.new (NotNoted back (counts_differ answer.now.answer) fault old))) }
     ensures cause { IfErr result (λ fault.
         ReadingFails S.PartSink back (EngineFault.Run fault) session.old session.new) }
     ensures calm { OnOk result (IsCalm S.PartSink session.old session.new) }
@@ -205,6 +216,9 @@ fn go_back<S: PartSink>(session: &mut Session<S>) -> Result<(), RunFault>
         × KeepsLast S.PartSink session.old old.parts session.new new.parts))) }
     ensures left { IfSeen S.PartSink session.old (λ old. IsKept old
         → LeavesStep S.PartSink true session.old old.parts session.new) }
+    ensures stays { IfErr result (λ fault. IfSeen S.PartSink session.old (λ old. IsKept old
+        → IsSeenUnless (fault ≡ RunFault.Sink SinkFault.Device) S.PartSink session.new
+        (NotNoted true true fault old))) }
     ensures cause { IfErr result (λ fault.
         ReadingFails S.PartSink true (EngineFault.Run fault) session.old session.new) }
     ensures calm { OnOk result (IsCalm S.PartSink session.old session.new) }
@@ -231,6 +245,9 @@ fn note<S: PartSink>(
         × KeepsLast S.PartSink session.old old.parts session.new new.parts))) }
     ensures left { (back : Bool) → IfSeen S.PartSink session.old (λ old.
         LeavesStep S.PartSink back session.old old.parts session.new) }
+    ensures stays { IfErr result (λ fault. (counts_differ answer.now.answer ≡ false)
+        × IfSeen S.PartSink session.old (λ old.
+        IsSeen S.PartSink session.new (SaveFails fault old))) }
     ensures cause { IfErr result (λ fault. (back : Bool) →
         ReadingFails S.PartSink back (EngineFault.Run fault) session.old session.new) }
     ensures calm { OnOk result (IsCalm S.PartSink session.old session.new) }

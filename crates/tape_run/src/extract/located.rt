@@ -62,7 +62,7 @@ pub fn extract_located<W: Write + Drop, R: Read + Drop, L: ImageSource<R>, O: Pl
     ensures ok { IfOk result (λ records. (whole : Option (List ℕ))
         → IsHeld R.remaining mounted.old whole
         → ExtractsLocated ⟦<OutSink<W> as PartSink>⟧ L.gives R.remaining locations.now.entries
-        session.old images.old images.new (is_some mounted.old) whole mounted.new form
+        session.old session.new images.old images.new (is_some mounted.old) whole mounted.new form
         (TellsAlways W.contents) (O.stands out.new) records) }
     ensures untouched { IfOk result (λ records. records ≡ None → out.new ≡ out.old) }
     ensures err { OnErr result (O.stands out.new ≡ O.stands out.old) }

@@ -54,13 +54,13 @@ pub fn extract_streaming<W: Write + Drop, R: Read + Drop, L: ImageSource<R>, O: 
     report: &mut P,
 ) -> Result<Option<Want>, EngineFault>
     ensures ok { IfOk result (ExtractsNow ⟦<OutSink<W> as PartSink>⟧ L.size L.gives R.remaining
-        session.old images.old images.new form (TellsAlways W.contents) (O.stands out.new)
-        (P.contents report.old) (P.contents report.new)) }
+        session.old session.new images.old images.new form (TellsAlways W.contents)
+        (O.stands out.new) (P.contents report.old) (P.contents report.new)) }
     // While something of the file is missing, the output's name is not touched at all.
     ensures untouched { IfOk result (λ want. want ≢ None → out.new ≡ out.old) }
-    ensures err { OnErr result (StopsNow ⟦<OutSink<W> as PartSink>⟧ L.size L.gives R.remaining
-        session.old images.old images.new form (TellsAlways W.contents) O.stands out.old out.new
-        (P.contents report.old) (P.contents report.new)) }
+    ensures err { IfErr result (StopsNow ⟦<OutSink<W> as PartSink>⟧ L.size L.gives R.remaining
+        session.old session.new images.old images.new form (TellsAlways W.contents) O.stands
+        out.old out.new (P.contents report.old) (P.contents report.new)) }
     // While the images were read the sink refused a call, or memory ran out; or the output could
     // not be ended, in the state in which the session is left; or a write failed.
     ensures cause { IfErr result (λ fault.

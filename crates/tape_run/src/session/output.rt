@@ -14,7 +14,7 @@ use crate::extract::{OutSink, Place, write_file};
 use crate::fault::EngineFault;
 use std::io::Write;
 use tape_blocks::Form;
-use tape_core::PartWalk;
+use tape_core::{PartSink, PartWalk};
 
 impl<S: PartWalk> Session<S> {
     /// Writes the records of the parts delivered so far, as `write_file` does for a sink: for an
@@ -61,6 +61,7 @@ impl<W: Write + Drop> Session<OutSink<W>> {
             → (self.new ≡ self.old) × EndingFails (is_some self.old.sink.out) self.old.sink.begun
             self.old.sink.form form fault) }
         ensures calm { self.new.sink.refused ≡ self.old.sink.refused }
+        ensures same { IsWalked ⟦<OutSink<W> as PartSink>⟧ self.old self.new }
     {
         let (written, records) = self.reel_reader.sink.finish(form)?;
         out.place(written)?;

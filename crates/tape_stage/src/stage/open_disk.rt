@@ -8,7 +8,7 @@ ghost use Rattle.tape_core.specs.Known.{most_staged};
 ghost use Rattle.tape_stage.specs.Disk.{Holds as HoldsBytes, Torn, CutShort};
 ghost use Rattle.tape_stage.specs.Moments.{After, EndsSynced, IsDurable, Passes};
 ghost use Rattle.tape_stage.specs.Staged.{Staged, Ready, new_slots};
-ghost use Rattle.tape_stage.specs.Faults.{SaysNone};
+ghost use Rattle.tape_stage.specs.Faults.{IsNotDevice};
 ghost use Rattle.tape_stage.specs.Stages.{IsStage, OpensOver, Holds, Survives, Returns};
 ghost use Rattle.tape_stage.specs.Stages.{EndsFinding, RefusesCreating, RefusesOpening};
 ghost use Rattle.tape_stage.specs.Body.{body_text, FitBody, most_generation, body_of};
@@ -68,6 +68,8 @@ pub(crate) fn write_kept<D: Disk>(disk: &mut D, place: u64, bytes: &[u8]) -> Res
         → OnOk result (HoldsBytes (D.seen disk.old) place bytes.now (D.seen disk.new)) }
     ensures long { OnOk result (D.length_of disk.new ≡ max (D.length_of disk.old)
         (place + length bytes.now)) }
+    ensures no_longer { D.length_of disk.new ≤ max (D.length_of disk.old)
+        (place + length bytes.now) }
     ensures any_moment { D.is_honest disk.old → Passes D.Disk disk.old disk.new
         (After (Torn place (length bytes.now)) (D.may_leave disk.old)) }
     ensures torn { D.is_honest disk.old → Torn place (length bytes.now) (D.seen disk.old)
@@ -117,8 +119,9 @@ fn make<D: Disk>(disk: &mut D, point: Checkpoint) -> Result<(), StageFault>
     ensures made { D.is_honest disk.old → OnOk result
         (Ready false 1 point [] false (D.seen disk.new) (D.may_leave disk.new)) }
     ensures long { OnOk result (D.length_of disk.new ≡ 256) }
+    ensures few { D.length_of disk.new ≤ 256 }
     ensures ends { EndsFinding D.Disk disk.old result disk.new }
-    ensures not_none { IfErr result (λ fault. SaysNone fault → ⊥) }
+    ensures device { IfErr result (λ fault. fault ≡ StageFault.Device) }
 {
     // The gate is opened only after both slots are durable.
     write_kept(disk, 0, &new_slots(&point))?;
@@ -204,7 +207,8 @@ impl<D: Disk> Stage<D> {
     ///
     /// # Errors
     ///
-    /// Returns `OutOfMemory` or `Device`. Both return the disk.
+    /// Returns `OutOfMemory` or `Device`. Both return the disk: still empty after `OutOfMemory`, with
+    /// at most 256 bytes after `Device`.
     pub fn create(
         alloc: Global,
         disk: D,
@@ -222,6 +226,10 @@ impl<D: Disk> Stage<D> {
             → (back ≡ point.now) × (there ≡ [])) }
         ensures refused { IfErr result
             (λ refused. RefusesCreating (D.faults disk) refused.fault (D.faults refused.disk)) }
+        // Unless the disk failed it is unchanged; in any case at most the slots were written.
+        ensures unwritten { IfErr result
+            (λ refused. IsNotDevice refused.fault → refused.disk ≡ disk) }
+        ensures few { IfErr result (λ refused. D.length_of refused.disk ≤ 256) }
     {
         let mut disk = disk;
         let Ok(buffer) = buffer_of(alloc) else {

@@ -52,6 +52,7 @@ impl<D: Disk> Stage<D> {
             × (parts : List Portion) × Remains (D.seen disk) g opened.point opened.broken parts
             × Holds opened.stage parts × (opened.records ≡ length (join parts).records)) }
         ensures sealed { IfOk result (λ opened. opened.stage.failed ≡ true) }
+        ensures point { IfOk result (λ opened. opened.stage.acknowledged ≡ opened.point) }
         ensures calm { IfOk result (λ opened. opened.stage.refused ≡ 0) }
         // Nothing is written to the disk, honest or not, and its length does not change.
         ensures reads { IfOk result (λ opened. OnlyReads D.Disk disk opened.stage.disk) }

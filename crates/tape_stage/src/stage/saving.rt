@@ -1,6 +1,6 @@
 //! Saving: slots, their gates, and the order of writes and syncs.
 
-ghost use Rattle.std.specs.Prelude.{◌≡◌, ◌≤◌, ◌<◌, ◌+◌, ℕ, List, false, not, OnOk, IfOk, IfErr};
+ghost use Rattle.std.specs.Prelude.{◌≡◌, ◌≤◌, ◌<◌, ◌+◌, ℕ, List, false, not, OnOk, OnErr, IfOk, IfErr};
 ghost use Rattle.std.specs.Prelude.{IsErrOf, Some, None, ◌⊎◌, ◌^◌, Bool, length};
 ghost use Rattle.tape_blocks.specs.Block.{Portion};
 ghost use Rattle.tape_core.specs.Point.{Point};
@@ -51,6 +51,7 @@ impl<D: Disk> Stage<D> {
             → Passes D.Disk self.old.disk self.new.disk (IsEither self.old.in_second
             self.old.generation self.old.acknowledged point.now acked front) }
         ensures acknowledged { OnOk result (self.new.acknowledged ≡ point.now) }
+        ensures stays { OnErr result (self.new.acknowledged ≡ self.old.acknowledged) }
         ensures weight { self.new.weight ≡ self.old.weight }
         ensures calm { OnOk result (D.faults self.new.disk ≡ D.faults self.old.disk) }
         ensures frames { D.is_honest self.old.disk
@@ -129,6 +130,7 @@ impl<D: Disk> Stage<D> {
             → KeepsFrames (D.seen self.old.disk) (D.seen self.new.disk) }
         ensures weight { self.new.weight ≡ self.old.weight }
         ensures acknowledged { OnOk result (self.new.acknowledged ≡ point.now) }
+        ensures stays { OnErr result (self.new.acknowledged ≡ self.old.acknowledged) }
         ensures ends { EndsCall self.old result self.new }
     {
         self.acknowledge(point)
@@ -157,6 +159,8 @@ impl<D: Disk> Stage<D> {
             self.old.generation self.old.acknowledged point.now acked front) }
         ensures weight { OnOk result (self.new.weight ≡ point.now.staged) }
         ensures acknowledged { OnOk result (self.new.acknowledged ≡ point.now) }
+        ensures stays { OnErr result ((self.new.acknowledged ≡ self.old.acknowledged)
+            ⊎ (self.new.acknowledged ≡ point.now)) }
         ensures ends { EndsCall self.old result self.new }
     {
         let staged = point.staged;

@@ -1,4 +1,7 @@
 //! The paths of files, and directories whose names are made durable.
+ghost use Rattle.std.specs.Prelude.{◌≡◌, ℕ, List};
+ghost use Rattle.tape_writer.specs.System.{IsPathOf, is_unable};
+
 use crate::blank::Prefix;
 use std::alloc::{AllocError, Global};
 use std::fs::{File, Files, OpenFile};
@@ -24,7 +27,9 @@ pub fn sync_folder_of<R: Files>(files: &R, path: &str) -> io::Result<()> {
 }
 
 /// Returns the directory that contains `path`.
-pub fn folder_of(path: &str) -> &str {
+pub fn folder_of(path: &str) -> &str
+    ensures { (name : List ℕ) × IsPathOf path.now result.now name }
+{
     match path.rfind('/') {
         Some(0) => "/",
         Some(end) => &path[..end],
@@ -33,7 +38,9 @@ pub fn folder_of(path: &str) -> &str {
 }
 
 /// Returns the name of `path` in its directory.
-pub fn name_in_folder(path: &str) -> &str {
+pub fn name_in_folder(path: &str) -> &str
+    ensures { (folder : List ℕ) × IsPathOf path.now folder result.now }
+{
     match path.rfind('/') {
         Some(end) => &path[end + 1..],
         None => path,
@@ -41,7 +48,9 @@ pub fn name_in_folder(path: &str) -> &str {
 }
 
 /// Returns true if a file system reports this kind of error when it cannot sync.
-pub fn is_unable(kind: ErrorKind) -> bool {
+pub fn is_unable(kind: ErrorKind) -> bool
+    ensures { result ≡ is_unable kind }
+{
     matches!(kind, ErrorKind::InvalidInput | ErrorKind::Unsupported)
 }
 

@@ -36,7 +36,10 @@ pub struct ImageFile<'a, R: Host> {
 
 impl<'a, R: Host> ImageFile<'a, R> {
     /// Returns the image file of volume number `number`, from 1 to 999, without opening it.
-    pub fn new(rt: &'a R, folder: &'a str, prefix: Prefix, number: u16) -> ImageFile<'a, R> {
+    pub fn new(rt: &'a R, folder: &'a str, prefix: Prefix, number: u16) -> ImageFile<'a, R>
+        ensures place { (result.prefix ≡ prefix) × (result.number ≡ number) }
+        ensures unopened { (result.file ≡ None) × (result.fault ≡ None) }
+    {
         ImageFile {
             rt,
             folder,

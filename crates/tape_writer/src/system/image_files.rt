@@ -1,5 +1,5 @@
 //! The image files of a set, one after another.
-ghost use Rattle.std.specs.Prelude.{◌-◌};
+ghost use Rattle.std.specs.Prelude.{◌≡◌, ◌-◌, [], IfOk};
 
 use crate::blank::{Prefix, blank_volume};
 use crate::store::ImageStore;
@@ -34,11 +34,10 @@ pub struct ImageFiles<'a, R: Host> {
 impl<'a, R: Host> ImageFiles<'a, R> {
     /// Returns the image files of volumes with prefix `prefix` in directory `folder`. Opens
     /// nothing.
-    pub fn new(
-        rt: &'a R,
-        folder: &'a str,
-        prefix: Prefix,
-    ) -> Result<ImageFiles<'a, R>, AllocError> {
+    pub fn new(rt: &'a R, folder: &'a str, prefix: Prefix) -> Result<ImageFiles<'a, R>, AllocError>
+        ensures { IfOk result (λ files. (files.prefix ≡ prefix) × (files.lent ≡ 0)
+            × (files.ended.items ≡ [])) }
+    {
         Ok(ImageFiles {
             rt,
             folder,

@@ -1,7 +1,6 @@
 use Rattle.std.proofs.Common.{◌≡◌}
 use Rattle.tape_run.specs.Extracting.{Extracts, Stops, EndsFile, StopsAtEnd}
-use Rattle.tape_run.proofs.Fitting.{on_err_map}
-use Rattle.tape_image.proofs.Pieces.{on_err}
+use Rattle.tape_run.proofs.StoppedThere.{with_fault}
 use Rattle.tape_run.specs.Reeling.{goes_back}
 use Rattle.tape_run.proofs.Causes.{calm_ended, file_fails, images_fail}
 use Rattle.tape_run.proofs.Ended.{told_err}
@@ -11,11 +10,11 @@ use Rattle.tape_run.proofs.extract.extract_to.Goals as goal
 
 pub returns-in_err-read_images-clause-err : goal.returns-in_err-read_images-clause-err
 returns-in_err-read_images-clause-err g c =
-    on_err c.from_residual.result _
+    told_err _ _ _ c.from_residual.ensures.1
     (stops_reading g.S.PartSink g.L.ImageSource.size g.L.ImageSource.gives
     g.R.Read.remaining c.args.session.now c.read_images.new.session _ _ c.args.form
     g.W.Write.contents c.args.out.now _ _ _
-    c.has_note-back.ensures
+    c.in_err-read_images.field-0.0 c.has_note-back.ensures
     c.in_err-read_images.ensures.err)
 
 pub returns-in_err-read_images-clause-cause : goal.returns-in_err-read_images-clause-cause
@@ -58,7 +57,7 @@ returns-clause-ok g c =
 
 pub returns-clause-err : goal.returns-clause-err
 returns-clause-err g c =
-    on_err_map c.end_file.result (StopsAtEnd g.S.PartSink c.read_images.new.session
+    with_fault c.end_file.result (StopsAtEnd g.S.PartSink c.read_images.new.session
     c.args.form g.W.Write.contents c.args.out.now c.end_file.new.out
     (g.P.Write.contents c.read_images.new.report) (g.P.Write.contents c.end_file.new.report))
     (Stops g.S.PartSink
@@ -67,9 +66,9 @@ returns-clause-err g c =
     c.read_images.new.images c.args.form
     g.W.Write.contents c.args.out.now c.end_file.new.out
     (g.P.Write.contents c.args.report.now) (g.P.Write.contents c.end_file.new.report))
-    (λ e. stops_at_end g.S.PartSink g.L.ImageSource.size g.L.ImageSource.gives
+    (λ fault e. stops_at_end g.S.PartSink g.L.ImageSource.size g.L.ImageSource.gives
     g.R.Read.remaining c.args.session.now c.read_images.new.session
     c.end_file.new.session _ _ c.args.form
     g.W.Write.contents c.args.out.now c.end_file.new.out _ _ _
-    _ c.has_note-back.ensures c.in_ok-read_images.ensures.ok c.end_file.ensures.same e)
+    _ fault c.has_note-back.ensures c.in_ok-read_images.ensures.ok c.end_file.ensures.same e)
     c.end_file.ensures.err

@@ -2,8 +2,7 @@ use Rattle.std.proofs.Common.{◌≡◌}
 use Rattle.tape_run.specs.Extracting.{EndsFile, StopsAtEnd}
 use Rattle.tape_run.specs.ExtractingAgain.{ExtractsAgain, StopsAgain}
 use Rattle.tape_run.proofs.Again.{extracted_again, stops_in_round, stops_at_end_again}
-use Rattle.tape_run.proofs.Fitting.{on_err_map}
-use Rattle.tape_image.proofs.Pieces.{on_err}
+use Rattle.tape_run.proofs.StoppedThere.{with_fault}
 use Rattle.tape_run.specs.Reeling.{goes_back}
 use Rattle.tape_run.proofs.Causes.{calm_ended, file_fails, images_fail}
 use Rattle.tape_run.proofs.Ended.{told_err}
@@ -12,11 +11,11 @@ use Rattle.tape_run.proofs.extract.again.extract_in_passes.Goals as goal
 
 pub returns-in_err-read_rounds-clause-err : goal.returns-in_err-read_rounds-clause-err
 returns-in_err-read_rounds-clause-err g c =
-    on_err c.from_residual.result _
+    told_err _ _ _ c.from_residual.ensures.1
     (stops_in_round g.S.PartSink g.L.ImageSource.size g.L.ImageSource.gives
     g.R.Read.remaining c.args.session.now c.read_rounds.new.session _ _ c.args.form
     g.W.Write.contents c.args.out.now _ _ _
-    c.has_note-back.ensures
+    c.in_err-read_rounds.field-0.0 c.has_note-back.ensures
     c.in_err-read_rounds.ensures.err)
 
 pub returns-in_err-read_rounds-clause-cause : goal.returns-in_err-read_rounds-clause-cause
@@ -59,7 +58,7 @@ returns-clause-ok g c =
 
 pub returns-clause-err : goal.returns-clause-err
 returns-clause-err g c =
-    on_err_map c.end_file.result (StopsAtEnd g.S.PartSink c.read_rounds.new.session
+    with_fault c.end_file.result (StopsAtEnd g.S.PartSink c.read_rounds.new.session
     c.args.form g.W.Write.contents c.args.out.now c.end_file.new.out
     (g.P.Write.contents c.read_rounds.new.report) (g.P.Write.contents c.end_file.new.report))
     (StopsAgain g.S.PartSink
@@ -68,9 +67,9 @@ returns-clause-err g c =
     c.read_rounds.new.images c.args.form
     g.W.Write.contents c.args.out.now c.end_file.new.out
     (g.P.Write.contents c.args.report.now) (g.P.Write.contents c.end_file.new.report))
-    (λ e. stops_at_end_again g.S.PartSink g.L.ImageSource.size
+    (λ fault e. stops_at_end_again g.S.PartSink g.L.ImageSource.size
     g.L.ImageSource.gives g.R.Read.remaining c.args.session.now c.read_rounds.new.session
     c.end_file.new.session _ _ c.args.form
     g.W.Write.contents c.args.out.now c.end_file.new.out _ _ _
-    _ c.has_note-back.ensures c.in_ok-read_rounds.ensures.ok c.end_file.ensures.same e)
+    _ fault c.has_note-back.ensures c.in_ok-read_rounds.ensures.ok c.end_file.ensures.same e)
     c.end_file.ensures.err

@@ -1,5 +1,4 @@
 use Rattle.std.proofs.Common.{◌+◌, ◌-◌, ◌<◌, [], refl, inr, arith}
-use Rattle.tape_image.proofs.Pieces.{on_err}
 use Rattle.tape_run.proofs.Causes.{calm_same, calm_then, then_fails}
 use Rattle.tape_run.proofs.Ended.{told_err}
 use Rattle.tape_run.proofs.Rounds.{none_gone, gone_on, takes_rounds, stops_round, enough_by}
@@ -54,13 +53,13 @@ rounds-smaller g c =
 pub returns-in_err-read_round-clause-err : goal.returns-in_err-read_round-clause-err
 returns-in_err-read_round-clause-err g c =
     let (rounds, e, room, h, calm) = c.rounds.invariant in
-    on_err c.from_residual.result _ (stops_round g.S.PartSink
+    told_err _ _ _ c.from_residual.ensures.1 (stops_round g.S.PartSink
     (g.L.ImageSource.size c.args.images.now)
     c.count-count.result c.rounds.lines g.L.ImageSource.gives g.R.Read.remaining c.args.back
     c.args.session.now c.rounds.session c.read_round.new.session c.args.images.now c.rounds.images
     c.read_round.new.images (g.P.Write.contents c.args.report.now)
     (g.P.Write.contents c.rounds.report) (g.P.Write.contents c.read_round.new.report) rounds
-    c.count-count.ensures e h c.in_err-read_round.ensures.err)
+    c.in_err-read_round.field-0.0 c.count-count.ensures e h c.in_err-read_round.ensures.err)
 
 pub returns-then-is_enough-clause-ok : goal.returns-then-is_enough-clause-ok
 returns-then-is_enough-clause-ok g c =

@@ -1,4 +1,6 @@
-use Rattle.std.proofs.Common.{◌≡◌, ◌+◌, ◌-◌, length, arith}
+use Rattle.std.proofs.Common.{◌≡◌, ◌+◌, ◌-◌, length, ap, refl, subst, arith}
+use Rattle.tape_run.specs.Seen.{seen}
+use Rattle.tape_run.specs.Steps.{RestartFails}
 use Rattle.tape_run.proofs.Lasting.{last_went}
 use Rattle.tape_run.proofs.Left.{restart_left}
 use Rattle.tape_run.proofs.Causes.{back_fails, calm_back, on_both, on_pair}
@@ -31,6 +33,17 @@ returns g c =
       calm = on_both c.restart.result _ _ _ (λ ok (calm, notes). calm_back sink old new n calm notes
           ok) c.restart.ensures.ok (on_pair c.restart.result _ _ c.restart.ensures.calm
           c.restart.ensures.notes);
+      stays = if_err c.restart.result _ _ (λ fault err held was kept.
+          let (there, fails) = err held was kept in (
+            held,
+            there,
+            subst (λ m. RestartFails m fault (seen sink old held) (seen sink new held))
+                (ap (λ m. m - 1) c.notes-notes.ensures) fails,
+          )) c.restart.ensures.err;
       left = λ held was kept.
           restart_left sink old new held n count (c.restart.ensures.crash held was kept);
     }
+
+pub returns-then-notes-eq0-clause-stays : goal.returns-then-notes-eq0-clause-stays
+returns-then-notes-eq0-clause-stays g c = λ held was kept.
+    (held, (λ live. was), (omega (arith, c.notes-notes.ensures, c.if-notes-eq0.true), refl))

@@ -62,3 +62,8 @@ returns-clause-left g c = λ back held was.
     let (now, has, (keeps, saved)) = c.in_ok-save.ensures.ok held was in
     stays_left g.S.PartSink back c.args.session.now c.save.new.self held now has
     (saved.place, saved.parts) (c.save.ensures.crash held was)
+
+pub returns-in_err-save-clause-stays : goal.returns-in_err-save-clause-stays
+returns-in_err-save-clause-stays g c =
+    told_err _ _ _ c.from_residual.ensures.1
+    (sym c.counts_differ.ensures ∙ c.if-counts_differ.false, c.in_err-save.ensures.err)

@@ -1,5 +1,6 @@
-use Rattle.std.proofs.Common.{subst, OnErr, OnOk}
-use Rattle.tape_run.specs.Reeling.{TakesAll, StopsReading}
+use Rattle.std.proofs.Common.{subst, IfErr, OnOk}
+use Rattle.tape_run.specs.Reeling.{TakesAll}
+use Rattle.tape_run.specs.Stopping.{StopsReading}
 use Rattle.tape_run.proofs.extract.images.read_images.Goals as goal
 
 pub returns-clause-ok : goal.returns-clause-ok
@@ -12,7 +13,7 @@ returns-clause-ok g c =
 
 pub returns-clause-err : goal.returns-clause-err
 returns-clause-err g c =
-    subst (λ n. OnErr c.read_round.result (StopsReading g.S.PartSink n 0
+    subst (λ n. IfErr c.read_round.result (StopsReading g.S.PartSink n 0
     g.L.ImageSource.gives g.R.Read.remaining c.args.back c.args.spares c.args.session.now
     c.read_round.new.session c.args.images.now c.read_round.new.images
     (g.P.Write.contents c.args.report.now)

@@ -1,17 +1,17 @@
 use Rattle.std.proofs.Common.{◌≡◌, ◌+◌, [], ◌∷◌, ◌++◌, length, refl, sym, ap, subst, ◌∙◌}
-use Rattle.std.proofs.Common.{arith, rules, length-append, append-nil, map, inl, inr}
+use Rattle.std.proofs.Common.{arith, rules, length-append, append-nil, map, inl, inr, None}
 use Rattle.std.proofs.KnownBytes.{Appends-nil}
 use Rattle.std.specs.Io.KnownBytes.{Appends}
 use Rattle.tape_run.specs.ReelLine.{reel_lines}
 use Rattle.tape_run.specs.Reeling.{answer_of, IsTurn}
 use Rattle.tape_run.specs.Seen.{seen}
 use Rattle.tape_run.proofs.Extracted.{all_of_it}
-use Rattle.tape_image.proofs.Pieces.{on_err}
 use Rattle.tape_run.proofs.Turns.{front_behind, line_behind, one_mounted, follows_then}
 use Rattle.tape_run.proofs.Lasting.{last_same, last_then}
 use Rattle.tape_run.proofs.Causes.{calm_same, calm_then, then_fails}
 use Rattle.tape_run.proofs.Ended.{told_err}
 use Rattle.tape_run.proofs.Left.{left_saved, same_left}
+use Rattle.tape_run.proofs.StoppedThere.{stopped_there}
 use Rattle.tape_run.proofs.extract.images.read_round.Goals as goal
 
 pub returns-in_err-take_image-clause-err : goal.returns-in_err-take_image-clause-err
@@ -22,9 +22,10 @@ returns-in_err-take_image-clause-err g c =
     omega (arith, e) in
     let mounted = subst (λ n. g.L.ImageSource.gives c.loop-number.images n c.in-Ok.image
     c.mount.new.self) (sym e) c.in-Ok.ensures.ok in
-    on_err c.from_residual.result _ (record {
+    told_err _ _ _ c.from_residual.ensures.1 (record {
       turns = turns;
-      are_turns = (c.loop-number.images, are, inr (c.in-Ok.image, mounted));
+      image = c.in-Ok.image;
+      are_turns = (c.loop-number.images, are, inr mounted);
       fewer = omega (arith, e, c.loop-number-test.true);
       more = more;
       few = few;
@@ -38,6 +39,7 @@ returns-in_err-take_image-clause-err g c =
                 c.args.back c.args.session.now c.loop-number.session
                 c.take_image.new.session held now lasts
                 (c.in_err-take_image.ensures.left now has still),
+            c.in_err-take_image.ensures.stops now has still,
           );
     })
 
@@ -47,7 +49,8 @@ returns-in_default-clause-err g c =
     let stays : c.mount.new.self ≡ c.loop-number.images = search rules in
     record {
       turns = turns;
-      are_turns = (c.loop-number.images, are, inl stays);
+      image = None;
+      are_turns = (c.loop-number.images, are, inl (refl, stays));
       fewer = omega (arith, e, c.loop-number-test.true);
       more = [];
       few = omega arith;
@@ -65,6 +68,8 @@ returns-in_default-clause-err g c =
                 c.loop-number.session held now lasts
                 (same_left g.S.PartSink
                 c.args.back c.loop-number.session now),
+            stopped_there g.S.PartSink g.R.Read.remaining c.args.back c.args.spares
+                c.loop-number.session now _ has,
           );
     }
 

@@ -1,13 +1,14 @@
-use Rattle.std.proofs.Common.{Some, refl}
+use Rattle.std.proofs.Common.{Some, refl, ap}
 use Rattle.tape_run.specs.declared.fault.EngineFault.TheVariants.{Run}
 use Rattle.tape_run.specs.Seen.{seen}
 use Rattle.tape_run.specs.Reeling.{Opened, counts_differ}
 use Rattle.tape_image.proofs.Pieces.{on_err}
-use Rattle.tape_run.proofs.Turns.{part_line, noted, kept_for, kept_behind}
+use Rattle.tape_run.proofs.Turns.{part_line, kept_for, kept_behind}
 use Rattle.tape_run.proofs.Lasting.{last_stays, last_then}
 use Rattle.tape_run.proofs.Causes.{calm_then, calm_reel, step_fails, then_fails}
 use Rattle.tape_run.proofs.Ended.{told_err}
 use Rattle.tape_run.proofs.Left.{nothing_left, left_then}
+use Rattle.tape_run.proofs.StoppedThere.{one_turn, reel_stops, step_stops}
 use Rattle.tape_run.proofs.extract.images.take_reel.Goals as goal
 
 pub returns-in_err-write_line-clause-err : goal.returns-in_err-write_line-clause-err
@@ -40,20 +41,9 @@ returns-clause-ok g c =
             (
               kept_behind back c.args.spares doubtful opened.noted mid
                   (seen sink c.settle.new.session behind) saved still,
-              (
-                c.settle.new.session.core,
-                seen sink c.settle.new.session behind,
-                record {
-                  waits = c.requires.waits;
-                  behind = c.reel.new.self.core;
-                  answers = c.in_ok-answer.ensures.answer;
-                  reeled = noted back c.args.spares opened.had opened
-                      (seen sink c.args.session.now held) mid
-                      (seen sink c.settle.new.session behind) reeled saved;
-                  place = refl;
-                },
-                (refl, refl),
-              ),
+              one_turn sink back c.args.spares c.args.session.now c.reel.new.self
+                  c.settle.new.session opened held now behind c.requires.waits
+                  c.in_ok-answer.ensures.answer reeled saved,
               last_then sink c.args.session.now
                   c.reel.new.self c.settle.new.session held now behind
                   (last_stays sink c.args.session.now c.reel.new.self
@@ -110,3 +100,56 @@ returns-in_err-settle-clause-left g c =
     c.args.back c.args.session.now c.reel.new.self c.settle.new.session held
     now c.in_ok-answer.ensures.notes front kept (c.reel.ensures.crash held was)
     (c.settle.ensures.left now has still))
+
+-- ---- where the session is after a fault
+
+pub returns-in_err-answer-clause-stops : goal.returns-in_err-answer-clause-stops
+returns-in_err-answer-clause-stops g c =
+    told_err _ _ _ c.from_residual.ensures.1 (λ held was kept.
+    let (now, has, (front, keeps, fails)) = c.in_err-answer.ensures.err held was in (
+      now,
+      (λ live. has),
+      reel_stops c.args.back (g.R.Read.remaining c.args.device.now) c.in_err-answer.field-0.0
+          (seen g.S.PartSink c.args.session.now held) (seen g.S.PartSink c.reel.new.self now)
+          fails,
+    ))
+
+pub returns-in_err-settle-clause-stops : goal.returns-in_err-settle-clause-stops
+returns-in_err-settle-clause-stops g c =
+    told_err _ _ _ c.from_residual-in_err-settle.ensures.1 (λ held was kept.
+    let (now, has, (front, keeps, reeled)) = c.in_ok-answer.ensures.ok held was in
+    let old = seen g.S.PartSink c.args.session.now held in
+    let mid = seen g.S.PartSink c.reel.new.self now in
+    let still = kept_for c.args.back old mid keeps kept in
+    let (end, there, fails) = c.in_err-settle.ensures.stays now has still in (
+      end,
+      (λ live. there (λ lost. live (lost.0, ap Run lost.1))),
+      step_stops c.args.back (g.R.Read.remaining c.args.device.now)
+          (g.R.Read.remaining c.reel.new.device) c.in_ok-answer.answer c.in_err-settle.field-0.0
+          old mid (seen g.S.PartSink c.settle.new.session end) reeled fails,
+    ))
+
+pub returns-in_err-write_line-clause-stops : goal.returns-in_err-write_line-clause-stops
+returns-in_err-write_line-clause-stops g c =
+    let opened : Opened = record {
+      had = g.R.Read.remaining c.args.device.now;
+      left = g.R.Read.remaining c.reel.new.device;
+      answer = c.in_ok-answer.answer;
+      noted = c.in_ok-settle.field-0;
+    } in
+    let sink = g.S.PartSink in
+    told_err _ _ _ c.from_residual-in_err-write_line.ensures.1 (λ held was kept.
+    let (now, has, (front, keeps, reeled)) = c.in_ok-answer.ensures.ok held was in
+    let still = kept_for c.args.back (seen sink c.args.session.now held)
+    (seen sink c.reel.new.self now) keeps kept in
+    let (end, has_end, (saved, lasts)) = c.in_ok-settle.ensures.ok now has still in (
+      end,
+      (λ live. has_end),
+      (
+        Some opened,
+        (refl, (c.reel.new.device, refl)),
+        one_turn sink c.args.back c.args.spares c.args.session.now c.reel.new.self
+            c.settle.new.session opened held now end c.requires.waits
+            c.in_ok-answer.ensures.answer reeled saved,
+      ),
+    ))

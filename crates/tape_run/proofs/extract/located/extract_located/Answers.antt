@@ -2,6 +2,7 @@ use Rattle.std.proofs.Common.{rules, ◌≡◌, true, false, subst, ◌∙◌, i
 use Rattle.tape_run.proofs.Causes.{ended_for}
 use Rattle.tape_run.proofs.Ended.{told_err}
 use Rattle.tape_run.proofs.Located.{ended_as}
+use Rattle.tape_run.proofs.StoppedThere.{session_walked}
 use Rattle.tape_run.proofs.extract.located.extract_located.Goals as goal
 
 pub returns-then-not-complete-clause-ok : goal.returns-then-not-complete-clause-ok
@@ -10,6 +11,7 @@ returns-then-not-complete-clause-ok g c whole held =
     record {
       last = c.read_sections.new.session;
       reads = ended_as ended (c.in_ok-complete.ensures.ok whole held);
+      same = session_walked _ c.read_sections.new.session;
       complete = λ n none. absurd (cc);
     }
 
@@ -19,6 +21,7 @@ returns-in-Ok-clause-ok g c whole held =
     record {
       last = c.read_sections.new.session;
       reads = ended_as ended (c.in_ok-complete.ensures.ok whole held);
+      same = c.place_output.ensures.same;
       complete = λ n is parts was.
           let done = c.in-Ok.ensures.ok parts was in
           let same : n ≡ c.in-Ok.records = cc in

@@ -1,38 +1,38 @@
 use Rattle.std.proofs.Common.{rules, ◌≡◌, [], Some, None, refl, sym, subst, ◌∙◌, inl, inr}
 use Rattle.tape_set.specs.Position.{want_at}
 use Rattle.tape_run.specs.OutSinks.{TellsAlways}
-use Rattle.tape_image.proofs.Pieces.{on_err}
 use Rattle.tape_run.proofs.Causes.{ended_for}
 use Rattle.tape_run.proofs.Ended.{told_err}
 use Rattle.tape_run.proofs.Extracted.{nothing_more, none_finished}
 use Rattle.tape_run.proofs.Now.{extracted_now, stops_reading_now, stops_at_end_now}
+use Rattle.tape_run.proofs.StoppedThere.{session_walked}
 use Rattle.tape_run.proofs.extract.now.extract_streaming.Goals as goal
 
 pub returns-in_err-read_images-clause-err : goal.returns-in_err-read_images-clause-err
 returns-in_err-read_images-clause-err g c =
-    on_err c.from_residual.result _
+    told_err _ _ _ c.from_residual.ensures.1
     (stops_reading_now _ g.L.ImageSource.size g.L.ImageSource.gives
     g.R.Read.remaining c.args.session.now c.read_images.new.session _ _ c.args.form
     (TellsAlways g.W.Write.contents) g.O.Place.stands c.args.out.now _ _
-    c.in_err-read_images.ensures.err)
+    c.in_err-read_images.field-0.0 c.in_err-read_images.ensures.err)
 
 pub returns-in_err-end_report-clause-err : goal.returns-in_err-end_report-clause-err
 returns-in_err-end_report-clause-err g c =
-    on_err _ _ (stops_at_end_now _ g.L.ImageSource.size
-    g.L.ImageSource.gives
-    g.R.Read.remaining
-    c.args.session.now c.read_images.new.session _ _ c.args.form (TellsAlways g.W.Write.contents)
-    g.O.Place.stands c.args.out.now c.args.out.now _ _ _ (Some c.in-Some.want) 0
-    c.in_ok-read_images.ensures.ok c.in_err-end_report.ensures.err
+    told_err _ _ _ c.from_residual-in_err-end_report.ensures.1 (stops_at_end_now _
+    g.L.ImageSource.size g.L.ImageSource.gives g.R.Read.remaining
+    c.args.session.now c.read_images.new.session c.read_images.new.session _ _ c.args.form
+    (TellsAlways g.W.Write.contents)
+    g.O.Place.stands c.args.out.now c.args.out.now _ _ _ (Some c.in-Some.want) 0 _
+    (session_walked _ c.read_images.new.session) c.in_ok-read_images.ensures.ok c.in_err-end_report.ensures.err
     (λ held was. inr (sym c.in-Some.is ∙ c.want.ensures, λ none. absurd (cc none)))
     (λ held was. inl (refl, inr (λ none. absurd (cc none)))))
 
 pub returns-in-Some-clause-ok : goal.returns-in-Some-clause-ok
 returns-in-Some-clause-ok g c =
     extracted_now _ g.L.ImageSource.size g.L.ImageSource.gives
-    g.R.Read.remaining c.args.session.now
+    g.R.Read.remaining c.args.session.now c.read_images.new.session
     c.read_images.new.session _ _ c.args.form (TellsAlways g.W.Write.contents) _ _ _ _
-    (Some c.in-Some.want) 0
+    (Some c.in-Some.want) 0 (session_walked _ c.read_images.new.session) refl
     c.in_ok-read_images.ensures.ok (sym c.in-Some.is ∙ c.want.ensures) c.in_ok-end_report.ensures.ok
     (λ held was. tt)
 
@@ -40,12 +40,12 @@ pub returns-in_err-records-clause-err : goal.returns-in_err-records-clause-err
 returns-in_err-records-clause-err g c =
     let mid = c.read_images.new.session in
     let none : None ≡ want_at mid.core.file mid.core.position = search rules in
-    on_err _ _ (stops_at_end_now _ g.L.ImageSource.size
-    g.L.ImageSource.gives
-    g.R.Read.remaining
-    c.args.session.now mid _ _ c.args.form (TellsAlways g.W.Write.contents)
-    g.O.Place.stands c.args.out.now c.place_output.new.out _ _ _ None 0
-    c.in_ok-read_images.ensures.ok (nothing_more _ _) (λ held was. inl (nothing_more _ []))
+    told_err _ _ _ c.from_residual-in_err-records.ensures.1 (stops_at_end_now _
+    g.L.ImageSource.size g.L.ImageSource.gives g.R.Read.remaining
+    c.args.session.now mid c.place_output.new.self _ _ c.args.form
+    (TellsAlways g.W.Write.contents)
+    g.O.Place.stands c.args.out.now c.place_output.new.out _ _ _ None 0 _
+    c.place_output.ensures.same c.in_ok-read_images.ensures.ok (nothing_more _ _) (λ held was. inl (nothing_more _ []))
     (λ held was. inr (
       none_finished mid.core.file mid.core.position none,
       inl (c.in_err-records.ensures.err, nothing_more _ []),
@@ -55,12 +55,12 @@ pub returns-in_err-end_report-2-clause-err : goal.returns-in_err-end_report-2-cl
 returns-in_err-end_report-2-clause-err g c =
     let mid = c.read_images.new.session in
     let none : None ≡ want_at mid.core.file mid.core.position = search rules in
-    on_err _ _ (stops_at_end_now _ g.L.ImageSource.size
-    g.L.ImageSource.gives
-    g.R.Read.remaining
-    c.args.session.now mid _ _ c.args.form (TellsAlways g.W.Write.contents)
-    g.O.Place.stands c.args.out.now c.place_output.new.out _ _ _ None c.in_ok-records.records
-    c.in_ok-read_images.ensures.ok c.in_err-end_report-2.ensures.err
+    told_err _ _ _ c.from_residual-in_err-end_report-2.ensures.1 (stops_at_end_now _
+    g.L.ImageSource.size g.L.ImageSource.gives g.R.Read.remaining
+    c.args.session.now mid c.place_output.new.self _ _ c.args.form
+    (TellsAlways g.W.Write.contents)
+    g.O.Place.stands c.args.out.now c.place_output.new.out _ _ _ None c.in_ok-records.records _
+    c.place_output.ensures.same c.in_ok-read_images.ensures.ok c.in_err-end_report-2.ensures.err
     (λ held was. inr (
       none,
       λ same. (c.in_ok-records.ensures.ok held was).0,
@@ -75,8 +75,9 @@ returns-clause-ok g c =
     let mid = c.read_images.new.session in
     let none : None ≡ want_at mid.core.file mid.core.position = search rules in
     extracted_now _ g.L.ImageSource.size g.L.ImageSource.gives
-    g.R.Read.remaining c.args.session.now mid _ _
+    g.R.Read.remaining c.args.session.now mid c.place_output.new.self _ _
     c.args.form (TellsAlways g.W.Write.contents) _ _ _ _ None c.in_ok-records.records
+    c.place_output.ensures.same c.place_output.ensures.calm
     c.in_ok-read_images.ensures.ok none c.in_ok-end_report-2.ensures.ok
     c.in_ok-records.ensures.ok
 

@@ -1,4 +1,6 @@
-use Rattle.std.proofs.Common.{[], false}
+use Rattle.std.proofs.Common.{[], false, Err, ap, subst, sym}
+use Rattle.tape_stage.specs.Faults.{IsNotDevice}
+use Rattle.tape_stage.specs.Stages.{RefusesCreating}
 use Rattle.tape_stage.proofs.Backs.{ready_survives, ready_returns}
 use Rattle.tape_stage.proofs.stage.Stage.create.Goals as goal
 
@@ -11,3 +13,13 @@ pub returns-clause-returns : goal.returns-clause-returns
 returns-clause-returns g c honest =
     ready_returns (g.D.Disk.seen c.make.new.disk) (g.D.Disk.may_leave c.make.new.disk) false 1
     c.args.point.now false [] (c.in_default-make.ensures.made honest)
+
+pub returns-in-Err-clause-unwritten : goal.returns-in-Err-clause-unwritten
+returns-in-Err-clause-unwritten g c other =
+    absurd (subst IsNotDevice c.in-Err.ensures.device other)
+
+pub returns-in-Err-clause-refused : goal.returns-in-Err-clause-refused
+returns-in-Err-clause-refused g c =
+    subst (λ fault. RefusesCreating (g.D.Disk.faults c.args.disk) fault
+    (g.D.Disk.faults c.make.new.disk)) (sym c.in-Err.ensures.device)
+    (c.in-Err.ensures.ends.cause (ap Err c.in-Err.ensures.device))

@@ -1,0 +1,129 @@
+-- Where a session is after a fault.
+use Rattle.std.proofs.Common.{◌≡◌, ◌≢◌, ◌⊎◌, ℕ, Bool, true, false, List, [], ◌∷◌, Option, Some, None}
+use Rattle.std.proofs.Common.{IfSome, Result, Ok, Err, OnErr, IfErr, refl, ap, inl, inr}
+use Rattle.tape_blocks.specs.Block.{Portion}
+use Rattle.tape_image.specs.Reader.{IfKnown}
+use Rattle.tape_set.specs.declared.position.Position.TheVariants.{Finished}
+use Rattle.tape_core.proofs.Crashes.{only_same}
+use Rattle.tape_core.specs.Place.{rest_of}
+use Rattle.tape_core.specs.State.{State}
+use Rattle.tape_core.specs.declared.sink.PartSink.{Ghosts}
+use Rattle.tape_run.specs.Crash.{IsWalked}
+use Rattle.tape_run.specs.Given.{is_device}
+use Rattle.tape_run.specs.Reeling.{Opened, Follows, IsNoted, IsKeptFor, counts_differ}
+use Rattle.tape_run.specs.Reels.{Reads}
+use Rattle.tape_run.specs.Seen.{Seen, seen, IsKept, IfSeen, IsSeen, IsSeenUnless}
+use Rattle.tape_run.specs.SessionState.{SessionState}
+use Rattle.tape_run.specs.Steps.{Reeled, ReelFails, SaveFails, Unmoved}
+use Rattle.tape_run.specs.Stopping.{IsStopped, NotNoted, StopsInReel}
+use Rattle.tape_run.specs.declared.fault.EngineFault.{EngineFault}
+use Rattle.tape_run.specs.declared.fault.RunFault.{RunFault}
+use Rattle.tape_run.specs.declared.fault.RunFault.TheVariants.{Sink}
+use Rattle.tape_core.specs.declared.sink.SinkFault.TheVariants.{Device}
+use Rattle.tape_run.specs.declared.reel_reader.ReelAnswer.{ReelAnswer}
+use Rattle.tape_run.proofs.Turns.{noted}
+
+-- a walk over its sink leaves a session unmoved
+pub stopped_walked : {S R : Type 0} (g : Ghosts S) (remaining : R → Option (List ℕ))
+    (back spares : Bool) (a b : SessionState S) (held : List Portion) (fault : EngineFault)
+    → g.holds a.sink held → IsWalked g a b
+    → IsStopped g remaining back spares a.core (seen g a held) None fault b
+stopped_walked g remaining back spares a b held fault has walked = (
+  held,
+  (λ live. walked.kept held has),
+  record {
+    place = ap rest_of walked.core;
+    parts = refl;
+    notes = walked.notes;
+    count = walked.failures;
+  },
+)
+
+-- a session is itself after no walk
+pub session_walked : {S : Type 0} (g : Ghosts S) (a : SessionState S) → IsWalked g a a
+session_walked g a = record {
+  core = refl;
+  notes = refl;
+  failures = refl;
+  kept = λ parts has. has;
+  crash = λ parts has. only_same _ (g.crashes a.sink);
+}
+
+-- nothing was done
+pub stopped_there : {S R : Type 0} (g : Ghosts S) (remaining : R → Option (List ℕ))
+    (back spares : Bool) (a : SessionState S) (held : List Portion) (fault : EngineFault)
+    → g.holds a.sink held → IsStopped g remaining back spares a.core (seen g a held) None fault a
+stopped_there g remaining back spares a held fault has =
+    (held, (λ live. has), record { place = refl; parts = refl; notes = refl; count = refl })
+
+-- a reel was not read to its end
+pub reel_stops : (back : Bool) (had : Option (List ℕ)) (fault : RunFault) (old new : Seen)
+    → IfSome had (λ bytes. ReelFails bytes fault old new) → StopsInReel back had fault old new
+reel_stops back None fault old new h = tt
+reel_stops back (Some bytes) fault old new h = inl h
+
+-- a reel was read, and the step after it failed
+pub step_stops : (back : Bool) (had left : Option (List ℕ)) (answer : ReelAnswer)
+    (fault : RunFault) (old mid new : Seen)
+    → IfSome had (λ bytes. Reeled bytes left (is_device answer.fault) old mid)
+    → NotNoted back (counts_differ answer.answer) fault mid new
+    → StopsInReel back had fault old new
+step_stops back None left answer fault old mid new r n = tt
+step_stops back (Some bytes) left answer fault old mid new r n = inr (left, answer, mid, r, n)
+
+-- the turn of an image that was opened
+pub one_turn : {S : Type 0} (g : Ghosts S) (back spares : Bool) (a b c : SessionState S)
+    (o : Opened) (held now last : List Portion) → a.core.position ≢ Finished
+    → IfKnown o.had o.left (λ bytes left. Reads a.core.position a.core bytes left o.answer b.core)
+    → IfSome o.had (λ bytes. Reeled bytes o.left (is_device o.answer.fault) (seen g a held)
+    (seen g b now))
+    → IsNoted back spares (counts_differ o.answer.answer) o.noted (seen g b now) (seen g c last)
+    → Follows back spares a.core (seen g a held) (Some o ∷ []) c.core (seen g c last)
+one_turn g back spares a b c o held now last waits answers reeled saved = (
+  c.core,
+  seen g c last,
+  record {
+    waits = waits;
+    behind = b.core;
+    answers = answers;
+    reeled = noted back spares o.had o (seen g a held) (seen g b now) (seen g c last) reeled saved;
+    place = refl;
+  },
+  (refl, refl),
+)
+
+-- what is true after any fault is true after the one that was returned
+pub with_fault : {A B : Type 0} (r : Result A B) (P : Type 0) (Q : B → Type 0)
+    → ((e : B) → P → Q e) → OnErr r P → IfErr r Q
+with_fault (Ok x) P Q f h = tt
+with_fault (Err e) P Q f h = f e h
+
+pub fault_then : {A B : Type 0} (r : Result A B) (P Q : B → Type 0) → ((e : B) → P e → Q e)
+    → IfErr r P → IfErr r Q
+fault_then (Ok x) P Q f h = tt
+fault_then (Err e) P Q f h = f e h
+
+-- ---- the step after a reel
+
+-- the session did not roll back
+pub not_back : {S : Type 0} (g : Ghosts S) (back doubtful : Bool) (fault : RunFault)
+    (a b : SessionState S) → back ≡ true → doubtful ≡ true
+    → IfSeen g a (λ old. IsKept old
+    → IsSeenUnless (fault ≡ Sink Device) g b (NotNoted true true fault old))
+    → IfSeen g a (λ old. IsKeptFor back old
+    → IsSeenUnless ((back ≡ true) × (fault ≡ Sink Device)) g b (NotNoted back doubtful fault old))
+not_back g true true fault a b is doubt h = λ held was kept.
+    let (now, there, fails) = h held was kept in
+    (now, (λ live. there (λ lost. live (refl, lost))), fails)
+not_back g true false fault a b is doubt h = absurd (cc doubt)
+not_back g false doubtful fault a b is doubt h = absurd (cc is)
+
+-- no checkpoint was made
+pub not_saved : {S : Type 0} (g : Ghosts S) (back doubtful : Bool) (fault : RunFault)
+    (a b : SessionState S) → (doubtful ≡ false)
+    × IfSeen g a (λ old. IsSeen g b (SaveFails fault old))
+    → IfSeen g a (λ old. IsKeptFor back old
+    → IsSeenUnless ((back ≡ true) × (fault ≡ Sink Device)) g b (NotNoted back doubtful fault old))
+not_saved g back false fault a b (is, h) = λ held was kept.
+    let (now, has, fails) = h held was in (now, (λ live. has), fails)
+not_saved g back true fault a b (is, h) = absurd (cc is)

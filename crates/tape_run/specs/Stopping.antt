@@ -1,0 +1,70 @@
+-- The work of `extract` on images, ended by a fault: what was reported, and where the session is.
+use Rattle.std.specs.Prelude.{◌≡◌, ◌⊎◌, ℕ, ◌+◌, ◌-◌, ◌<◌, ◌≤◌, List, [], ◌∷◌, ◌++◌, length, map}
+use Rattle.std.specs.Prelude.{Option, Some, None, IfSome, Bool, true, false}
+use Rattle.tape_core.specs.State.{State}
+use Rattle.tape_core.specs.declared.sink.PartSink.{Ghosts}
+use Rattle.tape_core.specs.declared.sink.SinkFault.TheVariants.{Device}
+use Rattle.tape_image.specs.Written.{AppendsFront}
+use Rattle.tape_run.specs.Crash.{LeavesSaved}
+use Rattle.tape_run.specs.Given.{is_device}
+use Rattle.tape_run.specs.ReelLine.{reel_lines}
+use Rattle.tape_run.specs.Reeling.{Turn, answer_of, IsTurn, Mounting, AreFirstTurns, Follows}
+use Rattle.tape_run.specs.Reeling.{IsKeptFor, counts_differ}
+use Rattle.tape_run.specs.Seen.{Seen, IfSeen, IsSeenUnless}
+use Rattle.tape_run.specs.SessionState.{SessionState}
+use Rattle.tape_run.specs.Steps.{Reeled, ReelFails, SaveFails, RestartFails, Unmoved}
+use Rattle.tape_run.specs.declared.fault.EngineFault.{EngineFault}
+use Rattle.tape_run.specs.declared.fault.EngineFault.TheVariants.{Run, WriteFailed}
+use Rattle.tape_run.specs.declared.fault.RunFault.{RunFault}
+use Rattle.tape_run.specs.declared.fault.RunFault.TheVariants.{Sink}
+use Rattle.tape_run.specs.declared.reel_reader.ReelAnswer.{ReelAnswer}
+
+-- After a reel no checkpoint was made, for this reason; or a session that rolls back after a
+-- suspect reel did not.
+abbrev pub NotNoted : Bool → Bool → RunFault → Seen → Seen → Type 0
+NotNoted back false fault old new = SaveFails fault old new
+NotNoted false true fault old new = ⊥
+NotNoted true true fault old new = RestartFails (length old.notes - 1) fault old new
+
+-- A reader with these bytes, if they are known, was not read to its end; or it was, and then no
+-- checkpoint was made, or the session did not roll back.
+abbrev pub StopsInReel : Bool → Option (List ℕ) → RunFault → Seen → Seen → Type 0
+StopsInReel back had fault old new = IfSome had (λ bytes. ReelFails bytes fault old new
+    ⊎ ((left : Option (List ℕ)) × (answer : ReelAnswer) × (mid : Seen)
+    × Reeled bytes left (is_device answer.fault) old mid
+    × NotNoted back (counts_differ answer.answer) fault mid new))
+
+-- Where a session is after a fault. If no image was open it is unmoved. If only the line of the
+-- open image was not reported, the session is where the turn of that image leads.
+abbrev pub StopsAt : {R : Type 0} → (R → Option (List ℕ)) → Bool → Bool → State → Seen → Option R
+    → EngineFault → State → Seen → Type 0
+StopsAt remaining back spares core old None fault next new = Unmoved old new
+StopsAt remaining back spares core old (Some image) (Run fault) next new =
+    StopsInReel back (remaining image) fault old new
+StopsAt remaining back spares core old (Some image) WriteFailed next new = (turn : Turn)
+    × IsTurn remaining (Some image) turn × Follows back spares core old (turn ∷ []) next new
+
+-- The session is there, with exactly the parts of its sink. Only a rollback in which the sink's
+-- device failed may lose the sink's parts.
+abbrev pub IsStopped : {S R : Type 0} → Ghosts S → (R → Option (List ℕ)) → Bool → Bool → State
+    → Seen → Option R → EngineFault → SessionState S → Type 0
+IsStopped g remaining back spares core old image fault new =
+    IsSeenUnless ((back ≡ true) × (fault ≡ Run (Sink Device))) g new
+    (StopsAt remaining back spares core old image fault new.core)
+
+-- Images were read in their order until a fault ended the run: a line was reported for each of
+-- them, and a prefix of one for one more. The images after that one were not opened.
+pub record StopsReading {S L R : Type 0} (g : Ghosts S) (size before : ℕ) (gives : Mounting L R)
+    (remaining : R → Option (List ℕ)) (back spares : Bool) (old new : SessionState S)
+    (shelf left : L) (said says : Option (List ℕ)) (fault : EngineFault) : Type 0 where
+  pub turns : List Turn
+  pub image : Option R
+  pub are_turns : AreFirstTurns gives remaining shelf turns image left
+  pub fewer : length turns < size
+  pub more : List (Option ReelAnswer)
+  pub few : length more ≤ 1
+  pub lines : AppendsFront said says (reel_lines (before + 1) (map answer_of turns ++ more))
+  pub follows : IfSeen g old (λ was. IsKeptFor back was → (core : State) × (now : Seen)
+      × Follows back spares old.core was turns core now
+      × LeavesSaved g old was.parts now new
+      × IsStopped g remaining back spares core now image fault new)
