@@ -261,8 +261,9 @@ class Bench:
         folder = self.fresh("shelf")
         names, _ = self.write(folder, made)
         (folder / "out").mkdir()
+        (folder / "list").write_text("".join(f"{name}\n" for name in names))
         for call, files in (("first", 6 * sets - 3 * stages), ("second", 0)):
-            syncs = self.syncs(folder, self.program, "unpack", "out", *names)
+            syncs = self.syncs(folder, self.program, "unpack", "out", "--files-from", "list")
             there = [name.endswith(".stage") for name in os.listdir(folder / "out")]
             right = there.count(True) == stages and there.count(False) == 6 * sets - 3 * stages
             self.line(f"unpack, {len(made)} images, {call} call: syncs above two a file written", syncs - 2 * files,

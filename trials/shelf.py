@@ -41,12 +41,18 @@ class Trial(Results):
             text=True, check=False)
 
 
+def numbers_in(text):
+    """The numbers that a line is about: one, or a range."""
+    ends = [int(number) for number in text.split("-")]
+    return range(ends[0], ends[-1] + 1)
+
+
 def check_survey(trial, shelf, there, names):
     """The rows of files, each against the catalogue's description."""
     done = trial.run("survey", "--tsv", names=names)
     trial.expect((done.returncode, done.stderr) == (3, ""), f"survey: status {done.returncode}, {done.stderr!r}")
     rows = [line.split("\t") for line in done.stdout.splitlines()]
-    told = {(row[1], int(row[2])): row for row in rows if row[0] == "FILE"}
+    told = {(row[1], number): row for row in rows if row[0] == "FILE" for number in numbers_in(row[2])}
     for set_id, files in shelf.files.items():
         if set_id == shelf.mixed:
             trial.expect(told[set_id, 1][8] == "CONFLICT", f"survey: {told[set_id, 1]}")
@@ -108,7 +114,8 @@ def check_unpack(trial, shelf, there, names, day):
     trial.expect(unread and unread == lines[-len(unread):], f"unpack: the images that were not read: {unread}")
     lines = [line.split(" ", 3) for line in lines[:-len(unread)]]
     trial.expect(all(line[0] == "FILE" for line in lines), f"unpack: {done.stdout[:200]!r}")
-    told = {(line[1], int(line[2])): line[3] for line in lines}
+    lines = [(*line[:2], number, line[3]) for line in lines for number in numbers_in(line[2])]
+    told = {(line[1], line[2]): line[3] for line in lines}
     trial.expect(len(told) == len(lines), "unpack: a file is reported twice")
     counts = dict.fromkeys(["complete", "exists", "awaits", "not found", "conflict"], 0)
     for set_id, files in shelf.files.items():
