@@ -12,7 +12,6 @@ It runs `tape survey --tsv` and `tape list --offsets`; TAPE names another progra
 page of three images, which docs/examples.sh draws again and compares.
 """
 import collections
-import datetime
 import html
 import os
 import re
@@ -25,9 +24,9 @@ PER_ROW, ROWS, STEP = 100, 20, 10
 
 # The columns of the rows of `tape survey --tsv`; later versions may add others after them.
 COLUMNS = {
-    "IMAGE": "name state volume set system items files bad end words",
+    "IMAGE": "name state volume set system items files bad end owner words",
     "SECTION": "set file section volume blocks state eof",
-    "FILE": "set file identifier created state section volume conflict sections",
+    "FILE": "set file identifier created state section volume conflict sections format block record",
     "COPIES": "set file section copies name other agree",
 }
 # What an item is drawn as, and what the bar below it says of its section; the worst last.
@@ -151,14 +150,9 @@ def cell(state, text):
     return f'<span class="{state}">{html.escape(text)}</span>'
 
 
-def date_of(created):
-    """The date that the six characters of a label are, or nothing."""
-    found = re.fullmatch(r"([ 0])(\d\d)(\d\d\d)", created)
-    if not found or found[3] == "000":
-        return ""
-    first = datetime.date(int(found[2]) + (1900 if found[1] == " " else 2000), 1, 1)
-    day = first + datetime.timedelta(int(found[3]) - 1)
-    return day.isoformat() if day.year == first.year else ""
+def form_of(row):
+    """The record format, and the lengths of a record and of a block, if they are known."""
+    return f'{row["format"]},\u00a0{row["record"]}\u00a0in\u00a0{row["block"]}' if row["format"] else ""
 
 
 def missing_of(row):
@@ -183,7 +177,7 @@ def file_row(rows, sections, copies):
         cells.append(cell("CONFLICT", "labels of different files have this number"))
     state = first["conflict"] or first["state"]
     columns = [*(html.escape(text) for text in (
-        first["set"], first["file"], first["identifier"], date_of(first["created"]))),
+        first["set"], first["file"], first["identifier"], first["created"], form_of(first))),
         cell(state, state), "".join(cells)]
     return "<tr>" + "".join(f"<td>{column}</td>" for column in columns) + "</tr>"
 
@@ -206,7 +200,7 @@ def page(names, paths):
     for row in rows["FILE"]:
         files[row["set"], row["file"]].append(row)
     yield "<h2>Files</h2>\n<table>\n<tr>" + "".join(f"<th>{word}</th>" for word in (
-        "set", "file", "identifier", "created", "state", "sections")) + "</tr>"
+        "set", "file", "identifier", "created", "records", "state", "sections")) + "</tr>"
     for file, each in files.items():
         sections, copies = ([row for row in some if (row["set"], row["file"]) == file]
                             for some in (rows["SECTION"], conflicts))

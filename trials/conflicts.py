@@ -220,6 +220,12 @@ class Case:
                 else "ok" if all(section.is_good() for section in sections) else "damaged"
                 for number, (_, sections) in enumerate(self.images)]
 
+    def damages(self):
+        """The lines about the damaged sections of all images, in their order."""
+        return [f"    section {section.sect} of file {section.file} has {fault}, blocks found: {len(section.blocks)}"
+                for _, sections in self.images for section in sections if not section.is_good()
+                for fault in ["unreadable blocks" if section.damage is not None else "a wrong block count"]]
+
     def tally(self):
         """How many images there are, and how many of them are in each state."""
         states = self.states()
@@ -286,6 +292,8 @@ def try_case(trial, case, folder, number):
     images = [line for line in lines if ".tap  " in line]
     right = len(images) == len(wanted) and all(map(str.startswith, images, wanted))
     trial.expect(right, f"{number}: images {images}, wanted {wanted}")
+    damages = [line for line in lines if "blocks found: " in line]
+    trial.expect(damages == case.damages(), f"{number}: damages {damages}, wanted {case.damages()}")
     trial.expect(done.returncode == (0 if sound else 3), f"{number}: survey, status {done.returncode}")
     volumes = [line[11:] for line in lines if line.startswith("  Volumes: ")]
     trial.expect(volumes == [", ".join(case.listed())], f"{number}: volumes {volumes}, wanted {case.listed()}")

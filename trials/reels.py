@@ -178,6 +178,18 @@ def headers_of(reel):
     return found
 
 
+def formed_on(reel):
+    """The files of which a second header was read in the right position."""
+    found, before = set(), None
+    for item, is_good in reel.met():
+        if before is not None and before.kind == "header":
+            found.add(before.file)
+        if item.kind == "header" and not is_good:
+            break
+        before = item
+    return found
+
+
 def wanted(file, reels):
     """None if the reels together have the complete file, otherwise the missing section and block, by positions and readings."""
     section, at = 1, 0

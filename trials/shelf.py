@@ -17,6 +17,7 @@ if there is one.
 --times: `survey` against `list` of each image, `unpack` against `extract` of each file, and 10,000 names from a list.
 """
 
+import datetime
 import resource
 import subprocess
 import sys
@@ -25,7 +26,7 @@ import time
 from pathlib import Path
 
 from common import Results, arguments
-from reels import headers_of, lacking, listed_volumes, make_shelf, sections_of, truly_there, wanted
+from reels import formed_on, headers_of, lacking, listed_volumes, make_shelf, sections_of, truly_there, wanted
 
 
 class Trial(Results):
@@ -47,6 +48,12 @@ def numbers_in(text):
     return range(ends[0], ends[-1] + 1)
 
 
+def date_of(day):
+    """The date that the six characters of a label are."""
+    first = datetime.date((1900 if day[0] == " " else 2000) + int(day[1:3]), 1, 1)
+    return (first + datetime.timedelta(int(day[3:]) - 1)).isoformat()
+
+
 def check_survey(trial, shelf, there, names):
     """The rows of files, each against the catalogue's description."""
     done = trial.run("survey", "--tsv", names=names)
@@ -59,6 +66,7 @@ def check_survey(trial, shelf, there, names):
             continue
         reels = [reel for reel in there if reel.set_id == set_id]
         met = {key[0] for reel in reels for key in sections_of(reel)}
+        headed, formed = ({file for reel in reels for file in found(reel)} for found in (headers_of, formed_on))
         for file in files:
             row = told.get((set_id, file.number))
             trial.expect((row is None) == (file.number > max(met, default=0)), f"survey: {set_id} {file.number}: {row}")
@@ -67,6 +75,10 @@ def check_survey(trial, shelf, there, names):
                 want = ["COMPLETE", ""] if section is None else [row[5], str(section)]
                 right = row[5:7] == want and (section is None) == (row[5] == "COMPLETE")
                 trial.expect(right, f"survey: {set_id} {file.number}: {row}, {section}")
+                day = date_of(file.day) if file.number in headed else ""
+                form = [str(each) for each in file.shape] if file.number in formed else [""] * 3
+                right = row[4] == day and row[10:] == form
+                trial.expect(right, f"survey: {set_id} {file.number}: {row}, expected {day!r}, {form}")
     return len(rows)
 
 

@@ -57,6 +57,7 @@ cases_of_wholes = record {
   early = refl;
   half_blank = refl;
   left = λ w. refl;
+  damaged_ones = refl;
   other_name = refl;
   other_date = refl;
   other_generation = refl;
@@ -107,7 +108,7 @@ cases_of_surveys = record {
   unopened = λ s c d v. v;
   opened = λ before c d v. v;
   viewed = λ before s c d v.
-      (v.1.stop, v.1.glance, v.1.noted, v.1.named, v.1.places, v.1.copied, v.2, v.3);
+      (v.1.stop, v.1.glance, v.1.damaged, v.1.noted, v.1.named, v.1.places, v.1.copied, v.2, v.3);
   gap_of_one = refl;
   gap_of_many = refl;
   row_of_many = refl;

@@ -77,6 +77,7 @@ mod SurveyStands
 mod SurveyVolumes
 mod ExamplesOfSurveys
 mod ExamplesOfCompared
+mod ExamplesOfForms
 mod ExamplesOfUnpacking
 mod ExamplesOfSalvage
 mod UnpackedFiles

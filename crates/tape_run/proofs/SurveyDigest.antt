@@ -11,7 +11,8 @@ use Rattle.std.proofs.Math.Nat.{mul_assoc, mul-add, mul-one, mod-add-mod, mod-ad
 use Rattle.std.proofs.Math.Nat.{add-mul-mod_self_right, mod-eq_of_lt}
 use Rattle.std.proofs.lemmas.Nat.{mul-mod_first, or_shifted, mod_below}
 use Rattle.tape_run.specs.SurveyDigest.{digest_by, digest_over, digest_with, digest_all, words_of}
-use Rattle.tape_run.specs.SurveyDigest.{side_by, side_over, block_digests, TellsWordsApart}
+use Rattle.tape_run.specs.SurveyDigest.{side_by, side_over, no_chains, block_digests}
+use Rattle.tape_run.specs.SurveyDigest.{TellsWordsApart}
 
 -- the factor and its inverse
 abbrev factor : ℕ
@@ -180,8 +181,8 @@ blocks_apart : (d : ℕ) (b c front back : List ℕ) (u v : ℕ) → d < 2 ^ 64 
     → u ≢ v → length b ≡ length c → words_of b ≡ front ++ u ∷ back → words_of c ≡ front ++ v ∷ back
     → digest_with d b ≢ digest_with d c
 blocks_apart d b c front back u v dn un vn other long one two same =
-    let of = λ (ws : List ℕ) (n : ℕ). digest_over d (side_over (0 ∷ 0 ∷ 0 ∷ 0 ∷ []) ws ++ n ∷ []) in
-    taken_word d 0 (0 ∷ 0 ∷ 0 ∷ []) front back (length b ∷ []) u v dn un vn other
+    let of = λ (ws : List ℕ) (n : ℕ). digest_over d (side_over no_chains ws ++ n ∷ []) in
+    taken_word d 0 (0 ∷ 0 ∷ 0 ∷ 0 ∷ 0 ∷ 0 ∷ 0 ∷ []) front back (length b ∷ []) u v dn un vn other
     (ap (λ ws. of ws (length b)) (sym one) ∙ same ∙ ap (of (words_of c)) (sym long)
     ∙ ap (λ ws. of ws (length b)) two)
 

@@ -1,11 +1,15 @@
 -- The items of an image that have been examined so far.
 use Rattle.std.proofs.Common.{◌≡◌, ℕ, ◌+◌, List, [], ◌∷◌, ◌++◌, Option, refl, sym, ap, subst, ◌∙◌}
+use Rattle.std.proofs.Common.{append-nil}
 use Rattle.tape_image.specs.declared.item.Ending.{Ending}
 use Rattle.tape_image.specs.declared.item.ImageFault.{ImageFault}
 use Rattle.tape_image.specs.Tape.{TapeItem}
 use Rattle.tape_image.specs.Reader.{IfKnown}
 use Rattle.tape_image.specs.Step.{TakesItem, TakesEnd, TakesFault}
 use Rattle.tape_image.proofs.Walks.{known_end, known_fault, IfKnown-map}
+use Rattle.tape_label.specs.declared.values.Head1.{Head1}
+use Rattle.tape_label.specs.declared.values.Head2.{Head2}
+use Rattle.tape_run.specs.declared.survey.files.FileKey.{FileKey}
 use Rattle.tape_run.specs.declared.passing.Phase.{Phase}
 use Rattle.tape_run.specs.declared.passing.Phase.TheVariants.{Volume}
 use Rattle.tape_run.specs.declared.section.ImageStop.{ImageStop}
@@ -14,15 +18,20 @@ use Rattle.tape_run.specs.declared.survey.glance.ImageSummary.{ImageSummary}
 use Rattle.tape_run.specs.declared.survey.view.ImageSurvey.{ImageSurvey}
 use Rattle.tape_run.specs.Added.{StopsBehind, stop_at}
 use Rattle.tape_run.specs.Noted.{noted_all}
-use Rattle.tape_run.specs.Passing.{Told, step, in_list, phase_after, told_from, under_way}
+use Rattle.tape_run.specs.declared.section.SectionLine.{SectionLine}
+use Rattle.tape_run.specs.Passing.{Told, step, in_list, phase_after, told_from, under_way, met_in}
 use Rattle.tape_run.specs.SurveyCopies.{Copied, with_told, digest_in}
-use Rattle.tape_run.specs.SurveyFiles.{Filed, with_met, with_all, filed_in}
+use Rattle.tape_run.specs.SurveyFiles.{Filed, with_met, with_form, form_in, with_label}
+use Rattle.tape_run.specs.SurveyFiles.{with_all, filed_in}
 use Rattle.tape_run.specs.SurveyGlance.{blank_glance, head_in, look_to, look_all, glance_of}
+use Rattle.tape_run.specs.SurveyGlance.{damage_in, damages_in}
 use Rattle.tape_run.specs.SurveyLocations.{Located, with_location, locate_all, located_in}
 use Rattle.tape_run.specs.SurveyRead.{ViewsItems}
 use Rattle.tape_run.proofs.KeepingPlaces.{noted_all-append}
 use Rattle.tape_run.proofs.SurveyCopies.{CopiedSoFar, copied_none, copied_more}
 use Rattle.tape_run.proofs.NotedSoFar.{SoFar, starts, one_more, by_ending, all_noted}
+use Rattle.tape_run.proofs.NotedSoFar.{told_from-append}
+use Rattle.std.proofs.lemmas.Grind.{flat_map-append}
 
 -- one more item was examined
 pub look_all-append : (g : ImageSummary) (p : Phase) (xs : List TapeItem) (x : TapeItem)
@@ -31,13 +40,13 @@ pub look_all-append : (g : ImageSummary) (p : Phase) (xs : List TapeItem) (x : T
 look_all-append g p [] x = refl
 look_all-append g p (y ∷ ys) x = look_all-append (look_to g p y (step p y).0) (step p y).0 ys x
 
--- and its header label was recorded
+-- and the header label that it is was recorded
 pub with_all-append : (files : List Filed) (p : Phase) (xs : List TapeItem) (x : TapeItem)
     → with_all files p (xs ++ x ∷ [])
-    ≡ with_met (with_all files p xs) (head_in (phase_after p xs) x)
+    ≡ with_label (with_all files p xs) (phase_after p xs) x
 with_all-append files p [] x = refl
 with_all-append files p (y ∷ ys) x =
-    with_all-append (with_met files (head_in p y)) (step p y).0 ys x
+    with_all-append (with_label files p y) (step p y).0 ys x
 
 -- and the image of its section was recorded
 pub locate_all-append : (image : ℕ) (sections : List Told) (located : List Located) (p : Phase)
@@ -55,11 +64,21 @@ locate_all-append image sections located p (y ∷ ys) x =
     (locate_all image (noted_all sections first) here (step p y).0 ys) image
     (head_in (phase_after (step p y).0 ys) x)) (sym (noted_all-append sections first then))
 
+-- and the section that it completes was added to the damaged ones, if it is damaged
+damages_in-append : (items : List TapeItem) (x : TapeItem)
+    → damages_in (told_from Volume (items ++ x ∷ []))
+    ≡ damages_in (told_from Volume items) ++ damages_in (in_list (step (phase_after Volume items) x).1)
+damages_in-append items x =
+    let last = in_list (step (phase_after Volume items) x).1 in
+    ap damages_in (told_from-append Volume items (x ∷ [])
+    ∙ ap (λ (r : List Told). told_from Volume items ++ r) (append-nil last))
+    ∙ flat_map-append damage_in (told_from Volume items) last
+
 -- Of the bytes `all` the items up to an offset were examined, and the results were recorded.
 pub record LookedSoFar (all left : Option (List ℕ)) (place image : ℕ) (sections : List Told)
     (files : List Filed) (located : List Located) (known : Copied) (phase : Phase) (g : ImageSummary)
     (digest : ℕ) (told : List Told) (filed : List Filed) (locations : List Located) (copies : Copied)
-    : Type 0 where
+    (damaged : List SectionLine) : Type 0 where
   pub count : ℕ
   pub so_far : SoFar all left place count sections phase told
   pub counted : g.items ≡ count
@@ -67,13 +86,14 @@ pub record LookedSoFar (all left : Option (List ℕ)) (place image : ℕ) (secti
   pub named : filed ≡ filed_in files so_far.items
   pub places : locations ≡ located_in image sections located so_far.items
   pub copied : CopiedSoFar so_far.items image known digest copies
+  pub damages : damaged ≡ damages_in (told_from Volume so_far.items)
 
 pub looks_start : (all left : Option (List ℕ)) (place image : ℕ) (sections : List Told)
-    (files : List Filed) (located : List Located) (known : Copied) (g : ImageSummary) → place ≡ 0
-    → left ≡ all → g ≡ blank_glance
+    (files : List Filed) (located : List Located) (known : Copied) (g : ImageSummary)
+    (listed : List SectionLine) → place ≡ 0 → left ≡ all → g ≡ blank_glance → listed ≡ []
     → LookedSoFar all left place image sections files located known Volume g 0 sections files located
-    known
-looks_start all left place image sections files located known g first same none = record {
+    known listed
+looks_start all left place image sections files located known g listed first same none empty = record {
   count = 0;
   so_far = starts all left place sections first same;
   counted = ap (λ (h : ImageSummary). h.items) none;
@@ -81,25 +101,36 @@ looks_start all left place image sections files located known g first same none 
   named = refl;
   places = refl;
   copied = copied_none image known;
+  damages = empty;
 }
+
+-- one more item was read for the labels of files
+pub labels_noted : (old mid new : List Filed) (p : Phase) (x : TapeItem) (head : Option Head1)
+    (form : Option (FileKey × Head2)) → mid ≡ with_met old head → head ≡ head_in p x
+    → new ≡ with_form mid form → form ≡ form_in p x → new ≡ with_label old p x
+labels_noted old mid new p x head form noted is formed found =
+    formed ∙ ap (with_form mid) found
+    ∙ ap (λ (r : List Filed). with_form r (form_in p x)) (noted ∙ ap (with_met old) is)
 
 pub looks_more : (all left next : Option (List ℕ)) (p q image : ℕ) (item : TapeItem)
     (sections : List Told) (files : List Filed) (located : List Located) (known : Copied)
     (phase after : Phase) (g h : ImageSummary) (digest then : ℕ) (mid told : List Told)
     (named filed : List Filed) (there locations : List Located) (found copies : Copied)
-    (here : Option Told)
+    (here : Option Told) (listed damaged : List SectionLine)
     → LookedSoFar all left p image sections files located known phase g digest mid named there found
+    listed
     → IfKnown left next (TakesItem p item q) → after ≡ (step phase item).0
     → told ≡ noted_all mid (in_list (step phase item).1)
-    → filed ≡ with_met named (head_in phase item)
+    → filed ≡ with_label named phase item
     → locations ≡ with_location mid there image (head_in phase item)
     → here ≡ (step phase item).1 → copies ≡ with_told found image here digest
+    → damaged ≡ listed ++ damages_in (in_list here)
     → then ≡ digest_in digest phase item → h ≡ look_to g phase item after
     → LookedSoFar all next q image sections files located known after h then told filed locations
-    copies
+    copies damaged
 looks_more all left next p q image item sections files located known phase after g h digest then mid
-    told named filed there locations found copies here s takes goes notes names places is adds digests
-    looks =
+    told named filed there locations found copies here listed damaged s takes goes notes names places
+    is adds lists digests looks =
     let items = s.so_far.items in
     let stands : phase ≡ phase_after Volume items = s.so_far.stands in
     let behind = phase_after Volume items in
@@ -112,8 +143,8 @@ looks_more all left next p q image item sections files located known phase after
           ∙ ap (λ (r : Phase). look_to g r item (step r item).0) stands
           ∙ ap (λ (f : ImageSummary). look_to f behind item (step behind item).0) s.glance
           ∙ sym (look_all-append blank_glance Volume items item);
-      named = names ∙ ap (λ (r : Phase). with_met named (head_in r item)) stands
-          ∙ ap (λ (r : List Filed). with_met r (head_in behind item)) s.named
+      named = names ∙ ap (λ (r : Phase). with_label named r item) stands
+          ∙ ap (λ (r : List Filed). with_label r behind item) s.named
           ∙ sym (with_all-append files Volume items item);
       places = places ∙ ap (λ (r : Phase). with_location mid there image (head_in r item)) stands
           ∙ ap (λ (r : List Told). with_location r there image (head_in behind item))
@@ -123,19 +154,34 @@ looks_more all left next p q image item sections files located known phase after
           ∙ sym (locate_all-append image sections located Volume items item);
       copied = copied_more items image known digest found phase item here then copies s.copied stands
           is adds digests;
+      damages = lists ∙ ap (λ (o : Option Told). listed ++ damages_in (in_list o)) is
+          ∙ ap (λ (r : Phase). listed ++ damages_in (in_list (step r item).1)) stands
+          ∙ ap (λ (r : List SectionLine). r ++ damages_in (in_list (step behind item).1)) s.damages
+          ∙ sym (damages_in-append items item);
     }
+
+-- all damaged sections of the image are listed
+all_damages : (items : List TapeItem) (phase : Phase) (listed damaged : List SectionLine)
+    → phase ≡ phase_after Volume items → listed ≡ damages_in (told_from Volume items)
+    → damaged ≡ listed ++ damages_in (in_list (under_way phase)) → damaged ≡ damages_in (met_in items)
+all_damages items phase listed damaged stands so_far lists =
+    let last = in_list (under_way (phase_after Volume items)) in
+    lists ∙ ap (λ (r : Phase). listed ++ damages_in (in_list (under_way r))) stands
+    ∙ ap (λ (r : List SectionLine). r ++ damages_in last) so_far
+    ∙ sym (flat_map-append damage_in (told_from Volume items) last)
 
 pub viewed_end : (all left next : Option (List ℕ)) (p q image : ℕ) (ending : Ending)
     (sections : List Told) (files : List Filed) (located : List Located) (known : Copied)
     (phase : Phase) (sight : ImageSurvey) (digest : ℕ) (mid told : List Told) (filed : List Filed)
-    (locations : List Located) (copies : Copied)
+    (locations : List Located) (copies : Copied) (listed : List SectionLine)
     → LookedSoFar all left p image sections files located known phase sight.glance digest mid filed
-    locations copies
+    locations copies listed
     → IfKnown left next (TakesEnd p [] ending q)
     → told ≡ noted_all mid (in_list (under_way phase)) → sight.stop ≡ stop_at ending
+    → sight.damaged ≡ listed ++ damages_in (in_list (under_way phase))
     → ViewsItems all next image sections files located known sight told filed locations copies
 viewed_end all left next p q image ending sections files located known phase sight digest mid told
-    filed locations copies s takes notes stop =
+    filed locations copies listed s takes notes stop lists =
     let items = s.so_far.items in
     record {
       items = items;
@@ -148,19 +194,21 @@ viewed_end all left next p q image ending sections files located known phase sig
       named = s.named;
       places = s.places;
       copied = s.copied.copied;
+      damaged = all_damages items phase listed sight.damaged s.so_far.stands s.damages lists;
     }
 
 pub viewed_fault : (all left next : Option (List ℕ)) (p image : ℕ) (fault : ImageFault)
     (sections : List Told) (files : List Filed) (located : List Located) (known : Copied)
     (phase : Phase) (sight : ImageSurvey) (digest : ℕ) (mid told : List Told) (filed : List Filed)
-    (locations : List Located) (copies : Copied)
+    (locations : List Located) (copies : Copied) (listed : List SectionLine)
     → LookedSoFar all left p image sections files located known phase sight.glance digest mid filed
-    locations copies
+    locations copies listed
     → IfKnown left next (TakesFault p [] fault)
     → told ≡ noted_all mid (in_list (under_way phase)) → sight.stop ≡ Fault fault
+    → sight.damaged ≡ listed ++ damages_in (in_list (under_way phase))
     → ViewsItems all next image sections files located known sight told filed locations copies
 viewed_fault all left next p image fault sections files located known phase sight digest mid told
-    filed locations copies s takes notes stop =
+    filed locations copies listed s takes notes stop lists =
     let items = s.so_far.items in
     record {
       items = items;
@@ -171,4 +219,5 @@ viewed_fault all left next p image fault sections files located known phase sigh
       named = s.named;
       places = s.places;
       copied = s.copied.copied;
+      damaged = all_damages items phase listed sight.damaged s.so_far.stands s.damages lists;
     }

@@ -29,7 +29,7 @@ pub record CasesOfCompared : Type 0 where
   -- digests that were calculated elsewhere: of nothing, of nine bytes in one block, and in two
   pub of_nothing : digest_of [] ≡ 0
   pub one_block : digest_of (codes "ABCDEFGHI" ∷ []) ≡ 7804481741156031684
-  pub two_blocks : digest_of (codes "ABCDEFGH" ∷ codes "I" ∷ []) ≡ 7065872164080445461
+  pub two_blocks : digest_of (codes "ABCDEFGH" ∷ codes "I" ∷ []) ≡ 15174253614990337560
   -- blocks are those since the mark after the headers
   pub no_blocks : (bs : List (List ℕ)) (m : Met) → blocks_with bs (phases.Headers m) mark ≡ []
   pub one_more : (bs : List (List ℕ)) (m : Met)

@@ -22,6 +22,7 @@ use Rattle.tape_run.specs.declared.section.ImageStop.TheVariants.{Marked, Physic
 use Rattle.tape_run.specs.declared.section.SectionState.TheVariants.{Good, Bad}
 use Rattle.tape_run.specs.declared.section.SectionKey.{SectionKey}
 use Rattle.tape_run.specs.declared.survey.dates.Date.{Date}
+use Rattle.tape_run.specs.declared.survey.files.FileKey.{FileKey}
 use Rattle.tape_run.specs.declared.survey.glance.First.TheVariants as firsts
 use Rattle.tape_run.specs.declared.survey.course.ExpectedItem.{ExpectedItem}
 use Rattle.tape_run.specs.declared.survey.course.ExpectedItem.TheVariants as wanted
@@ -46,6 +47,7 @@ use Rattle.tape_run.specs.SurveyCopies.{Copied, no_copies, copied_in, disputed, 
 use Rattle.tape_run.specs.SurveyFiles.{filed_in, Filed, is_other, with_head, note_at, file_key}
 use Rattle.tape_run.specs.SurveyGlance.{glance_of, blank_glance, first_of, is_ebcdic, course_with}
 use Rattle.tape_run.specs.SurveyGlance.{late_with, unread_with, unread_by, or_else, is_kind_vol1}
+use Rattle.tape_run.specs.SurveyGlance.{damages_in}
 use Rattle.tape_run.specs.SurveyLaws.{course_of, has_left, end_marks, IsSectionInOrder, IsBegun}
 use Rattle.tape_run.specs.SurveyLaws.{IsVolumeInOrder, IsFirstAstray, LeavesThere, EndedIsVolume}
 use Rattle.tape_run.specs.SurveyGaps.{is_found, gap_first, gap_text, numbers_line}
@@ -54,7 +56,7 @@ use Rattle.tape_run.specs.SurveyWording.{image_text, sections_text, end_text}
 use Rattle.tape_run.specs.SurveyLine.{trimmed_text, dispute_text}
 use Rattle.tape_run.specs.SurveyRows.{section_row, sight_cells, eof_cell, standing_cells}
 use Rattle.tape_run.specs.SurveyRows.{conflict_cell, whole_cell}
-use Rattle.tape_run.specs.Lacks.{good_end, entry_at, key_at}
+use Rattle.tape_run.specs.Lacks.{good_end, entry_at, key_at, line_of}
 use Rattle.tape_run.specs.SurveyLocations.{Located, with_location, located_in, next_image}
 use Rattle.tape_image.specs.Reader.{IfKnown}
 use Rattle.tape_run.specs.Added.{StopsBehind}
@@ -67,7 +69,11 @@ use Rattle.tape_run.specs.Survey.{image_texts, survey_text, Surveys, SurveysFron
 -- format
 abbrev pub sight : LabelOrder → Option ℕ → ImageStop → ImageSurvey
 sight course unread stop =
-    record { glance = record blank_glance { course = course; unread = unread }; stop = stop }
+    record {
+      glance = record blank_glance { course = course; unread = unread };
+      stop = stop;
+      damaged = [];
+    }
 
 -- the header label of the first file of BCK001, with these values
 abbrev pub label : List ℕ → List ℕ → List ℕ → Head1
@@ -87,6 +93,10 @@ label file_id created generation = record {
 -- the first backup
 abbrev pub first_week : Head1
 first_week = label (codes "WEEKLY.BCK       ") (codes " 85100") (codes "0001")
+
+-- its number
+abbrev pub backups : FileKey
+backups = file_key (codes "BCK001") 1
 
 -- findings: sections, files and copies, on images that are all complete or not
 abbrev pub found_with : Bool → List Told → List Filed → Copied → Found
@@ -170,6 +180,9 @@ pub record CasesOfWholes : Type 0 where
   pub early : is_whole_sight (sight Follows None Marked) ≡ false
   pub half_blank : is_whole_sight (sight Blank None Marked) ≡ false
   pub left : (w : ExpectedItem) → is_whole_sight (sight (Leaves 9 w) None Marked) ≡ false
+  -- each damaged section is listed, and no other
+  pub damaged_ones : damages_in (met 1 1 true Bad ∷ met 1 2 true Good ∷ met 2 1 true Bad ∷ [])
+      ≡ line_of (met 1 1 true Bad) ∷ line_of (met 2 1 true Bad) ∷ []
   -- different files with one number differ in identifier, date or generation
   pub other_name : is_other first_week
       (label (codes "DAILY.BCK        ") (codes " 85100") (codes "0001")) ≡ true
@@ -181,9 +194,9 @@ pub record CasesOfWholes : Type 0 where
   -- the label found first is kept, and it is recorded that another was found
   pub first_kept : with_head (with_head (with_head [] first_week)
       (label (codes "DAILY.BCK        ") (codes " 85100") (codes "0001"))) first_week
-      ≡ (file_key (codes "BCK001") 1, record { head = first_week; differs = true }) ∷ []
+      ≡ (backups, record { head = first_week; form = None; differs = true }) ∷ []
   pub noted : note_at (with_head [] first_week) (file_key (codes "BCK001") 1)
-      ≡ Some (record { head = first_week; differs = false })
+      ≡ Some (record { head = first_week; form = None; differs = false })
   pub not_noted : note_at (with_head [] first_week) (file_key (codes "BCK001") 2) ≡ None
   -- the report on a file
   pub complete : standing_of (met 1 1 true Good ∷ []) (codes "ABC001") 1 ≡ Complete
@@ -199,7 +212,8 @@ pub record CasesOfWholes : Type 0 where
   pub nothing_met : is_all nothing_found ≡ false
   pub not_found : is_all (found_with true (met 2 1 true Good ∷ []) [] no_copies) ≡ false
   pub mixed : is_all (found true
-      ((file_key (codes "ABC001") 1, record { head = first_week; differs = true }) ∷ [])) ≡ false
+      ((file_key (codes "ABC001") 1, record { head = first_week; form = None; differs = true })
+      ∷ [])) ≡ false
   pub not_good : is_all (found_with true (met 1 1 true Good ∷ met 1 2 true Bad ∷ []) [] no_copies)
       ≡ false
   pub disputed : is_all (found_with true (met 1 1 true Good ∷ []) [] in_dispute) ≡ false
@@ -243,6 +257,7 @@ pub record CasesOfSurveys : Type 0 where
   pub viewed : (before : Option (List ℕ)) (s : ImageSurvey) (c d : Found)
       (v : IsViewed (Some before) (Some s) c d)
       → IfKnown before v.0 (StopsBehind v.1.items s.stop) × (s.glance ≡ glance_of v.1.items)
+      × (s.damaged ≡ damages_in (met_in v.1.items))
       × (d.sections ≡ noted_all c.sections (met_in v.1.items))
       × (d.files ≡ filed_in c.files v.1.items)
       × (d.locations ≡ located_in c.images c.sections c.locations v.1.items)
@@ -252,7 +267,7 @@ pub record CasesOfSurveys : Type 0 where
   pub gap_of_one : gap_text Words (codes "ABC001") 1 2 ≡ codes "  file 1: not found\n"
   pub gap_of_many : gap_text Words (codes "ABC001") 1 9999 ≡ codes "  files 1-9998: not found\n"
   pub row_of_many : gap_text Rows (codes "ABC001") 2 5
-      ≡ codes "FILE\tABC001\t2-4\t\t\tMISSING\t1\t\t\t1:MISSING;\n"
+      ≡ codes "FILE\tABC001\t2-4\t\t\tMISSING\t1\t\t\t1:MISSING;\t\t\t\n"
   pub no_gap : (y : Wording) → gap_text y (codes "ABC001") 3 3 ≡ []
   pub unpacked_gap : numbers_line (codes "ABC001") 1 9999
       ≡ codes "FILE ABC001 1-9998 NOT FOUND\n"
@@ -300,7 +315,8 @@ pub record CasesOfSurveys : Type 0 where
       ≡ codes "3 images: 1 ok, 2 in conflict\n"
   pub last_section : eof_cell true ≡ codes "EOF"
   pub other_section : eof_cell false ≡ []
-  pub no_columns : (disputed : Bool) → sight_cells None disputed ≡ codes "NOT OPENED\t\t\t\t\t\t\t"
+  pub no_columns : (disputed : Bool) → sight_cells None disputed
+      ≡ codes "NOT OPENED\t\t\t\t\t\t\t\t"
   pub wanted : (n : ℕ) → standing_cells (Behind n (codes "ABC001"))
       ≡ codes "MISSING\t" ++ decimal n ++ codes "\t" ++ codes "ABC001"
   pub nothing_wanted : standing_cells Complete ≡ codes "COMPLETE\t\t"

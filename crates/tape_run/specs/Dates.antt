@@ -49,8 +49,17 @@ date_of (c ∷ ds) = if all_ascii_digits ds then in_century (century c) (number_
 abbrev pub two_digits : ℕ → List ℕ
 two_digits n = (if nat_lt n 10 then codes "0" else []) ++ decimal n
 
--- a date, such as 1985-04-23; spaces if there is none
-abbrev pub date_text : Option Date → List ℕ
-date_text (Some d) =
+-- a date, such as 1985-04-23
+abbrev pub day_text : Date → List ℕ
+day_text d =
     decimal d.year ++ (codes "-" ++ (two_digits d.month ++ (codes "-" ++ two_digits d.day)))
+
+-- the date, if there is one, or spaces
+abbrev pub date_text : Option Date → List ℕ
+date_text (Some d) = day_text d
 date_text None = codes "          "
+
+-- the date, if there is one
+abbrev pub date_cell : Option Date → List ℕ
+date_cell (Some d) = day_text d
+date_cell None = []

@@ -140,5 +140,6 @@ pub mod CasesOfRounds
 pub mod CasesOfLaws
 pub mod CasesOfSurveys
 pub mod CasesOfCompared
+pub mod CasesOfForms
 pub mod CasesOfUnpacking
 pub mod CasesOfSalvage

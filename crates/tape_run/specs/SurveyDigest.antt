@@ -26,19 +26,22 @@ abbrev pub side_over : List ℕ → List ℕ → List ℕ
 side_over ds [] = ds
 side_over ds (w ∷ ws) = side_over (side_by ds w) ws
 
--- the digests of four chains
+-- the digests of eight chains
 abbrev pub in_turn : Chains → List ℕ
-in_turn x = x.a ∷ x.b ∷ x.c ∷ x.d ∷ []
+in_turn x = x.a ∷ x.b ∷ x.c ∷ x.d ∷ x.e ∷ x.f ∷ x.g ∷ x.h ∷ []
+
+-- eight chains before the first word
+abbrev pub no_chains : List ℕ
+no_chains = 0 ∷ 0 ∷ 0 ∷ 0 ∷ 0 ∷ 0 ∷ 0 ∷ 0 ∷ []
 
 -- The words of a block: those of eight bytes each, lowest byte first, then each byte that is left.
 unfoldable pub words_of : List ℕ → List ℕ
 words_of block = map (from_le_bytes w64) (first_chunks 8 (length block / 8) block)
     ++ drop (length block / 8 * 8) block
 
--- The digests of a block: its words go to four chains in turn, each of which begins with 0. The
--- length of the block follows.
+-- The digests of a block: its words go to eight chains in turn. The length of the block follows.
 abbrev pub block_digests : List ℕ → List ℕ
-block_digests block = side_over (0 ∷ 0 ∷ 0 ∷ 0 ∷ []) (words_of block) ++ length block ∷ []
+block_digests block = side_over no_chains (words_of block) ++ length block ∷ []
 
 -- the digest after one more block
 abbrev pub digest_with : ℕ → List ℕ → ℕ

@@ -1,17 +1,24 @@
 -- The facts about files in their header labels.
 use Rattle.std.specs.Prelude.{ℕ, ◌==◌, ◌&&◌, ◌||◌, not, Bool, false, List, [], ◌∷◌}
-use Rattle.std.specs.Prelude.{Option, Some, None}
+use Rattle.std.specs.Prelude.{Option, Some, None, Result, Ok, Err}
 use Rattle.std.specs.Map.{lookup}
 use Rattle.std.specs.Str.{bytes_eq}
 use Rattle.indexmap.specs.IndexMap.{insert_entry}
-use Rattle.tape_image.specs.Tape.{TapeItem}
+use Rattle.tape_image.specs.Tape.{TapeItem, block, bad, mark}
+use Rattle.tape_label.specs.declared.label.LabelFault.{LabelFault}
 use Rattle.tape_label.specs.declared.values.Head1.{Head1}
+use Rattle.tape_label.specs.declared.values.Head2.{Head2}
+use Rattle.tape_label.specs.declared.values.Kind.{Kind}
+use Rattle.tape_label.specs.declared.values.Kind.TheVariants.{Hdr2}
+use Rattle.tape_label.specs.Kinds.{kind_at}
+use Rattle.tape_label.specs.Reading.{head2_at}
 use Rattle.tape_run.specs.declared.passing.Phase.{Phase}
-use Rattle.tape_run.specs.declared.passing.Phase.TheVariants.{Volume}
+use Rattle.tape_run.specs.declared.passing.Phase.TheVariants.{Volume, Second}
+use Rattle.tape_run.specs.declared.section.SectionKey.{SectionKey}
 use Rattle.tape_run.specs.declared.survey.files.FileKey.{FileKey}
 use Rattle.tape_run.specs.declared.survey.files.FileNote.{FileNote}
 use Rattle.tape_run.specs.Passing.{step}
-use Rattle.tape_run.specs.SurveyGlance.{head_in}
+use Rattle.tape_run.specs.SurveyGlance.{head_in, or_else}
 
 -- a file, and its record
 abbrev pub Filed : Type 0
@@ -28,9 +35,8 @@ is_other a b = not (bytes_eq a.file_id b.file_id)
 
 -- the record of a file after one more label
 abbrev pub note_of : Option FileNote → Head1 → FileNote
-note_of None head = record { head = head; differs = false }
-note_of (Some note) head =
-    record { head = note.head; differs = note.differs || is_other note.head head }
+note_of None head = record { head = head; form = None; differs = false }
+note_of (Some note) head = record note { differs = note.differs || is_other note.head head }
 
 -- the file of a header label
 abbrev pub file_key : List ℕ → ℕ → FileKey
@@ -51,10 +57,41 @@ abbrev pub with_met : List Filed → Option Head1 → List Filed
 with_met files None = files
 with_met files (Some head) = with_head files head
 
+-- a second header label of this kind, if it could be read as one, and the file of its section
+abbrev pub form_by : SectionKey → Option Kind → Result Head2 LabelFault → Option (FileKey × Head2)
+form_by key (Some Hdr2) (Ok form) = Some (file_key key.set_id key.file, form)
+form_by key _ _ = None
+
+-- the block as a second header label, if it is one that is supported and one is expected
+abbrev pub form_at : Phase → List ℕ → Option (FileKey × Head2)
+form_at (Second met) b = form_by met.key (kind_at b) (head2_at b)
+form_at _ b = None
+
+-- the same for an item
+abbrev pub form_in : Phase → TapeItem → Option (FileKey × Head2)
+form_in p (block b) = form_at p b
+form_in p bad = None
+form_in p mark = None
+
+-- the record of a file after one more second label: the label found first is kept
+abbrev pub with_form_of : List Filed → FileKey → Option FileNote → Head2 → List Filed
+with_form_of files key None form = files
+with_form_of files key (Some note) form =
+    insert_entry same_file files key (record note { form = or_else note.form (Some form) })
+
+-- the files after a second header label, if one was found
+abbrev pub with_form : List Filed → Option (FileKey × Head2) → List Filed
+with_form files None = files
+with_form files (Some (key, form)) = with_form_of files key (note_at files key) form
+
+-- after the label that an item in this phase is, if it is one
+abbrev pub with_label : List Filed → Phase → TapeItem → List Filed
+with_label files p x = with_form (with_met files (head_in p x)) (form_in p x)
+
 -- after the header labels among these items, in this phase
 abbrev pub with_all : List Filed → Phase → List TapeItem → List Filed
 with_all files p [] = files
-with_all files p (x ∷ xs) = with_all (with_met files (head_in p x)) (step p x).0 xs
+with_all files p (x ∷ xs) = with_all (with_label files p x) (step p x).0 xs
 
 -- after those of an image
 abbrev pub filed_in : List Filed → List TapeItem → List Filed

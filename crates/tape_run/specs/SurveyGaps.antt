@@ -36,7 +36,7 @@ gap_line first file = (if nat_lt (first + 1) file then codes "  files " else cod
 -- their row
 abbrev pub gap_row : List ℕ → ℕ → ℕ → List ℕ
 gap_row set_id first file = codes "FILE\t" ++ trimmed_text set_id ++ codes "\t"
-    ++ numbers_text first file ++ codes "\t\t\tMISSING\t1\t\t\t1:MISSING;\n"
+    ++ numbers_text first file ++ codes "\t\t\tMISSING\t1\t\t\t1:MISSING;\t\t\t\n"
 
 -- the text for them
 abbrev pub gap_by : Wording → List ℕ → ℕ → ℕ → List ℕ

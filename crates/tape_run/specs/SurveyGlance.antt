@@ -1,6 +1,7 @@
 -- A summary of an image, from its items.
-use Rattle.std.specs.Prelude.{ℕ, ◌+◌, ◌==◌, ◌&&◌, ◌||◌, is_some, not, Bool, true, false, if◌then◌else◌}
+use Rattle.std.specs.Prelude.{ℕ, ◌+◌, ◌==◌, ◌&&◌, not, Bool, true, false, if◌then◌else◌}
 use Rattle.std.specs.Prelude.{List, [], ◌∷◌, length, Option, Some, None, Result, Ok, Err}
+use Rattle.std.specs.List.{flat_map}
 use Rattle.std.specs.Str.{bytes_eq}
 use Rattle.tape_image.specs.Tape.{TapeItem, block, bad, mark}
 use Rattle.tape_label.specs.declared.label.LabelFault.{LabelFault}
@@ -24,7 +25,7 @@ use Rattle.tape_run.specs.declared.survey.glance.ImageSummary.{ImageSummary}
 use Rattle.tape_run.specs.declared.section.SectionLine.{SectionLine}
 use Rattle.tape_run.specs.Lacks.{line_of}
 use Rattle.tape_run.specs.Noted.{is_good}
-use Rattle.tape_run.specs.Passing.{Told, step, under_way}
+use Rattle.tape_run.specs.Passing.{Told, step}
 
 -- 80 bytes that begin VOL1 in EBCDIC
 unfoldable pub is_ebcdic : List ℕ → Bool
@@ -174,19 +175,13 @@ abbrev pub one_head : Option Head1 → ℕ
 one_head None = 0
 one_head (Some head) = 1
 
--- the entry of the section that was found, if any
-abbrev pub line_in : Option Told → Option SectionLine
-line_in (Some t) = Some (line_of t)
-line_in None = None
+-- the entry of a section, if the section is damaged
+abbrev pub damage_in : Told → List SectionLine
+damage_in t = if is_good t.1.state then [] else line_of t ∷ []
 
--- the same if the section is damaged
-abbrev pub damage_in : Option Told → Option SectionLine
-damage_in (Some t) = if is_good t.1.state then None else Some (line_of t)
-damage_in None = None
-
--- there are both
-abbrev pub is_second : Option SectionLine → Option SectionLine → Bool
-is_second first second = is_some first && is_some second
+-- the damaged ones of these sections
+abbrev pub damages_in : List Told → List SectionLine
+damages_in sections = flat_map damage_in sections
 
 -- the summary before any item was read
 abbrev pub blank_glance : ImageSummary
@@ -198,9 +193,6 @@ blank_glance = record {
   files = 0;
   bad = 0;
   unread = None;
-  damage = None;
-  more = false;
-  unfinished = None;
   course = Follows;
 }
 
@@ -214,9 +206,6 @@ look_to g p x next = record {
   files = g.files + one_head (head_in p x);
   bad = g.bad + one_if (is_bad x);
   unread = or_else g.unread (unread_in p x);
-  damage = or_else g.damage (damage_in (step p x).1);
-  more = g.more || is_second g.damage (damage_in (step p x).1);
-  unfinished = line_in (under_way next);
   course = course_with g.course (g.items + 1) p x next;
 }
 

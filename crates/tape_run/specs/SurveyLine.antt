@@ -3,7 +3,7 @@ use Rattle.std.specs.Prelude.{Bool, true, false, not, length, take, ◌-◌, ℕ
 use Rattle.std.specs.Prelude.{nat_lt, map, if◌then◌else◌, List, [], ◌++◌, codes, decimal}
 use Rattle.std.specs.Prelude.{Option, Some, None, replicate}
 use Rattle.tape_image.specs.declared.item.ImageFault.{ImageFault}
-use Rattle.std.specs.List.{suffix_len}
+use Rattle.std.specs.List.{flat_map, suffix_len}
 use Rattle.tape_image.specs.Fault.{number_of}
 use Rattle.tape_label.specs.declared.values.Head1.{Head1}
 use Rattle.tape_run.specs.declared.section.ImageStop.{ImageStop}
@@ -91,20 +91,14 @@ damage_text Count = codes "has a wrong block count"
 damage_text Cut = codes "is truncated"
 
 -- a damaged section
-abbrev pub damaged_text : List ℕ → Option SectionLine → List ℕ
-damaged_text between None = []
-damaged_text between (Some s) =
+abbrev pub damaged_text : List ℕ → SectionLine → List ℕ
+damaged_text between s =
     between ++ (codes "section " ++ (decimal s.sect ++ (codes " of file " ++ (decimal s.file
     ++ (codes " " ++ (damage_text s.state ++ (codes ", blocks found: " ++ decimal s.blocks)))))))
 
--- that there are more
-abbrev pub more_text : List ℕ → Bool → List ℕ
-more_text between more = if more then between ++ codes "further sections are damaged" else []
-
--- the damaged sections, and the one in which the items end
-abbrev pub damages_text : List ℕ → ImageSummary → List ℕ
-damages_text between g = damaged_text between g.damage ++ (more_text between g.more
-    ++ damaged_text between g.unfinished)
+-- the damaged sections
+abbrev pub damages_text : List ℕ → List SectionLine → List ℕ
+damages_text between damaged = flat_map (damaged_text between) damaged
 
 -- the text of the contents of an image
 abbrev pub glance_text : List ℕ → ImageSummary → List ℕ
@@ -189,7 +183,7 @@ dispute_text between (Some key) = between ++ (codes "section " ++ (decimal key.s
 abbrev pub seen_text : List ℕ → ImageSurvey → Option SectionKey → List ℕ
 seen_text between s key = glance_text between s.glance
     ++ (course_text between (course_shown s.glance.first s.glance.course) s.stop
-    ++ (stop_text between s.stop ++ (damages_text between s.glance ++ dispute_text between key)))
+    ++ (stop_text between s.stop ++ (damages_text between s.damaged ++ dispute_text between key)))
 
 -- the word for a state, padded to a column
 abbrev pub state_word : ImageState → List ℕ

@@ -11,7 +11,7 @@ use Rattle.tape_run.specs.Passing.{Told, met_in}
 use Rattle.tape_run.specs.Reeling.{Mounting}
 use Rattle.tape_run.specs.SurveyCopies.{Copied, no_copies, copied_in}
 use Rattle.tape_run.specs.SurveyFiles.{Filed, filed_in}
-use Rattle.tape_run.specs.SurveyGlance.{glance_of}
+use Rattle.tape_run.specs.SurveyGlance.{glance_of, damages_in}
 use Rattle.tape_run.specs.SurveyLocations.{Located, located_in, next_image}
 use Rattle.tape_run.specs.SurveyTally.{is_whole_sight}
 
@@ -46,6 +46,7 @@ pub record ViewsItems (before after : Option (List ℕ)) (image : ℕ) (sections
     pub items : List TapeItem
     pub stop : IfKnown before after (StopsBehind items sight.stop)
     pub glance : sight.glance ≡ glance_of items
+    pub damaged : sight.damaged ≡ damages_in (met_in items)
     pub noted : told ≡ noted_all sections (met_in items)
     pub named : filed ≡ filed_in files items
     pub places : locations ≡ located_in image sections located items

@@ -1,8 +1,10 @@
 -- The rows of a survey, for scripts. A tab separates the columns, and none contains one: each byte
 -- of a name or an identifier that is not printable is replaced by a question mark.
-use Rattle.std.specs.Prelude.{ℕ, Bool, if◌then◌else◌, List, [], ◌++◌, codes, decimal}
+use Rattle.std.specs.Prelude.{ℕ, Bool, if◌then◌else◌, List, [], ◌∷◌, ◌++◌, codes, decimal}
 use Rattle.std.specs.Prelude.{Option, Some, None, is_some, ◌||◌}
+use Rattle.tape_label.specs.Formats.{letter}
 use Rattle.tape_label.specs.declared.values.Head1.{Head1}
+use Rattle.tape_label.specs.declared.values.Head2.{Head2}
 use Rattle.tape_run.specs.declared.section.SectionKey.{SectionKey}
 use Rattle.tape_run.specs.declared.survey.files.FileNote.{FileNote}
 use Rattle.tape_run.specs.declared.survey.glance.First.{First}
@@ -13,6 +15,7 @@ use Rattle.tape_run.specs.declared.survey.sets.Standing.TheVariants.{Complete, D
 use Rattle.tape_run.specs.declared.survey.sets.Standing.TheVariants.{Missing}
 use Rattle.tape_run.specs.declared.survey.view.ImageSurvey.{ImageSurvey}
 use Rattle.tape_run.specs.CheckLine.{state_text, stop_text}
+use Rattle.tape_run.specs.Dates.{date_of, date_cell}
 use Rattle.tape_run.specs.Passing.{Told}
 use Rattle.tape_run.specs.SurveyCopies.{dispute_at}
 use Rattle.tape_run.specs.SurveyFiles.{note_at, file_key}
@@ -33,6 +36,11 @@ abbrev pub volume_cell : First → List ℕ
 volume_cell (firsts.Volume label) = trimmed_text label.volume
 volume_cell _ = []
 
+-- the owner, if the first item is a volume label
+abbrev pub owner_cell : First → List ℕ
+owner_cell (firsts.Volume label) = trimmed_text label.owner
+owner_cell _ = []
+
 -- the set and the system, if a section was found
 abbrev pub head_cells : Option Head1 → List ℕ
 head_cells (Some head) =
@@ -49,12 +57,12 @@ abbrev pub seen_cells : ImageSurvey → Bool → List ℕ
 seen_cells s disputed =
     whole_cell disputed (is_sound s) ++ codes "\t" ++ volume_cell s.glance.first ++ codes "\t"
     ++ head_cells s.glance.head ++ codes "\t" ++ count_cells s.glance ++ codes "\t"
-    ++ stop_text s.stop
+    ++ stop_text s.stop ++ codes "\t" ++ owner_cell s.glance.first
 
 -- the description of the image, or that it was not opened
 abbrev pub sight_cells : Option ImageSurvey → Bool → List ℕ
 sight_cells (Some s) disputed = seen_cells s disputed
-sight_cells None disputed = codes "NOT OPENED\t\t\t\t\t\t\t"
+sight_cells None disputed = codes "NOT OPENED\t\t\t\t\t\t\t\t"
 
 -- the columns after a name, except the words at the end
 abbrev pub middle_cells : Option ImageSurvey → Bool → List ℕ
@@ -89,7 +97,7 @@ section_row (key, entry) =
 -- the facts about a file in its labels
 abbrev pub known_cells : Option FileNote → List ℕ
 known_cells (Some note) =
-    trimmed_text note.head.file_id ++ codes "\t" ++ trimmed_text note.head.created
+    trimmed_text note.head.file_id ++ codes "\t" ++ date_cell (date_of note.head.created)
 known_cells None = codes "\t"
 
 -- a section, in this state, and a volume
@@ -117,7 +125,19 @@ file_cells d set_id file =
     ++ known_cells note ++ codes "\t" ++ standing_cells (standing_of d.sections set_id file)
     ++ conflict_cell (is_mixed note || is_some (dispute_at d.copies key))
 
--- the row of a file: the last column has each section that is damaged or missing
+-- the record format, the block length and the record length, if a second label states them
+abbrev pub form_by : Option Head2 → List ℕ
+form_by (Some form) = codes "\t" ++ letter form.format ∷ codes "\t" ++ decimal form.block_len
+    ++ codes "\t" ++ decimal form.rec_len
+form_by None = codes "\t\t\t"
+
+-- those of a file
+abbrev pub form_cells : Option FileNote → List ℕ
+form_cells (Some note) = form_by note.form
+form_cells None = codes "\t\t\t"
+
+-- the row of a file, with a column for all sections that are damaged or missing
 abbrev pub file_row : Found → List ℕ → ℕ → List ℕ
 file_row d set_id file = (file_cells d set_id file
-    ++ rest_lines Rows (is_whole_file d.sections set_id file) d.sections set_id file) ++ codes "\n"
+    ++ rest_lines Rows (is_whole_file d.sections set_id file) d.sections set_id file)
+    ++ (form_cells (note_at d.files (file_key set_id file)) ++ codes "\n")

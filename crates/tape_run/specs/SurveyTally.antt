@@ -1,6 +1,6 @@
 -- The state of an image, and the number of images in each state. The line is for people, and may
 -- change.
-use Rattle.std.specs.Prelude.{ℕ, ◌+◌, ◌==◌, ◌&&◌, nat_le, min, not, is_some, Bool, true, false}
+use Rattle.std.specs.Prelude.{ℕ, ◌+◌, ◌==◌, ◌&&◌, nat_le, min, length, Bool, true, false}
 use Rattle.std.specs.Prelude.{if◌then◌else◌, List, [], ◌∷◌, ◌++◌, codes, decimal, Option, Some}
 use Rattle.std.specs.Prelude.{None}
 use Rattle.tape_image.specs.declared.item.ImageFault.{ImageFault}
@@ -40,7 +40,7 @@ is_whole_sight s = is_ended s.glance.course && (is_none s.glance.unread && is_en
 
 -- The items are such a volume, and none of its sections is damaged.
 abbrev pub is_sound : ImageSurvey → Bool
-is_sound s = is_whole_sight s && not (is_some s.glance.damage)
+is_sound s = is_whole_sight s && (length s.damaged == 0)
 
 -- the bytes cannot be read as an image
 abbrev pub is_no_image : ImageFault → Bool
@@ -53,7 +53,7 @@ abbrev pub volume_state : ImageSurvey → ImageState
 volume_state s =
     if is_sound s
     then (if s.glance.files == 0 then states.Blank else states.Ok)
-    else if is_ended s.glance.course && (is_end s.stop && not (is_some s.glance.damage))
+    else if is_ended s.glance.course && (is_end s.stop && (length s.damaged == 0))
     then states.Unsupported
     else states.Damaged
 

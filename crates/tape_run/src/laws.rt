@@ -18,6 +18,7 @@ ghost use Rattle.tape_run.specs.CasesOfRounds.{CasesOfRounds};
 ghost use Rattle.tape_run.specs.CasesOfLaws.{CasesOfRunLaws, CasesOfCatalogueLaws};
 ghost use Rattle.tape_run.specs.CasesOfSurveys.{CasesOfGlances, CasesOfWholes, CasesOfSurveys};
 ghost use Rattle.tape_run.specs.CasesOfCompared.{CasesOfCompared};
+ghost use Rattle.tape_run.specs.CasesOfForms.{CasesOfForms};
 ghost use Rattle.tape_run.specs.CasesOfUnpacking.{CasesOfUnpacking};
 ghost use Rattle.tape_run.specs.CasesOfSalvage.{CasesOfSalvage};
 ghost use Rattle.tape_run.specs.Fronts.{FrontsAreMounts, GivenIsHistory};
@@ -110,6 +111,7 @@ pub fn cases()
     ensures wholes { CasesOfWholes }
     ensures surveys { CasesOfSurveys }
     ensures compared { CasesOfCompared }
+    ensures forms { CasesOfForms }
     ensures unpacking { CasesOfUnpacking }
     ensures salvage { CasesOfSalvage }
     ensures turns { CasesOfTurns }

@@ -164,17 +164,6 @@ pub(crate) fn step(phase: Phase, item: Item<'_>) -> (Phase, Option<Told>)
     }
 }
 
-/// Returns the section that an item completes, if any.
-pub(crate) fn told_in(phase: &Phase, item: Item<'_>) -> Option<Told>
-    ensures { result ≡ (step phase.now (tape_item item.entry)).1 }
-{
-    match (*phase, item) {
-        (Phase::Trailer(met), Item::Block(bytes)) => told_by(met, bytes).1,
-        (Phase::Trailer(met), Item::Bad | Item::Mark) => Some(met.cut()),
-        _ => None,
-    }
-}
-
 impl Phase {
     /// Returns the section that is not complete when the items end here: it is cut.
     pub(crate) fn under_way(&self) -> Option<Told>

@@ -5,13 +5,14 @@ use crate::volumes::{EOF_FOUR, cut};
 use std::test::Fail;
 use tape_run::Wording;
 
-const ROWS: &str = "IMAGE\t1\\u0009.tap\tWHOLE\tABC001\tABC001\t\t12\t1\t0\tMARKED\tvolume ABC001, \
+const ROWS: &str =
+    "IMAGE\t1\\u0009.tap\tWHOLE\tABC001\tABC001\t\t12\t1\t0\tMARKED\t\tvolume ABC001, \
          1 section
-IMAGE\tcut.tap\tPARTIAL\tABC001\tABC001\t\t6\t1\t0\tFAULT 1 1884\tvolume ABC001, 1 section; \
+IMAGE\tcut.tap\tPARTIAL\tABC001\tABC001\t\t6\t1\t0\tFAULT 1 1884\t\tvolume ABC001, 1 section; \
          image fault 1 at byte 1884; section 1 of file 1 is truncated, blocks found: 2
-IMAGE\tlost.tap\tNOT OPENED\t\t\t\t\t\t\t\tnot opened
+IMAGE\tlost.tap\tNOT OPENED\t\t\t\t\t\t\t\t\tnot opened
 SECTION\tABC001\t1\t1\tABC001\t3\tGOOD\tEOF
-FILE\tABC001\t1\tPAYROLL\t 00000\tCOMPLETE\t\t\t\t
+FILE\tABC001\t1\tPAYROLL\t\tCOMPLETE\t\t\t\t\tF\t800\t80
 ";
 
 #[test]
@@ -27,11 +28,11 @@ fn rows(rt: HostRuntime) -> Result<(), Fail> {
     told(&rt, &images, &names, Wording::Rows, false, ROWS)
 }
 
-const ROWS_OF_COUNT: &str = "IMAGE\tone.tap\tPARTIAL\tABC001\tABC001\t\t14\t1\t1\tMARKED\tvolume \
+const ROWS_OF_COUNT: &str = "IMAGE\tone.tap\tPARTIAL\tABC001\tABC001\t\t14\t1\t1\tMARKED\t\tvolume \
          ABC001, 1 section; 1 unreadable block; section 1 of file 1 has a wrong block \
          count, blocks found: 5
 SECTION\tABC001\t1\t1\tABC001\t5\tCOUNT\tEOF
-FILE\tABC001\t1\tPAYROLL\t 00000\tCOUNT\t1\tABC001\t\t1:COUNT;
+FILE\tABC001\t1\tPAYROLL\t\tCOUNT\t1\tABC001\t\t1:COUNT;\tF\t800\t80
 ";
 
 #[test]

@@ -1,8 +1,10 @@
 //! The dates of labels.
-ghost use Rattle.std.specs.Prelude.{◌≡◌, ◌≤◌, IfSome, Some};
+ghost use Rattle.std.specs.Prelude.{◌≡◌, ◌≤◌, ◌+◌, ◌++◌, IfSome, Some};
+ghost use Rattle.arrayvec.specs.ArrayVec.{array_vec_len};
 ghost use Rattle.tape_run.specs.Dates.{century, is_leap, february, in_months, in_year, in_century};
-ghost use Rattle.tape_run.specs.Dates.{date_of, date_text, two_digits};
+ghost use Rattle.tape_run.specs.Dates.{date_of, date_text, date_cell, two_digits};
 
+use crate::text::{Text, put, put_decimal};
 use std::fmt;
 use tape_label::{Field, digits_value};
 
@@ -111,6 +113,22 @@ impl fmt::Display for DateText<'_> {
             None => write!(f, "          "),
         }
     }
+}
+
+/// Appends the date of a label, for example 1985-04-23, if there is one.
+pub(crate) fn put_date(text: &mut Text, field: &Field<6>)
+    requires room { array_vec_len text.old ≤ 900 }
+    ensures items { text.new.items ≡ text.old.items ++ date_cell (date_of field.now) }
+    ensures len { array_vec_len text.new ≤ array_vec_len text.old + 64 }
+{
+    let Some(date) = date_of(field) else {
+        return;
+    };
+    put_decimal(text, u64::from(date.year));
+    put(text, if date.month < 10 { b"-0" } else { b"-" });
+    put_decimal(text, u64::from(date.month));
+    put(text, if date.day < 10 { b"-0" } else { b"-" });
+    put_decimal(text, u64::from(date.day));
 }
 
 /// A number in at least two digits.

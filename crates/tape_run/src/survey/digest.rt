@@ -1,8 +1,8 @@
 //! A digest of the data blocks of a section, by which its copies are compared.
-ghost use Rattle.std.specs.Prelude.{◌≡◌, ◌∷◌, [], map};
+ghost use Rattle.std.specs.Prelude.{◌≡◌, map};
 ghost use Rattle.std.specs.Int.{w64, from_le_bytes};
 ghost use Rattle.tape_run.specs.SurveyDigest.{digest_by, digest_with, in_turn, side_by, side_over};
-ghost use Rattle.tape_run.specs.SurveyDigest.{words_of};
+ghost use Rattle.tape_run.specs.SurveyDigest.{no_chains, words_of};
 ghost use Rattle.tape_run.specs.SurveyCopies.{digest_at, digest_past, digest_in};
 ghost use Rattle.tape_image.specs.Reader.{tape_item};
 
@@ -21,7 +21,7 @@ fn digest_by(digest: u64, word: u64) -> u64
     sum.wrapping_mul(MULTIPLIER)
 }
 
-/// Four chains of digests: the words of a block go to them in turn, so that a word need not wait
+/// Eight chains of digests: the words of a block go to them in turn, so that a word need not wait
 /// for the product of the word before it.
 #[derive(Clone, Copy)]
 struct Chains {
@@ -29,6 +29,10 @@ struct Chains {
     b: u64,
     c: u64,
     d: u64,
+    e: u64,
+    f: u64,
+    g: u64,
+    h: u64,
 }
 
 /// Returns the chains after one more word: the first chain takes the word, and becomes the last.
@@ -39,11 +43,15 @@ fn next_chains(chains: Chains, word: u64) -> Chains
         a: chains.b,
         b: chains.c,
         c: chains.d,
-        d: digest_by(chains.a, word),
+        d: chains.e,
+        e: chains.f,
+        f: chains.g,
+        g: chains.h,
+        h: digest_by(chains.a, word),
     }
 }
 
-/// Returns the chains after words of eight bytes. Four words are taken at once, one by each chain,
+/// Returns the chains after words of eight bytes. Eight words are taken at once, one by each chain,
 /// so that the chains need not change places.
 fn chains_of_words(chains: Chains, words: &[[u8; 8]]) -> Chains
     ensures { in_turn result ≡ side_over (in_turn chains) (map (from_le_bytes w64) words.now) }
@@ -52,12 +60,16 @@ fn chains_of_words(chains: Chains, words: &[[u8; 8]]) -> Chains
     let mut left = words;
     'words: loop {
         match left {
-            [a, b, c, d, rest @ ..] => {
+            [a, b, c, d, e, f, g, h, rest @ ..] => {
                 all = Chains {
                     a: digest_by(all.a, u64::from_le_bytes(*a)),
                     b: digest_by(all.b, u64::from_le_bytes(*b)),
                     c: digest_by(all.c, u64::from_le_bytes(*c)),
                     d: digest_by(all.d, u64::from_le_bytes(*d)),
+                    e: digest_by(all.e, u64::from_le_bytes(*e)),
+                    f: digest_by(all.f, u64::from_le_bytes(*f)),
+                    g: digest_by(all.g, u64::from_le_bytes(*g)),
+                    h: digest_by(all.h, u64::from_le_bytes(*h)),
                 };
                 left = rest;
             }
@@ -87,7 +99,7 @@ fn chains_of_bytes(chains: Chains, bytes: &[u8]) -> Chains
 
 /// Returns the chains of a block: of its words of eight bytes, and of the bytes after them.
 fn chains_of(block: &[u8]) -> Chains
-    ensures { in_turn result ≡ side_over (0 ∷ 0 ∷ 0 ∷ 0 ∷ []) (words_of block.now) }
+    ensures { in_turn result ≡ side_over no_chains (words_of block.now) }
 {
     let (words, rest) = block.as_chunks::<8>();
     let none = Chains {
@@ -95,12 +107,16 @@ fn chains_of(block: &[u8]) -> Chains
         b: 0,
         c: 0,
         d: 0,
+        e: 0,
+        f: 0,
+        g: 0,
+        h: 0,
     };
     let front = chains_of_words(none, words);
     chains_of_bytes(front, rest)
 }
 
-/// Returns the digest after one more block: after the digests of its four chains and its length.
+/// Returns the digest after one more block: after the digests of its eight chains and its length.
 pub(crate) fn digest_with(digest: u64, block: &[u8]) -> u64
     ensures { result ≡ digest_with digest block.now }
 {
@@ -109,7 +125,11 @@ pub(crate) fn digest_with(digest: u64, block: &[u8]) -> u64
     let b = digest_by(a, chains.b);
     let c = digest_by(b, chains.c);
     let d = digest_by(c, chains.d);
-    digest_by(d, block.len() as u64)
+    let e = digest_by(d, chains.e);
+    let f = digest_by(e, chains.f);
+    let g = digest_by(f, chains.g);
+    let h = digest_by(g, chains.h);
+    digest_by(h, block.len() as u64)
 }
 
 /// Returns the digest of the data blocks of the section that is being read, after one more item.

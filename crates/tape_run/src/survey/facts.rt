@@ -338,7 +338,7 @@ impl fmt::Display for SeenText<'_> {
         let glance = GlanceText(between, &sight.glance);
         let course = CourseText(between, course_shown(&sight.glance), sight.stop);
         let stop = StopText(between, sight.stop);
-        let damages = DamagesText(between, &sight.glance);
+        let damages = DamagesText(between, sight.damaged.as_slice());
         let dispute = DisputeText(between, self.2);
         write!(f, "{glance}{course}{stop}{damages}{dispute}")
     }

@@ -3,12 +3,19 @@ ghost use Rattle.std.specs.Result.{IsOkUnless};
 ghost use Rattle.std.specs.Prelude.{◌≡◌, ◌<◌, ◌+◌, ◌||◌, OnOk, length, take};
 ghost use Rattle.std.specs.Map.{lookup};
 ghost use Rattle.tape_run.specs.SurveyFiles.{same_file, is_other, note_of, with_head, with_met};
-ghost use Rattle.tape_run.specs.SurveyFiles.{any_differs};
+ghost use Rattle.tape_run.specs.SurveyFiles.{form_in, form_at, form_by, with_form, any_differs};
+ghost use Rattle.tape_image.specs.Reader.{tape_item};
+ghost use Rattle.tape_label.specs.Kinds.{kind_at};
+ghost use Rattle.tape_label.specs.Reading.{head2_at};
 ghost use Rattle.tape_run.specs.declared.fault.RunFault.TheVariants as faults;
 
+use super::glance::or_else;
 use crate::fault::RunFault;
+use crate::passing::Phase;
+use crate::section::SectionKey;
 use indexmap::IndexMap;
-use tape_label::{Field, Head1};
+use tape_image::Item;
+use tape_label::{Field, Head1, Head2, Kind, kind, read_head2};
 
 /// Identifies a file: its file set, and its number there.
 #[derive(Clone, Copy, PartialEq, Eq, Hash)]
@@ -22,6 +29,8 @@ pub struct FileKey {
 pub struct FileNote {
     /// The label that was found first.
     pub head: Head1,
+    /// The second label that was found first, if one was supported.
+    pub form: Option<Head2>,
     /// Whether a label of another file was found.
     pub differs: bool,
 }
@@ -45,11 +54,12 @@ fn note_of(files: &Files, key: &FileKey, head: Head1) -> FileNote
 {
     match files.get(key) {
         Some(note) => FileNote {
-            head: note.head,
             differs: note.differs || is_other(&note.head, &head),
+            ..*note
         },
         None => FileNote {
             head,
+            form: None,
             differs: false,
         },
     }
@@ -79,6 +89,64 @@ pub(crate) fn note_met(files: &mut Files, head: Option<Head1>) -> Result<(), Run
     match head {
         Some(head) => note_head(files, head),
         None => Ok(()),
+    }
+}
+
+/// Returns the second header label that an item is, if it is supported and expected, and its file.
+pub(crate) fn form_in(phase: &Phase, item: Item<'_>) -> Option<(FileKey, Head2)>
+    ensures { result ≡ form_in phase.now (tape_item item.entry) }
+{
+    match item {
+        Item::Block(bytes) => form_at(phase, bytes),
+        Item::Bad | Item::Mark => None,
+    }
+}
+
+/// Returns the block as a second header label, if it is supported and expected, and its file.
+fn form_at(phase: &Phase, bytes: &[u8]) -> Option<(FileKey, Head2)>
+    ensures { result ≡ form_at phase.now bytes.now }
+{
+    match phase {
+        Phase::Second(met) => form_by(&met.key, bytes),
+        _ => None,
+    }
+}
+
+/// Returns the second header label of a section, if it is supported, and the file of the section.
+fn form_by(section: &SectionKey, bytes: &[u8]) -> Option<(FileKey, Head2)>
+    ensures { result ≡ form_by section.now (kind_at bytes.now) (head2_at bytes.now) }
+{
+    let Some(Kind::Hdr2) = kind(bytes) else {
+        return None;
+    };
+    let Ok(form) = read_head2(bytes) else {
+        return None;
+    };
+    let key = FileKey {
+        set_id: section.set_id,
+        file: section.file,
+    };
+    Some((key, form))
+}
+
+/// Records the second header label that was found, if any.
+pub(crate) fn note_form(files: &mut Files, found: Option<(FileKey, Head2)>) -> Result<(), RunFault>
+    ensures fault { IsOkUnless result faults.OutOfMemory }
+    ensures ok { OnOk result (files.new.entries ≡ with_form files.old.entries found) }
+{
+    let Some((key, form)) = found else {
+        return Ok(());
+    };
+    let Some(note) = files.get(&key).copied() else {
+        return Ok(());
+    };
+    let note = FileNote {
+        form: or_else(note.form, Some(form)),
+        ..note
+    };
+    match files.insert(key, note) {
+        Ok(_) => Ok(()),
+        Err(_) => Err(RunFault::OutOfMemory),
     }
 }
 

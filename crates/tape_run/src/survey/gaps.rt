@@ -92,7 +92,7 @@ fn gap_row(set_id: Field<6>, first: u16, file: u16) -> Text
     put_trimmed(&mut text, &set_id);
     put(&mut text, b"\t");
     put_numbers(&mut text, first, file);
-    put(&mut text, b"\t\t\tMISSING\t1\t\t\t1:MISSING;\n");
+    put(&mut text, b"\t\t\tMISSING\t1\t\t\t1:MISSING;\t\t\t\n");
     text
 }
 

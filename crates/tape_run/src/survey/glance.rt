@@ -1,19 +1,22 @@
 //! A summary of an image, from its items alone.
-ghost use Rattle.std.specs.Prelude.{◌≡◌, ◌<◌, ◌≤◌};
+ghost use Rattle.std.specs.Result.{IsOkUnless};
+ghost use Rattle.std.specs.Prelude.{◌≡◌, ◌<◌, ◌≤◌, ◌++◌, OnOk};
 ghost use Rattle.tape_image.specs.Reader.{tape_item};
 ghost use Rattle.tape_image.specs.Begins.{image_limit};
 ghost use Rattle.tape_run.specs.SurveyGlance.{blank_glance, is_ebcdic, first_of, first_with};
 ghost use Rattle.tape_run.specs.SurveyGlance.{first_other, first_block, is_vol1, is_kind_vol1};
 ghost use Rattle.tape_run.specs.SurveyGlance.{late_with, head_in, head_at, head_of, unread_in};
 ghost use Rattle.tape_run.specs.SurveyGlance.{unread_at, unread_by, unread_with, is_bad, one_if};
-ghost use Rattle.tape_run.specs.SurveyGlance.{one_head, or_else, line_in, damage_in, is_second};
-ghost use Rattle.tape_run.specs.SurveyGlance.{look_to};
+ghost use Rattle.tape_run.specs.SurveyGlance.{one_head, or_else, damages_in, look_to};
+ghost use Rattle.tape_run.specs.Passing.{in_list};
+ghost use Rattle.tape_run.specs.declared.fault.RunFault.TheVariants as faults;
 ghost use Rattle.tape_label.specs.Kinds.{kind_at};
 ghost use Rattle.tape_label.specs.Reading.{head2_at};
 
 use super::course::{LabelOrder, course_with};
+use crate::fault::RunFault;
 use crate::met::Told;
-use crate::passing::{Phase, told_in};
+use crate::passing::Phase;
 use crate::report::line_of;
 use crate::section::SectionLine;
 use tape_image::Item;
@@ -53,12 +56,6 @@ pub struct ImageSummary {
     pub bad: u32,
     /// The number of the first file whose `HDR2` is not supported.
     pub unread: Option<u16>,
-    /// The first section on it that was read to its end and is damaged.
-    pub damage: Option<SectionLine>,
-    /// Whether there are more.
-    pub more: bool,
-    /// The section whose data or trailer label the items end in.
-    pub unfinished: Option<SectionLine>,
     /// The extent to which the items are in the order of a volume.
     pub course: LabelOrder,
 }
@@ -75,9 +72,6 @@ pub(crate) fn blank_glance() -> ImageSummary
         files: 0,
         bad: 0,
         unread: None,
-        damage: None,
-        more: false,
-        unfinished: None,
         course: LabelOrder::Follows,
     }
 }
@@ -260,31 +254,25 @@ pub(crate) fn or_else<T: Copy>(first: Option<T>, second: Option<T>) -> Option<T>
     }
 }
 
-/// Returns the entry of the section that was found, if any.
-fn line_in(told: &Option<Told>) -> Option<SectionLine>
-    ensures { result ≡ line_in told.now }
+/// Adds the line of the section that was found, if any, if it is damaged.
+pub(crate) fn note_damage(
+    damaged: &mut Vec<SectionLine>,
+    told: &Option<Told>,
+) -> Result<(), RunFault>
+    ensures fault { IsOkUnless result faults.OutOfMemory }
+    ensures ok { OnOk result (damaged.new.items
+        ≡ damaged.old.items ++ damages_in (in_list told.now)) }
 {
-    match told {
-        Some((key, entry)) => Some(line_of(key, entry)),
-        None => None,
+    let Some((key, entry)) = told else {
+        return Ok(());
+    };
+    if entry.state.is_good() {
+        return Ok(());
     }
-}
-
-/// Returns the entry of the section that was found, if it is damaged.
-fn damage_in(told: &Option<Told>) -> Option<SectionLine>
-    ensures { result ≡ damage_in told.now }
-{
-    match told {
-        Some((_, entry)) if entry.state.is_good() => None,
-        _ => line_in(told),
+    match damaged.push(line_of(key, entry)) {
+        Ok(()) => Ok(()),
+        Err(_) => Err(RunFault::OutOfMemory),
     }
-}
-
-/// Returns whether there are both.
-fn is_second(first: &Option<SectionLine>, second: &Option<SectionLine>) -> bool
-    ensures { result ≡ is_second first.now second.now }
-{
-    first.is_some() && second.is_some()
 }
 
 /// Returns the summary after one more item, with the phases before and after it.
@@ -303,7 +291,6 @@ pub(crate) fn look(
 {
     let number = glance.items + 1;
     let head = head_in(phase, item);
-    let damage = damage_in(&told_in(phase, item));
     ImageSummary {
         items: number,
         first: first_with(&glance.first, number, item),
@@ -312,9 +299,6 @@ pub(crate) fn look(
         files: glance.files + one_head(&head),
         bad: glance.bad + one_if(is_bad(item)),
         unread: or_else(glance.unread, unread_in(phase, item)),
-        damage: or_else(glance.damage, damage),
-        more: glance.more || is_second(&glance.damage, &damage),
-        unfinished: line_in(&next.under_way()),
         course: course_with(glance.course, number, *phase, item, *next),
     }
 }

@@ -44,7 +44,7 @@ fn volume_state(sight: &ImageSurvey) -> ImageState
         };
     }
     let ends = is_ended(sight.glance.course) && is_end(sight.stop);
-    if ends && sight.glance.damage.is_none() {
+    if ends && sight.damaged.as_slice().is_empty() {
         ImageState::Unsupported
     } else {
         ImageState::Damaged

@@ -5,7 +5,9 @@ ghost use Rattle.tape_run.specs.SurveyRows.{whole_cell, volume_cell, head_cells,
 ghost use Rattle.tape_run.specs.SurveyRows.{seen_cells, middle_cells, sight_cells};
 ghost use Rattle.tape_run.specs.SurveyRows.{key_cells, eof_cell, section_row, known_cells};
 ghost use Rattle.tape_run.specs.SurveyRows.{wanted_cells, standing_cells, conflict_cell, file_cells};
+ghost use Rattle.tape_run.specs.SurveyRows.{owner_cell, form_by, form_cells};
 
+use super::dates::put_date;
 use super::files::{FileKey, FileNote};
 use super::glance::{First, ImageSummary};
 use super::sets::{Standing, is_mixed, standing_of};
@@ -13,7 +15,7 @@ use super::view::{Findings, ImageSurvey};
 use crate::check_line::{state_text, stop_text};
 use crate::section::{Entry, SectionKey};
 use crate::text::{Text, put, put_decimal, put_trimmed};
-use tape_label::{Field, Head1};
+use tape_label::{Field, Head1, Head2};
 
 /// Appends a tab.
 fn put_tab(text: &mut Text)
@@ -52,7 +54,7 @@ fn put_sight(text: &mut Text, sight: &Option<ImageSurvey>, disputed: bool)
 {
     match sight {
         Some(sight) => put_seen(text, sight, disputed),
-        None => put(text, b"NOT OPENED\t\t\t\t\t\t\t"),
+        None => put(text, b"NOT OPENED\t\t\t\t\t\t\t\t"),
     }
 }
 
@@ -71,6 +73,8 @@ fn put_seen(text: &mut Text, sight: &ImageSurvey, disputed: bool)
     put_counts(text, &sight.glance);
     put_tab(text);
     put(text, &stop_text(&sight.stop));
+    put_tab(text);
+    put_owner(text, &sight.glance.first);
 }
 
 /// Returns the state of an image: whether it has a copy that differs from another, or else was read
@@ -96,6 +100,18 @@ fn put_volume(text: &mut Text, first: &First)
 {
     match first {
         First::Volume(label) => put_trimmed(text, &label.volume),
+        First::Nothing | First::Ebcdic | First::Block(_) | First::Bad | First::Mark => {}
+    }
+}
+
+/// Appends the owner, if the first item is a volume label.
+fn put_owner(text: &mut Text, first: &First)
+    requires room { array_vec_len text.old ≤ 900 }
+    ensures items { text.new.items ≡ text.old.items ++ owner_cell first.now }
+    ensures len { array_vec_len text.new ≤ array_vec_len text.old + 14 }
+{
+    match first {
+        First::Volume(label) => put_trimmed(text, &label.owner),
         First::Nothing | First::Ebcdic | First::Block(_) | First::Bad | First::Mark => {}
     }
 }
@@ -195,13 +211,13 @@ fn put_known(text: &mut Text, note: Option<&FileNote>)
     requires room { array_vec_len text.old ≤ 100 }
     ensures items { text.new.items
         ≡ text.old.items ++ known_cells (option_map (λ n. n.now) note.entry) }
-    ensures len { array_vec_len text.new ≤ 150 }
+    ensures len { array_vec_len text.new ≤ 200 }
 {
     match note {
         Some(note) => {
             put_trimmed(text, &note.head.file_id);
             put_tab(text);
-            put_trimmed(text, &note.head.created);
+            put_date(text, &note.head.created);
         }
         None => put_tab(text),
     }
@@ -209,7 +225,7 @@ fn put_known(text: &mut Text, note: Option<&FileNote>)
 
 /// Appends the state of a file.
 fn put_standing(text: &mut Text, standing: &Standing)
-    requires room { array_vec_len text.old ≤ 160 }
+    requires room { array_vec_len text.old ≤ 210 }
     ensures items { text.new.items ≡ text.old.items ++ standing_cells standing.now }
     ensures len { array_vec_len text.new ≤ 300 }
 {
@@ -225,7 +241,7 @@ fn put_standing(text: &mut Text, standing: &Standing)
 
 /// Appends the state of a section, its number, and a volume.
 fn put_wanted(text: &mut Text, state: &[u8], sect: u16, volume: &Field<6>)
-    requires room { array_vec_len text.old ≤ 160 }
+    requires room { array_vec_len text.old ≤ 210 }
     requires short { length state.now ≤ 7 }
     ensures items { text.new.items ≡ text.old.items ++ wanted_cells state.now sect volume.now }
     ensures len { array_vec_len text.new ≤ 300 }
@@ -235,6 +251,36 @@ fn put_wanted(text: &mut Text, state: &[u8], sect: u16, volume: &Field<6>)
     put_count(text, u32::from(sect));
     put_tab(text);
     put_trimmed(text, volume);
+}
+
+/// Returns the last columns of a file: its record format, block length and record length.
+pub(crate) fn form_cells(note: Option<&FileNote>) -> Text
+    ensures { result.items ≡ form_cells (option_map (λ n. n.now) note.entry) }
+{
+    let mut text = Text::new();
+    match note {
+        Some(note) => put_form(&mut text, &note.form),
+        None => put(&mut text, b"\t\t\t"),
+    }
+    text
+}
+
+/// Appends the record format, the block length and the record length that a label states.
+fn put_form(text: &mut Text, form: &Option<Head2>)
+    requires room { array_vec_len text.old ≤ 900 }
+    ensures items { text.new.items ≡ text.old.items ++ form_by form.now }
+{
+    match form {
+        Some(form) => {
+            put_tab(text);
+            text.push(form.format.letter());
+            put_tab(text);
+            put_count(text, form.block_len);
+            put_tab(text);
+            put_count(text, form.rec_len);
+        }
+        None => put(text, b"\t\t\t"),
+    }
 }
 
 /// Returns whether labels of different files were found under its number, or copies differ.

@@ -15,7 +15,7 @@ use super::dates::DateText;
 use super::files::{FileKey, FileNote, any_differs};
 use super::glance::one_if;
 use super::problems::add_problems;
-use super::rows::file_cells;
+use super::rows::{file_cells, form_cells};
 use super::view::Findings;
 use crate::check::is_found;
 use crate::lacks::lack_of;
@@ -233,6 +233,8 @@ pub(crate) fn add_file_row(
     texts.extend_from_slice(&front)?;
     let complete = is_whole_file(&findings.sections, set_id, file);
     add_rest(texts, findings, Wording::Rows, set_id, file, complete)?;
+    let form = form_cells(findings.files.get(&FileKey { set_id, file }));
+    texts.extend_from_slice(&form)?;
     texts.push(b'\n')?;
     Ok(())
 }

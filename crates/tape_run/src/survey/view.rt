@@ -12,25 +12,27 @@ ghost use Rattle.tape_run.specs.SurveyTally.{is_whole_sight, is_sound, is_ended,
 use super::copies::Copies;
 use super::course::LabelOrder;
 use super::digest::digest_in;
-use super::files::{Files, note_met};
-use super::glance::{ImageSummary, blank_glance, head_in, look};
+use super::files::{Files, form_in, note_form, note_met};
+use super::glance::{ImageSummary, blank_glance, head_in, look, note_damage};
 use super::locations::{Locations, note_location};
 use crate::catalogue::stop_at;
 use crate::extract::images::ImageSource;
 use crate::fault::RunFault;
 use crate::passing::{Phase, step};
-use crate::section::ImageStop;
+use crate::section::{ImageStop, SectionLine};
 use crate::sections::{Sections, close, take};
 use std::alloc::Global;
 use std::io::Read;
 use std::marker::Model;
 use tape_image::{ImageReader, Item};
+use tape_set::Sequence;
 
-/// The survey of an image: the summary of its items, and how they end.
-#[derive(Clone, Copy)]
+/// The survey of an image: the summary of its items, how they end, and its damaged sections.
+#[derive(Drop)]
 pub struct ImageSurvey {
     pub glance: ImageSummary,
     pub stop: ImageStop,
+    pub damaged: Sequence<SectionLine>,
 }
 
 /// The findings of a survey on its images.
@@ -109,7 +111,7 @@ impl ImageSurvey {
     pub(crate) fn is_sound(&self) -> bool
         ensures { result ≡ is_sound self.now }
     {
-        self.is_whole() && self.glance.damage.is_none()
+        self.is_whole() && self.damaged.as_slice().is_empty()
     }
 }
 
@@ -164,6 +166,7 @@ impl Findings {
             return Err(RunFault::OutOfMemory);
         };
         let viewed = view_items(
+            self.alloc,
             &mut self.sections,
             &mut self.files,
             &mut self.locations,
@@ -204,6 +207,7 @@ pub(crate) fn read_images<R: Read + Drop, L: ImageSource<R>>(
 
 /// Processes the items of an unread image, and adds its sections and labels.
 fn view_items<R: Read>(
+    alloc: Global,
     sections: &mut Sections,
     files: &mut Files,
     locations: &mut Locations,
@@ -221,14 +225,17 @@ fn view_items<R: Read>(
 {
     let mut phase = Phase::Volume;
     let mut glance = blank_glance();
+    let mut damaged = Vec::new(alloc);
     let mut digest = 0;
     'items: loop {
         match image.next() {
             Ok(Some(item)) => {
                 note_met(files, head_in(&phase, item))?;
+                note_form(files, form_in(&phase, item))?;
                 note_location(locations, sections, number, head_in(&phase, item))?;
                 let (_, told) = step(phase, item);
                 copies.note(number, told, digest)?;
+                note_damage(&mut damaged, &told)?;
                 let behind = take_behind(sections, &phase, item)?;
                 digest = digest_in(digest, &phase, item);
                 glance = look(&glance, &phase, item, &behind);
@@ -239,13 +246,25 @@ fn view_items<R: Read>(
                     unreachable!()
                 };
                 close_behind(sections, &phase)?;
+                note_damage(&mut damaged, &phase.under_way())?;
                 let stop = stop_at(ending);
-                return Ok(ImageSurvey { glance, stop });
+                let damaged = Sequence::of_vec(damaged);
+                return Ok(ImageSurvey {
+                    glance,
+                    stop,
+                    damaged,
+                });
             }
             Err(fault) => {
                 close_behind(sections, &phase)?;
+                note_damage(&mut damaged, &phase.under_way())?;
                 let stop = ImageStop::Fault(fault);
-                return Ok(ImageSurvey { glance, stop });
+                let damaged = Sequence::of_vec(damaged);
+                return Ok(ImageSurvey {
+                    glance,
+                    stop,
+                    damaged,
+                });
             }
         }
     }

@@ -296,7 +296,7 @@ const OF_EXTRACT: &str =
 const OF_UNPACK: &str =
     "  AWAITS says which file, section and block of the file are expected next. Run
   it again with other images: the stage keeps what was recovered.
-  'tape survey' shows which sections are missing or damaged.
+  'tape survey' shows all files, and which sections are missing or damaged.
 ";
 
 const OF_SALVAGE: &str = "  Not every block of the file was found: the lines say what is missing.

@@ -4,7 +4,7 @@
 pub const ABOUT_EXTRACT: &str = "Recover one file from the images of its set";
 
 /// The description of SET.
-pub const SET: &str = "Set identifier, up to 6 characters, as 'tape list' shows it in HDR1";
+pub const SET: &str = "Set identifier, up to 6 characters; 'tape list' shows it in HDR1";
 
 /// The description of FILE.
 pub const FILE: &str = "Number of the file in its set, 1 to 9999";

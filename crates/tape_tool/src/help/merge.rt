@@ -10,8 +10,9 @@ pub const ABOUT_COMPARE: &str = "Report whether images can be readings of the sa
 pub const MERGED_OUT: &str = "Image to create; it must not exist";
 
 /// The description of `--log`.
-pub const LOG: &str = "Also create LOG, with a row for each item that fewer than two
-images have, or that is bad in one; LOG must not exist";
+pub const LOG: &str = "Also create LOG, with a row for each item that fewer
+than two images have, or that is bad in one; LOG
+must not exist";
 
 /// The description of the IMAGEs.
 pub const READINGS: &str = "Two or more readings of the same tape: SIMH .tap images";
@@ -79,8 +80,8 @@ the item in OUT; BLOCK and its length, MARK or BAD; and for each image GOOD,
 BAD, or nothing if it ended before. LOG appears only with OUT.
 
 An existing OUT or LOG is never overwritten ('tape: file fault 1'), and
-OUT appears only when it is complete. It contains no erase gaps, nothing after an
-end-of-medium marker, and no data of bad blocks, so keep the images.
+OUT appears only when it is complete. It contains no erase gaps, nothing after
+an end-of-medium marker, and no data of bad blocks, so keep the images.
 
 Exit status: 0 OUT is complete, 1 error, 2 usage error, 3 OUT has a bad item or
 a wrong count or is truncated, or the images differ";

@@ -15,10 +15,11 @@ pub const AFTER_SURVEY: &str =
     "When all images have been read, each of them: its name, its state in a word, and
 what was found on it.
   one.tap                   ok           volume ABC001, 2 sections
-  two.tap                   damaged      volume ABC002, 1 section
+  two.tap                   damaged      volume ABC002, 2 sections
       2 unreadable blocks
-      image fault 1 at byte 1884
-      section 1 of file 2 is truncated, blocks found: 26
+      image fault 1 at byte 18840
+      section 2 of file 1 has unreadable blocks, blocks found: 9
+      section 1 of file 2 is truncated, blocks found: 13
   hdr.tap                   damaged      volume ABC003, 1 section
       item 11 is neither HDR1 nor a tape mark: the rest is ignored
   fmt.tap                   unsupported  volume VMS001, 1 section
@@ -58,15 +59,17 @@ label says whether more files follow the last one found. The wording may change;
 the exit status and the columns of --tsv will not.
 
 With --tsv these rows; a column whose value is not known is empty:
-  IMAGE name state volume set system items files bad end words
+  IMAGE name state volume set system items files bad end owner words
            state: WHOLE, PARTIAL, CONFLICT (good copies of a section on it
            differ) or NOT OPENED; end as in check
   SECTION set file section volume blocks state EOF
            state as in check; EOF if its trailer label ends the file
-  FILE set file identifier created state section volume CONFLICT sections
+  FILE set file identifier created state section volume CONFLICT sections format
+           block record
            state: COMPLETE, BAD, COUNT or CUT, or MISSING: the section was not
            found, and the one before it is on that volume; sections: all that
-           are damaged or missing, as 2:CUT;4-5:MISSING;
+           are damaged or missing, as 2:CUT;4-5:MISSING; format: F, D or S, and
+           the lengths of a block and of a record, as its HDR2 states them
   COPIES set file section copies name other AGREE
            for a section with several good copies: how many agree with the
            first one, on the image NAME. If one differs, its image is OTHER, and

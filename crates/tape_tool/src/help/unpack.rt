@@ -21,8 +21,8 @@ represents any characters. May be repeated";
 pub const LIST_ONLY: &str = "Print what would be done, and create nothing";
 
 /// The description of `--salvage`.
-pub const SALVAGE_FILES: &str = "Write what is readable of each incomplete file as NAME.salvaged,
-and where it has gaps as NAME.gaps";
+pub const SALVAGE_FILES: &str = "Write what is readable of each incomplete file as
+NAME.salvaged, and where it has gaps as NAME.gaps";
 
 /// The error if `unpack` gets too many images.
 pub const TOO_MANY_TO_UNPACK: &str =

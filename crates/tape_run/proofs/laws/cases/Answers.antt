@@ -9,6 +9,7 @@ use Rattle.tape_run.proofs.ExamplesOfUnpacking.{cases_of_unpacking}
 use Rattle.tape_run.proofs.ExamplesOfSalvage.{cases_of_salvage}
 use Rattle.tape_run.proofs.ExamplesOfSurveys.{cases_of_glances, cases_of_wholes, cases_of_surveys}
 use Rattle.tape_run.proofs.ExamplesOfCompared.{cases_of_compared}
+use Rattle.tape_run.proofs.ExamplesOfForms.{cases_of_forms}
 use Rattle.tape_run.proofs.ExamplesOfExtracts.{cases_of_turns, cases_of_outputs, cases_of_causes}
 use Rattle.tape_run.proofs.ExamplesOfSaves.{cases_of_saved}
 use Rattle.tape_run.proofs.ExamplesOfSeen.{cases_of_seen}
@@ -72,6 +73,9 @@ returns-clause-wholes c = cases_of_wholes
 
 pub returns-clause-compared : goal.returns-clause-compared
 returns-clause-compared c = cases_of_compared
+
+pub returns-clause-forms : goal.returns-clause-forms
+returns-clause-forms c = cases_of_forms
 
 pub returns-clause-unpacking : goal.returns-clause-unpacking
 returns-clause-unpacking c = cases_of_unpacking

@@ -10,9 +10,9 @@ use Rattle.tape_run.proofs.survey.rows.put_standing.Reads as put_standing
 -- row_with_a_tab_too_few: the row of an image that was not opened has one column fewer than others
 row_with_a_tab_too_few : (κs : _) (a : _) (z : _) (s : _) → put_sight.Learnt-named κs a z s
     → a.0.now.items ≡ [] → a.1.0.now ≡ None
-    → s.0.now.items ≡ codes "NOT OPENED\t\t\t\t\t\t" → ⊥
+    → s.0.now.items ≡ codes "NOT OPENED\t\t\t\t\t\t\t" → ⊥
 row_with_a_tab_too_few κs a z s l e none w =
-    absurd (let n : 16 ≡ 17 = ap length (sym w ∙ l.items
+    absurd (let n : 17 ≡ 18 = ap length (sym w ∙ l.items
     ∙ ap (λ v. v ++ sight_cells a.1.0.now a.1.1.0) e
     ∙ ap (λ s. sight_cells s a.1.1.0) none) in omega arith)
 

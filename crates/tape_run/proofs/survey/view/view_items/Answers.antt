@@ -1,16 +1,17 @@
-use Rattle.std.proofs.Common.{◌≡◌, ◌+◌, Ok, ap, ◌∙◌, arith, refl, Option}
+use Rattle.std.proofs.Common.{◌≡◌, ◌+◌, ◌++◌, Ok, ap, ◌∙◌, arith, refl, Option}
 use Rattle.tape_image.specs.Reader.{tape_item, ending_of}
 use Rattle.tape_image.proofs.Callers.{gave, met_end, met_fault, same_some}
 use Rattle.tape_label.specs.declared.values.Head1.{Head1}
 use Rattle.tape_run.specs.declared.passing.Phase.{Phase}
 use Rattle.tape_run.specs.declared.survey.glance.ImageSummary.{ImageSummary}
 use Rattle.tape_run.specs.Added.{stop_at}
-use Rattle.tape_run.specs.Passing.{Told, blocks_of}
-use Rattle.tape_run.specs.SurveyFiles.{with_met}
+use Rattle.tape_run.specs.Passing.{Told, blocks_of, in_list}
+use Rattle.tape_run.specs.SurveyGlance.{damages_in}
 use Rattle.tape_run.specs.SurveyLocations.{with_location}
 use Rattle.tape_run.proofs.NotedSoFar.{one_block}
 use Rattle.tape_image.proofs.Steps.{least_four}
-use Rattle.tape_run.proofs.SurveyLooks.{looks_start, looks_more, viewed_end, viewed_fault}
+use Rattle.tape_run.proofs.SurveyLooks.{looks_start, looks_more, labels_noted}
+use Rattle.tape_run.proofs.SurveyLooks.{viewed_end, viewed_fault}
 use Rattle.tape_run.proofs.survey.view.view_items.Goals as goal
 
 pub items-init : goal.items-init
@@ -24,7 +25,7 @@ items-init g c =
       bad = omega (arith, ap (λ (h : ImageSummary). h.bad) e);
       blocks = omega arith;
       same_device = refl;
-      looked = looks_start _ _ _ _ _ _ _ _ _ c.requires.first refl e;
+      looked = looks_start _ _ _ _ _ _ _ _ _ _ c.requires.first refl e c.new-damaged.ensures.items;
     }
 
 pub items-preserved : goal.items-preserved
@@ -52,16 +53,17 @@ items-preserved g c =
       );
       same_device = c.next.follows.holds-at-none.same_device ∙ c.items.invariant.same_device;
       looked = looks_more _ c.items.image.left next.left c.items.image.place next.place _ item _ _ _
-          _ c.items.phase _ c.items.glance _ c.items.digest _ _ _ _ _ _ _ c.items.copies _ _
+          _ c.items.phase _ c.items.glance _ c.items.digest _ _ _ _ _ _ _ c.items.copies _ _ _ _
           c.items.invariant.looked step.takes phase
           c.in_ok-behind-in-Ok-Some.ensures.ok
-          (c.in_ok-note_met-in-Ok-Some.ensures.ok
-          ∙ ap (λ (h : Option Head1). with_met c.items.files.entries h) c.head_in.ensures)
+          (labels_noted _ _ _ c.items.phase item _ _ c.in_ok-note_met-in-Ok-Some.ensures.ok
+          c.head_in.ensures c.in_ok-note_form-in-Ok-Some.ensures.ok c.form_in.ensures)
           (c.in_ok-note_location-in-Ok-Some.ensures.ok
           ∙ ap (λ (h : Option Head1). with_location c.items.sections.entries
           c.items.locations.entries c.args.number h) c.head_in-in-Ok-Some.ensures)
           (ap (λ (r : Phase × Option Told). r.1) c.step.ensures)
-          c.in_ok-note-in-Ok-Some.ensures.ok c.digest_in-digest.ensures looks;
+          c.in_ok-note-in-Ok-Some.ensures.ok c.in_ok-note_damage-in-Ok-Some.ensures.ok
+          c.digest_in-digest.ensures looks;
     }
 
 pub returns-in-Ok-None-clause-ok : goal.returns-in-Ok-None-clause-ok
@@ -72,8 +74,10 @@ returns-in-Ok-None-clause-ok g c =
     let ending = same_some c.in-Some.ending met.ending c.ending.result c.in-Some.is
     (c.ending.ensures ∙ ap ending_of met.ended) in
     viewed_end _ c.items.image.left next.left c.items.image.place next.place _ met.ending _ _ _
-    _ c.items.phase _ _ _ _ _ _ _ c.items.invariant.looked met.takes
+    _ c.items.phase _ _ _ _ _ _ _ _ c.items.invariant.looked met.takes
     c.in_ok-close_behind-in-Ok-None.ensures.ok (c.stop_at-stop.ensures ∙ ap stop_at ending)
+    (c.of_vec-damaged.ensures ∙ c.in_ok-note_damage-in-Ok-None.ensures.ok
+    ∙ ap (λ (o : Option Told). c.items.damaged.items ++ damages_in (in_list o)) c.under_way.ensures)
 
 pub returns-in-Err-clause-ok : goal.returns-in-Err-clause-ok
 returns-in-Err-clause-ok g c =
@@ -81,5 +85,8 @@ returns-in-Err-clause-ok g c =
     let met = met_fault c.items.image _ next c.in-Err.fault c.next.follows.holds-at-none
     c.items.invariant.on c.in-Err.is in
     viewed_fault _ c.items.image.left next.left c.items.image.place _ c.in-Err.fault _ _ _
-    _ c.items.phase _ _ _ _ _ _ _ c.items.invariant.looked met.takes
+    _ c.items.phase _ _ _ _ _ _ _ _ c.items.invariant.looked met.takes
     c.in_ok-close_behind-in-Err.ensures.ok refl
+    (c.of_vec-damaged-in-Err.ensures ∙ c.in_ok-note_damage-in-Err.ensures.ok
+    ∙ ap (λ (o : Option Told). c.items.damaged.items ++ damages_in (in_list o))
+    c.under_way-in-Err.ensures)
