@@ -41,15 +41,9 @@ mod streams;
 #[cfg(test)]
 mod tests;
 
-use screen::{Line, Screen};
-use std::cell::Cell;
 use std::io::IsTerminal;
 use std::process::ExitCode;
 
 fn main(rt: HostRuntime) -> ExitCode {
-    let line = Cell::new(Line::new(&rt, rt.stderr().is_terminal()));
-    let screen = Screen::new(&rt, &line);
-    let status = program::run(&screen);
-    screen.clear();
-    ExitCode::from(status)
+    ExitCode::from(program::run_on(&rt, rt.stderr().is_terminal()))
 }

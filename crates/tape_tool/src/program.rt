@@ -22,6 +22,7 @@ use crate::merge::{compare, merge};
 use crate::odd_word::odd_word;
 use crate::refusal::Refusal;
 use crate::salvage::salvage;
+use crate::screen::{Line, Screen};
 use crate::stage::{StageEnding, stage};
 use crate::streams::keep_numbers;
 use crate::survey::survey;
@@ -30,6 +31,7 @@ use crate::words::{Call, Order};
 use crate::write::run::write;
 use clap::error::ErrorKind;
 use std::alloc::AllocError;
+use std::cell::Cell;
 use std::{env, io};
 use tape_run::EngineFault;
 use tape_set::Want;
@@ -149,8 +151,18 @@ pub fn finish<R: Eprint>(rt: &R, end: End) -> u8
     end.status()
 }
 
+/// Runs the program and returns the exit status. The line that shows progress is printed only if
+/// standard error is a terminal.
+pub fn run_on<R: Host>(rt: &R, is_terminal: bool) -> u8 {
+    let line = Cell::new(Line::new(rt, is_terminal));
+    let screen = Screen::new(rt, &line);
+    let status = run(&screen);
+    screen.clear();
+    status
+}
+
 /// Runs the program, reports a fault, and returns the exit status.
-pub fn run<R: Progress>(rt: &R) -> u8 {
+fn run<R: Progress>(rt: &R) -> u8 {
     // These files stay open until the run ends.
     let _kept = match keep_numbers(rt) {
         Ok(kept) => kept,

@@ -1,8 +1,7 @@
 //! The program in a fake system, which provides its arguments and standard input, and records its
 //! output and the files that it opens. Files and memory are those of the real system.
 use super::words::words_of;
-use crate::program::run;
-use crate::screen::{Line, Screen};
+use crate::program::run_on;
 use std::alloc::{Allocator, Global};
 use std::cell::{Cell, RefCell};
 use std::env::{Env, FillError};
@@ -296,15 +295,6 @@ pub fn called(rt: &HostRuntime, line: &str, takes: bool) -> Result<Seen, Fail> {
     called_oddly(rt, line, takes, Odd::Nothing)
 }
 
-/// Runs the program on the system, with the line of progress if its standard error is a terminal.
-fn run_on(system: &FakeSystem<'_>) -> u8 {
-    let line = Cell::new(Line::new(system, matches!(system.odd, Odd::Terminal(_))));
-    let screen = Screen::new(system, &line);
-    let status = run(&screen);
-    screen.clear();
-    status
-}
-
 /// Runs the program with the arguments in `line`, on a system with the peculiarity `odd`.
 pub fn called_oddly(rt: &HostRuntime, line: &str, takes: bool, odd: Odd<'_>) -> Result<Seen, Fail> {
     let words = words_of(rt.alloc(), line)?;
@@ -315,13 +305,14 @@ pub fn called_oddly(rt: &HostRuntime, line: &str, takes: bool, odd: Odd<'_>) -> 
         time: Cell::new(0),
         texts: Cell::new(0),
     };
-    let status = run_on(&FakeSystem {
+    let system = FakeSystem {
         rt: *rt,
         words: words.as_slice(),
         takes,
         odd,
         records: &records,
-    });
+    };
+    let status = run_on(&system, matches!(odd, Odd::Terminal(_)));
     let Records {
         out,
         told,
