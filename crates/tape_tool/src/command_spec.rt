@@ -6,7 +6,7 @@ ghost use Rattle.tape_tool.specs.Words.{IsMistake};
 use crate::shown::Shown;
 use clap::builder::{ValueParser, ValueRange};
 use clap::error::ErrorKind;
-use clap::{Arg, ArgAction, Command, Error};
+use clap::{Arg, ArgAction, ArgMatches, Command, Error};
 use std::alloc::{AllocError, Global};
 
 /// The description of a command: its texts, and its arguments.
@@ -131,8 +131,6 @@ fn count_of(kind: Kind) -> ValueRange {
 /// Returns the parser of the values that are accepted.
 fn parser_of(kind: Kind) -> ValueParser<'static> {
     match kind {
-        Kind::Number(least, most) => ValueParser::Unsigned(least, most),
-        Kind::NumberOption(most, _) => ValueParser::Unsigned(0, most),
         Kind::NameOption(_, names, _) => ValueParser::Names(names),
         _ => ValueParser::String,
     }
@@ -151,6 +149,49 @@ fn defaults_of(kind: Kind) -> &'static [&'static str] {
     match kind {
         Kind::NumberOption(_, default) | Kind::NameOption(_, _, default) => default,
         _ => &[],
+    }
+}
+
+/// Checks that each number among the arguments `words` of a command is one, within its bounds.
+///
+/// # Errors
+///
+/// Returns a usage error that names the value and the bounds.
+pub fn check_numbers(
+    alloc: Global,
+    command_spec: &CommandSpec,
+    words: &ArgMatches<'_>,
+) -> Result<(), Error> {
+    for word in command_spec.words {
+        let Word(name, kind, _) = word;
+        if let (Some(text), Some((least, most))) = (words.get_str(*name), bounds_of(*kind)) {
+            if !is_number_within(text, least, most) {
+                let dashes = if is_option(*kind) { "--" } else { "" };
+                let text_of_bounds = format!(in alloc;
+                    "{dashes}{name} must be a number from {least} to {most}"
+                )?;
+                return Err(wrong_value(alloc, command_spec, text, text_of_bounds.as_str()));
+            }
+        }
+    }
+    Ok(())
+}
+
+/// Returns the least and the greatest number that an argument of this kind accepts, if its value is
+/// a number.
+fn bounds_of(kind: Kind) -> Option<(u64, u64)> {
+    match kind {
+        Kind::Number(least, most) => Some((least, most)),
+        Kind::NumberOption(most, _) => Some((0, most)),
+        _ => None,
+    }
+}
+
+/// Returns whether the text is a number in decimals between two bounds.
+fn is_number_within(text: &str, least: u64, most: u64) -> bool {
+    match text.parse::<u64>() {
+        Ok(number) => least <= number && number <= most,
+        Err(_) => false,
     }
 }
 

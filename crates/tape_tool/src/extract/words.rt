@@ -3,7 +3,7 @@
 ghost use Rattle.std.specs.Prelude.{◌≡◌, IfSome, IfNone, IsSome};
 ghost use Rattle.tape_tool.specs.Words.{IsNoSet, padded_set};
 
-use crate::command_spec::{CommandSpec, Kind, Word, mistake, wrong_value};
+use crate::command_spec::{CommandSpec, Kind, Word, check_numbers, mistake, wrong_value};
 use crate::help;
 use crate::images::Named;
 use crate::words::{FORMS, Order, form_of, named, number_of, text_of};
@@ -59,6 +59,7 @@ pub const EXTRACT: CommandSpec = CommandSpec {
 /// Returns the request in `matches`, the arguments of `extract`. The parser has checked that all
 /// required ones are present.
 pub fn extract_order<'a>(alloc: Global, matches: &ArgMatches<'a>) -> Result<Order<'a>, Error> {
+    check_numbers(alloc, &EXTRACT, matches)?;
     let task = task_of(alloc, matches)?;
     let images = named(alloc, matches, &EXTRACT, help::TOO_MANY_IMAGES)?;
     Ok(Order::Extract(Extract { task, images }))

@@ -1,6 +1,6 @@
 //! The arguments of `init`.
 
-use crate::command_spec::{CommandSpec, Kind, Word, mistake, wrong_value};
+use crate::command_spec::{CommandSpec, Kind, Word, check_numbers, mistake, wrong_value};
 use crate::help;
 use crate::words::{Order, number_of, text_of};
 use clap::{ArgMatches, Error};
@@ -33,6 +33,7 @@ pub const INIT: CommandSpec = CommandSpec {
 /// are present.
 pub fn init_order<'a>(alloc: Global, matches: &ArgMatches<'a>) -> Result<Order<'a>, Error> {
     let command_spec = &INIT;
+    check_numbers(alloc, command_spec, matches)?;
     let folder = text_of(matches, "DIR");
     if folder.is_empty() {
         return Err(mistake(alloc, command_spec, help::NO_FOLDER));

@@ -1,6 +1,6 @@
 //! The arguments of `salvage`.
 
-use crate::command_spec::{CommandSpec, Kind, Word, mistake, wrong_value};
+use crate::command_spec::{CommandSpec, Kind, Word, check_numbers, mistake, wrong_value};
 use crate::help;
 use crate::images::Named;
 use crate::words::{Order, form_of, named, number_of, set_id_of, text_of};
@@ -46,6 +46,7 @@ pub const SALVAGE: CommandSpec = CommandSpec {
 /// required ones are present.
 pub fn salvage_order<'a>(alloc: Global, matches: &ArgMatches<'a>) -> Result<Order<'a>, Error> {
     let command_spec = &SALVAGE;
+    check_numbers(alloc, command_spec, matches)?;
     let set = text_of(matches, "SET");
     let Some(set_id) = set_id_of(set) else {
         return Err(wrong_value(alloc, command_spec, set, help::WRONG_SET));

@@ -86,6 +86,37 @@ const SAID: &[(&str, i32, &str)] = &[
         2,
         "error: invalid value \"ABCD\": PRE must be three characters",
     ),
+    // It also says what was expected, if that is a number.
+    (
+        "extract ABC001 one a.txt a.tap",
+        2,
+        "error: invalid value \"one\": FILE must be a number from 1 to 9999",
+    ),
+    (
+        "extract ABC001 10000 a.txt a.tap",
+        2,
+        "error: invalid value \"10000\": FILE must be a number from 1 to 9999",
+    ),
+    (
+        "salvage ABC001 0 a.txt a.tap",
+        2,
+        "error: invalid value \"0\": FILE must be a number from 1 to 9999",
+    ),
+    (
+        "init . ABC 1000",
+        2,
+        "error: invalid value \"1000\": COUNT must be a number from 1 to 999",
+    ),
+    (
+        "write . ABC 100000 A=B --block 2K",
+        2,
+        "error: invalid value \"2K\": --block must be a number from 0 to 4294967295",
+    ),
+    (
+        "write . ABC 100000 A=B --offset 256",
+        2,
+        "error: invalid value \"256\": --offset must be a number from 0 to 255",
+    ),
     // No argument can control the terminal when it is printed.
     ("a\u{1b}b\\", 2, "unrecognized subcommand 'a\\u001Bb\\\\'"),
     ("init . a\u{202e} 2", 2, "invalid value \"a\\u202E\": PRE"),

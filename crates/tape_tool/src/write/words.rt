@@ -3,7 +3,7 @@
 ghost use Rattle.std.specs.Prelude.{◌≡◌, ◌↔◌, ◌⊎◌, ◌++◌, ℕ, List, [], codes, IfSome, IfNone};
 ghost use Rattle.tape_tool.specs.Words.{IsAtOdds, IsSize, IsUnit, EndsInLetter};
 
-use crate::command_spec::{CommandSpec, Kind, Word, mistake, wrong_value};
+use crate::command_spec::{CommandSpec, Kind, Word, check_numbers, mistake, wrong_value};
 use crate::help;
 use crate::words::{FORMS, Order, form_of, text_of};
 use clap::{ArgMatches, Error};
@@ -66,6 +66,7 @@ pub const WRITE: CommandSpec = CommandSpec {
 /// Returns the request in `matches`, the arguments of `write`. The parser has checked that all
 /// required ones are present.
 pub fn write_order<'a>(alloc: Global, matches: &ArgMatches<'a>) -> Result<Order<'a>, Error> {
+    check_numbers(alloc, &WRITE, matches)?;
     let name = text_of(matches, "PRE");
     let Some(prefix) = Prefix::new(name) else {
         return Err(wrong_value(alloc, &WRITE, name, help::WRONG_PREFIX));
