@@ -134,7 +134,7 @@ fn summarize<P: Write>(
 }
 
 /// Returns whether sections were found and none is missing.
-pub(crate) fn is_found(listed: &[SectionLine], lacking: &[Lack]) -> bool
+fn is_found(listed: &[SectionLine], lacking: &[Lack]) -> bool
     ensures { (met : List Told) → listed.now ≡ map line_of met → lacking.now ≡ lacks met
         → result ≡ found_all met }
 {

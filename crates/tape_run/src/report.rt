@@ -5,7 +5,7 @@ ghost use Rattle.std.specs.Map.{lookup};
 ghost use Rattle.std.specs.Result.{IsOkUnless};
 ghost use Rattle.std.specs.Str.{bytes_eq};
 ghost use Rattle.tape_run.specs.Lacks.{line_of, greatest, with_file, sets_from, lack_of, one_lack};
-ghost use Rattle.tape_run.specs.Lacks.{file_lacks, set_lacks, lacks};
+ghost use Rattle.tape_run.specs.Lacks.{file_lacks, set_lacks, lacks, is_none_lacking};
 ghost use Rattle.tape_run.specs.declared.fault.RunFault.TheVariants as faults;
 
 use crate::catalogue::Catalogue;
@@ -186,6 +186,26 @@ fn lacks_of(alloc: Global, sections: &Sections, sets: &Sets) -> Result<Vec<Lack>
         add_set(&mut lacks, sections, sets, place)?;
     }
     Ok(lacks)
+}
+
+/// Returns whether no section of the given sets is missing. Stops at the first set of which one is,
+/// and holds the missing sections of that set only.
+pub(crate) fn lacks_none(
+    alloc: Global,
+    sections: &Sections,
+    sets: &Sets,
+) -> Result<bool, AllocError>
+    ensures { IfOk result (λ none.
+        none ≡ is_none_lacking (set_lacks sections.now.entries sets.now.entries)) }
+{
+    let mut lacks = Vec::new(alloc);
+    for place in 0..sets.len() {
+        add_set(&mut lacks, sections, sets, place)?;
+        if !lacks.is_empty() {
+            return Ok(false);
+        }
+    }
+    Ok(true)
 }
 
 /// Returns the report on the given sections.

@@ -17,9 +17,8 @@ use super::glance::one_if;
 use super::problems::add_problems;
 use super::rows::{file_cells, form_cells};
 use super::view::Findings;
-use crate::check::is_found;
 use crate::lacks::lack_of;
-use crate::report::report_of;
+use crate::report::{lacks_none, sets_of};
 use crate::section::{Entry, SectionKey};
 use crate::sections::Sections;
 use crate::text::{Identifier, Trimmed, append};
@@ -311,10 +310,11 @@ pub(crate) fn add_set_line(
 fn is_complete(alloc: Global, sections: &Sections) -> Result<bool, AllocError>
     ensures { IfOk result (λ found. found ≡ found_all sections.now.entries) }
 {
-    let report = report_of(alloc, sections)?;
-    let (listed, lacking) = (report.lines.as_slice(), report.lacks.as_slice());
-    let found = is_found(listed, lacking);
-    Ok(found)
+    let sets = sets_of(alloc, sections)?;
+    if sections.is_empty() {
+        return Ok(false);
+    }
+    lacks_none(alloc, sections, &sets)
 }
 
 /// Returns whether the section at index `place` is complete.

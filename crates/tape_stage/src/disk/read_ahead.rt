@@ -72,6 +72,7 @@ impl<D: Disk> ReadAhead<D> {
 
     /// Fills the start of `buf` with those bytes at offset `place` that were read ahead. Returns
     /// the number of these bytes.
+    #[inline(always)]
     fn give(&self, place: u64, buf: &mut [u8]) -> usize
         ensures same_size { length buf.new ≡ length buf.old }
         ensures few { result ≤ length buf.old }
@@ -86,9 +87,12 @@ impl<D: Disk> ReadAhead<D> {
             return 0;
         }
         let rest = &held[(place - self.start) as usize..];
-        let count = rest.len().min(buf.len());
-        buf[..count].copy_from_slice(&rest[..count]);
-        count
+        if buf.len() <= rest.len() {
+            buf.copy_from_slice(&rest[..buf.len()]);
+            return buf.len();
+        }
+        buf[..rest.len()].copy_from_slice(rest);
+        rest.len()
     }
 
     /// Drops the bytes read ahead.
@@ -125,6 +129,7 @@ impl<D: Disk> ReadAhead<D> {
 
     /// Fills `buf` with the bytes at offset `place`. If `buf` is smaller than the read-ahead
     /// buffer, reads ahead first.
+    #[inline(never)]
     fn look(&mut self, place: u64, buf: &mut [u8]) -> Result<(), DiskFault>
         requires there { place + length buf.old ≤ D.length_of self.old.disk }
         ensures bytes { D.is_honest self.old.disk → OnOk result (buf.new
@@ -183,6 +188,7 @@ impl<D: Disk> Disk for ReadAhead<D> {
         }
     }
 
+    #[inline(always)]
     fn read(&mut self, place: u64, buf: &mut [u8]) -> Result<(), DiskFault> {
         let given = self.give(place, buf);
         let rest = &mut buf[given..];
@@ -195,6 +201,7 @@ impl<D: Disk> Disk for ReadAhead<D> {
         }
     }
 
+    #[inline(always)]
     fn write_at(&mut self, place: u64, bytes: &[u8]) -> Result<(), DiskFault> {
         self.forget();
         match self.disk.write_at(place, bytes) {

@@ -53,6 +53,7 @@ impl<D: Disk> WriteBehind<D> {
     }
 
     /// Writes the buffer. If that fails, the bytes stay buffered, and the next call tries again.
+    #[inline(never)]
     fn pass_on(&mut self) -> Result<(), DiskFault>
         ensures empty { OnOk result (self.new.bytes.items ≡ []) }
         ensures start { OnOk result (self.new.start ≡ 0) }
@@ -152,6 +153,7 @@ impl<D: Disk> Disk for WriteBehind<D> {
         self.disk.read(place, buf)
     }
 
+    #[inline(always)]
     fn write_at(&mut self, place: u64, bytes: &[u8]) -> Result<(), DiskFault> {
         if self.fits(place, bytes.len()) {
             if self.continues(place) {

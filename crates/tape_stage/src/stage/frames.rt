@@ -108,6 +108,7 @@ pub(crate) fn walk<D: Disk>(disk: &mut D, staged: u64) -> Result<Walked, DiskFau
 
 /// Reads the frame at offset `place` into `buffer`, and returns its span and the length of its
 /// part. Returns `Failed` if there is no frame at that offset.
+#[inline(always)]
 pub(crate) fn read_frame<D: Disk>(
     disk: &mut D,
     buffer: &mut [u8],

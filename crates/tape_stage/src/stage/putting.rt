@@ -47,6 +47,7 @@ fn header(span: Span, size: u32) -> [u8; 5]
 }
 
 /// Writes a part's frame at offset `place`.
+#[inline(always)]
 fn write_frame<D: Disk>(disk: &mut D, place: u64, part: Part<'_>) -> Result<(), DiskFault>
     requires there { place ≤ D.length_of disk.old }
     requires short { length part.bytes.now ≤ longest_part }
@@ -75,6 +76,7 @@ impl<D: Disk> Stage<D> {
     /// Returns `Failed` if the disk failed before, and `Full` if the total weight would exceed
     /// 999,999,999,999,999; in both cases nothing is changed. After `Device` the stage must be
     /// opened again.
+    #[inline(always)]
     pub fn put_part(&mut self, part: Part<'_>) -> Result<(), StageFault>
         requires { length part.bytes.now ≤ longest_part }
         ensures ok { D.is_honest self.old.disk → OnOk result ((acked parts : List Portion)
@@ -143,6 +145,7 @@ impl<D: Disk> PartSink for Stage<D> {
 
     ghost survived_now = { λ s t each bytes left. each bytes (inr left) };
 
+    #[inline(always)]
     fn put(&mut self, part: Part<'_>) -> Result<(), SinkFault>
         requires { length part.bytes.now ≤ longest_part }
         ensures alive { OnOk result (self.old.failed ≡ false) }
@@ -244,6 +247,7 @@ impl<D: Disk> PartWalk for Stage<D> {
         self.walked = 0;
     }
 
+    #[inline(always)]
     fn next_part(&mut self) -> Result<Option<Part<'_>>, SinkFault> {
         if !self.readable {
             self.refused = self.refused.saturating_add(1);

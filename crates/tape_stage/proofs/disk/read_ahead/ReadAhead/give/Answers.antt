@@ -1,31 +1,60 @@
 use Rattle.std.proofs.Common.{◌≡◌, ◌∙◌, ◌+◌, ◌-◌, ◌++◌, List, ℕ, length, take, drop, sym, ap, subst}
 use Rattle.std.proofs.Common.{◌≤◌, arith}
-use Rattle.std.proofs.lemmas.List.{length-take-le, length-drop}
+use Rattle.std.proofs.lemmas.List.{length-take-le, length-drop, take_all}
 use Rattle.std.proofs.Math.Seq.{take-append_seam}
 use Rattle.tape_stage.proofs.HoldingLaws.{slice_of_slice}
 use Rattle.tape_stage.proofs.disk.read_ahead.ReadAhead.give.Goals as goal
 
+-- the bytes from `place` on that were read ahead
+abbrev rest_at : ℕ → ℕ → List ℕ → List ℕ
+rest_at start place held = take (length held - (place - start)) (drop (place - start) held)
+
+rest_long : (start place : ℕ) (held : List ℕ) → length (rest_at start place held)
+    ≡ length held - (place - start)
+rest_long start place held = length-take-le (length held - (place - start))
+    (drop (place - start) held) (omega (arith, length-drop (place - start) held))
+
+-- the first n of them are those of the disk
+part_is : (seen items back out : List ℕ) (start held place n : ℕ) → held ≤ length items
+    → back ≡ items → take (start + held - start) (drop start seen) ≡ take held items
+    → start ≤ place → place - start ≤ length (take held back)
+    → n ≤ length (rest_at start place (take held back))
+    → out ≡ take n (rest_at start place (take held back))
+    → out ≡ take (place + n - place) (drop place seen)
+part_is seen items back out start held place n fits value right from inside few is =
+    let same : take held back ≡ take held items = ap (take held) value in
+    let long : length (take held back) ≡ held =
+    ap length same ∙ length-take-le held items fits in
+    slice_of_slice seen (take held back) out start place n
+    (subst (λ k. take (start + k - start) (drop start seen) ≡ take held back) (sym long)
+    (right ∙ sym same)) from inside
+    (omega (arith, few, rest_long start place (take held back))) is
+
+pub returns-then-buf-rest-clause-bytes : goal.returns-then-buf-rest-clause-bytes
+returns-then-buf-rest-clause-bytes g c honest =
+    let h = c.args.self.now in
+    let rest : List ℕ = rest_at h.start c.args.place (take h.held c.deref.result.now) in
+    let out : List ℕ = c.copy_from_slice.new.self in
+    let n : ℕ = length out in
+    let asked : length c.args.buf.now ≤ length rest = c.if-buf-rest.true in
+    let all : n ≡ length c.args.buf.now = ap length c.copy_from_slice.ensures.after
+    ∙ length-take-le (length c.args.buf.now) rest asked in
+    take_all n out (omega arith)
+    ∙ part_is (g.D.Disk.seen h.disk) h.bytes.items c.deref.result.now out h.start h.held
+    c.args.place n h.fits c.deref.ensures.value (h.right honest) c.if-place-self.false
+    c.if-place-self-2.false (omega (arith, all, asked))
+    (c.copy_from_slice.ensures.after ∙ ap (λ k. take k rest) (sym all))
+
 pub returns-clause-bytes : goal.returns-clause-bytes
 returns-clause-bytes g c honest =
     let h = c.args.self.now in
-    let seen : List ℕ = g.D.Disk.seen h.disk in
     let held : List ℕ = take h.held c.deref.result.now in
-    let start : ℕ = h.start in
-    let from : ℕ = c.args.place - start in
-    let same : held ≡ take h.held h.bytes.items = ap (take h.held) c.deref.ensures.value in
-    let long : length held ≡ h.held = ap length same ∙ length-take-le h.held h.bytes.items h.fits in
-    let is : take (start + length held - start) (drop start seen) ≡ held =
-    subst (λ n. take (start + n - start) (drop start seen) ≡ held) (sym long)
-    (h.right honest ∙ sym same) in
-    let rest : List ℕ = take (length held - from) (drop from held) in
-    let size : length rest ≡ length held - from =
-    length-take-le (length held - from) (drop from held) (omega (arith, length-drop from held)) in
-    let n : ℕ = c.min-count.result in
-    let few : n ≤ length held - from = omega (arith, c.min-count.ensures, size) in
-    let out : List ℕ = c.copy_from_slice.new.self in
-    let all : length out ≡ n = ap length c.copy_from_slice.ensures.after
-    ∙ length-take-le n rest (omega (arith, few, size)) in
-    subst (λ k. take k (out ++ drop n c.args.buf.now) ≡ out) all
+    let rest : List ℕ = rest_at h.start c.args.place held in
+    let n : ℕ = length rest in
+    let out : List ℕ = c.copy_from_slice-2.new.self in
+    let is : out ≡ rest = c.copy_from_slice-2.ensures.after in
+    subst (λ k. take k (out ++ drop n c.args.buf.now) ≡ out) (ap length is)
     (take-append_seam out (drop n c.args.buf.now))
-    ∙ slice_of_slice seen held out start c.args.place n is c.if-place-self.false
-    c.if-place-self-2.false few c.copy_from_slice.ensures.after
+    ∙ part_is (g.D.Disk.seen h.disk) h.bytes.items c.deref.result.now out h.start h.held
+    c.args.place n h.fits c.deref.ensures.value (h.right honest) c.if-place-self.false
+    c.if-place-self-2.false (omega arith) (is ∙ sym (take_all n rest (omega arith)))
