@@ -1,12 +1,11 @@
 -- The bytes that readers returned, of images whose bytes are known.
 use Rattle.std.proofs.Common.{◌≡◌, ℕ, ◌+◌, ◌*◌, ◌≤◌, List, [], ◌∷◌, ◌++◌, length, map}
 use Rattle.std.specs.Prelude.{IfOk, IfErr}
-use Rattle.std.proofs.Common.{Option, Some, Bool, true, false, Result, Ok, Err, sym, ap, subst}
-use Rattle.std.proofs.Common.{arith, refl}
-use Rattle.tape_image.specs.Tape.{TapeItem, block, bad, mark}
+use Rattle.std.proofs.Common.{Option, Some, Result, Ok, Err, sym, ap, subst}
+use Rattle.std.proofs.Common.{arith}
+use Rattle.tape_image.specs.Tape.{TapeItem, bad}
 use Rattle.tape_image.specs.Begins.{image_limit, Stop, Begins, Walks}
 use Rattle.tape_image.specs.Reader.{Reader}
-use Rattle.tape_image.specs.Step.{least_extent}
 use Rattle.tape_image.specs.Calls.{Gave}
 use Rattle.tape_image.specs.Writer.{Writer}
 use Rattle.tape_image.proofs.Callers.{Gave-walks, front_of_image}
@@ -15,13 +14,15 @@ use Rattle.tape_run.specs.declared.merge.MergeFault.{MergeFault}
 use Rattle.tape_run.specs.declared.merge.MergeFault.TheVariants as faults
 use Rattle.tape_run.specs.declared.merge.reading.Reading.{Reading}
 use Rattle.tape_run.specs.MergeSteps.{HasRead, HasTaken, HaveTaken, TookLast, nothing, last}
-use Rattle.tape_run.specs.MergeSteps.{bads, one_if, is_bad_one}
+use Rattle.tape_run.specs.MergeSteps.{bads, is_bad_one}
 use Rattle.tape_run.specs.MergeCalls.{AreAtFront, IfImages, Merges, FitsFault}
 use Rattle.tape_run.specs.MergedImages.{LastIsAt, no_item, last_item, TakesImage, TakeImages}
 use Rattle.tape_run.specs.MergedImages.{AllBegin, MergesImages, FaultsImages}
 use Rattle.tape_run.specs.MergeLaws.{AreFronts, TakesAs}
 use Rattle.tape_run.proofs.MergeGiven.{readers_give_images}
 use Rattle.tape_run.proofs.MergeJoins.{differ_for_good}
+use Rattle.tape_run.proofs.MergeCounts.{one_at_most}
+use Rattle.tape_image.proofs.Steps.{least_four}
 
 -- ---- how long readings are
 
@@ -31,27 +32,18 @@ behind_limit [] a b le same =
     subst (λ (p : ℕ). p ≤ image_limit) (sym (ap (λ (r : Reader). r.place) same)) le
 behind_limit (x ∷ items) a b le (mid, given, then) = behind_limit items mid b given.within then
 
-some_extent : (x : TapeItem) → 4 ≤ least_extent x
-some_extent (block bytes) = omega arith
-some_extent bad = omega arith
-some_extent mark = omega arith
-
 extents : (items : List TapeItem) (a b : Reader) → Gave a items b
     → a.place + length items * 4 ≤ b.place
 extents [] a b same =
     let e : b.place ≡ a.place = ap (λ (r : Reader). r.place) same in
     omega (arith, e)
 extents (x ∷ items) a b (mid, given, then) =
-    omega (arith, extents items mid b then, given.extent, some_extent x)
-
-bad_at_most : (b : Bool) → one_if b ≤ 1
-bad_at_most true = omega arith
-bad_at_most false = omega arith
+    omega (arith, extents items mid b then, given.extent, least_four x)
 
 few_bad : (items : List TapeItem) → bads items ≤ length items
 few_bad [] = omega arith
 few_bad (x ∷ items) =
-    omega (arith, few_bad items, bad_at_most (is_bad_one (Some x)))
+    omega (arith, few_bad items, one_at_most (is_bad_one (Some x)))
 
 -- an image has fewer than 2 ^ 30 items
 few_items : (f n : Reader) (items : List TapeItem) → HasRead f n items → f.place ≡ 0

@@ -1,6 +1,6 @@
 -- The meaning of a call of `ImageReader::next` for a reading that is asked for an item.
-use Rattle.std.proofs.Common.{◌≡◌, ◌≢◌, inl, inr, ℕ, ◌+◌, ◌≤◌, Option, Some, None, Result, Ok, Err}
-use Rattle.std.proofs.Common.{Bool, true, false, refl, ap, subst, sym, ◌∙◌}
+use Rattle.std.proofs.Common.{◌≡◌, ◌≢◌, ℕ, Option, Some, None, Result, Ok}
+use Rattle.std.proofs.Common.{true, false, refl, ap, subst, sym, ◌∙◌}
 use Rattle.tape_image.specs.declared.item.Item.{Item}
 use Rattle.tape_image.specs.declared.item.ImageFault.{ImageFault}
 use Rattle.tape_image.specs.Tape.{TapeItem, block, bad, mark}
@@ -10,10 +10,10 @@ use Rattle.tape_image.specs.Next.{HasMoved}
 use Rattle.tape_run.specs.declared.merge.reading.Reading.{Reading}
 use Rattle.tape_run.specs.declared.merge.reading.Verdict.{Verdict}
 use Rattle.tape_run.specs.declared.merge.reading.Verdict.TheVariants as verdicts
-use Rattle.tape_run.specs.MergeSteps.{agrees, Compares, Stopped, StopsAs, Answered, with_item}
+use Rattle.tape_run.specs.MergeSteps.{agrees, Compares, StopsAs, Answered, with_item}
 use Rattle.tape_run.specs.MergeSteps.{is_stop, bad_count, without, RisesBy, is_bad_one, one_if}
 use Rattle.tape_run.specs.MergeSteps.{block_length}
-use Rattle.tape_run.specs.MergeSteps.{CountsItem, CountsNothing, Asked, gives, stops}
+use Rattle.tape_run.specs.MergeSteps.{CountsNothing, Asked, gives, stops}
 
 status_gives : (s : Status) (old new : Reader) (r : Result (Option TapeItem) ImageFault)
     (x : TapeItem) → Answers s old r new → r ≡ Ok (Some x) → (s ≡ going) × GivesItem old x new
@@ -33,45 +33,6 @@ answered_item old new result item verdict len best now other beside h e compares
     let (on, given) = status_gives old.status old new (seen result) (tape_item item) h.answers
     (ap seen e) in
     with_item (tape_item item) on given compares long
-
-status_ends : (s : Status) (old new : Reader) (r : Result (Option TapeItem) ImageFault)
-    → old.status ≡ s → Answers s old r new → r ≡ Ok None
-    → Stopped old new × StopsAs verdicts.Ended new.status
-status_ends going old new r at a e =
-    let met = subst (λ (q : Result (Option TapeItem) ImageFault). Meets old q new) e a in
-    (inl (at, inl met), (met.ending, met.ended))
-status_ends (ended ending) old new r at a e =
-    (inr (λ on. cc (on, at), a.1), (ending, ap (λ (r : Reader). r.status) a.1 ∙ at))
-status_ends (failed fault) old new r at a e = absurd (cc (a.0, e))
-
-status_fails : (s : Status) (old new : Reader) (r : Result (Option TapeItem) ImageFault)
-    (f : ImageFault) → old.status ≡ s → Answers s old r new → r ≡ Err f
-    → Stopped old new × StopsAs (verdicts.Failed f) new.status
-status_fails going old new r f at a e =
-    let met = subst (λ (q : Result (Option TapeItem) ImageFault). Meets old q new) e a in
-    (inl (at, inr (f, met)), met.failed)
-status_fails (ended ending) old new r f at a e = absurd (cc (a.0, e))
-status_fails (failed fault) old new r f at a e = (
-  inr (λ on. cc (on, at), a.1),
-  ap (λ (r : Reader). r.status) a.1 ∙ at ∙ ap failed (cc (a.0, e)),
-)
-
--- it reached the end
-pub answered_end : (old new : Reader) (result : Result (Option Item) ImageFault)
-    (best other : Option TapeItem) (len : ℕ) → HasMoved old result new → result ≡ Ok None
-    → Answered old new verdicts.Ended len best best other other
-answered_end old new result best other len h e =
-    let (stopped, how) = status_ends old.status old new (seen result) refl h.answers (ap seen e) in
-    without stopped how refl refl
-
--- it failed
-pub answered_fault : (old new : Reader) (result : Result (Option Item) ImageFault)
-    (fault : ImageFault) (best other : Option TapeItem) (len : ℕ) → HasMoved old result new
-    → result ≡ Err fault → Answered old new (verdicts.Failed fault) len best best other other
-answered_fault old new result fault best other len h e =
-    let (stopped, how) =
-    status_fails old.status old new (seen result) fault refl h.answers (ap seen e) in
-    without stopped how refl refl
 
 -- ---- the fields
 

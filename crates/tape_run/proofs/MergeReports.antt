@@ -1,5 +1,5 @@
 -- The lines of readings, one after another, and how the merged image ends.
-use Rattle.std.proofs.Common.{◌≡◌, ◌⊎◌, ℕ, zero, suc, ◌+◌, ◌<◌, ◌≤◌, List, [], ◌∷◌, length}
+use Rattle.std.proofs.Common.{◌≡◌, ℕ, zero, suc, ◌+◌, ◌<◌, ◌≤◌, List, [], ◌∷◌, length}
 use Rattle.std.proofs.Common.{drop, get_or, Option, Some, None, refl, sym, ap, subst, ◌∙◌, inl, inr}
 use Rattle.std.proofs.Common.{◌++◌, arith, append_assoc, append-nil}
 use Rattle.std.specs.Io.KnownBytes.{Appends}
@@ -15,7 +15,7 @@ use Rattle.tape_run.specs.declared.merge.line.ReadingLine.{ReadingLine}
 use Rattle.tape_run.specs.MergeLines.{lines_from, reading_text, line_of, reading_line, name_at}
 use Rattle.tape_run.specs.MergeLines.{has_of, has_line, item_line, with_name, has_text}
 use Rattle.tape_image.specs.Written.{AppendsFront}
-use Rattle.tape_run.specs.MergeNow.{SomeEnds, EndsAs}
+use Rattle.tape_run.specs.MergeNow.{SomeEnds}
 use Rattle.tape_run.proofs.Reporting.{front_then}
 
 -- ---- lines
@@ -191,20 +191,3 @@ ends_kept items number all end r lt is never h = record {
   cut = λ e. ends_later items number all r endings.Physical lt is (never endings.Physical)
       (h.cut e);
 }
-
--- nothing is left
-pub ends_none : {R : Type 0} (items number : ℕ) (all : List (Reading R)) (ending : Ending)
-    → length all ≤ number → (SomeEnds items ending all → SomeEnds items ending (drop number all))
-    → SomeEnds items ending all → ⊥
-ends_none items number all ending le so_far some =
-    subst (SomeEnds items ending) (drop_none all number le) (so_far some)
-
-pub ends_as : {R : Type 0} (items number : ℕ) (all : List (Reading R)) (end : MergedEnd)
-    → length all ≤ number → EndsSoFar items number all end → EndsAs items all end
-ends_as items number all Marked le h = absurd (h.not_marked refl)
-ends_as items number all Physical le h =
-    (h.physical refl, ends_none items number all endings.Marked le h.no_marked)
-ends_as items number all Cut le h = (
-  ends_none items number all endings.Physical le (h.cut refl),
-  ends_none items number all endings.Marked le h.no_marked,
-)

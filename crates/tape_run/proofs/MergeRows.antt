@@ -1,7 +1,7 @@
 -- The rows of the log, as items are merged one after another.
-use Rattle.std.proofs.Common.{◌≡◌, ℕ, zero, suc, ◌+◌, ◌<◌, ◌≤◌, List, [], ◌∷◌, ◌++◌, length, map}
-use Rattle.std.proofs.Common.{Option, Some, None, Bool, refl, sym, ap, subst, ◌∙◌, arith}
-use Rattle.std.proofs.Common.{append_assoc, append-nil, drop, get_or, false}
+use Rattle.std.proofs.Common.{◌≡◌, ℕ, ◌+◌, ◌<◌, ◌≤◌, List, [], ◌∷◌, ◌++◌, length, map}
+use Rattle.std.proofs.Common.{Option, Some, refl, sym, ap, ◌∙◌, arith}
+use Rattle.std.proofs.Common.{append_assoc, append-nil, drop}
 use Rattle.std.specs.Prelude.{◌||◌, nat_lt, if◌then◌else◌, ⊤}
 use Rattle.std.specs.List.{flat_map}
 use Rattle.tape_image.specs.Tape.{TapeItem}
@@ -10,10 +10,9 @@ use Rattle.tape_run.specs.MergeSteps.{column, goods_in}
 use Rattle.tape_run.specs.MergeCalls.{firsts_in}
 use Rattle.tape_run.specs.MergeLog.{has_bad, has_bad_verdict, is_logged, seen_cell, verdict_cells}
 use Rattle.tape_run.specs.MergeLog.{row_text, kind_at, log_row, log_rows, row_now}
-use Rattle.tape_run.specs.MergeLog.{is_bad_verdict}
 use Rattle.tape_run.specs.MergeLines.{lines_from}
 use Rattle.tape_run.proofs.MergeVerdicts.{SeenAs}
-use Rattle.tape_run.proofs.MergeReports.{drop_none, drop_one}
+use Rattle.tape_run.proofs.MergeReports.{drop_none}
 
 -- ---- one item
 
@@ -111,13 +110,6 @@ pub lines_flat : {A : Type 0} (f : A → List ℕ) (n : ℕ) (xs : List A)
 lines_flat f n [] = refl
 lines_flat f n (x ∷ xs) = ap (λ t. f x ++ t) (lines_flat f (n + 1) xs)
 
--- the text of elements that are still to come
-pub flat_one : {A : Type 0} (f : A → List ℕ) (n : ℕ) (xs : List A) (x : A) (text : List ℕ)
-    → n < length xs → x ≡ get_or xs n x
-    → (text ++ f x) ++ flat_map f (drop (n + 1) xs) ≡ text ++ flat_map f (drop n xs)
-flat_one f n xs x text lt is = append_assoc text (f x) (flat_map f (drop (n + 1) xs))
-    ∙ ap (λ l. text ++ flat_map f l) (sym (drop_one xs n x lt is))
-
 pub flat_none : {A : Type 0} (f : A → List ℕ) (n : ℕ) (xs : List A) (text : List ℕ)
     → length xs ≤ n → text ≡ text ++ flat_map f (drop n xs)
 flat_none f n xs text le = sym (append-nil text)
@@ -128,13 +120,3 @@ pub flat_values : {A B : Type 0} (f : B → List ℕ) (value : A → B) (xs : Li
     → flat_map f (map value xs) ≡ flat_map (λ x. f (value x)) xs
 flat_values f value [] = refl
 flat_values f value (x ∷ xs) = ap (λ t. f (value x) ++ t) (flat_values f value xs)
-
--- the first reading, or one of those after it, has a bad item
-pub bad_one : {R : Type 0} (n : ℕ) (rs : List (Reading R)) (r : Reading R) → n < length rs
-    → r ≡ get_or rs n r
-    → has_bad_verdict (drop n rs) ≡ (is_bad_verdict r.verdict || has_bad_verdict (drop (n + 1) rs))
-bad_one n rs r lt is = ap has_bad_verdict (drop_one rs n r lt is)
-
-pub bad_none : {R : Type 0} (n : ℕ) (rs : List (Reading R)) → length rs ≤ n
-    → has_bad_verdict (drop n rs) ≡ false
-bad_none n rs le = ap has_bad_verdict (drop_none rs n le)

@@ -1,11 +1,11 @@
 -- Why no merged image is made if it would be too long.
-use Rattle.std.proofs.Common.{◌≡◌, ℕ, ◌+◌, ◌<◌, List, length, Option, Result, Err, IfErr}
+use Rattle.std.proofs.Common.{◌≡◌, ℕ, ◌+◌, ◌<◌, List, length, Option, Result, IfErr}
 use Rattle.std.proofs.Common.{refl, sym, ap, subst, ◌∙◌, inl, inr, arith}
 use Rattle.tape_image.specs.declared.item.ImageWriteFault.{ImageWriteFault}
 use Rattle.tape_image.specs.declared.item.ImageWriteFault.TheVariants.{TooLong}
 use Rattle.tape_image.specs.Begins.{image_limit}
 use Rattle.tape_image.specs.Written.{written}
-use Rattle.tape_image.specs.Writer.{Writer, Standing, writing, finished, broken, PutsFrom}
+use Rattle.tape_image.specs.Writer.{Writer, writing}
 use Rattle.tape_run.specs.declared.merge.Merged.{Merged}
 use Rattle.tape_run.specs.declared.merge.MergeFault.{MergeFault}
 use Rattle.tape_run.specs.declared.merge.MergeFault.TheVariants as faults
@@ -17,13 +17,6 @@ use Rattle.tape_run.specs.MergeCalls.{IfImages, RefusesLast}
 use Rattle.tape_run.specs.MergedImages.{TakeImages, MergesImages, FaultsImages}
 use Rattle.tape_run.specs.MergeNow.{EndsAs, end_bytes, IsTooLong, Misses}
 use Rattle.tape_run.proofs.MergeNow.{items_put, misses_more, err_misses}
-
-put_too_long : (s after : Standing) (bytes : List ℕ) (old new : Writer)
-    → PutsFrom s bytes after old (Err TooLong) new
-    → (image_limit < old.size + length bytes) × (new ≡ old)
-put_too_long writing after bytes old new h = h
-put_too_long finished after bytes old new h = absurd (cc h.0)
-put_too_long broken after bytes old new h = absurd (cc h.0)
 
 -- an item was refused
 item_too_long : {R : Type 0} (firsts nows : List (Reading R)) (old new : Writer)

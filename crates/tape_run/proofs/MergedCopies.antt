@@ -1,22 +1,23 @@
 -- The merged items of copies of a volume are a copy of it.
-use Rattle.std.proofs.Common.{◌≡◌, ◌≢◌, ◌⊎◌, inl, inr, ◌<◌, ◌≤◌, ℕ, zero, suc, ◌-◌, List, [], ◌∷◌}
-use Rattle.std.proofs.Common.{◌++◌, length, drop, map, Bool, true, false, cond, Some, None, refl}
+use Rattle.std.proofs.Common.{◌≡◌, ◌≢◌, ◌⊎◌, inl, inr, ◌<◌, ◌≤◌, ℕ, ◌-◌, List, [], ◌∷◌}
+use Rattle.std.proofs.Common.{◌++◌, length, drop, map, Bool, true, false, cond, refl}
 use Rattle.std.proofs.Common.{sym, ap, subst, ◌∙◌, arith, append-nil, length-append}
 use Rattle.std.proofs.lemmas.Bool.{cases_lt}
-use Rattle.std.specs.Prelude.{IsSome, max}
-use Rattle.tape_image.specs.Tape.{TapeItem, block, bad, mark}
-use Rattle.tape_set.specs.Layout.{FileSet, Entry, a_label, a_data_block, a_mark, nth, items}
+use Rattle.tape_image.specs.Tape.{TapeItem, bad}
+use Rattle.tape_set.specs.Layout.{FileSet, Entry, a_label, a_data_block, a_mark, items}
 use Rattle.tape_set.specs.Layout.{entries}
 use Rattle.tape_set.specs.Layout.{item_of}
 use Rattle.tape_set.specs.Reading.{Reading, as_read}
 use Rattle.tape_set.specs.Reach.{passes, IsWithin}
 use Rattle.tape_run.specs.Mount.{IsCopy}
-use Rattle.tape_run.specs.Merging.{IsReadAs, IsReadFrom, AreReadFrom, IsMerged}
+use Rattle.tape_run.specs.Merging.{IsReadAs, IsReadFrom, AreReadFrom}
 use Rattle.tape_run.specs.MergeLaws.{longest}
 use Rattle.tape_run.proofs.MergeReadings.{reads_more}
 use Rattle.tape_run.proofs.MergeBest.{as_long}
 use Rattle.tape_run.specs.MergedCopies.{AreCopies, AreWithin, MergedIsCopy}
 use Rattle.tape_set.proofs.Reaching.{passes_better}
+use Rattle.tape_run.proofs.Mounts.{as_read_length}
+use Rattle.tape_run.proofs.MergeReadings.{reads_front}
 
 -- ---- items as they were read
 
@@ -28,15 +29,6 @@ as_read_from : (xs : List TapeItem) (gs : List Bool) → IsReadFrom (as_read xs 
 as_read_from [] gs = tt
 as_read_from (x ∷ xs) [] = tt
 as_read_from (x ∷ xs) (g ∷ gs) = (as_met x g, as_read_from xs gs)
-
-as_read_length : (xs : List TapeItem) (gs : List Bool) → length gs ≤ length xs
-    → length (as_read xs gs) ≡ length gs
-as_read_length [] [] le = refl
-as_read_length [] (g ∷ gs) le = absurd (omega arith)
-as_read_length (x ∷ xs) [] le = refl
-as_read_length (x ∷ xs) (g ∷ gs) le =
-    let ih : length (as_read xs gs) ≡ length gs = as_read_length xs gs (omega arith) in
-    omega arith
 
 -- ---- after a prefix of a tape
 
@@ -195,11 +187,6 @@ within (x ∷ xs) (y ∷ m) (g ∷ gs) (b ∷ good) more none le h k = (
   within xs m gs good more none.1 (omega arith) h.1 k.2,
 )
 
-front_reads : (a b t : List TapeItem) → IsReadFrom (a ++ b) t → IsReadFrom a t
-front_reads [] b t h = tt
-front_reads (x ∷ a) b [] h = absurd h
-front_reads (x ∷ a) b (y ∷ t) h = (h.0, front_reads a b t h.1)
-
 copy_within : (set : FileSet) (k : ℕ) (xs m : List TapeItem) (r : Reading) (good : List Bool)
     (more : List TapeItem) → NoBad (items set k) → IsCopy set xs r → r.volume ≡ k
     → IsReadFrom xs m → Marks (items set k) m good more → IsWithin r.good good
@@ -209,7 +196,7 @@ copy_within set k xs m r good more none c same h marked =
     let whole : xs ≡ as_read (items set k) r.good ++ c.more =
     subst (λ (v : ℕ). xs ≡ as_read (items set v) r.good ++ c.more) same c.whole in
     within (items set k) m r.good good more none le
-    (front_reads (as_read (items set k) r.good) c.more m
+    (reads_front (as_read (items set k) r.good) c.more m
     (subst (λ l. IsReadFrom l m) whole h)) marked
 
 copies_within : (set : FileSet) (k : ℕ) (images : List (List TapeItem)) (rs : List Reading)

@@ -135,7 +135,7 @@ streaming_is_full_at_once W R L O P LW LR LL LO LP w f wd h e rd m n o p i j κs
       | inr ends ↦ absurd (cc ends.0)
     ]
 
--- complete_reported_before_the_name: the last line reports a complete file, but no file has the name
+-- complete_reported_before_the_name: the last line reports a complete file, but none has the name
 complete_reported_before_the_name : (W : _) (R : _) (L : _) (O : _) (P : _) (LW : _) (LR : _)
     (LL : _) (LO : _) (LP : _) (w : _) (f : _) (h : _) (e : _) (m : _) (n : _) (o : _) (k : _)
     (p : _) (q : _) (i : _) (j : _) (κs : _) (a : _) (fault : _) (s : _) (held : List Portion)

@@ -295,7 +295,7 @@ reached core set p xs i (restarts n) l m u = absurd m
 
 -- ---- a mount read to its end
 
-as_read_length : (xs : List TapeItem) (good : List Bool) → length good ≤ length xs
+pub as_read_length : (xs : List TapeItem) (good : List Bool) → length good ≤ length xs
     → length (as_read xs good) ≡ length good
 as_read_length [] [] h = refl
 as_read_length [] (g ∷ gs) h = absurd (omega (arith, h))

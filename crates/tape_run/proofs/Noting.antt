@@ -30,10 +30,6 @@ noted_elsewhere s c last other (n, count, (is, front, weighs)) =
     sym last ∙ (ap (λ m. slice_get s.notes m) (sym at) ∙ is) in
     other (let e = same in cc)
 
--- there is none
-pub none_noted : (s : Seen) → s.notes ≡ [] → HasNotedHere s → ⊥
-none_noted s none (n, count, is) = absurd (omega (arith, count, ap length none))
-
 -- a consequence of an answer is true where the answer is returned
 pub true_map : (t : Bool) (A B : Type 0) → (A → B) → OnTrue t A → OnTrue t B
 true_map true A B f a = f a

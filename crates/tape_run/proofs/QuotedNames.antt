@@ -30,7 +30,8 @@ high : (c : ℕ) → is_hidden c ≡ true → c / 16 / 16 / 16 < 16
 high c is =
     let small : c < 65536 = grind (arith, nat_tests) in
     div_below (c / 16 / 16) 16 16 (omega arith)
-    (div_below (c / 16) 16 256 (omega arith) (div_below c 16 4096 (omega arith) (omega (arith, small))))
+    (div_below (c / 16) 16 256 (omega arith)
+    (div_below c 16 4096 (omega arith) (omega (arith, small))))
 
 -- ---- nothing is hidden
 

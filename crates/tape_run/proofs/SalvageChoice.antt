@@ -44,11 +44,6 @@ more_by sect x c cs last true b ih e =
     let h = ih (Some x.image) e in (ap (λ (l : List SectionCopy). x ∷ l) h.first, h.image)
 more_by sect x c cs last false b ih e = let h = ih last e in (h.first, h.image)
 
-more_none : (c : SectionCopy) (sect : ℕ) (last : Option ℕ) (b : Bool)
-    → ((if b then c ∷ [] else []) ≡ [] ++ (if b then c ∷ [] else []))
-    × ((if b then Some c.image else last) ≡ (if b then Some c.image else last))
-more_none c sect last b = (refl, refl)
-
 pub more : (sect : ℕ) (last : Option ℕ) (cs : List SectionCopy) (c : SectionCopy) (b : Bool)
     → is_considered sect (last_image sect last cs) c ≡ b → More sect last cs c b
 more sect last [] c true e = record { first = rw e refl; image = rw e refl }
@@ -57,11 +52,6 @@ more sect last (x ∷ cs) c b e =
     let h = more_by sect x c cs last (is_considered sect last x) b
     (λ l f. more sect l cs c b f) e in
     record { first = h.0; image = h.1 }
-
--- the copy is the first one, or comes after one that is no worse, or is better
-pub first_best : (cs : List SectionCopy) (c : SectionCopy) → IsBest cs None
-    → IsBest (cs ++ c ∷ []) (Some c)
-first_best cs c none = ([], [], ap (λ (l : List SectionCopy). l ++ c ∷ []) none, tt, tt)
 
 pub still_best : (cs : List SectionCopy) (b c : SectionCopy) → rank c ≤ rank b
     → IsBest cs (Some b) → IsBest (cs ++ c ∷ []) (Some b)

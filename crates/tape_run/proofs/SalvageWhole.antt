@@ -43,17 +43,6 @@ moved (y ∷ d) o x w = ap (λ (l : List Portion). y ∷ l) (moved d o x w)
 
 -- ---- one part of a block that was read
 
--- the effect of a part if nothing is missing
-on_open : (p : Piece) (x : Portion) → p.torn ≡ false → leaves x.span ≡ true
-    → with_part p x ≡ record {
-      done = p.done;
-      front = p.front ++ x ∷ [];
-      begun = true;
-      torn = false;
-      records = p.records;
-    }
-on_open p x t l = rw (t, l) refl
-
 part_there : (p : Piece) (begun all : Bool) (front : List Portion) (x : Portion)
     (rest : List (Bool × Portion)) (l : Bool) → leaves x.span ≡ l → continues x.span ≡ begun
     → Follows p begun front all

@@ -1,17 +1,14 @@
 -- The volumes of a set, one section after another.
-use Rattle.std.proofs.Common.{◌≡◌, ℕ, zero, suc, ◌+◌, ◌-◌, ◌<◌, Bool, true, false, List, [], ◌∷◌}
-use Rattle.std.proofs.Common.{◌++◌, Option, Some, None, refl, ap, sym, ◌∙◌, arith, length, drop, get_or}
+use Rattle.std.proofs.Common.{◌≡◌, ℕ, zero, suc, ◌+◌, ◌-◌, ◌<◌, Bool, true, false, List, []}
+use Rattle.std.proofs.Common.{◌++◌, Option, Some, None, refl, ap, sym, ◌∙◌, arith}
 use Rattle.std.proofs.Common.{append_assoc, append-nil}
-use Rattle.std.specs.Prelude.{if◌then◌else◌, not}
-use Rattle.std.proofs.lemmas.List.{at_drop_more}
-use Rattle.tape_run.specs.declared.survey.volumes.VolumeItem.{VolumeItem}
+use Rattle.std.specs.Prelude.{if◌then◌else◌}
 use Rattle.tape_run.specs.Lacks.{entry_at, key_at}
 use Rattle.tape_run.specs.Passing.{Told}
-use Rattle.tape_run.specs.SurveyProblems.{first_after, ends}
+use Rattle.tape_run.specs.SurveyProblems.{first_after}
 use Rattle.tape_run.specs.SurveyRead.{Found}
-use Rattle.tape_run.specs.SurveyChain.{gap_if, link_of, is_last, next_first, sections_chain}
-use Rattle.tape_run.specs.SurveyChain.{file_chain, files_chain, items_to, volumes_from}
-use Rattle.tape_run.specs.SurveyChain.{item_text, comma_text, column_after, items_text}
+use Rattle.tape_run.specs.SurveyChain.{link_of, is_last, next_first, sections_chain}
+use Rattle.tape_run.specs.SurveyChain.{file_chain, files_chain}
 
 -- ---- the sections of a file
 
@@ -79,14 +76,6 @@ section_last c set_id file old new goal first before most within is put was =
     ∙ ap (λ ls. old ++ ls) (sym (chain_behind c set_id file first (before + 1) (most - before) some))
     ∙ was
 
--- nothing is left
-pub sections_over : (c : List Told) (set_id : List ℕ) (file : ℕ) (old new goal : List (Option (List ℕ)))
-    (first sect left : ℕ) → left ≡ 0
-    → new ≡ old ++ gap_if (not (ends (entry_at c (key_at set_id file (first - 1)))))
-    → old ++ sections_chain c set_id file first sect left ≡ goal → new ≡ goal
-sections_over c set_id file old new goal first sect left none put was =
-    put ∙ ap (λ n. old ++ sections_chain c set_id file first sect n) (sym none) ∙ was
-
 -- ---- the files of a set
 
 files_behind : (d : Found) (set_id : List ℕ) (file left : ℕ) → 0 < left
@@ -121,47 +110,4 @@ files_over d set_id all goal file left none was =
 
 -- ---- volumes
 
--- at one of the links of the chain
-pub at_link : (last : Option (List ℕ)) (missing : Bool) (xs : List (Option (List ℕ))) (i : ℕ)
-    (x : Option (List ℕ)) → i < length xs
-    → volumes_from last missing (drop i xs)
-    ≡ volumes_from last missing (get_or xs i x ∷ drop (i + 1) xs)
-at_link last missing xs i x within = at_drop_more (volumes_from last missing) xs i x within
-
--- a section that is missing
-pub item_missing : (last : Option (List ℕ)) (missing : Bool) (xs : List (Option (List ℕ))) (i : ℕ)
-    (old goal : List VolumeItem) (x : Option (List ℕ)) → i < length xs → get_or xs i x ≡ None
-    → old ++ volumes_from last missing (drop i xs) ≡ goal
-    → old ++ volumes_from last true (drop (i + 1) xs) ≡ goal
-item_missing last missing xs i old goal x within is was =
-    ap (λ (l : Option (List ℕ)). old ++ volumes_from last missing (l ∷ drop (i + 1) xs)) (sym is)
-    ∙ ap (λ vs. old ++ vs) (sym (at_link last missing xs i x within)) ∙ was
-
--- a section that was found
-pub item_added : (last : Option (List ℕ)) (missing : Bool) (xs : List (Option (List ℕ))) (i : ℕ)
-    (v : List ℕ) (old new goal : List VolumeItem) (x : Option (List ℕ)) → i < length xs
-    → get_or xs i x ≡ Some v → new ≡ old ++ items_to last missing v
-    → old ++ volumes_from last missing (drop i xs) ≡ goal
-    → new ++ volumes_from (Some v) false (drop (i + 1) xs) ≡ goal
-item_added last missing xs i v old new goal x within is put was =
-    let rest = volumes_from (Some v) false (drop (i + 1) xs) in
-    ap (λ ls. ls ++ rest) put ∙ append_assoc old (items_to last missing v) rest
-    ∙ ap (λ (l : Option (List ℕ)). old ++ volumes_from last missing (l ∷ drop (i + 1) xs)) (sym is)
-    ∙ ap (λ vs. old ++ vs) (sym (at_link last missing xs i x within)) ∙ was
-
 -- ---- the line of the volumes
-
--- one more entry
-pub text_put : (column next : ℕ) (xs : List VolumeItem) (i : ℕ) (old new goal : List ℕ)
-    (x : VolumeItem) → i < length xs
-    → next ≡ column_after column (item_text (get_or xs i x))
-    → new ≡ old ++ (comma_text column (item_text (get_or xs i x)) ++ item_text (get_or xs i x))
-    → old ++ items_text column (drop i xs) ≡ goal
-    → new ++ items_text next (drop (i + 1) xs) ≡ goal
-text_put column next xs i old new goal x within is put was =
-    let w = item_text (get_or xs i x) in
-    let here = comma_text column w ++ w in
-    let rest : ℕ → List ℕ = λ n. items_text n (drop (i + 1) xs) in
-    ap (λ ls. ls ++ rest next) put ∙ append_assoc old here (rest next)
-    ∙ ap (λ n. old ++ (here ++ rest n)) is
-    ∙ ap (λ ls. old ++ ls) (sym (at_drop_more (items_text column) xs i x within)) ∙ was

@@ -4,7 +4,7 @@ use Rattle.std.proofs.Common.{append_assoc}
 use Rattle.tape_run.specs.declared.survey.Wording.{Wording}
 use Rattle.tape_run.specs.Lacks.{entry_at, key_at}
 use Rattle.tape_run.specs.Passing.{Told}
-use Rattle.tape_run.specs.SurveyProblems.{known_text, first_after, next_text, sections_from}
+use Rattle.tape_run.specs.SurveyProblems.{known_text, first_after, sections_from}
 
 -- the lines from one section on
 sections_behind : (y : Wording) (c : List Told) (set_id : List ℕ) (file first sect left : ℕ) → 0 < left
@@ -41,11 +41,3 @@ section_added y c set_id file old new goal first next before most within is put 
     ∙ ap (λ ls. old ++ ls)
     (sym (sections_behind y c set_id file first (before + 1) (most - before) some))
     ∙ was
-
--- and those of the section after the last
-pub sections_ended : (y : Wording) (c : List Told) (set_id : List ℕ) (file : ℕ) (old new goal : List ℕ)
-    (first sect left : ℕ) → left ≡ 0
-    → new ≡ old ++ next_text y first (entry_at c (key_at set_id file (first - 1)))
-    → old ++ sections_from y c set_id file first sect left ≡ goal → new ≡ goal
-sections_ended y c set_id file old new goal first sect left none put was =
-    put ∙ ap (λ n. old ++ sections_from y c set_id file first sect n) (sym none) ∙ was

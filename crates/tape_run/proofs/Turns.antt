@@ -1,25 +1,19 @@
 -- Images that were read one after another.
-use Rattle.std.proofs.Common.{◌≡◌, Bool, ℕ, ◌+◌, List, [], ◌∷◌, ◌++◌, ◌⊎◌, inl, inr}
+use Rattle.std.proofs.Common.{◌≡◌, Bool, ℕ, ◌+◌, List, [], ◌∷◌, ◌++◌}
 use Rattle.std.proofs.Common.{length, map, Option, Some, None, IfSome, refl, sym}
 use Rattle.std.proofs.Common.{ap, subst, ◌∙◌, arith, append_assoc, append-nil, true, false}
-use Rattle.std.proofs.lemmas.List.{append_cancel_right}
 use Rattle.std.specs.Io.KnownBytes.{Appends}
 use Rattle.std.proofs.KnownBytes.{Appends-trans}
-use Rattle.tape_image.specs.Begins.{Stop, Begins}
-use Rattle.tape_image.specs.Step.{TakesFault}
-use Rattle.tape_image.specs.Tape.{TapeItem}
 use Rattle.tape_image.specs.Written.{AppendsFront}
-use Rattle.tape_image.specs.declared.item.ImageCause.TheVariants.{Device}
 use Rattle.tape_core.specs.State.{State}
 use Rattle.tape_run.specs.declared.reel_reader.ReelAnswer.{ReelAnswer}
-use Rattle.tape_run.specs.Given.{is_device, IsGiven}
+use Rattle.tape_run.specs.Given.{is_device}
 use Rattle.tape_run.specs.Seen.{Seen, IsKept}
 use Rattle.tape_run.proofs.Sessions.{kept_save, kept_restart}
 use Rattle.tape_run.specs.Steps.{Reeled}
 use Rattle.tape_run.specs.ReelLine.{reel_line, reel_lines}
 use Rattle.tape_run.specs.Reeling.{counts_differ, IsNoted, IsKeptFor, IsReported}
 use Rattle.tape_run.specs.Reeling.{Turn, Opened, answer_of, Follows, Mounting, AreMounted}
-use Rattle.tape_run.specs.Reels.{ReadsReel, EndedByItem, EndedByMedium, EndedByFault}
 
 -- ---- lines
 
@@ -128,29 +122,3 @@ part_line number outcome old new (front, rest, wrote, all) =
     (outcome ∷ [], omega arith, (front, rest, wrote, append-nil (reel_line number outcome) ∙ all))
 
 -- ---- an image whose reading failed
-
--- The bytes returned of an image whose reading failed begin with items that end at the offset in
--- the line of the image: so, although nobody sees the rest of a closed image, the offset says which
--- items count.
-pub given_to_place : (core new : State) (bytes left given : List ℕ) (place : ℕ)
-    (answer : ReelAnswer)
-    → answer.fault ≡ Some (record { place = place; cause = Device })
-    → ReadsReel core bytes left answer new → IsGiven true bytes (Some left) given
-    → (items : List TapeItem) × (stop : Stop) × Begins 0 given items place stop
-given_to_place core new bytes left given place answer told r (rest, same, whole) = by r.ended
-  where
-    by : EndedByItem core r.items bytes left answer new
-        ⊎ (EndedByMedium core r.items bytes left answer new
-        ⊎ EndedByFault core r.items bytes left answer new)
-        → (items : List TapeItem) × (stop : Stop) × Begins 0 given items place stop
-    by (inl e) = absurd (let none = sym e.no_fault ∙ told in cc)
-    by (inr (inl e)) = absurd (let none = sym e.no_fault ∙ told in cc)
-    by (inr (inr e)) =
-        let both = sym e.told ∙ told in
-        let is : e.fault ≡ record { place = place; cause = Device } = cc both in
-        let taken = subst (λ f. TakesFault 0 r.items f bytes left) is e.taken in
-        let (stop, begins, cut) = taken.cause in
-        let over : rest ≡ left = cc same in
-        let all : given ≡ taken.given = append_cancel_right given taken.given left
-        (ap (λ l. given ++ l) (sym over) ∙ sym whole ∙ taken.whole) in
-        (r.items, stop, subst (λ b. Begins 0 b r.items place stop) (sym all) begins)

@@ -167,8 +167,8 @@ image_left_out R L LR LL g d h i j κs a met s l one none =
 
 -- an image that was read, whose bytes have no end-of-medium marker at their end
 unmarked : (sight : ImageSurvey) (c d : Found) (bytes : List ℕ) (items : List TapeItem) (end : ℕ)
-    → IsViewed (Some (Some bytes)) (Some sight) c d → Begins 0 bytes items end (ends endings.Physical)
-    → sight.stop ≡ Marked → ⊥
+    → IsViewed (Some (Some bytes)) (Some sight) c d
+    → Begins 0 bytes items end (ends endings.Physical) → sight.stop ≡ Marked → ⊥
 unmarked sight c d bytes items end (None, v, whole, count) begins marked = v.stop
 unmarked sight c d bytes items end (Some left, v, whole, count) begins marked =
     let t : StopsBehind v.items Marked bytes left =
