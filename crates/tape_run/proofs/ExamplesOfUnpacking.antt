@@ -1,13 +1,13 @@
 -- The cases of unpacking.
 use Rattle.std.proofs.Common.{refl, ap, sym, ◌∙◌, ◌≡◌, map, [], ◌∷◌, inl, arith, length, codes}
 use Rattle.std.proofs.Common.{decimal, length-append}
-use Rattle.std.specs.Prelude.{if◌then◌else◌, option_map, ◌||◌, is_some}
+use Rattle.std.specs.Prelude.{if◌then◌else◌, option_map, ◌||◌, ◌&&◌, ◌==◌, nat_lt, is_some}
 use Rattle.std.specs.Fmt.{digits}
 use Rattle.tape_run.specs.declared.unpack.SetFile.{SetFile}
 use Rattle.tape_run.specs.CasesOfUnpacking.{CasesOfUnpacking}
 use Rattle.tape_run.specs.SurveyCopies.{dispute_at}
 use Rattle.tape_run.specs.SurveyFiles.{file_key}
-use Rattle.tape_run.specs.Unpacking.{file_by, volume_in}
+use Rattle.tape_run.specs.Unpacking.{file_by, is_earlier, volume_in}
 
 pub cases_of_unpacking : CasesOfUnpacking
 unfolding digits
@@ -57,6 +57,10 @@ cases_of_unpacking = record {
   of_no_set = λ s none. ap (λ h. option_map (λ x. x.set_id) h) none;
   of_a_set = λ s h is. ap (λ o. option_map (λ x. x.set_id) o) is;
   not_opened = refl;
+  passed = λ want s h one is file sect.
+      ap (λ n. (n == 1) && is_earlier want s.glance.head) one
+      ∙ (ap (is_earlier want) is ∙ (ap (λ b. b && nat_lt h.sect want.sect) file ∙ sect));
+  two_sections = λ want s two. ap (λ n. (n == 1) && is_earlier want s.glance.head) two;
   not_read = refl;
   no_volume = refl;
   on_a_volume = λ s label is. ap volume_in is;

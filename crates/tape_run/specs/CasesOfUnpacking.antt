@@ -1,10 +1,11 @@
 -- Examples for the definitions of unpacking. They are the contract of the call `laws::cases`.
 use Rattle.std.specs.Prelude.{◌≡◌, ◌≢◌, ℕ, ◌<◌, ◌^◌, List, [], ◌∷◌, ◌++◌, length, Bool}
-use Rattle.std.specs.Prelude.{true, false, is_some, ◌||◌}
+use Rattle.std.specs.Prelude.{true, false, is_some, ◌||◌, ◌==◌, nat_lt}
 use Rattle.std.specs.Prelude.{Option, Some, None}
 use Rattle.std.specs.Prelude.{codes, map, replicate, chars, IsUtf8}
 use Rattle.std.specs.List.{AllByRecursion, flat_map}
 use Rattle.tape_label.specs.declared.values.Head1.{Head1}
+use Rattle.tape_set.specs.declared.position.Want.{Want}
 use Rattle.tape_label.specs.declared.values.Vol1.{Vol1}
 use Rattle.tape_run.specs.declared.survey.glance.First.TheVariants.{Volume}
 use Rattle.tape_run.specs.declared.survey.view.ImageSurvey.{ImageSurvey}
@@ -24,7 +25,7 @@ use Rattle.tape_run.specs.SurveyFiles.{note_at, file_key}
 use Rattle.tape_run.specs.SurveyLocations.{Located}
 use Rattle.tape_run.specs.SurveyRead.{Found, nothing_found, AreViewed}
 use Rattle.tape_run.specs.Unpacking.{file_at, set_files, files_of, file_name, FilesOn}
-use Rattle.tape_run.specs.Unpacking.{set_of, is_read, volume_of}
+use Rattle.tape_run.specs.Unpacking.{set_of, is_passed, is_read, volume_of}
 use Rattle.tape_run.specs.UnpackChoice.{Fits, Means, IsOfSet}
 use Rattle.tape_run.specs.UnpackLine.{file_line, unpack_outcome_text, notice_line}
 use Rattle.tape_run.specs.UnpackLine.{notice_text}
@@ -131,6 +132,12 @@ pub record CasesOfUnpacking : Type 0 where
   pub of_a_set : (s : ImageSurvey) (h : Head1) → s.glance.head ≡ Some h
       → set_of (Some s) ≡ Some h.set_id
   pub not_opened : set_of None ≡ None
+  -- an image is passed over if the only section on it is an earlier one of the file
+  pub passed : (want : Want) (s : ImageSurvey) (h : Head1) → s.glance.files ≡ 1
+      → s.glance.head ≡ Some h → (h.sequence == want.file) ≡ true
+      → nat_lt h.sect want.sect ≡ true → is_passed want (Some s) ≡ true
+  pub two_sections : (want : Want) (s : ImageSurvey) → s.glance.files ≡ 2
+      → is_passed want (Some s) ≡ false
   pub not_read : is_read None ≡ false
   pub no_volume : volume_of None ≡ None
   pub on_a_volume : (s : ImageSurvey) (label : Vol1) → s.glance.first ≡ Volume label

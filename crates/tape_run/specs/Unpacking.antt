@@ -1,8 +1,10 @@
 -- Which files are unpacked from images, and under which names.
 use Rattle.std.specs.Prelude.{◌≡◌, ◌==◌, ◌&&◌, ◌||◌, not, false, ℕ, zero, suc, ◌+◌, ◌-◌, ◌/◌, ◌%◌}
-use Rattle.std.specs.Prelude.{nat_le, Bool, if◌then◌else◌, List, [], ◌∷◌, ◌++◌, length, map, take}
+use Rattle.std.specs.Prelude.{nat_le, nat_lt, Bool, if◌then◌else◌, List, [], ◌∷◌, ◌++◌, length, map, take}
 use Rattle.std.specs.Prelude.{Option, Some, None, option_map, is_some, codes, decimal, get_or}
 use Rattle.std.specs.List.{flat_map}
+use Rattle.tape_label.specs.declared.values.Head1.{Head1}
+use Rattle.tape_set.specs.declared.position.Want.{Want}
 use Rattle.tape_run.specs.declared.survey.view.ImageSurvey.{ImageSurvey}
 use Rattle.tape_run.specs.declared.survey.files.FileNote.{FileNote}
 use Rattle.tape_run.specs.declared.survey.glance.First.{First}
@@ -56,6 +58,16 @@ is_read (Some sight) = is_whole_sight sight
 abbrev pub set_of : Option ImageSurvey → Option (List ℕ)
 set_of None = None
 set_of (Some sight) = option_map (λ head. head.set_id) sight.glance.head
+
+-- whether a section is an earlier one of the file than the part `want`
+abbrev pub is_earlier : Want → Option Head1 → Bool
+is_earlier want None = false
+is_earlier want (Some head) = (head.sequence == want.file) && nat_lt head.sect want.sect
+
+-- whether only one section begins on an image, an earlier one of the file than the part `want`
+abbrev pub is_passed : Want → Option ImageSurvey → Bool
+is_passed want None = false
+is_passed want (Some sight) = (sight.glance.files == 1) && is_earlier want sight.glance.head
 
 -- the volume identifier of an image that begins with this item
 abbrev pub volume_in : First → Option (List ℕ)

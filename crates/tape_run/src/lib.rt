@@ -64,5 +64,5 @@ pub use unpack::choice::{FileChoice, is_of_set, means};
 pub use unpack::line::{Notice, UnpackOutcome, file_line, notice_line, unpack_outcome_text};
 pub use unpack::name::file_name;
 pub use unpack::tally::{Tally, report_file, report_numbers, total_line};
-pub use unpack::{FoundFiles, SetFile, find_files, is_read, set_of, volume_of};
+pub use unpack::{FoundFiles, SetFile, find_files, is_passed, is_read, set_of, volume_of};
 pub use whole::{read_file, resume_and_run};

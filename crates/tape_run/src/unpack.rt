@@ -9,7 +9,7 @@ pub mod tally;
 ghost use Rattle.std.specs.Prelude.{◌≡◌, ◌<◌, ◌+◌, ◌++◌, length, take, IfOk, OnOk};
 ghost use Rattle.std.specs.Result.{IsOkUnless};
 ghost use Rattle.tape_run.specs.Unpacking.{file_at, files_from, set_files, files_of};
-ghost use Rattle.tape_run.specs.Unpacking.{is_read, set_of, volume_of, FilesOn};
+ghost use Rattle.tape_run.specs.Unpacking.{is_read, is_passed, set_of, volume_of, FilesOn};
 ghost use Rattle.tape_run.specs.declared.fault.RunFault.TheVariants as faults;
 
 use crate::extract::images::ImageSource;
@@ -23,7 +23,7 @@ use crate::survey::view::{Findings, ImageSurvey, read_images};
 use std::alloc::{AllocError, Global};
 use std::io::Read;
 use tape_label::Field;
-use tape_set::Sequence;
+use tape_set::{Sequence, Want};
 
 /// A file of a set.
 #[derive(Clone, Copy)]
@@ -105,6 +105,20 @@ pub fn set_of(sight: &Option<ImageSurvey>) -> Option<Field<6>>
     match sight {
         Some(sight) => sight.glance.head.map(|head| head.set_id),
         None => None,
+    }
+}
+
+/// Returns whether only one section begins on an image, an earlier one of the file than the part
+/// `want`. Such an image contains nothing that the file still needs.
+pub fn is_passed(sight: &Option<ImageSurvey>, want: Want) -> bool
+    ensures { result ≡ is_passed want sight.now }
+{
+    match sight {
+        Some(sight) if sight.glance.files == 1 => match sight.glance.head {
+            Some(head) => head.sequence == want.file && head.sect < want.sect,
+            None => false,
+        },
+        _ => false,
     }
 }
 

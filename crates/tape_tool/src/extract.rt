@@ -9,4 +9,4 @@ pub mod words;
 pub use draft::{Draft, DraftFile, OutName};
 pub use out::{Way, way_to_out};
 pub use out_file::OutFile;
-pub use run::{HELD, are_files, draft_of, extract, extract_file, extract_whole};
+pub use run::{HELD, are_files, draft_of, extract, extract_whole, gather};

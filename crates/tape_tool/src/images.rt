@@ -15,7 +15,8 @@ use std::io::{BufReader, ErrorKind, Read};
 use std::rt::Runtime;
 use std::{fmt, io};
 use tape_label::Field;
-use tape_run::{FoundFiles, ImageSource};
+use tape_run::{FoundFiles, ImageSource, is_passed};
+use tape_set::Want;
 
 /// The source of the names of a run's images.
 #[derive(Drop)]
@@ -162,12 +163,36 @@ pub fn in_reading_order<'n>(
     names: &[&'n str],
     met: &FoundFiles,
     key: (Field<6>, u16),
-    all: bool,
 ) -> Result<Vec<&'n str>, AllocError> {
     let (set_id, file) = key;
-    let numbers = met.reading_order(alloc, set_id, file, all)?;
+    let numbers = met.reading_order(alloc, set_id, file, true)?;
     let mut order = Vec::new(alloc);
     for number in numbers.as_slice() {
+        if let Some(name) = names.get(*number) {
+            order.push(*name)?;
+        }
+    }
+    Ok(order)
+}
+
+/// Returns the names of the images that may have parts of a file from `want` on, in the order in
+/// which they are read: those of its set, without those that have only an earlier section of it.
+pub fn names_from<'n>(
+    alloc: Global,
+    names: &[&'n str],
+    met: &FoundFiles,
+    set_id: Field<6>,
+    want: Want,
+) -> Result<Vec<&'n str>, AllocError> {
+    let numbers = met.reading_order(alloc, set_id, want.file, false)?;
+    let images = met.images.as_slice();
+    let mut order = Vec::new(alloc);
+    for number in numbers.as_slice() {
+        if let Some(image) = images.get(*number) {
+            if is_passed(image, want) {
+                continue;
+            }
+        }
         if let Some(name) = names.get(*number) {
             order.push(*name)?;
         }

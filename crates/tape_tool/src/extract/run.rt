@@ -61,7 +61,7 @@ fn names_to_read<'n, R: Progress>(
 ) -> Result<Vec<&'n str>, RunFault> {
     let ordered = if task.again && names.len() > 1 && are_files(rt, names) {
         let met = find_files(rt.alloc(), &mut Images::new(rt, names))?;
-        in_reading_order(rt.alloc(), names, &met, (task.set_id, task.file), true)
+        in_reading_order(rt.alloc(), names, &met, (task.set_id, task.file))
     } else {
         Vec::from_slice(rt.alloc(), names)
     };
@@ -86,7 +86,7 @@ pub fn are_files<R: Host>(rt: &R, names: &[&str]) -> bool {
 /// Recovers the file that `task` names, saving the data in the stage if it names one. Without a
 /// stage, and if images are read once, writes the records as they are read if there is a draft.
 /// On error, `site` says where it occurred.
-pub fn extract_file<'a, R: Progress, P: Write>(
+fn extract_file<'a, R: Progress, P: Write>(
     rt: &R,
     task: &Task<'a>,
     images: &mut Images<'_, R>,
@@ -201,7 +201,7 @@ fn end_as_written(answer: Result<Option<Want>, EngineFault>) -> End {
 
 /// Reads the images into the session, and writes the recovered file if it is complete: to a draft
 /// if there is one, and otherwise in place.
-fn gather<R: Progress, S: PartWalk + Drop, P: Write>(
+pub fn gather<R: Progress, S: PartWalk + Drop, P: Write>(
     rt: &R,
     task: &Task<'_>,
     images: &mut Images<'_, R>,

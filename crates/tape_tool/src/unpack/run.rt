@@ -9,14 +9,15 @@ use super::salvaged::Salvaged;
 use super::words::{UNPACK, Unpack};
 use crate::explain::FaultSite;
 use crate::extract::words::{Task, set_id_of};
-use crate::extract::{Way, extract_file, extract_whole};
+use crate::extract::{Way, extract_whole, gather};
 use crate::fault::{FileFault, OUT_OF_MEMORY, ToolFault};
 use crate::help;
 use crate::host::{Host, Progress};
-use crate::images::{Image, Images, in_reading_order, names_of};
+use crate::images::{Image, Images, names_from, names_of};
 use crate::left::remove;
 use crate::program::{End, check_end, end_refused};
 use crate::refusal::{Refusal, refused};
+use crate::staging::session_in;
 use std::io::{BufWriter, Write};
 use std::{fs, io};
 use tape_run::{
@@ -200,7 +201,7 @@ fn unpacked<R: Progress>(
         Some(there) if !there.is_file() => return Err(ToolFault::File(FileFault::NotOpened)),
         there => there.is_some(),
     };
-    match gather(rt, order, shelf, file, paths, is_staged, last) {
+    match recover(rt, order, shelf, file, paths, is_staged, last) {
         End::Faulted(fault) => Err(fault),
         end => {
             if end == End::Done {
@@ -268,7 +269,7 @@ fn salvage_file<R: Progress, P: Write>(
 /// Recovers a file. If all its sections are intact, reads the images that have them once. Any other
 /// file, or one that is still incomplete then, is recovered on its stage, in passes. `last`
 /// remembers the last line of either.
-fn gather<R: Progress>(
+fn recover<R: Progress>(
     rt: &R,
     order: &Unpack<'_>,
     shelf: &mut Source<'_, Image<R>>,
@@ -277,8 +278,6 @@ fn gather<R: Progress>(
     is_staged: bool,
     last: &mut LastLine,
 ) -> End {
-    let mut site = FaultSite::Unknown;
-    let stage = paths.stage.as_str();
     let at_once = Task {
         set_id: file.set_id,
         file: file.file,
@@ -299,15 +298,32 @@ fn gather<R: Progress>(
             return end;
         }
     }
-    let staged = Task {
-        stage: Some(stage),
+    let in_passes = Task {
         again: true,
         ..at_once
     };
-    let key = (file.set_id, file.file);
-    let Ok(names) = in_reading_order(rt.alloc(), shelf.names, shelf.met, key, false) else {
+    recover_on(rt, shelf, &in_passes, paths.stage.as_str(), last)
+}
+
+/// Recovers a file on the stage at `path` from the images that may have its missing parts.
+fn recover_on<R: Progress>(
+    rt: &R,
+    shelf: &Source<'_, Image<R>>,
+    task: &Task<'_>,
+    path: &str,
+    last: &mut LastLine,
+) -> End {
+    let mut session = match session_in(rt, path, task.set_id, task.file) {
+        Ok(session) => session,
+        Err(fault) => return End::Faulted(fault),
+    };
+    let names = match session.want() {
+        Some(want) => names_from(rt.alloc(), shelf.names, shelf.met, task.set_id, want),
+        None => Ok(Vec::new(rt.alloc())),
+    };
+    let Ok(names) = names else {
         return End::Faulted(OUT_OF_MEMORY);
     };
     let images = &mut Images::new(rt, names.as_slice());
-    extract_file(rt, &staged, images, Way::New, last, &mut site)
+    gather(rt, task, images, Way::New, last, &mut session)
 }
