@@ -22,51 +22,43 @@ pub fn point_again(point: &Checkpoint) -> Result<Checkpoint, PointFault>
 }
 
 /// A text belongs to at most one checkpoint, in one version.
-#[tactic(auto, using(crate::proofs::Spellings::text_of_one))]
 pub fn points_have_texts_of_their_own()
     ensures { IsTextOfOne }
 {}
 
 /// Each checkpoint has at most one text in each version, and the text has 80 characters.
-#[tactic(auto, using(crate::proofs::Spellings::text_once))]
 pub fn points_are_spelled_once()
     ensures { IsTextOnce }
 {}
 
 /// A checkpoint before the millionth block of a section, with no parts delivered, has a text in
 /// each version.
-#[tactic(auto, using(crate::proofs::Spellings::both_texts))]
 pub fn early_points_have_both_texts()
     ensures { HasBothTexts }
 {}
 
 /// The bytes of a stage represent at most one generation, checkpoint and list of parts.
-#[tactic(auto, using(crate::proofs::Once::staged_once))]
 pub fn stands_once()
     ensures { (bytes : List ℕ) → StandsOnce bytes }
 {}
 
 /// At most one generation, checkpoint and list of parts remain of a damaged stage, with at most one
 /// offset of the damage.
-#[tactic(auto, using(crate::proofs::Once::remains_once))]
 pub fn remains_once()
     ensures { (bytes : List ℕ) → RemainsOnce bytes }
 {}
 
 /// If a named slot of the bytes represents a checkpoint and its parts, so do the bytes.
-#[tactic(auto, using(crate::proofs::Once::named_stands))]
 pub fn named_slots_stand()
     ensures { (bytes : List ℕ) → NamedStands bytes }
 {}
 
 /// Bytes with one generation or the next represent one of the two checkpoints, with its parts.
-#[tactic(auto, using(crate::proofs::Once::either_is))]
 pub fn either_stands()
     ensures { (bytes : List ℕ) → EitherStands bytes }
 {}
 
 /// Bytes that represent one of two checkpoints are read as one of them, with its parts.
-#[tactic(auto, using(crate::proofs::Once::read_one_of))]
 pub fn reads_one_of()
     ensures { (bytes : List ℕ) → ReadsOneOf bytes }
 {}
