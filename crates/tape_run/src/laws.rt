@@ -42,40 +42,34 @@ ghost use Rattle.tape_run.specs.UnpackLaws.{NamesDiffer, NamesStay, NamesFit};
 ghost use Rattle.tape_run.specs.QuotingLaws.{NamesShow, NamesTellApart, NamesKeep};
 
 /// Only a refusal can stop a run over a script with existing checkpoints and enough readers.
-#[tactic(auto, using(crate::proofs::Answered::answered))]
 pub fn only_refusals_stop()
     ensures { OnlyRefusalsStop }
 {}
 
 /// The state that a crash leaves of a session is valid, if the reels read before it were those of
 /// the set.
-#[tactic(auto, using(crate::proofs::CrashRuns::comes_back))]
 pub fn stood_comes_back()
     ensures { StoodComesBack }
 {}
 
 /// Across any number of crashes, if each session resumes from what the one before left, the
 /// checkpoint that is left is valid.
-#[tactic(auto, using(crate::proofs::CrashRuns::across))]
 pub fn stands_across_crashes()
     ensures { StandsAcrossCrashes }
 {}
 
 /// A session that was resumed at a checkpoint, and made its steps, is where the history leads from
 /// there, with the parts before that position.
-#[tactic(auto, using(crate::proofs::CrashRuns::goes_on))]
 pub fn resumed_goes_on()
     ensures { ResumedGoesOn }
 {}
 
 /// The bytes that a reader returned of a mount before it failed are a mount.
-#[tactic(auto, using(crate::proofs::Fronts::fronts_are_mounts))]
 pub fn fronts_are_mounts()
     ensures { FrontsAreMounts }
 {}
 
 /// Whichever readers failed, the returned bytes are a history if all bytes of the readers are one.
-#[tactic(auto, using(crate::proofs::Fronts::given_is_history))]
 pub fn given_is_history()
     ensures { GivenIsHistory }
 {}
@@ -89,7 +83,6 @@ pub fn worked_history()
 {}
 
 /// The bytes of any reader begin with a list of items, and with no other list.
-#[tactic(auto, using(crate::proofs::Lead::items_are_there))]
 pub fn items_are_there()
     ensures { ItemsAreThere }
 {}
@@ -163,13 +156,11 @@ pub fn places_say()
 
 /// For complete copies of all volumes of a valid set, in any order and with repeats, each section
 /// is reported as GOOD, and nothing as missing.
-#[tactic(auto, using(crate::proofs::WholeReports::whole_told))]
 pub fn whole_sets_are_told()
     ensures { WholeSetIsTold }
 {}
 
 /// A section reported as GOOD is complete on one of the images.
-#[tactic(auto, using(crate::proofs::WholeReports::good_was_seen))]
 pub fn what_is_good_was_seen()
     ensures { GoodWasSeen }
 {}
@@ -180,54 +171,46 @@ pub fn reports_are_worked()
 {}
 
 /// A section that is reported as good is complete in the items that report it.
-#[tactic(auto, using(crate::proofs::ShownSections::good_are_shown))]
 pub fn good_sections_are_shown()
     ensures { GoodAreShown }
 {}
 
 /// A complete copy of a volume of a valid set makes each section on it good, whatever was found
 /// before.
-#[tactic(auto, using(crate::proofs::WholeVolumes::whole_volume))]
 pub fn whole_volumes_make_sections_good()
     ensures { WholeVolumeIsGood }
 {}
 
 /// Complete copies of all volumes of a valid set, in any order and with repeats, make each of its
 /// sections good.
-#[tactic(auto, using(crate::proofs::WholeSets::whole_set))]
 pub fn whole_sets_are_good()
     ensures { WholeSetIsGood }
 {}
 
 /// The missing section of a file is its first section that is not good. Nothing is missing if its
 /// sections are good up to one that ends it.
-#[tactic(auto, using(crate::proofs::Lacking::first_one))]
 pub fn what_lacks_comes_first()
     ensures { LackIsFirst }
 {}
 
 /// And if nothing else was found, no file of the set has a missing section.
-#[tactic(auto, using(crate::proofs::WholeSets::nothing_lacks))]
 pub fn whole_sets_lack_nothing()
     ensures { WholeSetLacksNothing }
 {}
 
 /// So if the set has a file, all of it is found: something was found, and nothing is missing.
-#[tactic(auto, using(crate::proofs::WholeSets::all_found))]
 pub fn whole_sets_are_found()
     ensures { WholeSetIsFound }
 {}
 
 /// For a complete copy whose reader did not fail, [`Catalogue::add`](crate::Catalogue::add) adds
 /// exactly the sections in the volume's items.
-#[tactic(auto, using(crate::proofs::WholeCopies::whole_copies))]
 pub fn whole_copies_are_added()
     ensures { WholeCopiesAreAdded }
 {}
 
 /// Whatever images are added to a catalogue, it has one entry for each section, and a report has
 /// one line for each.
-#[tactic(auto, using(crate::proofs::OneEntry::one_entry))]
 pub fn one_entry_a_section()
     ensures { OneEntryASection }
 {}
@@ -239,37 +222,31 @@ pub fn extract_is_worked()
 
 /// Files with different numbers, or in different sets, never have the same name, even if case is
 /// ignored; the same is true of their stages.
-#[tactic(auto, using(crate::proofs::UnpackedNames::names_differ))]
 pub fn names_differ()
     ensures { NamesDiffer }
 {}
 
 /// No name leads out of its directory, and every file system accepts and keeps each name.
-#[tactic(auto, using(crate::proofs::UnpackedFits::names_stay))]
 pub fn names_stay()
     ensures { NamesStay }
 {}
 
 /// No name is that of a device, and no name is longer than 76 characters.
-#[tactic(auto, using(crate::proofs::UnpackedFits::names_fit))]
 pub fn names_fit()
     ensures { NamesFit }
 {}
 
 /// No character of a printed name is a control character or an invisible one.
-#[tactic(auto, using(crate::proofs::QuotedNames::names_show))]
 pub fn names_show()
     ensures { NamesShow }
 {}
 
 /// Different names are printed differently.
-#[tactic(auto, using(crate::proofs::QuotedNames::names_tell_apart))]
 pub fn names_tell_apart()
     ensures { NamesTellApart }
 {}
 
 /// A name without `\` and hidden characters is printed unchanged.
-#[tactic(auto, using(crate::proofs::QuotedNames::names_keep))]
 pub fn names_keep()
     ensures { NamesKeep }
 {}

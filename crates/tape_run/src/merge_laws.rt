@@ -25,13 +25,11 @@ pub fn merged_is_as_good_as_each()
 {}
 
 /// The merged tape does not depend on the order of the readings, nor on how often one is listed.
-#[tactic(auto, using(crate::proofs::MergeJoins::order_does_not_matter))]
 pub fn order_does_not_matter()
     ensures { OrderDoesNotMatter }
 {}
 
 /// The items that a reader returns until it stops are those that the bytes of its image begin with.
-#[tactic(auto, using(crate::proofs::MergeGiven::readers_give_images))]
 pub fn readers_give_images()
     ensures { ReadersGiveImages }
 {}

@@ -21,13 +21,11 @@ use std::io::{Read, Write};
 
 /// If the parts of a file are in order, and any of its blocks are missing, the recovered records
 /// are exactly those that lie entirely in blocks that were read.
-#[tactic(auto, using(crate::proofs::SalvageWhole::gives_whole))]
 pub fn whole_records_are_recovered()
     ensures { RecoversWhole }
 {}
 
 /// If no block is missing, all parts of the file are recovered.
-#[tactic(auto, using(crate::proofs::SalvageWhole::all_whole))]
 pub fn all_records_are_recovered()
     ensures { AllWhole }
 {}
@@ -35,19 +33,16 @@ pub fn all_records_are_recovered()
 /// From a section of a valid set of which HDR1, the trailer label and the tape marks were read,
 /// exactly the records of the blocks that were read are recovered, whichever of its other labels
 /// were read. After it another section may begin.
-#[tactic(auto, using(crate::proofs::SalvageSections::recovers_section_of))]
 pub fn sections_are_recovered()
     ensures { RecoversSectionOf }
 {}
 
 /// From another section nothing is recovered.
-#[tactic(auto, using(crate::proofs::SalvageSections::passes_section))]
 pub fn other_sections_are_passed()
     ensures { PassesSection }
 {}
 
 /// Such a section is found to close, with all of its data items counted, including unreadable ones.
-#[tactic(auto, using(crate::proofs::SalvageFound::finds_section))]
 pub fn sections_are_found()
     ensures { FindsSection }
 {}
@@ -55,48 +50,41 @@ pub fn sections_are_found()
 /// From a volume of a valid set of which HDR1, the trailer label and the tape marks of each section
 /// were read, exactly the records of the section's blocks that were read are recovered. VOL1, HDR2,
 /// EOF2 and further labels need not be readable.
-#[tactic(auto, using(crate::proofs::SalvageVolumes::recovers_from_volume))]
 pub fn volumes_are_recovered()
     ensures { RecoversFromVolume }
 {}
 
 /// Recovered records remain a prefix of the result, whatever follows.
-#[tactic(auto, using(crate::proofs::SalvageGrows::first_stays))]
 pub fn recovered_records_stay()
     ensures { FirstStays }
 {}
 
 /// Up to the first missing block nothing is left out, so at least as much is recovered as `extract`
 /// recovers up to there.
-#[tactic(auto, using(crate::proofs::SalvageGrows::never_less))]
 pub fn never_less_than_up_to_the_gap()
     ensures { NeverLess }
 {}
 
 /// The parts of a file are written as `extract` writes them, so a file without missing blocks is
 /// the same, byte for byte.
-#[tactic(auto, using(crate::proofs::SalvageText::writes_output))]
 pub fn parts_are_written_as_extracted()
     ensures { WritesOutput }
 {}
 
 /// Reading stops at the mark after a section's data. If the section is on the image only once, the
 /// rest of the image contains nothing more of it.
-#[tactic(auto, using(crate::proofs::SalvageRest::rest_has_nothing))]
 pub fn the_rest_has_nothing_more()
     ensures { RestHasNothing }
 {}
 
 /// From a reading of such a volume, which ends at the mark after the section's data or has all
 /// items, exactly the records of the section's blocks that were read are recovered.
-#[tactic(auto, using(crate::proofs::SalvageClosings::recovers_from_reading))]
 pub fn readings_are_recovered()
     ensures { RecoversFromReading }
 {}
 
 /// A complete reading of a volume of a valid set, in which only data blocks were unreadable, is
 /// such a volume. So exactly the records of a section's readable blocks are recovered from it.
-#[tactic(auto, using(crate::proofs::SalvageReadings::recovers_reading))]
 pub fn readings_of_sets_are_recovered()
     ensures { RecoversReading }
 {}
@@ -104,21 +92,18 @@ pub fn readings_of_sets_are_recovered()
 /// From readings of the volumes of a valid set, each section from one reading, exactly the records
 /// in the sections' blocks, one after another, are recovered, whichever blocks were read. If
 /// nothing is missing, every block was read.
-#[tactic(auto, using(crate::proofs::SalvageFile::recovers_blocks))]
 pub fn sections_make_a_file()
     ensures { RecoversBlocks }
 {}
 
 /// So the recovered records of a file are exactly those that lie entirely in blocks that were read.
 /// If nothing is missing, all parts of the file are recovered.
-#[tactic(auto, using(crate::proofs::SalvageFile::recovers_file))]
 pub fn files_are_recovered()
     ensures { RecoversFile }
 {}
 
 /// Up to the first block that was not read no record of the file is left out, so at least as much
 /// is recovered as `extract` recovers up to there.
-#[tactic(auto, using(crate::proofs::SalvageFile::recovers_up_to_gap))]
 pub fn files_are_recovered_up_to_the_gap()
     ensures { RecoversUpToGap }
 {}
@@ -134,7 +119,6 @@ pub fn gaps_are_the_missing_blocks()
 /// On any image, a section that is found by its HDR1 and closes is exactly the items between the
 /// tape mark after its labels and the one before its trailer label: its number of blocks and its
 /// digest are theirs.
-#[tactic(auto, using(crate::proofs::SalvageClosed::closed_are_there))]
 pub fn closed_sections_are_there()
     ensures { ClosedAreThere }
 {}
@@ -142,14 +126,12 @@ pub fn closed_sections_are_there()
 /// On a volume of a valid set of which any items may be unreadable, also labels and tape marks, a
 /// section of the set that is found by its HDR1 and closes has exactly its blocks, provided that no
 /// other block reads as HDR1, EOF1 or EOV1.
-#[tactic(auto, using(crate::proofs::SalvageDamaged::closed_are_exact))]
 pub fn closed_sections_are_exact()
     ensures { ClosedAreExact }
 {}
 
 /// On any image, a section that is found without its HDR1 has exactly the items between two tape
 /// marks; its trailer label follows, has its numbers, and counts exactly these items.
-#[tactic(auto, using(crate::proofs::SalvageUnnamed::unnamed_are_there))]
 pub fn sections_without_hdr1_are_there()
     ensures { UnnamedAreThere }
 {}
@@ -158,7 +140,6 @@ pub fn sections_without_hdr1_are_there()
 /// any order and with repeats, of each section of a file exactly the blocks that its best image has
 /// are recovered, or none if no image has it, and of these blocks exactly the complete records. Up
 /// to the first missing block no record is left out. If nothing is missing, it is the file.
-#[tactic(auto, using(crate::proofs::SalvageSets::recovers_set))]
 pub fn files_of_sets_are_recovered()
     ensures { RecoversSet }
 {}
