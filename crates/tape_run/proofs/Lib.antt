@@ -136,6 +136,8 @@ mod SalvageGood
 mod SalvageAgain
 mod SalvageSetBlocks
 mod SalvageSets
+mod SalvageSame
+mod SalvageMost
 mod SalvageDamagedSets
 mod SalvageFoundSets
 mod SalvagedSets

@@ -213,8 +213,9 @@ pub record HasCopy (cs : List SectionCopy) (sect : ℕ) : Type 0 where
 
 module _ (set : FileSet) (file sect : ℕ) (w : Section) (l : IsLawful set)
     (found : section_of set file sect ≡ Some w) where
-  image_has : (n : ℕ) (r : Reading) → IsCompleteOr set (Some r) → r.volume ≡ w.volume
-      → HasCopy (of_file set.set_id file n (sections_in (items_read set r))) sect
+  pub image_has : (n : ℕ) (r : Reading) → IsCompleteOr set (Some r) → r.volume ≡ w.volume
+      → (h : HasCopy (of_file set.set_id file n (sections_in (items_read set r))) sect)
+      × (h.copy.image ≡ n)
   image_has n r c at =
       let f = image_found set file [] l r c in
       let v = f.read.volume in
@@ -234,19 +235,21 @@ module _ (set : FileSet) (file sect : ℕ) (w : Section) (l : IsLawful set)
       let own : is_of set.set_id file t.1 ≡ true =
       ap (λ (z : FoundAt). is_of set.set_id file z.1) g.is
       ∙ ap (λ (k : _). bytes_eq k.set_id set.set_id && (k.file == file)) key
-      ∙ ap (λ (x : Bool). x && (file == file)) ids ∙ same in
-      record {
-        copy = copy_of n t;
-        among = subst (λ ts. StandsIn (of_file set.set_id file n ts) (copy_of n t)) (sym among.2)
-            (of_file_has set.set_id file n among.0 t among.1 own);
-        number = ap (λ (z : FoundAt). z.1.0.key.sect) g.is ∙ ap (λ (k : _). k.sect) key;
-      }
+      ∙ ap (λ (x : Bool). x && (file == file)) ids ∙ same in (
+        record {
+          copy = copy_of n t;
+          among = subst (λ ts. StandsIn (of_file set.set_id file n ts) (copy_of n t)) (sym among.2)
+              (of_file_has set.set_id file n among.0 t among.1 own);
+          number = ap (λ (z : FoundAt). z.1.0.key.sect) g.is ∙ ap (λ (k : _). k.sect) key;
+        },
+        refl,
+      )
 
   images_have : (n : ℕ) (front : List (Option Reading)) (r : Reading)
       (rest : List (Option Reading)) → AllByRecursion (IsCompleteOr set) (front ++ Some r ∷ rest)
       → r.volume ≡ w.volume → HasCopy (copies_on set file n (front ++ Some r ∷ rest)) sect
   images_have n [] r rest (c, cs) at =
-      let h = image_has n r c at in
+      let h = (image_has n r c at).0 in
       record { copy = h.copy; among = stands_before _ _ _ h.among; number = h.number }
   images_have n (None ∷ front) r rest (c, cs) at = images_have (n + 1) front r rest cs at
   images_have n (Some q ∷ front) r rest (c, cs) at =
@@ -261,7 +264,7 @@ module _ (set : FileSet) (file sect : ℕ) (w : Section) (l : IsLawful set)
 
 -- ---- which section a copy is
 
-placed_at : (before : List SectionRead) (s : SectionRead) (rest : List SectionRead)
+pub placed_at : (before : List SectionRead) (s : SectionRead) (rest : List SectionRead)
     → placed_of (before ++ s ∷ rest) ≡ placed_of before ++ s.placed ∷ placed_of rest
 placed_at [] s rest = refl
 placed_at (b ∷ before) s rest =

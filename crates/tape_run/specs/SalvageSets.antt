@@ -1,11 +1,12 @@
 -- The records recovered of a file of a valid set from images of the set's volumes, which are
 -- complete copies of which only data blocks were unreadable.
 use Rattle.std.specs.Prelude.{◌≡◌, ◌≢◌, ◌⊎◌, ℕ, ◌+◌, Bool, true, false, List, [], ◌∷◌, ◌++◌, Option}
-use Rattle.std.specs.Prelude.{Some, None, slice_get, length, ◌-◌, ◌==◌, if◌then◌else◌}
+use Rattle.std.specs.Prelude.{Some, None, slice_get, length, ◌-◌, ◌≤◌, ◌==◌, if◌then◌else◌}
 use Rattle.std.specs.List.{AllByRecursion}
 use Rattle.tape_image.specs.Tape.{TapeItem}
 use Rattle.tape_blocks.specs.Block.{Portion}
 use Rattle.tape_set.specs.Layout.{FileSet, Section, Placed, items, entries, numbered, file_of}
+use Rattle.tape_set.specs.Layout.{section_of}
 use Rattle.tape_set.specs.Lawful.{IsLawful, FileForm, HasForm}
 use Rattle.tape_set.specs.Before.{section_parts}
 use Rattle.tape_set.specs.Reading.{Reading, IsReadingOf, as_read}
@@ -148,6 +149,19 @@ pub record IsRecovered (set : FileSet) (file : ℕ) (f : List Section) (rs : Lis
       × ((rest : List Portion) × (g.piece.done ≡ p.done ++ rest))
   pub complete : g.missing ≡ false
       → AllByRecursion (λ b. b.0 ≡ true) (joined sections) × (g.piece.done ≡ section_parts f)
+
+-- No image has more blocks of a section than the image of its best copy: where this one misses
+-- blocks, each of the others misses at least as many.
+abbrev pub NoneHasMore : Type 0
+NoneHasMore = (set : FileSet) (file sect : ℕ) (w : Section) (rs : List (Option Reading))
+    (c : SectionCopy) (r q : Reading) (n : ℕ) (bs cs : Blocks)
+    → IsLawful set → AllByRecursion (IsCompleteOr set) rs → section_of set file sect ≡ Some w
+    → IsBest (firsts sect None (copies_on set file 0 rs)) (Some c)
+    → slice_get rs c.image ≡ Some (Some r)
+    → HasBlocks set r (record { file = file; sect = sect; section = w }) bs
+    → slice_get rs n ≡ Some (Some q)
+    → HasBlocks set q (record { file = file; sect = sect; section = w }) cs
+    → not_read bs ≤ not_read cs
 
 -- From such images of a valid set, in any order and with repeats, each file is recovered like this.
 -- A section without blocks has to be on one of the images.

@@ -12,7 +12,7 @@ ghost use Rattle.tape_run.specs.SalvageDamaged.{ClosedAreExact};
 ghost use Rattle.tape_run.specs.SalvageUnnamed.{UnnamedAreThere};
 ghost use Rattle.tape_run.specs.SalvageFile.{RecoversBlocks, RecoversFile, RecoversUpToGap};
 ghost use Rattle.tape_run.specs.SalvageFile.{ReportsBlocks};
-ghost use Rattle.tape_run.specs.SalvageSets.{RecoversSet};
+ghost use Rattle.tape_run.specs.SalvageSets.{RecoversSet, NoneHasMore};
 ghost use Rattle.tape_run.specs.SalvageDamagedSets.{ClosedOfSetAreExact, FoundAreExact};
 ghost use Rattle.tape_run.specs.SalvagedSets.{RecoversSets};
 
@@ -141,7 +141,8 @@ pub fn sections_without_hdr1_are_there()
 /// are recovered, or none if no image has it, and of these blocks exactly the complete records. Up
 /// to the first missing block no record is left out. If nothing is missing, it is the file.
 pub fn files_of_sets_are_recovered()
-    ensures { RecoversSet }
+    ensures recovers { RecoversSet }
+    ensures most { NoneHasMore }
 {}
 
 /// In a reading of a volume of a valid set, of which any items may be unreadable or missing at the
