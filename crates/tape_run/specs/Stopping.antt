@@ -2,6 +2,7 @@
 use Rattle.std.specs.Prelude.{◌≡◌, ◌⊎◌, ℕ, ◌+◌, ◌-◌, ◌<◌, ◌≤◌, List, [], ◌∷◌, ◌++◌, length, map}
 use Rattle.std.specs.Prelude.{Option, Some, None, IfSome, Bool, true, false}
 use Rattle.tape_core.specs.State.{State}
+use Rattle.tape_core.specs.Weight.{IsFront}
 use Rattle.tape_core.specs.declared.sink.PartSink.{Ghosts}
 use Rattle.tape_core.specs.declared.sink.SinkFault.TheVariants.{Device}
 use Rattle.tape_image.specs.Written.{AppendsFront}
@@ -10,7 +11,7 @@ use Rattle.tape_run.specs.Given.{is_device}
 use Rattle.tape_run.specs.ReelLine.{reel_lines}
 use Rattle.tape_run.specs.Reeling.{Turn, answer_of, IsTurn, Mounting, AreFirstTurns, Follows}
 use Rattle.tape_run.specs.Reeling.{IsKeptFor, counts_differ}
-use Rattle.tape_run.specs.Seen.{Seen, IfSeen, IsSeenUnless}
+use Rattle.tape_run.specs.Seen.{Seen, IsKept, IfSeen, IsSeen, IsSeenUnless}
 use Rattle.tape_run.specs.SessionState.{SessionState}
 use Rattle.tape_run.specs.Steps.{Reeled, ReelFails, SaveFails, RestartFails, Unmoved}
 use Rattle.tape_run.specs.declared.fault.EngineFault.{EngineFault}
@@ -51,6 +52,19 @@ abbrev pub IsStopped : {S R : Type 0} → Ghosts S → (R → Option (List ℕ))
 IsStopped g remaining back spares core old image fault new =
     IsSeenUnless ((back ≡ true) × (fault ≡ Run (Sink Device))) g new
     (StopsAt remaining back spares core old image fault new.core)
+
+-- The session read on: its sink contains the earlier parts and perhaps more, it has the same file
+-- and checkpoints, and the invariant of sessions is preserved.
+pub record HasReadOn (old new : Seen) : Type 0 where
+  pub grows : IsFront old.parts new.parts
+  pub notes : new.notes ≡ old.notes
+  pub same_set : new.place.set_id ≡ old.place.set_id
+  pub same_file : new.place.file ≡ old.place.file
+  pub kept : IsKept old → IsKept new
+
+-- the same, for any parts of its sink
+abbrev pub ReadsOnly : {S : Type 0} → Ghosts S → SessionState S → SessionState S → Type 0
+ReadsOnly g old new = IfSeen g old (λ was. IsSeen g new (HasReadOn was))
 
 -- Images were read in their order until a fault ended the run: a line was reported for each of
 -- them, and a prefix of one for one more. The images after that one were not opened.

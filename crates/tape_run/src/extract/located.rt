@@ -9,6 +9,7 @@ ghost use Rattle.tape_run.specs.ExtractingLocated.{IsHeld, ReadsPart, ReadsLocat
 ghost use Rattle.tape_run.specs.ExtractingLocated.{ReadsSections, ExtractsLocated};
 ghost use Rattle.tape_run.specs.GoesBehind.{EndsSection};
 ghost use Rattle.tape_run.specs.OutSinks.{TellsAlways};
+ghost use Rattle.tape_run.specs.Stopping.{ReadsOnly};
 ghost use Rattle.tape_run.specs.declared.fault.EngineFault.TheVariants as engine;
 
 use crate::extract::images::ImageSource;
@@ -67,6 +68,8 @@ pub fn extract_located<W: Write + Drop, R: Read + Drop, L: ImageSource<R>, O: Pl
     ensures untouched { IfOk result (λ records. records ≡ None → out.new ≡ out.old) }
     ensures err { OnErr result (O.stands out.new ≡ O.stands out.old) }
     ensures let_go { OnErr result (mounted.new ≡ None) }
+    // Whatever the result, the session only read on.
+    ensures reads { ReadsOnly ⟦<OutSink<W> as PartSink>⟧ session.old session.new }
     // While the images were read the sink refused a call, or memory ran out; or the output could
     // not be ended, in the state in which the session is left; or a write failed.
     ensures cause { IfErr result (λ fault.
@@ -100,6 +103,7 @@ fn read_sections<S: PartSink, R: Read + Drop, L: ImageSource<R>>(
         → ReadsSections S.PartSink L.gives R.remaining locations.now.entries complete
         session.old session.new images.old images.new (is_some mounted.old) whole mounted.new) }
     ensures let_go { OnErr result (mounted.new ≡ None) }
+    ensures reads { ReadsOnly S.PartSink session.old session.new }
     ensures cause { IfErr result (λ fault.
         ReadingFails S.PartSink false fault session.old session.new) }
     ensures calm { OnOk result (IsCalm S.PartSink session.old session.new) }
@@ -139,6 +143,7 @@ fn read_section<S: PartSink, R: Read + Drop, L: ImageSource<R>>(
         images.new (is_some held) whole after) }
     ensures file { (session.new.core.set_id ≡ session.old.core.set_id)
         × (session.new.core.file ≡ session.old.core.file) }
+    ensures reads { ReadsOnly S.PartSink session.old session.new }
     ensures unfinished { IfOk result (λ after. after ≡ None
         → session.new.core.position ≢ Finished) }
     ensures cause { IfErr result (λ fault.
@@ -175,6 +180,7 @@ fn read_front<S: PartSink, R: Read + Drop>(
         session.old session.new) }
     ensures file { (session.new.core.set_id ≡ session.old.core.set_id)
         × (session.new.core.file ≡ session.old.core.file) }
+    ensures reads { ReadsOnly S.PartSink session.old session.new }
     ensures unfinished { IfOk result (λ after. after ≡ None
         → session.new.core.position ≢ Finished) }
     ensures cause { IfErr result (λ fault.
@@ -207,6 +213,7 @@ fn read_on<S: PartSink, R: Read + Drop>(
         → ReadsPart S.PartSink R.remaining whole session.old session.new after) }
     ensures file { (session.new.core.set_id ≡ session.old.core.set_id)
         × (session.new.core.file ≡ session.old.core.file) }
+    ensures reads { ReadsOnly S.PartSink session.old session.new }
     ensures unfinished { IfOk result (λ after. after ≡ None
         → session.new.core.position ≢ Finished) }
     ensures cause { IfErr result (λ fault.

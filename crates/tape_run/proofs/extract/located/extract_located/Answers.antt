@@ -1,8 +1,8 @@
-use Rattle.std.proofs.Common.{rules, ◌≡◌, true, false, subst, ◌∙◌, inl}
+use Rattle.std.proofs.Common.{rules, ◌≡◌, true, false, ◌∙◌, inl}
 use Rattle.tape_run.proofs.Causes.{ended_for}
 use Rattle.tape_run.proofs.Ended.{told_err}
 use Rattle.tape_run.proofs.Located.{ended_as}
-use Rattle.tape_run.proofs.StoppedThere.{session_walked}
+use Rattle.tape_run.proofs.StoppedThere.{reads_walked, session_walked}
 use Rattle.tape_run.proofs.extract.located.extract_located.Goals as goal
 
 pub returns-then-not-complete-clause-ok : goal.returns-then-not-complete-clause-ok
@@ -36,3 +36,11 @@ pub returns-in-Err-clause-cause : goal.returns-in-Err-clause-cause
 returns-in-Err-clause-cause g c = ended_for _ _ _ c.args.session.now
     c.read_sections.new.session c.place_output.new.self c.args.form c.in-Err.fault
     (c.place_output.ensures.calm ∙ c.in_ok-complete.ensures.calm.calm) c.in-Err.ensures.cause
+
+pub returns-in-Err-clause-reads : goal.returns-in-Err-clause-reads
+returns-in-Err-clause-reads g c = reads_walked _ c.args.session.now c.read_sections.new.session
+    c.place_output.new.self c.read_sections.ensures.reads c.place_output.ensures.same
+
+pub returns-in-Ok-clause-reads : goal.returns-in-Ok-clause-reads
+returns-in-Ok-clause-reads g c = reads_walked _ c.args.session.now c.read_sections.new.session
+    c.place_output.new.self c.read_sections.ensures.reads c.place_output.ensures.same

@@ -2,6 +2,7 @@ use Rattle.std.proofs.Common.{false, ◌∙◌}
 use Rattle.tape_run.specs.Given.{is_device}
 use Rattle.tape_run.proofs.Causes.{calm_reel, step_fails}
 use Rattle.tape_run.proofs.Ended.{told_err}
+use Rattle.tape_run.proofs.StoppedThere.{reads_reel}
 use Rattle.tape_run.proofs.LocatedParts.{part_front}
 use Rattle.tape_run.proofs.LocatedReaders.{held_front, not_finished}
 use Rattle.tape_run.proofs.extract.located.read_front.Goals as goal
@@ -48,3 +49,18 @@ pub returns-clause-calm : goal.returns-clause-calm
 returns-clause-calm g c =
     let done = c.in_ok-answer.ensures in
     calm_reel g.S.PartSink c.args.session.now c.reel.new.self _ done.calm done.notes done.ok
+
+pub returns-then-ends_section-clause-reads : goal.returns-then-ends_section-clause-reads
+returns-then-ends_section-clause-reads g c =
+    reads_reel g.S.PartSink c.args.session.now c.reel.new.self _ c.reel.ensures.notes
+    c.reel.ensures.file c.in_ok-answer.ensures.ok
+
+pub returns-clause-reads : goal.returns-clause-reads
+returns-clause-reads g c =
+    reads_reel g.S.PartSink c.args.session.now c.reel.new.self _ c.reel.ensures.notes
+    c.reel.ensures.file c.in_ok-answer.ensures.ok
+
+pub returns-in_err-answer-clause-reads : goal.returns-in_err-answer-clause-reads
+returns-in_err-answer-clause-reads g c =
+    reads_reel g.S.PartSink c.args.session.now c.reel.new.self _ c.reel.ensures.notes
+    c.reel.ensures.file c.in_err-answer.ensures.err

@@ -11,6 +11,7 @@ use Rattle.tape_run.specs.SurveyLocations.{Located}
 use Rattle.tape_run.specs.declared.survey.files.FileKey.{FileKey}
 use Rattle.tape_run.proofs.Causes.{calm_same, calm_then, then_fails}
 use Rattle.tape_run.proofs.Ended.{told_err}
+use Rattle.tape_run.proofs.StoppedThere.{reads_nothing, reads_then}
 use Rattle.tape_run.proofs.Located.{nothing_read, section_read, read_some, section_failed}
 use Rattle.tape_run.proofs.Located.{nothing_open, read_open, located_open}
 use Rattle.tape_run.proofs.Located.{sections_read, not_none, is_none_then, wanted_sect}
@@ -46,6 +47,7 @@ sections-init g c = record {
   set_id = refl;
   file = refl;
   calm = calm_same g.S.PartSink c.args.session.now;
+  only = reads_nothing g.S.PartSink c.args.session.now;
   reads = λ whole held. (
     nothing_read g.S.PartSink _ g.L.ImageSource.gives g.R.Read.remaining c.args.session.now
         c.args.images.now (is_some c.args.mounted.now) whole c.args.mounted.now held,
@@ -68,6 +70,8 @@ sections-preserved g c =
       file = c.in_ok-mounted.ensures.file.1 ∙ inv.file;
       calm = calm_then g.S.PartSink c.args.session.now c.sections.session
           c.read_section.new.session inv.calm c.in_ok-mounted.ensures.calm;
+      only = reads_then g.S.PartSink c.args.session.now c.sections.session
+          c.read_section.new.session inv.only c.read_section.ensures.reads;
       reads = λ whole held.
           let (s, is_open, more) = inv.reads whole held in
           let reads = located_open g.S.PartSink g.L.ImageSource.gives g.R.Read.remaining
@@ -167,3 +171,22 @@ pub returns-then-is_none-clause-calm : goal.returns-then-is_none-clause-calm
 returns-then-is_none-clause-calm g c = calm_then g.S.PartSink c.args.session.now
     c.sections.session c.read_section.new.session c.sections.invariant.calm
     c.in_ok-mounted.ensures.calm
+
+pub returns-then-is_none-clause-reads : goal.returns-then-is_none-clause-reads
+returns-then-is_none-clause-reads g c = reads_then g.S.PartSink c.args.session.now
+    c.sections.session c.read_section.new.session c.sections.invariant.only
+    c.read_section.ensures.reads
+
+pub returns-in_err-mounted-clause-reads : goal.returns-in_err-mounted-clause-reads
+returns-in_err-mounted-clause-reads g c = reads_then g.S.PartSink c.args.session.now
+    c.sections.session c.read_section.new.session c.sections.invariant.only
+    c.read_section.ensures.reads
+
+pub returns-then-from-next-clause-reads : goal.returns-then-from-next-clause-reads
+returns-then-from-next-clause-reads g c = c.sections.invariant.only
+
+pub returns-in_default-get-clause-reads : goal.returns-in_default-get-clause-reads
+returns-in_default-get-clause-reads g c = c.sections.invariant.only
+
+pub returns-clause-reads : goal.returns-clause-reads
+returns-clause-reads g c = c.sections.invariant.only

@@ -1,6 +1,7 @@
 use Rattle.std.proofs.Common.{◌≡◌, ℕ, ◌-◌, ◌<◌, ◌≢◌, List, [], Option}
 use Rattle.std.specs.Prelude.{is_some}
 use Rattle.tape_run.specs.Causes.{IsCalm}
+use Rattle.tape_run.specs.Stopping.{ReadsOnly}
 use Rattle.tape_run.specs.ExtractingLocated.{IsHeld, BeginsOn}
 use Rattle.tape_run.proofs.Located.{ReadSoFar, open_behind}
 use Rattle.tape_run.proofs.extract.located.read_sections.Given as goal
@@ -10,6 +11,7 @@ invariant-sections g l = record {
   set_id : l.session.core.set_id ≡ l.fn.session.core.set_id;
   file : l.session.core.file ≡ l.fn.session.core.file;
   calm : IsCalm g.S.PartSink l.fn.session l.session;
+  only : ReadsOnly g.S.PartSink l.fn.session l.session;
   reads : (whole : Option (List ℕ)) → IsHeld g.R.Read.remaining l.fn.mounted whole
       → (s : ReadSoFar g.S.PartSink (BeginsOn l.fn.locations.entries l.fn.session.core)
       g.L.ImageSource.gives g.R.Read.remaining l.fn.session l.session
