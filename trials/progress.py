@@ -126,7 +126,7 @@ def main():
         slow = (Path(folder, "small.tap"), Path(folder, "slow"))
         calls = [
             (["list", "slow"], slow), (["check", "slow"], slow), (["survey", "lost", "slow"], slow),
-            (["check", *names], None), (["survey", *names], None), (["compare", *names[:3]], None),
+            (["check", *names], None), (["survey", *names], None), (["compare", *names], None),
             (["merge", "OUT.tap", *names[:3]], None), (["extract", "ABC001", "1", "OUT", *names, "--again"], None),
             (["salvage", "ABC001", "1", "OUT", *names], None), (["unpack", "out", "--list", *names], None),
         ]
