@@ -29,14 +29,14 @@ ABC001 file 1 section 1: CONFLICT, one.tap and two.tap differ ('tape compare' sh
 ";
 
 const ROWS_OF_THREE: &str =
-    "IMAGE\t1.tap\tCONFLICT\tABC001\tABC001\t\t12\t1\t0\tMARKED\tvolume ABC001, \
+    "IMAGE\t1.tap\tCONFLICT\tABC001\tABC001\t\t12\t1\t0\tMARKED\t\tvolume ABC001, \
          1 section; section 1 of file 1: good copies differ
-IMAGE\t2.tap\tCONFLICT\tABC001\tABC001\t\t12\t1\t0\tMARKED\tvolume ABC001, \
+IMAGE\t2.tap\tCONFLICT\tABC001\tABC001\t\t12\t1\t0\tMARKED\t\tvolume ABC001, \
          1 section; section 1 of file 1: good copies differ
-IMAGE\t3.tap\tCONFLICT\tABC001\tABC001\t\t12\t1\t0\tMARKED\tvolume ABC001, \
+IMAGE\t3.tap\tCONFLICT\tABC001\tABC001\t\t12\t1\t0\tMARKED\t\tvolume ABC001, \
          1 section; section 1 of file 1: good copies differ
 SECTION\tABC001\t1\t1\tABC001\t3\tGOOD\tEOF
-FILE\tABC001\t1\tPAYROLL\t 00000\tCOMPLETE\t\t\tCONFLICT\t
+FILE\tABC001\t1\tPAYROLL\t\tCOMPLETE\t\t\tCONFLICT\t\tF\t800\t80
 COPIES\tABC001\t1\t1\t2\t1.tap\t2.tap\tCONFLICT
 ";
 
