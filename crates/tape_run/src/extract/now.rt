@@ -33,8 +33,8 @@ pub trait Place<W: Write> {
 
 /// Reads a file from its images, in their order, until it is complete, prints a line for each, and
 /// writes the file's records as they come. If the file is complete, they get the output's name.
-/// Otherwise a file with that name is not touched, and the missing part is returned: the session has
-/// the records already written, and can continue with other images.
+/// Otherwise a file with that name is not touched, and the missing part is returned: the session
+/// has the records already written, and can continue with other images.
 ///
 /// Allocates only for the session, a buffer while a reel is read, checkpoints, and what opening
 /// takes.

@@ -1,7 +1,8 @@
 //! The report of a survey on sections with more than one complete copy.
 ghost use Rattle.std.specs.Prelude.{◌≡◌, ◌<◌, ◌+◌, ◌++◌, length, take, map, IfOk, OnOk};
 ghost use Rattle.tape_run.specs.SurveyCompared.{section_front, row_front, name_at};
-ghost use Rattle.tape_run.specs.SurveyCompared.{agreed_text, conflict_text, verdict_text, other_name};
+ghost use Rattle.tape_run.specs.SurveyCompared.{agreed_text, conflict_text, verdict_text};
+ghost use Rattle.tape_run.specs.SurveyCompared.{other_name};
 ghost use Rattle.tape_run.specs.SurveyCompared.{verdict_cell, copy_line, copy_row, is_alone};
 ghost use Rattle.tape_run.specs.SurveyCompared.{copy_text, copies_text};
 

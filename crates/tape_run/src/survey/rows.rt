@@ -4,7 +4,8 @@ ghost use Rattle.arrayvec.specs.ArrayVec.{array_vec_len};
 ghost use Rattle.tape_run.specs.SurveyRows.{whole_cell, volume_cell, head_cells, count_cells};
 ghost use Rattle.tape_run.specs.SurveyRows.{seen_cells, middle_cells, sight_cells};
 ghost use Rattle.tape_run.specs.SurveyRows.{key_cells, eof_cell, section_row, known_cells};
-ghost use Rattle.tape_run.specs.SurveyRows.{wanted_cells, standing_cells, conflict_cell, file_cells};
+ghost use Rattle.tape_run.specs.SurveyRows.{wanted_cells, standing_cells, conflict_cell};
+ghost use Rattle.tape_run.specs.SurveyRows.{file_cells};
 ghost use Rattle.tape_run.specs.SurveyRows.{owner_cell, form_by, form_cells};
 
 use super::dates::put_date;

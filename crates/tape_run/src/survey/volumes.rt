@@ -4,8 +4,9 @@ ghost use Rattle.std.specs.Prelude.{length};
 ghost use Rattle.tape_run.specs.Lacks.{entry_at};
 ghost use Rattle.tape_run.specs.SurveyChain.{gap_if, link_of, next_first, sections_chain};
 ghost use Rattle.tape_run.specs.SurveyChain.{found_chain, file_chain, files_chain, is_same};
-ghost use Rattle.tape_run.specs.SurveyChain.{missing_after, missing_if, items_to, volumes_from, item_text};
-ghost use Rattle.tape_run.specs.SurveyChain.{comma_text, column_after, volumes_line, volumes_of};
+ghost use Rattle.tape_run.specs.SurveyChain.{missing_after, missing_if, items_to, volumes_from};
+ghost use Rattle.tape_run.specs.SurveyChain.{item_text, comma_text, column_after, volumes_line};
+ghost use Rattle.tape_run.specs.SurveyChain.{volumes_of};
 
 use super::gaps::is_found;
 use super::problems::ends;

@@ -207,8 +207,8 @@ impl<D: Disk> Stage<D> {
     ///
     /// # Errors
     ///
-    /// Returns `OutOfMemory` or `Device`. Both return the disk: still empty after `OutOfMemory`, with
-    /// at most 256 bytes after `Device`.
+    /// Returns `OutOfMemory` or `Device`. Both return the disk: still empty after `OutOfMemory`,
+    /// with at most 256 bytes after `Device`.
     pub fn create(
         alloc: Global,
         disk: D,
