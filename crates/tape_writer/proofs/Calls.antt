@@ -1,22 +1,17 @@
 -- The writer's calls, as its callers see them.
 use Rattle.std.proofs.Common.{◌≡◌, ℕ, ◌+◌, List, [], ◌∷◌, ◌++◌, length, refl, sym, ap, ◌∙◌, subst}
-use Rattle.std.proofs.Common.{inr}
-use Rattle.std.specs.Prelude.{map}
+use Rattle.std.proofs.Common.{inr, map}
 use Rattle.std.proofs.lemmas.List.{map-append, length-map}
-use Rattle.tape_label.specs.declared.values.Vol1.{Vol1}
-use Rattle.tape_label.specs.declared.values.Head1.{Head1}
+use Rattle.tape_label.specs.declared.{values.Vol1.Vol1, values.Head1.Head1}
 use Rattle.tape_blocks.specs.declared.parts.Shape.{Shape}
 use Rattle.tape_blocks.specs.Packing.{Packing}
 use Rattle.tape_set.specs.Layout.{Section}
-use Rattle.tape_writer.specs.declared.fault.WriteFault.{WriteFault}
+use Rattle.tape_writer.specs.declared.{fault.WriteFault.WriteFault, course.Opened.Opened}
+use Rattle.tape_writer.specs.declared.{course.Course.Course, phase.Phase.Phase}
+use Rattle.tape_writer.specs.declared.{phase.OpenFile.OpenFile}
 use Rattle.tape_writer.specs.declared.fault.WriteFault.TheVariants as faults
-use Rattle.tape_writer.specs.declared.course.Opened.{Opened}
-use Rattle.tape_writer.specs.declared.course.Course.{Course}
-use Rattle.tape_writer.specs.declared.phase.Phase.{Phase}
 use Rattle.tape_writer.specs.declared.phase.Phase.TheVariants.{Between, Filing, Failed}
-use Rattle.tape_writer.specs.declared.phase.OpenFile.{OpenFile}
-use Rattle.tape_writer.specs.Tapes.{Tapes}
-use Rattle.tape_writer.specs.Faults.{IsEnding}
+use Rattle.tape_writer.specs.{Tapes.Tapes, Faults.IsEnding}
 use Rattle.tape_writer.specs.Told.{Told, opened_by, with_record}
 use Rattle.tape_writer.specs.Inside.{IsInside, IsFiling, IsBetween, IsWaiting, IsStuck}
 use Rattle.tape_writer.specs.State.{SetState, Stands, IsFilingLast, IsWriting, Leaves, IfFiling}
@@ -79,8 +74,7 @@ put_told H H' w out vs course o q told r is v packed k =
 
 pub end_told : {T : Type 0} (H H' : Tapes → Type 0) (w : SetState T) (out : T) (vs : List Vol1)
     (course : Course) (o : OpenFile) (told : List Told)
-    → w.phase ≡ Filing o → vs ≡ w.volumes
-    → ((past : List Told) (records : List (List ℕ))
+    → w.phase ≡ Filing o → vs ≡ w.volumes → ((past : List Told) (records : List (List ℕ))
     → IsFiling H vs w.capacity w.set_id o.file w.course o.packer past records
     → IsBetween H' vs w.capacity w.set_id course (past
     ++ record { file = o.file; records = records } ∷ []))
@@ -109,8 +103,7 @@ opened_told : {T : Type 0} (H H' : Tapes → Type 0) (w : SetState T) (out : T) 
     → files ≡ w.files ++ opened_by w.set_id number head shape ∷ []
     → (number ≡ length told + 1 → IsWaiting H vs w.capacity w.set_id w.course told
     → IsFiling H' vs w.capacity w.set_id (opened_by w.set_id number head shape) course p told [])
-    → IsWriting H w told
-    → IsWriting H'
+    → IsWriting H w told → IsWriting H'
     (record w {
       out = out;
       files = files;
@@ -148,9 +141,7 @@ pub begin_told : {T : Type 0} (H H' : Tapes → Type 0) (w : SetState T) (out : 
     → file ≡ opened_by w.set_id (length w.files + 1) head shape → files ≡ w.files ++ file ∷ []
     → (file.head.set_id ≡ w.set_id → file.head.sequence ≡ length told + 1
     → IsWaiting H vs w.capacity w.set_id w.course told
-    → IsFiling H' vs w.capacity w.set_id file course p told [])
-    → IsWriting H w told
-    → IsWriting H'
+    → IsFiling H' vs w.capacity w.set_id file course p told []) → IsWriting H w told → IsWriting H'
     (record w {
       out = out;
       files = files;
@@ -163,8 +154,7 @@ begin_told H H' w out vs files file course p told head shape is v same f filing 
     subst (λ z. files ≡ w.files ++ z ∷ []
     → (z.head.set_id ≡ w.set_id → z.head.sequence ≡ length told + 1
     → IsWaiting H vs w.capacity w.set_id w.course told
-    → IsFiling H' vs w.capacity w.set_id z course p told [])
-    → IsWriting H'
+    → IsFiling H' vs w.capacity w.set_id z course p told []) → IsWriting H'
     (record w {
       out = out;
       files = files;

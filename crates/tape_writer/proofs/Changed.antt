@@ -1,7 +1,7 @@
 -- After a change of the volume the set written so far is still a draft of a valid, tight set.
 use Rattle.std.proofs.Common.{◌≡◌, ◌<◌, ◌≤◌, ℕ, ◌+◌, List, [], ◌∷◌, ◌++◌, length, Bool, true, false}
 use Rattle.std.proofs.Common.{Some, refl, sym, ap, ◌∙◌, subst, append_assoc, arith, length-append}
-use Rattle.std.specs.Prelude.{map, slice_get}
+use Rattle.std.proofs.Common.{map, slice_get}
 use Rattle.std.specs.List.{AllByRecursion}
 use Rattle.std.proofs.lemmas.List.{map-append, append-nil}
 use Rattle.tape_label.specs.declared.values.Vol1.{Vol1}
@@ -13,8 +13,7 @@ use Rattle.tape_set.specs.Sizes.{items_size}
 use Rattle.tape_set.specs.Lawful.{IsSection, GoesOn, StartsOnFirst, most_blocks}
 use Rattle.tape_set.specs.Tight.{used_before, takes_end, takes_next, IsTightChange, IsTightEnd}
 use Rattle.tape_set.proofs.Measures.{items_size-append}
-use Rattle.tape_writer.specs.declared.course.Opened.{Opened}
-use Rattle.tape_writer.specs.declared.course.Course.{Course}
+use Rattle.tape_writer.specs.declared.{course.Opened.Opened, course.Course.Course}
 use Rattle.tape_label.specs.Widths.{IsWideVolume}
 use Rattle.tape_writer.specs.Labels.{IsReady, volume_label, header_items, trailer_items}
 use Rattle.tape_writer.specs.Told.{labelled, IsWithin}

@@ -1,8 +1,6 @@
 -- Tapes in memory: ending a volume, and looking up volumes.
 use Rattle.std.proofs.Common.{◌≡◌, ◌≢◌, ◌≤◌, ℕ, zero, suc, List, [], ◌∷◌, ◌++◌, length, Option}
-use Rattle.std.proofs.Common.{Some, None, refl, sym, ap, ◌∙◌, arith}
-use Rattle.std.specs.Prelude.{map, slice_get}
-use Rattle.std.specs.Option.{option_map}
+use Rattle.std.proofs.Common.{Some, None, refl, sym, ap, ◌∙◌, arith, map, slice_get, option_map}
 use Rattle.std.proofs.lemmas.List.{map-append, length-map}
 use Rattle.std.proofs.lemmas.Option.{slice_get-map, slice_get_past}
 use Rattle.tape_writer.specs.declared.memory.Kept.{Kept}
@@ -54,8 +52,7 @@ found_in f vs found n e =
 
 pub volume_between : {V : Type 0} (f : V → List Kept) (vs : List V)
     (current found : Option V) (n : ℕ)
-    → current ≡ None → found ≡ slice_get vs n
-    → option_map (λ v. volume_of (f v)) found
+    → current ≡ None → found ≡ slice_get vs n → option_map (λ v. volume_of (f v)) found
     ≡ slice_get (all_volumes (tapes_of (map f vs) (option_map f current))) n
 volume_between f vs current found n none e =
     found_in f vs found n e
@@ -63,8 +60,7 @@ volume_between f vs current found n none e =
 
 pub volume_current : {V : Type 0} (f : V → List Kept) (vs : List V)
     (v : V) (current : Option V) (n : ℕ)
-    → current ≡ Some v → n ≡ length vs
-    → Some (volume_of (f v))
+    → current ≡ Some v → n ≡ length vs → Some (volume_of (f v))
     ≡ slice_get (all_volumes (tapes_of (map f vs) (option_map f current))) n
 volume_current f vs v current n some e =
     let all = map volume_of (map f vs) in

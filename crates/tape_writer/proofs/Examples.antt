@@ -2,12 +2,9 @@
 use Rattle.std.proofs.Common.{◌≡◌, ℕ, List, [], refl, sym, ap, ◌∙◌, arith, subst, inl, inr, Some}
 use Rattle.std.proofs.Common.{◌≤◌, ◌⊎◌}
 use Rattle.tape_image.specs.Writer.{Writer, writing, broken}
-use Rattle.tape_blocks.specs.Packing.{HasRecordLength}
-use Rattle.tape_blocks.specs.Spans.{Joined}
-use Rattle.tape_writer.specs.Images.{TakesNoMore}
+use Rattle.tape_blocks.specs.{Packing.HasRecordLength, Spans.Joined}
+use Rattle.tape_writer.specs.{Images.TakesNoMore, Tapes.Tapes, Told.Told}
 use Rattle.tape_writer.specs.State.{SetState, IsWriting, Stands}
-use Rattle.tape_writer.specs.Tapes.{Tapes}
-use Rattle.tape_writer.specs.Told.{Told}
 use Rattle.tape_writer.specs.declared.phase.Phase.TheVariants as phases
 use Rattle.tape_writer.specs.Cases.{CasesOfTapes, CasesOfImages, CasesOfSets, CasesOfRefusals}
 

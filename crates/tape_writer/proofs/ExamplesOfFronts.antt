@@ -1,23 +1,19 @@
 -- Proofs of the test cases for the contents of the tapes after a refusal.
-use Rattle.std.proofs.Common.{◌≡◌, ◌≢◌, ◌⊎◌, ℕ, List, [], ◌∷◌, ◌++◌, Option, Some, IfSome}
-use Rattle.std.proofs.Common.{inl, inr, length, refl, sym, subst}
+use Rattle.std.proofs.Common.{◌≡◌, ◌≢◌, ◌⊎◌, ℕ, List, [], ◌∷◌, ◌++◌, Option, Some, IfSome, inl, inr}
+use Rattle.std.proofs.Common.{length, refl, sym, subst}
 use Rattle.std.specs.List.{AllByRecursion}
 use Rattle.tape_image.specs.Tape.{TapeItem}
 use Rattle.tape_label.specs.declared.values.Head1.{Head1}
 use Rattle.tape_blocks.specs.declared.parts.Shape.{Shape}
-use Rattle.tape_writer.specs.declared.fault.SetFault.{SetFault}
+use Rattle.tape_writer.specs.declared.{fault.SetFault.SetFault}
+use Rattle.tape_writer.specs.declared.{fault.WriteFault.TheVariants.OutOfMemory, inputs.cut.Cut.Cut}
 use Rattle.tape_writer.specs.declared.fault.SetFault.TheVariants.{Write, ReadFailed}
-use Rattle.tape_writer.specs.declared.fault.WriteFault.TheVariants.{OutOfMemory}
-use Rattle.tape_writer.specs.declared.inputs.cut.Cut.{Cut}
-use Rattle.tape_writer.specs.Records.{records_of, IsFirstLong}
-use Rattle.tape_writer.specs.Told.{Told, with_file}
-use Rattle.tape_writer.specs.State.{SetState}
-use Rattle.tape_writer.specs.Tapes.{Tapes, UnderWay}
-use Rattle.tape_writer.specs.ToldFiles.{told_files, IfAllKnown}
+use Rattle.tape_writer.specs.{Records.records_of, Records.IsFirstLong, Told.Told, Told.with_file}
+use Rattle.tape_writer.specs.{State.SetState, Tapes.Tapes, Tapes.UnderWay, ToldFiles.told_files}
+use Rattle.tape_writer.specs.{ToldFiles.IfAllKnown, WriteFaults.IsOfInput}
+use Rattle.tape_writer.specs.{CasesOfFronts.CasesOfFronts}
 use Rattle.tape_writer.specs.Front.{behind_steps, HoldsFront, IsLeftBehind, IsLeftWhole}
 use Rattle.tape_writer.specs.LeftOf.{IsLeftOf, IsLeftOfAll, IsLeftUnbegun}
-use Rattle.tape_writer.specs.WriteFaults.{IsOfInput}
-use Rattle.tape_writer.specs.CasesOfFronts.{CasesOfFronts}
 use Rattle.tape_writer.proofs.Fronts.{front_begins}
 
 not_back : (u : TapeItem) → HoldsFront (λ t. t ≡ UnderWay [] (u ∷ [])) (UnderWay [] []) → ⊥
@@ -54,10 +50,8 @@ of_none : (tapes : Tapes) (w : SetState ℕ) (id : List ℕ) (shape : Shape) (cu
     (fault : SetFault) → IsLeftOfAll (λ t. t ≡ tapes) w ⊥ fault id [] shape cut []
     → (fault ≡ Write OutOfMemory → ⊥) × (fault ≢ ReadFailed) × (IsLeftBehind (λ t. t ≡ tapes) w []
     ⊎ IsLeftWhole (λ t. t ≡ tapes) w [])
-of_none tapes w id shape cut fault (inl g) =
-    absurd (none_split g.before g.after g.input g.split)
-of_none tapes w id shape cut fault (inr h) =
-    (h.0, λ e. h.1 (subst IsOfInput (sym e) tt), h.2)
+of_none tapes w id shape cut fault (inl g) = absurd (none_split g.before g.after g.input g.split)
+of_none tapes w id shape cut fault (inr h) = (h.0, λ e. h.1 (subst IsOfInput (sym e) tt), h.2)
 
 -- one record was passed, and then memory ran out
 longer : (tapes : Tapes) (w : SetState ℕ) (told : List Told) (r : List ℕ) (records : List (List ℕ))

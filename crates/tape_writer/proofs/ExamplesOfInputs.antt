@@ -1,23 +1,18 @@
 -- Proofs of the test cases for sets written from inputs.
-use Rattle.std.proofs.Common.{◌≡◌, ◌⊎◌, ℕ, List, [], ◌∷◌, ◌++◌, length, Option, Some, IfSome}
-use Rattle.std.proofs.Common.{refl, inl, inr, subst, arith, ap}
+use Rattle.std.proofs.Common.{◌≡◌, ◌⊎◌, ℕ, List, [], ◌∷◌, ◌++◌, length, Option, Some, IfSome, refl}
+use Rattle.std.proofs.Common.{inl, inr, subst, arith, ap}
 use Rattle.std.specs.Io.KnownBytes.{prepend_known}
 use Rattle.tape_label.specs.declared.values.Head1.{Head1}
 use Rattle.tape_blocks.specs.declared.parts.Shape.{Shape}
 use Rattle.tape_blocks.specs.Packing.{HasRecordLength}
-use Rattle.tape_writer.specs.declared.fault.SetFault.{SetFault}
-use Rattle.tape_writer.specs.declared.fault.SetFault.TheVariants.{Write}
+use Rattle.tape_writer.specs.declared.{fault.SetFault.SetFault, fault.SetFault.TheVariants.Write}
+use Rattle.tape_writer.specs.declared.{inputs.cut.Cut.Cut}
 use Rattle.tape_writer.specs.declared.fault.WriteFault.TheVariants as faults
-use Rattle.tape_writer.specs.declared.inputs.cut.Cut.{Cut}
-use Rattle.tape_writer.specs.NoVolume.{GaveUp}
-use Rattle.tape_writer.specs.Records.{records_of}
+use Rattle.tape_writer.specs.{NoVolume.GaveUp, Records.records_of, State.SetState, Tapes.Tapes}
+use Rattle.tape_writer.specs.{Told.with_file, ToldFiles.told_files, ToldFiles.IfAllKnown}
+use Rattle.tape_writer.specs.{CasesOfInputs.CasesOfInputs, CasesOfInputs.CasesOfSetFaults}
 use Rattle.tape_writer.proofs.Fitting.{within_longest, has_longest}
-use Rattle.tape_writer.specs.State.{SetState}
-use Rattle.tape_writer.specs.Tapes.{Tapes}
-use Rattle.tape_writer.specs.Told.{with_file}
-use Rattle.tape_writer.specs.ToldFiles.{told_files, IfAllKnown}
 use Rattle.tape_writer.specs.WriteFaults.{OneIsOther, IsFileFault, IsFilesFault, IsWholeFault}
-use Rattle.tape_writer.specs.CasesOfInputs.{CasesOfInputs, CasesOfSetFaults}
 
 -- the only input of a set is the first one
 first_of : (tapes : Tapes) (w : SetState ℕ) (id : List ℕ) (shape : Shape) (cut : Cut)

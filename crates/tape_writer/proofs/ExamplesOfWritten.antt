@@ -1,12 +1,10 @@
 -- Proofs of the test cases for written sets, for missing volumes and for the laws of records.
-use Rattle.std.proofs.Common.{◌≡◌, ◌⊎◌, ℕ, List, [], ◌∷◌, length, Option, Some, IfSome}
-use Rattle.std.proofs.Common.{refl, subst, arith}
+use Rattle.std.proofs.Common.{◌≡◌, ◌⊎◌, ℕ, List, [], ◌∷◌, length, Option, Some, IfSome, refl, subst}
+use Rattle.std.proofs.Common.{arith}
 use Rattle.tape_label.specs.declared.values.Head1.{Head1}
-use Rattle.tape_writer.specs.declared.inputs.cut.Cut.{Cut}
-use Rattle.tape_writer.specs.declared.inputs.set.SetPlan.{SetPlan}
+use Rattle.tape_writer.specs.declared.{inputs.cut.Cut.Cut, inputs.set.SetPlan.SetPlan}
 use Rattle.tape_writer.specs.NoVolume.{HasNoVolume, GaveUpSet}
-use Rattle.tape_writer.specs.Tapes.{Ended}
-use Rattle.tape_writer.specs.WriteSet.{cut_of}
+use Rattle.tape_writer.specs.{Tapes.Ended, WriteSet.cut_of}
 use Rattle.tape_writer.specs.CasesOfWritten.{CasesOfWritten, CasesOfRecordLaws}
 
 no_volume : (plan : SetPlan) (cut : Cut) (given : List (Head1 × Option (List ℕ)))

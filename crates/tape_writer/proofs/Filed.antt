@@ -1,17 +1,13 @@
 -- A file that has ended is valid and tight.
 use Rattle.std.proofs.Common.{◌≡◌, ◌≤◌, ℕ, suc, ◌+◌, List, [], ◌∷◌, ◌++◌, length, Bool, true, refl}
-use Rattle.std.proofs.Common.{sym, ap, subst, arith}
-use Rattle.std.specs.Prelude.{if◌then◌else◌}
+use Rattle.std.proofs.Common.{sym, ap, subst, arith, if◌then◌else◌}
 use Rattle.std.specs.List.{AllByRecursion}
 use Rattle.tape_label.specs.declared.values.Kind.TheVariants as kinds
 use Rattle.tape_label.specs.declared.values.Format.{Format}
 use Rattle.tape_label.specs.declared.values.Format.TheVariants.{Fixed, Counted, Spanned}
-use Rattle.tape_label.specs.Head1.{IsHead1}
-use Rattle.tape_label.specs.Head2.{IsHead2}
-use Rattle.tape_label.specs.Trail1.{IsTrail1}
+use Rattle.tape_label.specs.{Head1.IsHead1, Head2.IsHead2, Trail1.IsTrail1}
 use Rattle.tape_blocks.specs.Block.{Portion, IsUnit, Holds}
-use Rattle.tape_blocks.specs.Records.{AreRecordsOf}
-use Rattle.tape_blocks.specs.Tight.{Filled, IsWritten}
+use Rattle.tape_blocks.specs.{Records.AreRecordsOf, Tight.Filled, Tight.IsWritten}
 use Rattle.tape_blocks.specs.Tight as packing
 use Rattle.tape_set.specs.Layout.{Section, Placed, numbered, ends_file}
 use Rattle.tape_set.specs.Before.{blocks_of_all}
@@ -20,12 +16,10 @@ use Rattle.tape_set.specs.Tight.{HasPlainLabels, second_of, second_trailer, leas
 use Rattle.tape_set.proofs.Everywhere.{every, every_front, every_rest}
 use Rattle.tape_writer.specs.declared.course.Opened.{Opened}
 use Rattle.tape_writer.specs.Labels.{IsReady, head_at, trailer_at, second_label, second_kind}
-use Rattle.tape_writer.specs.Told.{IsOfFile, Told, IsFiled, AreFiled}
-use Rattle.tape_writer.specs.Draft.{IsGoing}
+use Rattle.tape_writer.specs.{Told.IsOfFile, Told.Told, Told.IsFiled, Told.AreFiled, Draft.IsGoing}
 use Rattle.tape_writer.proofs.LabelLaws.{first_is, second_is, trailer_is}
 use Rattle.tape_writer.proofs.LabelLaws
-use Rattle.tape_writer.proofs.Sections.{second_kind_is}
-use Rattle.tape_writer.proofs.Lists.{all_push, numbered-push}
+use Rattle.tape_writer.proofs.{Sections.second_kind_is, Lists.all_push, Lists.numbered-push}
 
 abbrev pub form_by : Opened → FileForm
 form_by file = form_of file.head (second_of file.shape)

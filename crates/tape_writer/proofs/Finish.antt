@@ -1,7 +1,6 @@
 -- The set is finished: its volumes are those of a valid, tight set.
 use Rattle.std.proofs.Common.{◌≡◌, ◌≢◌, ◌<◌, ◌≤◌, ℕ, zero, suc, ◌+◌, List, [], ◌∷◌, ◌++◌, length}
-use Rattle.std.proofs.Common.{Some, refl, sym, ap, ◌∙◌, subst, arith, take, add-one}
-use Rattle.std.specs.Prelude.{map, slice_get}
+use Rattle.std.proofs.Common.{Some, refl, sym, ap, ◌∙◌, subst, arith, take, add-one, map, slice_get}
 use Rattle.std.specs.List.{AllByRecursion}
 use Rattle.std.proofs.lemmas.List.{map-append, append-nil}
 use Rattle.tape_image.specs.Tape.{mark}
@@ -9,21 +8,17 @@ use Rattle.tape_label.specs.declared.values.Vol1.{Vol1}
 use Rattle.tape_set.specs.Layout.{FileSet, Section, Placed, Volume, a_mark, nth, sections, on}
 use Rattle.tape_set.specs.Layout.{all_entries, numbered, all_numbered, group_of, entries_on}
 use Rattle.tape_set.specs.Layout.{item_of, header_group, data_group, items, first_items, all_items}
-use Rattle.tape_set.specs.Sizes.{entries_size}
-use Rattle.tape_set.specs.Lawful.{IsVolume, IsFile, IsSection}
+use Rattle.tape_set.specs.{Sizes.entries_size, Lawful.IsVolume, Lawful.IsFile, Lawful.IsSection}
 use Rattle.tape_set.specs.Tight.{IsTightEnd, IsTightChange, AreTightFiles, EachBehind, ChainBehind}
 use Rattle.tape_set.specs.Tight.{used_before, last_volume}
-use Rattle.tape_set.proofs.Measures.{items_size-append}
-use Rattle.tape_set.proofs.Everywhere.{every}
+use Rattle.tape_set.proofs.{Measures.items_size-append, Everywhere.every}
 use Rattle.tape_writer.specs.declared.course.Course.{Course}
 use Rattle.tape_writer.specs.Tapes.{Tapes, Ended}
 use Rattle.tape_label.specs.Widths.{IsWideVolume}
 use Rattle.tape_writer.specs.Told.{labelled, IsWithin, Told, AreFiled, IsWrittenSet}
 use Rattle.tape_writer.specs.Draft.{Draft, placed, body, first_volumes, body_items, ended_volumes}
 use Rattle.tape_writer.specs.Draft.{IsDone, Between, OfLast}
-use Rattle.tape_writer.proofs.LabelLaws.{vol1_is}
-use Rattle.tape_writer.proofs.Lists.{all_push}
-use Rattle.tape_writer.proofs.Volumes.{first_next}
+use Rattle.tape_writer.proofs.{LabelLaws.vol1_is, Lists.all_push, Volumes.first_next}
 
 abbrev pub set_of : List Vol1 → List ℕ → Draft → FileSet
 set_of vs set_id d =
@@ -149,8 +144,7 @@ last_stands (x ∷ y ∷ xs) n some h =
 pub written_set : (H : Tapes → Type 0) (vs : List Vol1) (cap : ℕ) (set_id : List ℕ)
     (course : Course) (d : Draft) (told : List Told)
     → AllByRecursion IsWideVolume vs → told ≢ [] → Between (map labelled vs) cap set_id course d
-    → AreFiled cap told d.files
-    → H (Ended (ended_volumes (map labelled vs) d
+    → AreFiled cap told d.files → H (Ended (ended_volumes (map labelled vs) d
     ++ (body_items (map labelled vs) d ++ mark ∷ []) ∷ []))
     → IsWrittenSet H vs cap set_id told
 written_set H vs cap set_id course d told wide some b files h =
@@ -171,8 +165,7 @@ written_set H vs cap set_id course d told wide some b files h =
     first_are set (length set.volumes) (omega arith)
     ∙ (ap (first_volumes set.volumes (sections set)) long
     ∙ (first_taken all_vs (sections set) n n (omega arith)
-    ∙ (ap (λ z. first_volumes all_vs z n) (sym all)
-    ∙ (first_next all_vs (placed d) d.past
+    ∙ (ap (λ z. first_volumes all_vs z n) (sym all) ∙ (first_next all_vs (placed d) d.past
     ∙ ap (λ z. ended_volumes all_vs d ++ z ∷ []) (map-append item_of (body all_vs (placed d) d.past)
     (a_mark ∷ [])))))) in
     record {

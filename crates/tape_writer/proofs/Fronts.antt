@@ -1,7 +1,6 @@
 -- An interrupted call leaves a prefix of the items that it was to write.
-use Rattle.std.proofs.Common.{◌≡◌, ◌≢◌, List, [], ◌∷◌, ◌++◌, refl, sym, ap, ◌∙◌}
-use Rattle.std.proofs.Common.{subst, append_assoc, inl, inr}
-use Rattle.std.specs.Prelude.{◌⊎◌, IfErr, Result, Ok, Err}
+use Rattle.std.proofs.Common.{◌≡◌, ◌≢◌, List, [], ◌∷◌, ◌++◌, refl, sym, ap, ◌∙◌, subst}
+use Rattle.std.proofs.Common.{append_assoc, inl, inr, ◌⊎◌, IfErr, Result, Ok, Err}
 use Rattle.std.proofs.lemmas.List.{append-nil}
 use Rattle.tape_image.specs.Tape.{TapeItem}
 use Rattle.tape_writer.specs.declared.fault.WriteFault.{WriteFault}
@@ -49,8 +48,7 @@ front_items H vs items more f =
 pub front_assoc : (H : Tapes → Type 0) (vs : List (List TapeItem)) (items a b : List TapeItem)
     → HoldsFront H (UnderWay vs ((items ++ a) ++ b))
     → HoldsFront H (UnderWay vs (items ++ (a ++ b)))
-front_assoc H vs items a b f =
-    subst (λ z. HoldsFront H (UnderWay vs z)) (append_assoc items a b) f
+front_assoc H vs items a b f = subst (λ z. HoldsFront H (UnderWay vs z)) (append_assoc items a b) f
 
 pub front_thrice : (H : Tapes → Type 0) (vs : List (List TapeItem)) (items a b c : List TapeItem)
     → HoldsFront H (UnderWay vs (((items ++ a) ++ b) ++ c))
@@ -61,14 +59,12 @@ front_thrice H vs items a b c f =
 -- only some of the items were written
 pub front_behind : (H : Tapes → Type 0) (vs : List (List TapeItem)) (items a b : List TapeItem)
     → HoldsFront H (UnderWay vs (items ++ a)) → HoldsFront H (UnderWay vs (items ++ (a ++ b)))
-front_behind H vs items a b f =
-    front_assoc H vs items a b (front_items H vs (items ++ a) b f)
+front_behind H vs items a b f = front_assoc H vs items a b (front_items H vs (items ++ a) b f)
 
 -- the next volume begins
 pub front_changed : (H : Tapes → Type 0) (t : Tapes) (first : List TapeItem)
     → HoldsFront H t → HoldsFront H (UnderWay (all_volumes t) first)
-front_changed H t first f =
-    front_items H (all_volumes t) [] first (front_on H t (Change ∷ []) f)
+front_changed H t first f = front_items H (all_volumes t) [] first (front_on H t (Change ∷ []) f)
 
 -- the last volume ends
 pub front_closed : (H : Tapes → Type 0) (t : Tapes) → HoldsFront H t

@@ -1,25 +1,18 @@
 -- The steps of the writer, with the contents of the tapes.
 use Rattle.std.proofs.Common.{◌≡◌, ◌<◌, ◌≤◌, ℕ, zero, suc, ◌+◌, List, [], ◌∷◌, ◌++◌, length, true}
 use Rattle.std.proofs.Common.{false, Some, refl, sym, ap, ◌∙◌, subst, append_assoc, arith, get_or}
-use Rattle.std.specs.Prelude.{map, slice_get}
-use Rattle.std.specs.Option.{option_map}
+use Rattle.std.proofs.Common.{map, slice_get, OnOk, Result, Ok, Err, option_map}
 use Rattle.std.proofs.lemmas.List.{append-nil, length-map}
-use Rattle.std.proofs.lemmas.Option.{slice_get-map}
-use Rattle.std.proofs.lemmas.Grind.{flat_map-append}
-use Rattle.std.specs.Prelude.{OnOk, Result, Ok, Err}
+use Rattle.std.proofs.{lemmas.Option.slice_get-map, lemmas.Grind.flat_map-append}
 use Rattle.tape_label.specs.declared.values.Vol1.{Vol1}
 use Rattle.tape_image.specs.Tape.{TapeItem, block, mark}
 use Rattle.tape_blocks.specs.Tight.{Filled}
-use Rattle.tape_set.specs.Layout.{Section}
-use Rattle.tape_set.specs.Before.{blocks_of_all}
-use Rattle.tape_set.specs.Sizes.{item_size}
-use Rattle.tape_writer.specs.declared.fault.WriteFault.{WriteFault}
-use Rattle.tape_writer.specs.declared.course.Opened.{Opened}
-use Rattle.tape_writer.specs.declared.course.Course.{Course}
-use Rattle.tape_writer.specs.Tapes.{Tapes, UnderWay}
+use Rattle.tape_set.specs.{Layout.Section, Before.blocks_of_all, Sizes.item_size}
+use Rattle.tape_writer.specs.declared.{fault.WriteFault.WriteFault, course.Opened.Opened}
+use Rattle.tape_writer.specs.declared.{course.Course.Course}
+use Rattle.tape_writer.specs.{Tapes.Tapes, Tapes.UnderWay, Told.labelled}
 use Rattle.tape_label.specs.Widths.{IsWideVolume}
 use Rattle.tape_writer.specs.Labels.{volume_label, header_items, trailer_items}
-use Rattle.tape_writer.specs.Told.{labelled}
 use Rattle.tape_writer.specs.Draft.{Draft, open_blocks, closing, here, body_items, open_items}
 use Rattle.tape_writer.specs.Draft.{ended_volumes, Within, Steady, changed_draft, changed_course}
 use Rattle.tape_writer.specs.Draft.{ended_draft, added_draft, added_course, ended_course, IsOpen}
@@ -86,8 +79,7 @@ pub grew_next : (H : Tapes → Type 0) (vs : List Vol1) (cap : ℕ) (set_id : Li
     → (0 < length b.bytes) × (length b.bytes ≤ 99999)
     → Steady (map labelled vs) cap set_id file course d
     → cap < course.used + item_size (block b.bytes) + 192 → slice_get vs course.volume ≡ Some v
-    → IsWideVolume v
-    → length vs ≤ 9999 → 1024 + length b.bytes ≤ cap → cap ≤ 4294967295
+    → IsWideVolume v → length vs ≤ 9999 → 1024 + length b.bytes ≤ cap → cap ≤ 4294967295
     → ((H' : Tapes → Type 0) → H' (UnderWay (ended_volumes (map labelled vs) d
     ++ (open_items (map labelled vs) file course d ++ trailer_items file course.sect course.count
     false ++ mark ∷ []) ∷ []) (block (volume_label v) ∷ header_items file (course.sect + 1)))
@@ -274,8 +266,7 @@ pub close_next : (H H1 H2 : Tapes → Type 0) (vs : List Vol1) (cap : ℕ) (set_
     → course1 ≡ changed_course course
     → ((volumes : List (List TapeItem)) (items : List TapeItem) → H1 (UnderWay volumes items)
     → OnOk r (H2 (UnderWay volumes (items ++ trailer_items file course1.sect course1.count true))))
-    → OnOk r (course2 ≡ ended_course course1)
-    → OnOk r (Closed H2 vs cap set_id file course2 d)
+    → OnOk r (course2 ≡ ended_course course1) → OnOk r (Closed H2 vs cap set_id file course2 d)
 close_next H H1 H2 vs cap set_id file course course1 course2 d v
     (Err e) o due g wide few room most k n k2 n2 = tt
 close_next H H1 H2 vs cap set_id file course course1 course2 d v

@@ -60,9 +60,8 @@ lasting_item H K n m u v x f le e = record {
 }
 
 -- nothing was accepted
-pub lasting_err : (H K : Tapes → Type 0) (n m : Failures) (u v : ℕ) →
-    ((tapes : Tapes) → H tapes → K tapes)
-    → Grows n m → v ≡ u → Lasting H n u K m v
+pub lasting_err : (H K : Tapes → Type 0) (n m : Failures) (u v : ℕ)
+    → ((tapes : Tapes) → H tapes → K tapes) → Grows n m → v ≡ u → Lasting H n u K m v
 lasting_err H K n m u v f le e = record {
   lasts = λ volumes items h s. record {
     more = [];

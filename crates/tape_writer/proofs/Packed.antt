@@ -1,26 +1,21 @@
 -- The bytes of a record, in one block after another.
-use Rattle.std.proofs.Common.{◌≡◌, ◌≢◌, ◌<◌, ◌≤◌, ℕ, List, [], ◌∷◌, ◌++◌, length, false, None}
-use Rattle.std.proofs.Common.{refl, sym, ap, ◌∙◌, subst, inl, inr, arith, drop}
-use Rattle.std.specs.Prelude.{OnOk, IfErr, Result, Ok, Err, ◌⊎◌}
+use Rattle.std.proofs.Common.{◌≡◌, ◌≢◌, ◌<◌, ◌≤◌, ℕ, List, [], ◌∷◌, ◌++◌, length, false, None, refl}
+use Rattle.std.proofs.Common.{sym, ap, ◌∙◌, subst, inl, inr, arith, drop, OnOk, IfErr, Result, Ok}
+use Rattle.std.proofs.Common.{Err, ◌⊎◌}
 use Rattle.tape_label.specs.declared.values.Vol1.{Vol1}
 use Rattle.tape_blocks.specs.declared.parts.Shape.{Shape}
 use Rattle.tape_blocks.specs.declared.offer.Offer.TheVariants.{Taken, BlockReady}
-use Rattle.tape_blocks.specs.Block.{Portion}
+use Rattle.tape_blocks.specs.{Block.Portion, Run.Going, Tight.Filled}
 use Rattle.tape_blocks.specs.Packing.{Packing, Given, IsJudged, IsWritable, HasRecordLength, Offers}
 use Rattle.tape_blocks.specs.Packing.{emptied}
-use Rattle.tape_blocks.specs.Run.{Going}
-use Rattle.tape_blocks.specs.Tight.{Filled}
 use Rattle.tape_blocks.specs.Tight as packing
 use Rattle.tape_blocks.proofs.RunLaws.{filled_of, offers_shape, going_length, going_ends}
 use Rattle.tape_blocks.proofs.RunLaws.{going_block, run_last, run_none}
 use Rattle.tape_set.specs.Layout.{Section}
-use Rattle.tape_writer.specs.declared.fault.WriteFault.{WriteFault}
-use Rattle.tape_writer.specs.declared.course.Opened.{Opened}
-use Rattle.tape_writer.specs.declared.course.Course.{Course}
-use Rattle.tape_writer.specs.declared.tape.Tape.{Tape}
-use Rattle.tape_writer.specs.Tapes.{Tapes}
-use Rattle.tape_writer.specs.Draft.{Draft, IsOpen, Grew, open_blocks}
-use Rattle.tape_writer.specs.Inside.{IsInside, IsPacking, Flushed, IsFlat}
+use Rattle.tape_writer.specs.declared.{fault.WriteFault.WriteFault, course.Opened.Opened}
+use Rattle.tape_writer.specs.declared.{course.Course.Course, tape.Tape.Tape}
+use Rattle.tape_writer.specs.{Tapes.Tapes, Draft.Draft, Draft.IsOpen, Draft.Grew, Draft.open_blocks}
+use Rattle.tape_writer.specs.{Inside.IsInside, Inside.IsPacking, Inside.Flushed, Inside.IsFlat}
 use Rattle.tape_writer.proofs.Lists.{all_push}
 
 -- ---- a block that is returned has bytes

@@ -1,5 +1,5 @@
 -- The directory and the name in a path.
-use Rattle.std.proofs.Common.{◌≡◌, ◌≢◌, ◌⊎◌, ◌<◌, ◌≤◌, ◌+◌, ◌-◌, ℕ, zero, suc, List, [], ◌∷◌, ◌++◌, length}
+use Rattle.std.proofs.Common.{◌≡◌, ◌≢◌, ◌<◌, ◌+◌, ℕ, zero, suc, List, [], ◌∷◌, ◌++◌, length}
 use Rattle.std.proofs.Common.{get_or, take, drop, codes, refl, sym, ap, subst, ◌∙◌, inl, inr, arith}
 use Rattle.std.proofs.Common.{MatchOption, Option, Some, None}
 use Rattle.std.proofs.lemmas.List.{drop_more, get_or-drop, length-drop, length-take-le}
@@ -31,8 +31,7 @@ rest_plain path k (inside, is, last) i small same =
     (sym (get_or-drop (k + 1) path i 0) ∙ same)
 
 -- a path is what precedes its last slash, the slash, and what follows it
-cut_at : (path : List ℕ) (k : ℕ) → IsLastSlash path k
-    → path ≡ take k path ++ 47 ∷ drop (k + 1) path
+cut_at : (path : List ℕ) (k : ℕ) → IsLastSlash path k → path ≡ take k path ++ 47 ∷ drop (k + 1) path
 cut_at path k (inside, is, last) =
     sym (take-append-drop k path) ∙ ap (λ rest. take k path ++ rest) (drop_more path k 0 inside
     ∙ ap (λ b. b ∷ drop (k + 1) path) is)
@@ -65,5 +64,4 @@ in_current path none = record { plain = none; joined = inl (refl, refl) }
 pub in_some : (path : List ℕ) (k : ℕ) → IsLastSlash path k
     → (folder : List ℕ) × IsPathOf path folder (drop (k + 1) path)
 in_some path zero last = (codes "/", in_root path last)
-in_some path (suc k) last =
-    (take (suc k) path, in_folder path (suc k) (omega arith) last)
+in_some path (suc k) last = (take (suc k) path, in_folder path (suc k) (omega arith) last)

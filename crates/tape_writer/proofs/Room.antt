@@ -1,26 +1,20 @@
 -- Each record uses up room of the writer.
 use Rattle.std.proofs.Common.{◌≡◌, inl, inr, ℕ, ◌+◌, ◌-◌, ◌*◌, ◌<◌, ◌≤◌, List, [], ◌∷◌, ◌++◌}
 use Rattle.std.proofs.Common.{length, Bool, true, false, refl, sym, ap, subst, ◌∙◌, arith}
-use Rattle.std.proofs.Common.{length-append, replicate}
-use Rattle.std.specs.Prelude.{Result, Ok, Err, OnOk}
-use Rattle.std.proofs.Math.Nat.{add-mul}
-use Rattle.std.proofs.lemmas.List.{length-replicate}
+use Rattle.std.proofs.Common.{length-append, replicate, Result, Ok, Err, OnOk}
+use Rattle.std.proofs.{Math.Nat.add-mul, lemmas.List.length-replicate}
 use Rattle.tape_image.specs.Tape.{block}
 use Rattle.tape_label.specs.declared.values.Format.{Format}
 use Rattle.tape_label.specs.declared.values.Format.TheVariants.{Fixed, Counted, Spanned}
 use Rattle.tape_blocks.specs.declared.parts.Shape.{Shape}
 use Rattle.tape_blocks.specs.declared.offer.Offer.TheVariants.{Taken, BlockReady}
-use Rattle.tape_blocks.specs.Block.{Portion, spellings, head_len}
-use Rattle.tape_blocks.specs.Spans.{span_of}
+use Rattle.tape_blocks.specs.{Block.Portion, Block.spellings, Block.head_len, Spans.span_of}
 use Rattle.tape_blocks.specs.Packing.{Packing, Given, IsJudged, IsWritable, HasRecordLength, Offers}
-use Rattle.tape_blocks.specs.Packing.{HasWritableRecords, emptied, size_of}
-use Rattle.tape_blocks.specs.Packing.{padded_len}
+use Rattle.tape_blocks.specs.Packing.{HasWritableRecords, emptied, size_of, padded_len}
 use Rattle.tape_blocks.proofs.PackLaws.{size_push}
 use Rattle.tape_set.specs.Sizes.{item_size}
-use Rattle.tape_writer.specs.declared.course.Course.{Course}
-use Rattle.tape_writer.specs.declared.fault.WriteFault.{WriteFault}
-use Rattle.tape_writer.specs.Draft.{added_course, changed_course}
-use Rattle.tape_writer.specs.Room.{room_of}
+use Rattle.tape_writer.specs.declared.{course.Course.Course, fault.WriteFault.WriteFault}
+use Rattle.tape_writer.specs.{Draft.added_course, Draft.changed_course, Room.room_of}
 
 -- a block is at least as long as its parts
 given_size : (p : Packing) (text : List ℕ) → Given p text → size_of p.shape p.parts ≤ length text
@@ -102,8 +96,7 @@ offered_room vs cap course p q rest n (some, inr (inr fills)) =
 
 -- a unit has at least one byte
 unit_some : (format : Format) (rec_len block_len offset n : ℕ) (pad begun : Bool)
-    → HasWritableRecords format rec_len block_len offset pad
-    → (begun ≡ true → format ≡ Spanned)
+    → HasWritableRecords format rec_len block_len offset pad → (begun ≡ true → format ≡ Spanned)
     → (begun ≡ false → HasRecordLength format rec_len n) → 0 < head_len format + n
 unit_some Fixed rec_len block_len offset n pad true w spanned judged =
     absurd (let e = spanned refl in cc)

@@ -1,30 +1,24 @@
 -- A finished section: its labels, its items and its size.
 use Rattle.std.proofs.Common.{◌≡◌, ◌<◌, ◌≤◌, ℕ, ◌+◌, List, [], ◌∷◌, ◌++◌, length, Bool, true, false}
-use Rattle.std.proofs.Common.{refl, sym, ap, ◌∙◌, subst, arith, add-one}
-use Rattle.std.specs.Prelude.{map, slice_get, ◌%◌}
+use Rattle.std.proofs.Common.{refl, sym, ap, ◌∙◌, subst, arith, add-one, map, slice_get, ◌%◌}
 use Rattle.std.specs.List.{AllByRecursion}
 use Rattle.std.proofs.lemmas.List.{map-append}
 use Rattle.tape_image.specs.Tape.{block, IsTapeItem}
-use Rattle.tape_label.specs.declared.values.Vol1.{Vol1}
-use Rattle.tape_label.specs.declared.values.Kind.{Kind}
+use Rattle.tape_label.specs.declared.{values.Vol1.Vol1, values.Kind.Kind}
 use Rattle.tape_label.specs.declared.values.Kind.TheVariants as kinds
-use Rattle.tape_label.specs.Kinds.{IsSecond}
+use Rattle.tape_label.specs.{Kinds.IsSecond, Widths.IsWideVolume}
 use Rattle.tape_blocks.specs.Tight.{Filled}
 use Rattle.tape_set.specs.Layout.{Placed, Section, Volume, nth, on, all_entries, section_entries}
 use Rattle.tape_set.specs.Layout.{item_of, header_group, data_group, trailer_group, group_of}
 use Rattle.tape_set.specs.Layout.{up_to_data, ends_file}
 use Rattle.tape_set.specs.Sizes.{item_size, items_size, entries_size}
-use Rattle.tape_set.specs.Lawful.{IsSection, most_blocks}
-use Rattle.tape_set.specs.Tight.{used_before}
+use Rattle.tape_set.specs.{Lawful.IsSection, Lawful.most_blocks, Tight.used_before}
 use Rattle.tape_set.proofs.Everywhere.{every-append}
-use Rattle.tape_writer.specs.declared.course.Opened.{Opened}
-use Rattle.tape_writer.specs.declared.course.Course.{Course}
-use Rattle.tape_label.specs.Widths.{IsWideVolume}
+use Rattle.tape_writer.specs.declared.{course.Opened.Opened, course.Course.Course}
 use Rattle.tape_writer.specs.Labels.{IsReady, header_items, trailer_items, head_at, trailer_at}
 use Rattle.tape_writer.specs.Labels.{volume_label, first_label, second_label, second_kind}
 use Rattle.tape_writer.specs.Labels.{trailer_label}
-use Rattle.tape_writer.specs.Told.{IsOfFile}
-use Rattle.tape_writer.specs.Draft.{data_item, closing, here, body}
+use Rattle.tape_writer.specs.{Told.IsOfFile, Draft.data_item, Draft.closing, Draft.here, Draft.body}
 use Rattle.tape_writer.proofs.Volumes.{data_items}
 use Rattle.tape_writer.proofs.LabelLaws.{vol1_is, first_is, second_is, trailer_is}
 use Rattle.tape_writer.proofs.LabelLaws

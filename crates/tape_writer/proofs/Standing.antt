@@ -3,16 +3,12 @@ use Rattle.std.proofs.Common.{◌≡◌, ℕ, List, inl, inr, subst}
 use Rattle.tape_label.specs.declared.values.Vol1.{Vol1}
 use Rattle.tape_blocks.specs.Packing.{Packing}
 use Rattle.tape_set.specs.Layout.{Section}
-use Rattle.tape_writer.specs.declared.course.Opened.{Opened}
-use Rattle.tape_writer.specs.declared.course.Course.{Course}
-use Rattle.tape_writer.specs.declared.phase.Phase.{Phase}
+use Rattle.tape_writer.specs.declared.{course.Opened.Opened, course.Course.Course}
+use Rattle.tape_writer.specs.declared.{phase.Phase.Phase}
 use Rattle.tape_writer.specs.declared.phase.Phase.TheVariants.{Between, Filing}
-use Rattle.tape_writer.specs.Tapes.{Tapes}
-use Rattle.tape_writer.specs.Told.{Told}
-use Rattle.tape_writer.specs.Draft.{Draft, IsOpen}
+use Rattle.tape_writer.specs.{Tapes.Tapes, Told.Told, Draft.Draft, Draft.IsOpen, Refusals.IsInFile}
 use Rattle.tape_writer.specs.Inside.{IsInside, IsPacking, IsFlat, IsWaiting}
 use Rattle.tape_writer.specs.State.{SetState, Stands, IsWriting}
-use Rattle.tape_writer.specs.Refusals.{IsInFile}
 use Rattle.tape_writer.specs.Front.{HoldsFront, IsInLast, IsLeftInside, IsLeftBehind}
 use Rattle.tape_writer.proofs.Fronts.{front_here}
 
@@ -66,8 +62,7 @@ flat_left H K vs cap set_id file course fs records f k = record {
 pub waiting_left : (H K : Tapes → Type 0) (vs : List Vol1) (cap : ℕ) (set_id : List ℕ)
     (course : Course) (told : List Told) → ((t : Tapes) → H t → K t)
     → IsWaiting H vs cap set_id course told → IsWaiting K vs cap set_id course told
-waiting_left H K vs cap set_id course told f (inl (first, held, none)) =
-    inl (first, f _ held, none)
+waiting_left H K vs cap set_id course told f (inl (first, held, none)) = inl (first, f _ held, none)
 waiting_left H K vs cap set_id course told f (inr (k, some)) = inr (
   record {
     draft = k.draft;

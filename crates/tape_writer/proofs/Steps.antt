@@ -1,8 +1,7 @@
 -- After each step of the writer the set written so far is still a draft of a valid, tight set.
 use Rattle.std.proofs.Common.{◌≡◌, ◌<◌, ◌≤◌, ℕ, ◌+◌, List, [], ◌∷◌, ◌++◌, length, Bool, true, false}
 use Rattle.std.proofs.Common.{Some, refl, sym, ap, ◌∙◌, subst, inl, append_assoc, arith}
-use Rattle.std.proofs.Common.{length-append}
-use Rattle.std.specs.Prelude.{map, slice_get, nat_le}
+use Rattle.std.proofs.Common.{length-append, map, slice_get, nat_le}
 use Rattle.std.specs.List.{AllByRecursion}
 use Rattle.std.proofs.lemmas.List.{map-append, append-nil}
 use Rattle.std.proofs.lemmas.Bool.Decides.{nat_tests}
@@ -13,8 +12,7 @@ use Rattle.tape_set.specs.Layout.{Placed, Volume, numbered, item_of}
 use Rattle.tape_set.specs.Sizes.{item_size, items_size}
 use Rattle.tape_set.specs.Tight.{used_before, takes_end, takes_next, IsTightChange}
 use Rattle.tape_set.proofs.Measures.{items_size-append}
-use Rattle.tape_writer.specs.declared.course.Opened.{Opened}
-use Rattle.tape_writer.specs.declared.course.Course.{Course}
+use Rattle.tape_writer.specs.declared.{course.Opened.Opened, course.Course.Course}
 use Rattle.tape_label.specs.Widths.{IsWideVolume}
 use Rattle.tape_writer.specs.Labels.{IsReady, header_items, trailer_items}
 use Rattle.tape_writer.specs.Told.{labelled, IsWithin}
@@ -23,8 +21,7 @@ use Rattle.tape_writer.specs.Draft.{body_items, open_items, ended_volumes, IsDon
 use Rattle.tape_writer.specs.Draft.{Between, Within, Steady, changed_draft, changed_course}
 use Rattle.tape_writer.specs.Draft.{ended_draft, added_draft, added_course, ended_course}
 use Rattle.tape_writer.specs.Draft.{begun_course}
-use Rattle.tape_writer.proofs.Lists.{all_push}
-use Rattle.tape_writer.proofs.Volumes.{first_same, eqb_other}
+use Rattle.tape_writer.proofs.{Lists.all_push, Volumes.first_same, Volumes.eqb_other}
 use Rattle.tape_writer.proofs.Sections.{header_size, trailer_size, used_is}
 use Rattle.tape_writer.proofs.Changed.{files_next, last_is, not_nil, done_push, body_ended, changed}
 
@@ -218,8 +215,7 @@ ended vs cap set_id file course d few most w room =
 pub begun : (vs : List Volume) (cap : ℕ) (set_id : List ℕ)
     (file : Opened) (course : Course) (d : Draft)
     → Between vs cap set_id course d → IsReady file → file.head.set_id ≡ set_id
-    → file.head.sequence ≡ length d.files + 1
-    → Steady vs cap set_id file (begun_course course) d
+    → file.head.sequence ≡ length d.files + 1 → Steady vs cap set_id file (begun_course course) d
     × (open_items vs file (begun_course course) d ≡ body_items vs d ++ header_items file 1)
 begun vs cap set_id file course d w r s f =
     let items : open_items vs file (begun_course course) d

@@ -1,18 +1,15 @@
 -- Images, one volume after another.
-use Rattle.std.proofs.Common.{◌≡◌, ◌≢◌, ℕ, ◌+◌, List, [], ◌∷◌, ◌++◌, Bool, true, false}
-use Rattle.std.proofs.Common.{Option, Some}
-use Rattle.std.proofs.Common.{inl, inr, None, Ok, Err, length, ◌%◌, replicate, refl, sym}
-use Rattle.std.proofs.Common.{ap, subst, ◌∙◌, arith, append-nil, length-append}
+use Rattle.std.proofs.Common.{◌≡◌, ◌≢◌, ℕ, ◌+◌, List, [], ◌∷◌, ◌++◌, Bool, true, false, Option}
+use Rattle.std.proofs.Common.{Some, inl, inr, None, Ok, Err, length, ◌%◌, replicate, refl, sym, ap}
+use Rattle.std.proofs.Common.{subst, ◌∙◌, arith, append-nil, length-append, MatchBool}
 use Rattle.byteorder.specs.Endian.{little_bytes}
 use Rattle.tape_image.specs.declared.item.Ending.TheVariants.{Marked}
 use Rattle.tape_image.specs.Tape.{TapeItem, block, mark}
-use Rattle.tape_image.specs.Word.{end_word}
+use Rattle.tape_image.specs.{Word.end_word, Written.written, Written.is_no_block}
 use Rattle.tape_image.specs.declared.item.ImageWriteFault.{ImageWriteFault}
 use Rattle.tape_image.specs.declared.item.ImageWriteFault.TheVariants as faults
-use Rattle.tape_image.specs.Written.{written, is_no_block}
-use Rattle.std.specs.Prelude.{MatchBool}
-use Rattle.tape_image.specs.Writer.{Writer, Standing, writing, finished, broken}
-use Rattle.tape_image.specs.Writer.{Puts, PutsFrom, BlockFrom, PutItem}
+use Rattle.tape_image.specs.Writer.{Writer, Standing, writing, finished, broken, Puts, PutsFrom}
+use Rattle.tape_image.specs.Writer.{BlockFrom, PutItem}
 use Rattle.tape_image.proofs.Leads.{Leads-nil, Leads-then, Leads-before}
 use Rattle.tape_image.proofs.WrittenItems.{put_item, put_all, known_after}
 use Rattle.tape_set.specs.Sizes.{items_size, item_size}
@@ -32,8 +29,7 @@ not_writing : (w : Writer) → w.standing ≡ writing → w.standing ≢ finishe
 not_writing w a b = cc
 
 -- the encoding written for a block has the size of the block
-block_size : (content : List ℕ)
-    → length (written (block content)) ≡ item_size (block content)
+block_size : (content : List ℕ) → length (written (block content)) ≡ item_size (block content)
 block_size content =
     let n = length content in
     omega (

@@ -10,4 +10,3 @@ mod Stopping
 mod Leaving
 mod Heads
 mod Mistakes
-mod MistakesOfVolumes

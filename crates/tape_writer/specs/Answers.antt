@@ -1,14 +1,11 @@
 -- The meaning of the system's errors: only one kind of error says that a file does not exist.
-use Rattle.std.specs.Prelude.{Option, Some, None, Result, Ok, Err, Bool, true, false, ◌||◌}
-use Rattle.std.specs.Prelude.{ℤ, pos, if◌then◌else◌}
-use Rattle.std.specs.Ordering.{int_eq}
-use Rattle.std.specs.declared.io.Error.{Error}
-use Rattle.std.specs.declared.io.ErrorKind.{ErrorKind}
+use Rattle.std.specs.Prelude.{Option, Some, None, Result, Ok, Err, Bool, true, false, ◌||◌, ℤ, pos}
+use Rattle.std.specs.Prelude.{if◌then◌else◌}
+use Rattle.std.specs.{Ordering.int_eq, IoError.error_kind, IoError.raw_os_error}
+use Rattle.std.specs.declared.{io.Error.Error, io.ErrorKind.ErrorKind, fs.attrs.Metadata.Metadata}
+use Rattle.std.specs.declared.{fs.locks.TryLockError.TryLockError}
 use Rattle.std.specs.declared.io.ErrorKind.TheVariants.{NotFound, Unsupported}
-use Rattle.std.specs.declared.fs.attrs.Metadata.{Metadata}
-use Rattle.std.specs.declared.fs.locks.TryLockError.{TryLockError}
 use Rattle.std.specs.declared.fs.locks.TryLockError.TheVariants as attempts
-use Rattle.std.specs.IoError.{error_kind, raw_os_error}
 use Rattle.tape_writer.specs.declared.system.answers.LockFault.{LockFault}
 use Rattle.tape_writer.specs.declared.system.answers.LockFault.TheVariants.{InUse, Failed}
 use Rattle.tape_writer.specs.declared.system.fault.FileFault.{FileFault}

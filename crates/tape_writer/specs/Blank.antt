@@ -2,8 +2,7 @@
 use Rattle.std.specs.Prelude.{◌≡◌, ◌⊎◌, ◌≤◌, ℕ, List, [], ◌∷◌, ◌++◌, length, replicate}
 use Rattle.std.specs.List.{AllByRecursion}
 use Rattle.tape_label.specs.declared.values.Vol1.{Vol1}
-use Rattle.tape_label.specs.Digits.{digits}
-use Rattle.tape_label.specs.Written.{text_of, vol1_pieces}
+use Rattle.tape_label.specs.{Digits.digits, Written.text_of, Written.vol1_pieces}
 
 -- a capital letter or a digit
 abbrev pub IsPrefixByte : ℕ → Type 0

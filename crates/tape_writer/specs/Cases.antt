@@ -5,49 +5,36 @@ use Rattle.std.specs.Prelude.{Err, Option, Some, None, true, false, ◌⊎◌, R
 use Rattle.std.specs.List.{AllByRecursion}
 use Rattle.byteorder.specs.Endian.{little_bytes}
 use Rattle.tape_image.specs.Tape.{TapeItem, bad, mark}
-use Rattle.tape_image.specs.Word.{end_word}
-use Rattle.tape_image.specs.Written.{written}
-use Rattle.tape_image.specs.Spelling.{Leads, Spells}
+use Rattle.tape_image.specs.{Word.end_word, Written.written, Spelling.Leads, Spelling.Spells}
 use Rattle.tape_image.specs.Writer.{Writer, writing, finished, broken}
-use Rattle.tape_label.specs.declared.values.Format.TheVariants.{Fixed}
-use Rattle.tape_label.specs.declared.values.Head1.{Head1}
+use Rattle.tape_label.specs.declared.{values.Format.TheVariants.Fixed, values.Head1.Head1}
+use Rattle.tape_label.specs.declared.{values.Vol1.Vol1}
 use Rattle.tape_label.specs.declared.values.Kind.TheVariants as kinds
-use Rattle.tape_label.specs.declared.values.Vol1.{Vol1}
 use Rattle.tape_blocks.specs.declared.parts.Shape.{Shape}
-use Rattle.tape_blocks.specs.Packing.{IsWritable}
-use Rattle.tape_blocks.specs.Spans.{join}
-use Rattle.tape_blocks.specs.Run.{AreClosed}
+use Rattle.tape_blocks.specs.{Packing.IsWritable, Spans.join, Run.AreClosed}
 use Rattle.tape_blocks.specs.Tight.{Filled, Chain, IsDue, IsWritten, first_len, parts_of_all}
 use Rattle.tape_set.specs.Layout.{Section, Placed, all_items}
-use Rattle.tape_set.specs.Lawful.{IsLawful}
-use Rattle.tape_set.specs.Before.{section_parts}
-use Rattle.tape_set.specs.Sizes.{items_size}
+use Rattle.tape_set.specs.{Lawful.IsLawful, Before.section_parts, Sizes.items_size}
 use Rattle.tape_set.specs.Tight.{IsTight, IsTightFile, least_capacity, takes_next}
-use Rattle.tape_writer.specs.declared.course.Course.{Course}
-use Rattle.tape_writer.specs.declared.course.Opened.{Opened}
+use Rattle.tape_writer.specs.declared.{course.Course.Course, course.Opened.Opened}
+use Rattle.tape_writer.specs.declared.{fault.WriteFault.WriteFault, out.TapeOut.Ghosts}
+use Rattle.tape_writer.specs.declared.{phase.OpenFile.OpenFile, tape.Tape.Tape}
 use Rattle.tape_writer.specs.declared.fault.OutFault.TheVariants as out
-use Rattle.tape_writer.specs.declared.fault.WriteFault.{WriteFault}
 use Rattle.tape_writer.specs.declared.fault.WriteFault.TheVariants as faults
-use Rattle.tape_writer.specs.declared.out.TapeOut.{Ghosts}
-use Rattle.tape_writer.specs.declared.phase.OpenFile.{OpenFile}
 use Rattle.tape_writer.specs.declared.phase.Phase.TheVariants as phases
-use Rattle.tape_writer.specs.declared.tape.Tape.{Tape}
-use Rattle.tape_writer.specs.Blank.{IsPrefix}
-use Rattle.tape_writer.specs.Draft.{open_blocks}
+use Rattle.tape_writer.specs.{Blank.IsPrefix, Draft.open_blocks, Inside.Continues, Inside.IsStuck}
 use Rattle.tape_writer.specs.Faults.{FailsByDevice, FailsWith, IsEnding}
 use Rattle.tape_writer.specs.Fields.{IsText, IsTextVolume, IsTextHead}
 use Rattle.tape_writer.specs.Images.{IsImageOf, IsImageSoFar, AreImagesOf, HandedOn, AreImages}
 use Rattle.tape_writer.specs.Images.{TakesNoMore, HasStopped, Images, Holds}
-use Rattle.tape_writer.specs.Inside.{Continues, IsStuck}
 use Rattle.tape_writer.specs.Labels.{first_label, second_label, trailer_label, second_kind}
 use Rattle.tape_writer.specs.Lasting.{Lasts, Lasting, TapeLasts, StaysAsked}
 use Rattle.tape_writer.specs.Refusals.{IsNewFault, IsBeginFault, IsPutFault, IsFinishFault}
 use Rattle.tape_writer.specs.Refusals.{IsInFile}
-use Rattle.tape_writer.specs.State.{SetState, IsWriting, IsOutOfVolumes, Leaves, HasLength}
-use Rattle.tape_writer.specs.State.{Refuses, IfFiling, tape_of, HasAsked, SameSet}
-use Rattle.tape_writer.specs.Tapes.{Tapes, Ended, UnderWay, all_volumes, volume_at}
-use Rattle.tape_writer.specs.Tapes.{Takes, Changes, Closes, Keeps, Rose}
-use Rattle.tape_writer.specs.Tapes.{Failures, Grows, HasCause, WasAsked}
+use Rattle.tape_writer.specs.State.{SetState, IsWriting, IsOutOfVolumes, Leaves, HasLength, Refuses}
+use Rattle.tape_writer.specs.State.{IfFiling, tape_of, HasAsked, SameSet}
+use Rattle.tape_writer.specs.Tapes.{Tapes, Ended, UnderWay, all_volumes, volume_at, Takes, Changes}
+use Rattle.tape_writer.specs.Tapes.{Closes, Keeps, Rose, Failures, Grows, HasCause, WasAsked}
 use Rattle.tape_writer.specs.Told.{Told, opened_by, with_record, labelled, IsWithin, IsOfFile}
 use Rattle.tape_writer.specs.Told.{IsFiled, AreFiled, IsWrittenSet}
 
@@ -214,10 +201,8 @@ pub record CasesOfRefusals : Type 0 where
   pub enough_volumes : (id : List ℕ) (v : Vol1) → IsNewFault id (v ∷ []) faults.OutOfVolumes → ⊥
   pub few_volumes : (id : List ℕ) (v : Vol1) → IsNewFault id (v ∷ []) faults.TooMany → ⊥
   pub no_other_new : (id : List ℕ) (volumes : List Vol1)
-      → (IsNewFault id volumes faults.RecordLength → ⊥)
-      × (IsNewFault id volumes faults.Device → ⊥)
-      × (IsNewFault id volumes faults.OutOfMemory → ⊥)
-      × (IsNewFault id volumes faults.Failed → ⊥)
+      → (IsNewFault id volumes faults.RecordLength → ⊥) × (IsNewFault id volumes faults.Device → ⊥)
+      × (IsNewFault id volumes faults.OutOfMemory → ⊥) × (IsNewFault id volumes faults.Failed → ⊥)
   -- the faults of beginning a file
   pub begin_field : (capacity n : ℕ) (head : Head1) (shape : Shape)
       → IsBeginFault capacity n head shape faults.BadField → IsTextHead head → ⊥
@@ -247,8 +232,7 @@ pub record CasesOfRefusals : Type 0 where
       → new.phase ≡ phases.Failed)
   pub else_the_same : (old new : SetState ℕ)
       → (Leaves old new faults.RecordLength → new ≡ old)
-      × (Leaves old new faults.NoFile → new ≡ old)
-      × (Leaves old new faults.BadField → new ≡ old)
+      × (Leaves old new faults.NoFile → new ≡ old) × (Leaves old new faults.BadField → new ≡ old)
   pub does_not_end : (IsEnding faults.RecordLength → ⊥) × (IsEnding faults.NoFile → ⊥)
   -- a refused call returns the fault, and changes nothing
   pub refuses : (old new : SetState ℕ) (result : Result (Unit {0}) WriteFault)

@@ -1,23 +1,18 @@
 -- Test cases for the definitions of sets that are being written. They are part of the contract of
 -- the function `laws::cases`.
-use Rattle.std.specs.Prelude.{◌≡◌, ◌≤◌, ◌<◌, ℕ, ◌+◌, List, [], ◌∷◌, ◌++◌, length, map, true}
-use Rattle.std.specs.Prelude.{false}
+use Rattle.std.specs.Prelude.{◌≡◌, ◌≤◌, ◌<◌, ℕ, ◌+◌, List, [], ◌∷◌, ◌++◌, length, map, true, false}
 use Rattle.std.specs.List.{AllByRecursion}
 use Rattle.tape_image.specs.Tape.{TapeItem, block, mark}
 use Rattle.tape_label.specs.declared.values.Vol1.{Vol1}
 use Rattle.tape_blocks.specs.declared.parts.Shape.{Shape}
 use Rattle.tape_blocks.specs.Packing.{Packing, HasRecordLength, the_packing, longest_block}
-use Rattle.tape_blocks.specs.Records.{AreRecordsOf}
-use Rattle.tape_blocks.specs.Run.{RunOf, Going}
-use Rattle.tape_blocks.specs.Spans.{InOrder}
+use Rattle.tape_blocks.specs.{Records.AreRecordsOf, Run.RunOf, Run.Going, Spans.InOrder}
+use Rattle.tape_blocks.specs.{Tight.Filled, Tight.parts_of_all}
 use Rattle.tape_blocks.specs.Tight as packing
-use Rattle.tape_blocks.specs.Tight.{Filled, parts_of_all}
 use Rattle.tape_set.specs.Layout.{Section, Placed, Volume, ends_file}
 use Rattle.tape_set.specs.Lawful.{IsSection, GoesOn, StartsOnFirst}
-use Rattle.tape_set.specs.Sizes.{items_size}
-use Rattle.tape_set.specs.Tight.{IsTightChange, IsTightEnd}
-use Rattle.tape_writer.specs.declared.course.Opened.{Opened}
-use Rattle.tape_writer.specs.declared.course.Course.{Course}
+use Rattle.tape_set.specs.{Sizes.items_size, Tight.IsTightChange, Tight.IsTightEnd}
+use Rattle.tape_writer.specs.declared.{course.Opened.Opened, course.Course.Course}
 use Rattle.tape_writer.specs.Draft.{Draft, placed, open_blocks, closing, here, IsDone, OfLast}
 use Rattle.tape_writer.specs.Draft.{body_items, open_items, ended_volumes, Between, Within, Steady}
 use Rattle.tape_writer.specs.Draft.{IsOpen, IsResting, IsRoomy}
@@ -49,8 +44,7 @@ third_file u v s blocks = record {
 
 -- a draft with two such files, before the third file
 abbrev pub two_files : Section → Section → Draft
-two_files u v =
-    record { files = (u ∷ []) ∷ (v ∷ []) ∷ []; sects = []; blocks = []; past = 3 }
+two_files u v = record { files = (u ∷ []) ∷ (v ∷ []) ∷ []; sects = []; blocks = []; past = 3 }
 
 -- a draft with another file complete on the first volume, a section of the given file on the
 -- second, and a block of its next section on the third

@@ -2,24 +2,19 @@
 -- contract of the function `laws::cases`.
 use Rattle.std.specs.Prelude.{◌≡◌, ◌≢◌, ◌<◌, ◌⊎◌, ℕ, List, [], ◌∷◌, ◌++◌, Option, Some, length}
 use Rattle.tape_image.specs.Tape.{TapeItem}
-use Rattle.tape_label.specs.declared.values.Head1.{Head1}
-use Rattle.tape_label.specs.declared.values.Vol1.{Vol1}
+use Rattle.tape_label.specs.declared.{values.Head1.Head1, values.Vol1.Vol1}
 use Rattle.tape_blocks.specs.declared.parts.Shape.{Shape}
 use Rattle.tape_blocks.specs.Packing.{Packing}
 use Rattle.tape_set.specs.Layout.{Section}
-use Rattle.tape_writer.specs.declared.course.Course.{Course}
-use Rattle.tape_writer.specs.declared.course.Opened.{Opened}
-use Rattle.tape_writer.specs.declared.fault.SetFault.{SetFault}
+use Rattle.tape_writer.specs.declared.{course.Course.Course, course.Opened.Opened}
+use Rattle.tape_writer.specs.declared.{fault.SetFault.SetFault, inputs.cut.Cut.Cut}
+use Rattle.tape_writer.specs.declared.{inputs.set.SetPlan.SetPlan}
 use Rattle.tape_writer.specs.declared.fault.SetFault.TheVariants.{Write, ReadFailed}
 use Rattle.tape_writer.specs.declared.fault.WriteFault.TheVariants.{OutOfMemory, RecordLength}
-use Rattle.tape_writer.specs.declared.inputs.cut.Cut.{Cut}
-use Rattle.tape_writer.specs.declared.inputs.set.SetPlan.{SetPlan}
 use Rattle.tape_writer.specs.Inside.{IsInside, IsPacking, IsFlat, IsWaiting}
-use Rattle.tape_writer.specs.Records.{records_of}
-use Rattle.tape_writer.specs.State.{SetState}
+use Rattle.tape_writer.specs.{Records.records_of, State.SetState, ToldFiles.with_records}
 use Rattle.tape_writer.specs.Tapes.{Tapes, Ended, UnderWay}
 use Rattle.tape_writer.specs.Told.{Told, AreFiled, IsWrittenSet, with_file}
-use Rattle.tape_writer.specs.ToldFiles.{with_records}
 use Rattle.tape_writer.specs.Front.{Item, Change, Close, behind_steps, HoldsFront, IsMidRecord}
 use Rattle.tape_writer.specs.Front.{IsPartly, IsInLast, IsEndingLast, IsLeftInside, IsLeftBehind}
 use Rattle.tape_writer.specs.Front.{IsLeftWhole}
@@ -71,8 +66,7 @@ pub record CasesOfFronts : Type 0 where
   -- passed
   pub left_of : (tapes : Tapes) (w : SetState ℕ) (told : List Told) (records : List (List ℕ))
       (g : IsLeftOf (λ t. t ≡ tapes) w ⊥ ReadFailed told records)
-      → (records ≡ g.front ++ g.back)
-      × (IsLeftInside (λ t. t ≡ tapes) w (with_records told g.front)
+      → (records ≡ g.front ++ g.back) × (IsLeftInside (λ t. t ≡ tapes) w (with_records told g.front)
       ⊎ ((g.back ≡ []) × IsLeftBehind (λ t. t ≡ tapes) w (with_records told g.front)))
   -- if no allocation of the tapes failed, memory ran out at a longer record
   pub no_memory : (tapes : Tapes) (w : SetState ℕ) (told : List Told) (r s : List ℕ)

@@ -1,7 +1,6 @@
 -- Test cases for the definition of a write buffer. They are part of the contract of the function
 -- `laws::cases`.
-use Rattle.std.specs.Prelude.{◌≡◌, ℕ, ◌-◌, ◌^◌, true, false, List, [], ◌∷◌}
-use Rattle.std.specs.Prelude.{None, Some, ◌++◌}
+use Rattle.std.specs.Prelude.{◌≡◌, ℕ, ◌-◌, ◌^◌, true, false, List, [], ◌∷◌, None, Some, ◌++◌}
 use Rattle.std.specs.Io.KnownBytes.{Appends}
 use Rattle.tape_writer.specs.Holding.{Holding, taken, TakesAll, PassesOn, fresh, FileTakes}
 use Rattle.tape_writer.specs.Holding.{FilePasses, Stops}

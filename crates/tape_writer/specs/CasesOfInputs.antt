@@ -7,27 +7,23 @@ use Rattle.tape_label.specs.declared.values.Head1.{Head1}
 use Rattle.tape_blocks.specs.declared.parts.Form.TheVariants as forms
 use Rattle.tape_blocks.specs.declared.parts.Shape.{Shape}
 use Rattle.tape_blocks.specs.Packing.{HasRecordLength}
-use Rattle.tape_writer.specs.declared.fault.SetFault.{SetFault}
+use Rattle.tape_writer.specs.declared.{fault.SetFault.SetFault, fault.WriteFault.WriteFault}
+use Rattle.tape_writer.specs.declared.{inputs.cut.Cut.Cut, inputs.records.Records.Records}
+use Rattle.tape_writer.specs.declared.{inputs.set.SetPlan.SetPlan}
 use Rattle.tape_writer.specs.declared.fault.SetFault.TheVariants.{Write, ReadFailed}
-use Rattle.tape_writer.specs.declared.fault.WriteFault.{WriteFault}
 use Rattle.tape_writer.specs.declared.fault.WriteFault.TheVariants as faults
-use Rattle.tape_writer.specs.declared.inputs.cut.Cut.{Cut}
 use Rattle.tape_writer.specs.declared.inputs.cut.Cut.TheVariants.{Lines, Length, Whole}
 use Rattle.tape_writer.specs.declared.inputs.records.InputFault.TheVariants as inputs
-use Rattle.tape_writer.specs.declared.inputs.records.Records.{Records}
-use Rattle.tape_writer.specs.declared.inputs.set.SetPlan.{SetPlan}
-use Rattle.tape_writer.specs.Records.{records_of, records_from, longest_by, longest}
-use Rattle.tape_writer.specs.Records.{IsFirstLong, GrowsLong, Adds, given, to_come, left_of}
-use Rattle.tape_writer.specs.Refusals.{IsNewFault}
-use Rattle.tape_writer.specs.State.{SetState, IsOutOfVolumes}
-use Rattle.tape_writer.specs.Tapes.{Tapes, Ended}
+use Rattle.tape_writer.specs.Records.{records_of, records_from, longest_by, longest, IsFirstLong}
+use Rattle.tape_writer.specs.Records.{GrowsLong, Adds, given, to_come, left_of}
+use Rattle.tape_writer.specs.{Refusals.IsNewFault, State.SetState, State.IsOutOfVolumes}
+use Rattle.tape_writer.specs.{Tapes.Tapes, Tapes.Ended, WriteSet.cut_of, WriteSet.raw_cut}
 use Rattle.tape_writer.specs.Told.{Told, opened_by, with_file}
 use Rattle.tape_writer.specs.NoVolume.{GaveUp, GaveUpIn, GaveUpSet}
 use Rattle.tape_writer.specs.ToldFiles.{told_files, with_records, IfAllKnown}
-use Rattle.tape_writer.specs.WriteFaults.{OneIsOther, IsOfWriter, IsPuttingFault}
-use Rattle.tape_writer.specs.WriteFaults.{IsInputFault, IsFileFault, IsFilesFault, IsWholeFault}
-use Rattle.tape_writer.specs.WriteFaults.{IsFaultOfCut, told_as}
-use Rattle.tape_writer.specs.WriteSet.{cut_of, raw_cut}
+use Rattle.tape_writer.specs.WriteFaults.{OneIsOther, IsOfWriter, IsPuttingFault, IsInputFault}
+use Rattle.tape_writer.specs.WriteFaults.{IsFileFault, IsFilesFault, IsWholeFault, IsFaultOfCut}
+use Rattle.tape_writer.specs.WriteFaults.{told_as}
 
 -- the records of inputs
 pub record CasesOfInputs : Type 0 where

@@ -1,28 +1,23 @@
 -- Further test cases for the definitions of written sets, of missing volumes and of records. They
 -- are part of the contract of the function `laws::cases`.
-use Rattle.std.specs.Prelude.{◌≡◌, ◌⊎◌, ◌≤◌, ◌<◌, ℕ, List, [], ◌∷◌, ◌++◌, length, true, Option}
-use Rattle.std.specs.Prelude.{Some, Err}
+use Rattle.std.specs.Prelude.{◌≡◌, ◌⊎◌, ◌≤◌, ◌<◌, ℕ, List, [], ◌∷◌, ◌++◌, length, Option, Some, Err}
 use Rattle.std.specs.List.{AllByRecursion, flat_map}
-use Rattle.tape_label.specs.declared.values.Head1.{Head1}
-use Rattle.tape_label.specs.declared.values.Vol1.{Vol1}
+use Rattle.tape_label.specs.declared.{values.Head1.Head1, values.Vol1.Vol1}
 use Rattle.tape_blocks.specs.declared.parts.Shape.{Shape}
 use Rattle.tape_set.specs.Layout.{Section, Placed, numbered, all_items}
 use Rattle.tape_set.specs.Lawful.{IsFile}
-use Rattle.tape_writer.specs.declared.course.Opened.{Opened}
-use Rattle.tape_writer.specs.declared.fault.SetFault.{SetFault}
-use Rattle.tape_writer.specs.declared.fault.SetFault.TheVariants.{Write}
+use Rattle.tape_writer.specs.declared.{course.Opened.Opened, fault.SetFault.SetFault}
+use Rattle.tape_writer.specs.declared.{fault.SetFault.TheVariants.Write, inputs.cut.Cut.Cut}
+use Rattle.tape_writer.specs.declared.{inputs.set.SetPlan.SetPlan}
 use Rattle.tape_writer.specs.declared.fault.WriteFault.TheVariants as faults
-use Rattle.tape_writer.specs.declared.inputs.cut.Cut.{Cut}
 use Rattle.tape_writer.specs.declared.inputs.cut.Cut.TheVariants.{Lines, Length, Whole}
-use Rattle.tape_writer.specs.declared.inputs.set.SetPlan.{SetPlan}
-use Rattle.tape_writer.specs.Images.{HandedOn, device_failures}
-use Rattle.tape_writer.specs.NoVolume.{HasNoVolume, GaveUpSet}
+use Rattle.tape_writer.specs.{Images.HandedOn, Images.device_failures, NoVolume.HasNoVolume}
+use Rattle.tape_writer.specs.{NoVolume.GaveUpSet, Records.records_of, Records.last_record}
+use Rattle.tape_writer.specs.{WriteSet.IsSetOfImages, WriteSet.cut_of}
 use Rattle.tape_writer.specs.RecordLaws.{IsLine, ended_line, LinesAreCut, PiecesAreCut, WholeIsOne}
-use Rattle.tape_writer.specs.Records.{records_of, last_record}
 use Rattle.tape_writer.specs.Tapes.{Ended, Failures, Rose}
 use Rattle.tape_writer.specs.Told.{Told, IsFiled, IsOfFile, opened_by, with_file}
 use Rattle.tape_writer.specs.WriteFaults.{StopsByDevice, IsSetFault, IsFaultOfCut}
-use Rattle.tape_writer.specs.WriteSet.{IsSetOfImages, cut_of}
 
 -- sets that are written, and why others are not
 pub record CasesOfWritten : Type 0 where
@@ -47,8 +42,7 @@ pub record CasesOfWritten : Type 0 where
   pub set_failed : (old new : Failures) → StopsByDevice old (Err (Write faults.Device)) new
       → Rose old.device new.device
   pub set_fault : (plan : SetPlan) (given : List (Head1 × Option (List ℕ))) (fault : SetFault)
-      → IsSetFault plan given fault
-      → IsFaultOfCut plan given (cut_of plan.form plan.shape) fault
+      → IsSetFault plan given fault → IsFaultOfCut plan given (cut_of plan.form plan.shape) fault
   -- no volume is left if the plan has no volumes, or a writer of the plan found none left
   pub no_volume : (plan : SetPlan) (cut : Cut) (given : List (Head1 × Option (List ℕ)))
       → cut_of plan.form plan.shape ≡ Some cut

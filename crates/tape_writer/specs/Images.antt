@@ -1,12 +1,8 @@
 -- The images of volumes.
 use Rattle.std.specs.Prelude.{◌≡◌, ◌≢◌, ◌⊎◌, ◌<◌, ℕ, ◌+◌, List, [], ◌∷◌, ◌++◌, Bool, true, false}
-use Rattle.std.specs.Prelude.{Option, Some}
-use Rattle.std.specs.Prelude.{None, length}
+use Rattle.std.specs.Prelude.{Option, Some, None, length}
 use Rattle.byteorder.specs.Endian.{little_bytes}
-use Rattle.tape_image.specs.Tape.{TapeItem}
-use Rattle.tape_image.specs.Word.{end_word}
-use Rattle.tape_image.specs.Begins.{image_limit}
-use Rattle.tape_image.specs.Written.{written}
+use Rattle.tape_image.specs.{Tape.TapeItem, Word.end_word, Begins.image_limit, Written.written}
 use Rattle.tape_image.specs.Spelling.{Leads, Spells}
 use Rattle.tape_image.specs.Writer.{Writer, writing, finished}
 use Rattle.tape_set.specs.Sizes.{items_size}

@@ -4,22 +4,15 @@ use Rattle.std.specs.Prelude.{◌≡◌, ◌⊎◌, ◌≢◌, ◌≤◌, ℕ, �
 use Rattle.std.specs.List.{AllByRecursion}
 use Rattle.tape_label.specs.declared.values.Vol1.{Vol1}
 use Rattle.tape_blocks.specs.declared.parts.Shape.{Shape}
-use Rattle.tape_blocks.specs.Packing.{Packing, Given}
-use Rattle.tape_blocks.specs.Block.{Portion}
-use Rattle.tape_blocks.specs.Records.{AreRecordsOf}
-use Rattle.tape_blocks.specs.Spans.{InOrder, join}
-use Rattle.tape_blocks.specs.Run.{RunOf, Going, AreClosed}
-use Rattle.tape_blocks.specs.Tight.{Filled, first_len, parts_of_all}
+use Rattle.tape_blocks.specs.{Packing.Packing, Packing.Given, Block.Portion, Records.AreRecordsOf}
+use Rattle.tape_blocks.specs.{Spans.InOrder, Spans.join, Run.RunOf, Run.Going, Run.AreClosed}
+use Rattle.tape_blocks.specs.{Tight.Filled, Tight.first_len, Tight.parts_of_all}
 use Rattle.tape_blocks.specs.Tight as packing
-use Rattle.tape_set.specs.Layout.{Section}
-use Rattle.tape_set.specs.Tight.{takes_next}
-use Rattle.tape_writer.specs.declared.course.Opened.{Opened}
-use Rattle.tape_writer.specs.declared.course.Course.{Course}
-use Rattle.tape_writer.specs.declared.out.TapeOut.{Ghosts}
-use Rattle.tape_writer.specs.declared.tape.Tape.{Tape}
-use Rattle.tape_writer.specs.Tapes.{Tapes, Ended}
+use Rattle.tape_set.specs.{Layout.Section, Tight.takes_next}
+use Rattle.tape_writer.specs.declared.{course.Opened.Opened, course.Course.Course}
+use Rattle.tape_writer.specs.declared.{out.TapeOut.Ghosts, tape.Tape.Tape}
+use Rattle.tape_writer.specs.{Tapes.Tapes, Tapes.Ended, Told.Told, Told.AreFiled}
 use Rattle.tape_writer.specs.Draft.{Draft, IsOpen, IsResting, open_blocks}
-use Rattle.tape_writer.specs.Told.{Told, AreFiled}
 
 -- Inside a file, after the finished files fs, the given records were passed.
 pub record IsInside (H : Tapes → Type 0) (volumes : List Vol1) (capacity : ℕ) (set_id : List ℕ)
@@ -144,5 +137,4 @@ IfInside g volumes capacity file tape p P =
 abbrev pub IfNext : Opened → (List ℕ → List Told → Packing → Type 0) → Type 0
 IfNext file P = (set_id : List ℕ) (told : List Told) (p : Packing)
     → file.head.set_id ≡ set_id → file.head.sequence ≡ length told + 1
-    → p ≡ record { shape = file.shape; parts = []; begun = false; closed = false }
-    → P set_id told p
+    → p ≡ record { shape = file.shape; parts = []; begun = false; closed = false } → P set_id told p

@@ -3,17 +3,12 @@ use Rattle.std.specs.Prelude.{◌≡◌, ◌⊎◌, ℕ, ◌+◌, List, [], ◌�
 use Rattle.std.specs.List.{AllByRecursion}
 use Rattle.tape_label.specs.declared.values.Head1.{Head1}
 use Rattle.tape_blocks.specs.declared.parts.Shape.{Shape}
-use Rattle.tape_writer.specs.Tapes.{Tapes}
-use Rattle.tape_writer.specs.Told.{Told, with_file}
-use Rattle.tape_writer.specs.State.{SetState}
+use Rattle.tape_writer.specs.{Tapes.Tapes, Told.Told, Told.with_file, State.SetState}
+use Rattle.tape_writer.specs.{Records.records_of, Records.IsFirstLong, WriteFaults.IsOfInput}
 use Rattle.tape_writer.specs.Front.{IsInLast, IsLeftInside, IsLeftBehind, IsLeftWhole}
-use Rattle.tape_writer.specs.declared.inputs.cut.Cut.{Cut}
-use Rattle.tape_writer.specs.declared.inputs.set.SetPlan.{SetPlan}
-use Rattle.tape_writer.specs.declared.fault.SetFault.{SetFault}
-use Rattle.tape_writer.specs.declared.fault.SetFault.TheVariants.{Write}
-use Rattle.tape_writer.specs.declared.fault.WriteFault.TheVariants.{OutOfMemory}
-use Rattle.tape_writer.specs.Records.{records_of, IsFirstLong}
-use Rattle.tape_writer.specs.WriteFaults.{IsOfInput}
+use Rattle.tape_writer.specs.declared.{inputs.cut.Cut.Cut, inputs.set.SetPlan.SetPlan}
+use Rattle.tape_writer.specs.declared.{fault.SetFault.SetFault, fault.SetFault.TheVariants.Write}
+use Rattle.tape_writer.specs.declared.{fault.WriteFault.TheVariants.OutOfMemory}
 use Rattle.tape_writer.specs.ToldFiles.{with_records, told_files, IfAllKnown}
 
 -- A prefix of the given records was passed after the files `told`, and the tapes contain a prefix

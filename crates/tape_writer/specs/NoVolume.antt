@@ -2,14 +2,10 @@
 use Rattle.std.specs.Prelude.{◌≡◌, ◌⊎◌, ℕ, ◌+◌, List, [], ◌∷◌, ◌++◌, length, Option, IfSome}
 use Rattle.tape_label.specs.declared.values.Head1.{Head1}
 use Rattle.tape_blocks.specs.declared.parts.Shape.{Shape}
-use Rattle.tape_writer.specs.Tapes.{Tapes}
-use Rattle.tape_writer.specs.Told.{Told, with_file}
-use Rattle.tape_writer.specs.State.{SetState, IsOutOfVolumes}
-use Rattle.tape_writer.specs.declared.inputs.cut.Cut.{Cut}
-use Rattle.tape_writer.specs.declared.inputs.set.SetPlan.{SetPlan}
-use Rattle.tape_writer.specs.Records.{records_of}
+use Rattle.tape_writer.specs.{Tapes.Tapes, Told.Told, Told.with_file, State.SetState}
+use Rattle.tape_writer.specs.{State.IsOutOfVolumes, Records.records_of, WriteSet.cut_of}
+use Rattle.tape_writer.specs.declared.{inputs.cut.Cut.Cut, inputs.set.SetPlan.SetPlan}
 use Rattle.tape_writer.specs.ToldFiles.{with_records, told_files, IfAllKnown}
-use Rattle.tape_writer.specs.WriteSet.{cut_of}
 
 -- The writer has no volume left, after a prefix of the given records was passed after the files
 -- `told`: either the last of these records was refused, or the end of the file after it.

@@ -5,9 +5,8 @@ use Rattle.std.specs.Io.KnownBytes.{prepend_known}
 use Rattle.tape_label.specs.declared.values.Format.{Format}
 use Rattle.tape_label.specs.declared.values.Format.TheVariants.{Fixed, Counted, Spanned}
 use Rattle.tape_blocks.specs.declared.parts.Shape.{Shape}
-use Rattle.tape_writer.specs.declared.inputs.cut.Cut.{Cut}
+use Rattle.tape_writer.specs.declared.{inputs.cut.Cut.Cut, inputs.records.Records.Records}
 use Rattle.tape_writer.specs.declared.inputs.cut.Cut.TheVariants.{Lines, Length, Whole}
-use Rattle.tape_writer.specs.declared.inputs.records.Records.{Records}
 
 -- The maximum length of a record, by format and record length. In format D the record length
 -- includes the four digits.
@@ -80,5 +79,4 @@ IsFirstLong most (r ∷ rs) = most < length r
 
 -- whatever follows the bytes, the record that begins with r is longer than `most`
 abbrev pub GrowsLong : ℕ → Cut → List ℕ → List ℕ → Type 0
-GrowsLong most cut r bytes =
-    (more : List ℕ) → IsFirstLong most (records_from cut r (bytes ++ more))
+GrowsLong most cut r bytes = (more : List ℕ) → IsFirstLong most (records_from cut r (bytes ++ more))

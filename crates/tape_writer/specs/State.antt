@@ -4,22 +4,15 @@ use Rattle.std.specs.Prelude.{Result, Err}
 use Rattle.std.specs.List.{AllByRecursion}
 use Rattle.tape_label.specs.declared.values.Vol1.{Vol1}
 use Rattle.tape_blocks.specs.Packing.{HasRecordLength}
-use Rattle.tape_set.specs.Layout.{Section}
-use Rattle.tape_set.specs.Tight.{least_capacity}
-use Rattle.tape_writer.specs.declared.course.Opened.{Opened}
-use Rattle.tape_writer.specs.declared.course.Course.{Course}
-use Rattle.tape_writer.specs.declared.out.TapeOut.{Ghosts}
-use Rattle.tape_writer.specs.declared.tape.Tape.{Tape}
-use Rattle.tape_writer.specs.declared.phase.Phase.{Phase}
+use Rattle.tape_set.specs.{Layout.Section, Tight.least_capacity}
+use Rattle.tape_writer.specs.declared.{course.Opened.Opened, course.Course.Course}
+use Rattle.tape_writer.specs.declared.{out.TapeOut.Ghosts, tape.Tape.Tape, phase.Phase.Phase}
+use Rattle.tape_writer.specs.declared.{phase.OpenFile.OpenFile, fault.WriteFault.WriteFault}
 use Rattle.tape_writer.specs.declared.phase.Phase.TheVariants.{Between, Filing, Failed, Finished}
-use Rattle.tape_writer.specs.declared.phase.OpenFile.{OpenFile}
-use Rattle.tape_writer.specs.declared.fault.WriteFault.{WriteFault}
 use Rattle.tape_writer.specs.declared.fault.WriteFault.TheVariants.{OutOfVolumes, Device}
 use Rattle.tape_writer.specs.declared.fault.WriteFault.TheVariants.{OutOfMemory}
-use Rattle.tape_writer.specs.Tapes.{Tapes, WasAsked}
+use Rattle.tape_writer.specs.{Tapes.Tapes, Tapes.WasAsked, Labels.IsReady, Draft.IsRoomy}
 use Rattle.tape_label.specs.Widths.{IsWideVolume}
-use Rattle.tape_writer.specs.Labels.{IsReady}
-use Rattle.tape_writer.specs.Draft.{IsRoomy}
 use Rattle.tape_writer.specs.Told.{Told, AreFiled, IsWrittenSet}
 use Rattle.tape_writer.specs.Inside.{IsFiling, IsWaiting, IsStuck}
 
@@ -64,8 +57,7 @@ Stands H volumes capacity set_id course Between told =
 Stands H volumes capacity set_id course (Filing o) told =
     IsFilingLast H volumes capacity set_id course o told
 Stands H volumes capacity set_id course Failed told = ⊥
-Stands H volumes capacity set_id course Finished told =
-    IsWrittenSet H volumes capacity set_id told
+Stands H volumes capacity set_id course Finished told = IsWrittenSet H volumes capacity set_id told
 
 -- The given files were passed to the writer: it keeps their heads and shapes, and the tapes contain
 -- them.

@@ -38,8 +38,7 @@ abbrev pub Closes : {E : Type 0} → (Tapes → Type 0) → Result (Unit {0}) E 
 Closes H result H' = (tapes : Tapes) → H tapes → OnOk result (H' (Ended (all_volumes tapes)))
 
 -- if the call is refused, the contents are unchanged
-abbrev pub Keeps : {E : Type 0} → (Tapes → Type 0) → Result (Unit {0}) E → (Tapes → Type 0)
-    → Type 0
+abbrev pub Keeps : {E : Type 0} → (Tapes → Type 0) → Result (Unit {0}) E → (Tapes → Type 0) → Type 0
 Keeps H result H' = (tapes : Tapes) → H tapes → OnErr result (H' tapes)
 
 -- the volume with the given number, from 1, was requested with its own label

@@ -2,9 +2,8 @@
 use Rattle.std.specs.Prelude.{ℕ, ◌+◌, List, [], ◌∷◌, Option, IfSome}
 use Rattle.tape_label.specs.declared.values.Head1.{Head1}
 use Rattle.tape_blocks.specs.declared.parts.Shape.{Shape}
-use Rattle.tape_writer.specs.Told.{Told, with_record, opened_by}
+use Rattle.tape_writer.specs.{Told.Told, Told.with_record, Told.opened_by, Records.records_of}
 use Rattle.tape_writer.specs.declared.inputs.cut.Cut.{Cut}
-use Rattle.tape_writer.specs.Records.{records_of}
 
 -- further records were passed for the last file
 abbrev pub with_records : List Told → List (List ℕ) → List Told

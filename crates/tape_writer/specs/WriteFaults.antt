@@ -1,23 +1,19 @@
 -- Why a set is not written from inputs: a fault that these definitions rule out is not returned.
-use Rattle.std.specs.Prelude.{◌≡◌, ◌+◌, ◌⊎◌, ℕ, List, [], ◌∷◌, length, Option, Some, None}
-use Rattle.std.specs.Prelude.{IfSome, IfErr, Result}
+use Rattle.std.specs.Prelude.{◌≡◌, ◌+◌, ◌⊎◌, ℕ, List, [], ◌∷◌, length, Option, Some, None, IfSome}
+use Rattle.std.specs.Prelude.{IfErr, Result}
 use Rattle.tape_label.specs.declared.values.Head1.{Head1}
 use Rattle.tape_blocks.specs.declared.parts.Shape.{Shape}
 use Rattle.tape_blocks.specs.Packing.{HasRecordLength}
-use Rattle.tape_writer.specs.declared.fault.WriteFault.{WriteFault}
+use Rattle.tape_writer.specs.declared.{fault.WriteFault.WriteFault, fault.SetFault.SetFault}
+use Rattle.tape_writer.specs.declared.{inputs.cut.Cut.Cut, inputs.records.InputFault.InputFault}
+use Rattle.tape_writer.specs.declared.{inputs.set.SetPlan.SetPlan}
 use Rattle.tape_writer.specs.declared.fault.WriteFault.TheVariants.{BadShape, RecordLength}
 use Rattle.tape_writer.specs.declared.fault.WriteFault.TheVariants.{OutOfVolumes, Device}
 use Rattle.tape_writer.specs.declared.fault.WriteFault.TheVariants.{OutOfMemory}
 use Rattle.tape_writer.specs.Refusals.{IsNewFault, IsBeginFault, IsFinishFault}
-use Rattle.tape_writer.specs.declared.fault.SetFault.{SetFault}
 use Rattle.tape_writer.specs.declared.fault.SetFault.TheVariants.{Write, ReadFailed}
-use Rattle.tape_writer.specs.declared.inputs.cut.Cut.{Cut}
-use Rattle.tape_writer.specs.declared.inputs.records.InputFault.{InputFault}
 use Rattle.tape_writer.specs.declared.inputs.records.InputFault.TheVariants as inputs
-use Rattle.tape_writer.specs.declared.inputs.set.SetPlan.{SetPlan}
-use Rattle.tape_writer.specs.Records.{records_of}
-use Rattle.tape_writer.specs.Tapes.{Failures, Rose}
-use Rattle.tape_writer.specs.WriteSet.{cut_of}
+use Rattle.tape_writer.specs.{Records.records_of, Tapes.Failures, Tapes.Rose, WriteSet.cut_of}
 
 -- the fault that is returned for the fault of an input
 abbrev pub told_as : InputFault → SetFault
@@ -71,8 +67,7 @@ IsFileFault capacity shape cut n input fault =
     ⊎ IsInputFault (IfSome input.1 (λ bytes. OneIsOther shape (records_of cut bytes))) fault
 
 -- the fault is that of one of the files; the first of them follows n other files
-abbrev pub IsFilesFault : ℕ → Shape → Cut → ℕ → List (Head1 × Option (List ℕ)) → SetFault
-    → Type 0
+abbrev pub IsFilesFault : ℕ → Shape → Cut → ℕ → List (Head1 × Option (List ℕ)) → SetFault → Type 0
 IsFilesFault capacity shape cut n [] fault = ⊥
 IsFilesFault capacity shape cut n (x ∷ xs) fault =
     IsFileFault capacity shape cut n x fault ⊎ IsFilesFault capacity shape cut (n + 1) xs fault
@@ -83,8 +78,7 @@ IsWholeFault capacity shape cut inputs fault = IsFilesFault capacity shape cut 0
     ⊎ IsOfWriter (IsFinishFault (length inputs)) fault
 
 -- why a set is not written, if inputs are cut in the given way
-abbrev pub IsFaultOfCut : SetPlan → List (Head1 × Option (List ℕ)) → Option Cut → SetFault
-    → Type 0
+abbrev pub IsFaultOfCut : SetPlan → List (Head1 × Option (List ℕ)) → Option Cut → SetFault → Type 0
 IsFaultOfCut plan inputs None fault = fault ≡ Write BadShape
 IsFaultOfCut plan inputs (Some cut) fault =
     IsOfWriter (IsNewFault plan.set_id plan.volumes.items) fault

@@ -16,6 +16,5 @@ slice_range-advance xs a e n =
     let m = min (e - a) n in
     let whole : m + (e - (a + m)) ≡ e - a = omega arith in
     ap (take (e - (a + m))) (sym (drop-drop m a xs))
-    ∙ sym (drop-take m (e - (a + m)) (drop a xs))
-    ∙ ap (λ k. drop m (take k (drop a xs))) whole
+    ∙ sym (drop-take m (e - (a + m)) (drop a xs)) ∙ ap (λ k. drop m (take k (drop a xs))) whole
     ∙ drop-min-take (e - a) n (drop a xs)

@@ -1,7 +1,6 @@
 -- The records of the bytes read so far.
-use Rattle.std.proofs.Common.{◌≡◌, ℕ, List, [], ◌++◌, Bool, true, false, Option, Some, None}
-use Rattle.std.proofs.Common.{take, drop, sym, ap, subst, ◌∙◌, append_assoc}
-use Rattle.std.proofs.Common.{take-append-drop}
+use Rattle.std.proofs.Common.{◌≡◌, ℕ, List, [], ◌++◌, Bool, true, false, Option, Some, None, take}
+use Rattle.std.proofs.Common.{drop, sym, ap, subst, ◌∙◌, append_assoc, take-append-drop}
 use Rattle.std.specs.Io.KnownBytes.{Consumes, Keeps, prepend_known}
 use Rattle.std.proofs.KnownBytes.{Consumes-trans, Consumes-kept}
 use Rattle.tape_image.specs.Reader.{IfKnown}

@@ -1,15 +1,13 @@
 -- Files that are written one after another.
-use Rattle.std.proofs.Common.{◌≡◌, ℕ, suc, ◌+◌, ◌<◌, List, [], ◌∷◌, ◌++◌, Option}
-use Rattle.std.proofs.Common.{length, map, drop, get_or, slice_set, refl, sym, ap, subst, ◌∙◌}
-use Rattle.std.proofs.Common.{arith, append_assoc, append-nil, length-append}
-use Rattle.std.specs.Prelude.{IfSome}
+use Rattle.std.proofs.Common.{◌≡◌, ℕ, suc, ◌+◌, ◌<◌, List, [], ◌∷◌, ◌++◌, Option, length, map, drop}
+use Rattle.std.proofs.Common.{get_or, slice_set, refl, sym, ap, subst, ◌∙◌, arith, append_assoc}
+use Rattle.std.proofs.Common.{append-nil, length-append, IfSome}
 use Rattle.std.proofs.lemmas.List.{drop_more, drop-set-lt, map-append}
 use Rattle.tape_label.specs.declared.values.Head1.{Head1}
 use Rattle.tape_blocks.specs.declared.parts.Shape.{Shape}
-use Rattle.tape_writer.specs.Told.{Told, opened_by}
+use Rattle.tape_writer.specs.{Told.Told, Told.opened_by, Records.records_of, ToldFiles.told_files}
+use Rattle.tape_writer.specs.{ToldFiles.IfAllKnown}
 use Rattle.tape_writer.specs.declared.inputs.cut.Cut.{Cut}
-use Rattle.tape_writer.specs.Records.{records_of}
-use Rattle.tape_writer.specs.ToldFiles.{told_files, IfAllKnown}
 use Rattle.tape_writer.proofs.inputs.Finished.{if_known}
 
 -- the files before index `at` are written, and the others are unchanged
@@ -83,8 +81,7 @@ one_told new set_id shape cut told fs h b w =
 -- one more file was written
 pub wrote_one : (X : Type 0) (view : X → Head1 × Option (List ℕ)) (set_id : List ℕ) (shape : Shape)
     (cut : Cut) (first now : List X) (at : ℕ) (old mid new : List Told → Type 0) (x y d : X)
-    → at < length now
-    → x ≡ get_or now at d → Wrote X view set_id shape cut first now at old mid
+    → at < length now → x ≡ get_or now at d → Wrote X view set_id shape cut first now at old mid
     → ((t : List Told) → mid t → IfSome (view x).1 (λ b. new (t ++ record {
       file = opened_by set_id (length t + 1) (view x).0 shape;
       records = records_of cut b;

@@ -1,18 +1,12 @@
 -- A finished writer of images.
-use Rattle.std.proofs.Common.{◌≡◌, ℕ, List, [], ◌∷◌, Bool, Option, Some, None}
-use Rattle.std.proofs.Common.{refl, sym, subst, ◌∙◌}
-use Rattle.std.specs.Prelude.{IfSome}
-use Rattle.tape_label.specs.declared.values.Vol1.{Vol1}
-use Rattle.tape_label.specs.declared.values.Head1.{Head1}
+use Rattle.std.proofs.Common.{◌≡◌, ℕ, List, [], ◌∷◌, Bool, Option, Some, None, refl, sym, subst}
+use Rattle.std.proofs.Common.{◌∙◌, IfSome}
+use Rattle.tape_label.specs.declared.{values.Vol1.Vol1, values.Head1.Head1}
 use Rattle.tape_image.specs.Writer.{Writer}
-use Rattle.tape_writer.specs.declared.phase.Phase.TheVariants.{Finished}
-use Rattle.tape_writer.specs.Tapes.{Tapes}
-use Rattle.tape_writer.specs.Images.{Images, AreImages, Holds}
-use Rattle.tape_writer.specs.Told.{Told, IsWrittenSet}
-use Rattle.tape_writer.specs.State.{SetState, IsWriting, Stands}
-use Rattle.tape_writer.specs.declared.inputs.cut.Cut.{Cut}
-use Rattle.tape_writer.specs.ToldFiles.{IfAllKnown}
-use Rattle.tape_writer.specs.WriteSet.{IsSetOfImages}
+use Rattle.tape_writer.specs.declared.{phase.Phase.TheVariants.Finished, inputs.cut.Cut.Cut}
+use Rattle.tape_writer.specs.{Tapes.Tapes, Images.Images, Images.AreImages, Images.Holds, Told.Told}
+use Rattle.tape_writer.specs.{Told.IsWrittenSet, State.SetState, State.IsWriting, State.Stands}
+use Rattle.tape_writer.specs.{ToldFiles.IfAllKnown, WriteSet.IsSetOfImages}
 
 -- a finished writer has written its set
 finished_set : {T : Type 0} (H : Tapes → Type 0) (w : SetState T) (told : List Told)

@@ -1,15 +1,13 @@
 -- Heads that cannot be labelled.
 use Rattle.std.proofs.Common.{◌≡◌, ℕ, ◌+◌, List, [], ◌∷◌, Option, Some, None, map, inl, inr, refl}
-use Rattle.std.specs.Prelude.{◌⊎◌}
+use Rattle.std.proofs.Common.{◌⊎◌}
 use Rattle.std.specs.List.{AllByRecursion}
 use Rattle.tape_label.specs.declared.values.Head1.{Head1}
 use Rattle.tape_label.specs.Characters.{first_other}
 use Rattle.tape_blocks.specs.declared.parts.Shape.{Shape}
-use Rattle.tape_writer.specs.declared.fault.WriteFault.TheVariants.{BadField}
-use Rattle.tape_writer.specs.declared.fault.SetFault.TheVariants.{Write}
-use Rattle.tape_writer.specs.declared.inputs.cut.Cut.{Cut}
-use Rattle.tape_writer.specs.Fields.{IsText, IsTextHead}
-use Rattle.tape_writer.specs.WriteFaults.{IsFilesFault}
+use Rattle.tape_writer.specs.declared.{fault.WriteFault.TheVariants.BadField}
+use Rattle.tape_writer.specs.declared.{fault.SetFault.TheVariants.Write, inputs.cut.Cut.Cut}
+use Rattle.tape_writer.specs.{Fields.IsText, Fields.IsTextHead, WriteFaults.IsFilesFault}
 
 none_or_not : {A : Type 0} (o : Option A) → (o ≡ None) ⊎ (o ≡ None → ⊥)
 none_or_not None = inl refl

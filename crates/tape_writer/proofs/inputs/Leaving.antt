@@ -1,39 +1,31 @@
 -- The contents of the tapes after a fault, in terms of the files and their inputs.
 use Rattle.std.proofs.Common.{◌≡◌, ℕ, ◌+◌, ◌<◌, ◌≤◌, List, [], ◌∷◌, ◌++◌, Bool, true, false, Option}
 use Rattle.std.proofs.Common.{Some, None, length, map, drop, get_or, refl, sym, ap, subst, ◌∙◌}
-use Rattle.std.proofs.Common.{append-nil, inl, inr}
-use Rattle.std.specs.Prelude.{◌⊎◌, IfSome}
+use Rattle.std.proofs.Common.{append-nil, inl, inr, ◌⊎◌, IfSome}
 use Rattle.std.proofs.lemmas.List.{drop_more, map-append}
 use Rattle.tape_image.specs.Reader.{IfKnown}
 use Rattle.tape_label.specs.declared.values.Head1.{Head1}
 use Rattle.tape_blocks.specs.declared.parts.Shape.{Shape}
-use Rattle.tape_writer.specs.declared.course.Opened.{Opened}
-use Rattle.tape_writer.specs.declared.phase.Phase.{Phase}
+use Rattle.tape_writer.specs.declared.{course.Opened.Opened, phase.Phase.Phase}
+use Rattle.tape_writer.specs.declared.{fault.WriteFault.WriteFault, fault.SetFault.SetFault}
+use Rattle.tape_writer.specs.declared.{fault.SetFault.TheVariants.Write}
+use Rattle.tape_writer.specs.declared.{inputs.records.InputFault.InputFault, inputs.cut.Cut.Cut}
 use Rattle.tape_writer.specs.declared.phase.Phase.TheVariants.{Between, Filing}
-use Rattle.tape_writer.specs.declared.fault.WriteFault.{WriteFault}
 use Rattle.tape_writer.specs.declared.fault.WriteFault.TheVariants as faults
-use Rattle.tape_writer.specs.declared.fault.SetFault.{SetFault}
-use Rattle.tape_writer.specs.declared.fault.SetFault.TheVariants.{Write}
-use Rattle.tape_writer.specs.declared.inputs.records.InputFault.{InputFault}
 use Rattle.tape_writer.specs.declared.inputs.records.InputFault.TheVariants as inputs
 use Rattle.std.specs.List.{AllByRecursion}
-use Rattle.tape_writer.specs.WriteFaults.{told_as, IsOfInput}
-use Rattle.tape_writer.proofs.Lists.{all_weaken}
-use Rattle.tape_writer.proofs.inputs.Refusing.{less_long}
-use Rattle.tape_writer.specs.Tapes.{Tapes}
-use Rattle.tape_writer.specs.Faults.{IsEnding}
+use Rattle.tape_writer.specs.{WriteFaults.told_as, WriteFaults.IsOfInput, Tapes.Tapes}
+use Rattle.tape_writer.specs.{Faults.IsEnding, ToldFiles.with_records, ToldFiles.told_files}
+use Rattle.tape_writer.proofs.{Lists.all_weaken, inputs.Refusing.less_long, inputs.Filing.Wrote}
 use Rattle.tape_writer.specs.Told.{Told, with_record, with_file}
 use Rattle.tape_writer.specs.State.{SetState, IsWriting, IfFiling, Leaves}
 use Rattle.tape_writer.specs.Refusals.{IsInFile, IsBeginFault, IsFinishFault}
 use Rattle.tape_writer.specs.Front.{IsInLast, IsLeftInside, IsLeftBehind}
-use Rattle.tape_writer.specs.declared.inputs.cut.Cut.{Cut}
 use Rattle.tape_writer.specs.Records.{to_come, records_of, given, IsFirstLong}
-use Rattle.tape_writer.specs.ToldFiles.{with_records, told_files}
 use Rattle.tape_writer.specs.LeftOf.{IsLeftOf, IsLeftIn, IsLeftOfAll, IsLeftUnbegun}
 use Rattle.tape_writer.proofs.Standing.{inside_writing, all_writing, behind_writing}
 use Rattle.tape_writer.proofs.inputs.Putting.{Put, PutWithin, known_one, known_then}
 use Rattle.tape_writer.proofs.inputs.Putting.{with_records-one}
-use Rattle.tape_writer.proofs.inputs.Filing.{Wrote}
 use Rattle.tape_writer.proofs.inputs.Finished.{all_known, if_known}
 
 -- a fault ends the writer, or leaves it unchanged
@@ -289,12 +281,10 @@ pub wrote_left : {T : Type 0} (H : Tapes → Type 0) (w : SetState T) (G G' : Ty
     (view : X → Head1 × Option (List ℕ)) (set_id : List ℕ) (shape : Shape) (cut : Cut)
     (first now : List X) (at : ℕ) (old mid : List Told → Type 0) (here : List ℕ) (x d : X)
     → at < length now → x ≡ get_or now at d → Wrote X view set_id shape cut first now at old mid
-    → here ≡ set_id → (G → G')
-    → ((told : List Told) → mid told → IfSome (view x).1
+    → here ≡ set_id → (G → G') → ((told : List Told) → mid told → IfSome (view x).1
     (λ bytes. IsLeftUnbegun H w fault told
     ⊎ IsLeftOf H w G fault (with_file here told (view x).0 shape) (records_of cut bytes)))
-    → (told : List Told) → old told
-    → IsLeftIn H w G' fault set_id told shape cut (map view first)
+    → (told : List Told) → old told → IsLeftIn H w G' fault set_id told shape cut (map view first)
 wrote_left H w G G' fault X view set_id shape cut first now at old mid here x d within is wrote
     same more left told held =
     let next : drop at now ≡ x ∷ drop (at + 1) now =

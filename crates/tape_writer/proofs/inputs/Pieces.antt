@@ -1,14 +1,11 @@
 -- The effect of a prefix of some bytes on a record.
 use Rattle.std.proofs.Common.{◌≡◌, ◌≢◌, ◌<◌, ◌≤◌, ℕ, zero, suc, ◌+◌, ◌∙◌, List, [], ◌∷◌, ◌++◌, Bool}
 use Rattle.std.proofs.Common.{true, false, length, take, get_or, sym, ap, subst, arith}
-use Rattle.std.proofs.Common.{append_assoc, append-nil, length-append}
-use Rattle.std.specs.Prelude.{◌==◌, if◌then◌else◌}
-use Rattle.std.proofs.lemmas.Bool.Decides.{nat_tests}
-use Rattle.std.proofs.lemmas.List.{take_all}
+use Rattle.std.proofs.Common.{append_assoc, append-nil, length-append, ◌==◌, if◌then◌else◌}
+use Rattle.std.proofs.{lemmas.Bool.Decides.nat_tests, lemmas.List.take_all}
 use Rattle.tape_writer.specs.declared.inputs.cut.Cut.{Cut}
 use Rattle.tape_writer.specs.declared.inputs.cut.Cut.TheVariants.{Lines, Length, Whole}
-use Rattle.tape_writer.specs.Records.{records_from, Adds}
-use Rattle.tape_writer.specs.RecordLaws.{IsLine}
+use Rattle.tape_writer.specs.{Records.records_from, Records.Adds, RecordLaws.IsLine}
 use Rattle.tape_writer.proofs.inputs.Splitting.{line_goes_on, piece_goes_on, piece_is_whole}
 
 -- up to a line feed, which ends the record

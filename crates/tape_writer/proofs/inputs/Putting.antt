@@ -1,16 +1,13 @@
 -- Records that are written one after another.
-use Rattle.std.proofs.Common.{◌≡◌, ℕ, List, [], ◌∷◌, ◌++◌, Bool, true, false, Option, Some}
-use Rattle.std.proofs.Common.{None, refl, sym, ap}
-use Rattle.std.proofs.Common.{subst, ◌∙◌, append_assoc, append-nil, ◌≤◌, length, arith}
+use Rattle.std.proofs.Common.{◌≡◌, ℕ, List, [], ◌∷◌, ◌++◌, Bool, true, false, Option, Some, None}
+use Rattle.std.proofs.Common.{refl, sym, ap, subst, ◌∙◌, append_assoc, append-nil, ◌≤◌, length}
+use Rattle.std.proofs.Common.{arith, IfSome}
 use Rattle.std.specs.List.{AllByRecursion}
 use Rattle.tape_writer.proofs.Lists.{all_push, all_weaken}
-use Rattle.std.specs.Prelude.{IfSome}
 use Rattle.tape_image.specs.Reader.{IfKnown}
-use Rattle.tape_writer.specs.declared.course.Opened.{Opened}
-use Rattle.tape_writer.specs.Told.{Told, with_record}
-use Rattle.tape_writer.specs.declared.inputs.cut.Cut.{Cut}
+use Rattle.tape_writer.specs.declared.{course.Opened.Opened, inputs.cut.Cut.Cut}
+use Rattle.tape_writer.specs.{Told.Told, Told.with_record, ToldFiles.with_records}
 use Rattle.tape_writer.specs.Records.{to_come, records_of, given}
-use Rattle.tape_writer.specs.ToldFiles.{with_records}
 
 -- records were returned and written, which moved the writer from `old` to `new`
 pub record Put (cut : Cut) (over over' : Bool) (all left : Option (List ℕ))
@@ -79,27 +76,6 @@ within_one n m cut a b c all left next old mid new r p k step le fits = record {
       p.put.records p.within) fits;
 }
 
-known_all : (cut : Cut) (a : Bool) (r : List ℕ) (rs : List (List ℕ)) (all next : Option (List ℕ))
-    (new : List Told → Type 0) (told : List Told) → new (with_records told rs)
-    → IfKnown all next (λ xs ys. to_come cut a xs ≡ rs ++ given false r (to_come cut true ys))
-    → IfKnown all next (λ xs ys. new (with_records told (to_come cut a xs)))
-known_all cut a r rs None next new told h k = tt
-known_all cut a r rs (Some xs) None new told h k = absurd k
-known_all cut a r rs (Some xs) (Some ys) new told h k =
-    subst (λ l. new (with_records told l)) (sym (k ∙ append-nil rs)) h
-
--- all remaining records were written
-pub put_all : (cut : Cut) (a b c : Bool) (all left next : Option (List ℕ))
-    (old new : List Told → Type 0) (r : List ℕ) → Put cut a b all left old new
-    → IfKnown left next (λ xs ys. to_come cut b xs ≡ given false r (to_come cut c ys)) → c ≡ true
-    → (told : List Told) → old told
-    → IfKnown all next (λ xs ys. new (with_records told (to_come cut a xs)))
-put_all cut a b c all left next old new r p k end told h =
-    let last = subst (λ e. IfKnown all next
-    (λ xs ys. to_come cut a xs ≡ p.records ++ given false r (to_come cut e ys))) end
-    (known_then cut a b c false r p.records all left next p.known k) in
-    known_all cut a r p.records all next new told (p.told told h) last
-
 with_last : (told : List Told) (file : Opened) (before : List (List ℕ)) (r : List ℕ)
     → with_record (told ++ record { file = file; records = before } ∷ []) r
     ≡ told ++ record { file = file; records = before ++ r ∷ [] } ∷ []
@@ -139,8 +115,7 @@ told_known : (told : List Told) (file : Opened) (cut : Cut) (all next : Option (
     (mid last : List Told → Type 0)
     → IfKnown all next (λ xs ys.
     mid (with_records (told ++ record { file = file; records = [] } ∷ []) (to_come cut false xs)))
-    → ((t : List Told) → mid t → last t)
-    → IfSome all (λ bytes.
+    → ((t : List Told) → mid t → last t) → IfSome all (λ bytes.
     last (told ++ record { file = file; records = records_of cut bytes } ∷ []))
 told_known told file cut None next mid last h ends = tt
 told_known told file cut (Some xs) None mid last h ends = absurd h
@@ -150,11 +125,9 @@ told_known told file cut (Some xs) (Some ys) mid last h ends =
 -- a file began, the records of its input were written, and it ended
 pub file_told : (told : List Told) (file : Opened) (cut here : Cut) (over : Bool) (input all
     next : Option (List ℕ)) (mid last : List Told → Type 0) → all ≡ input → here ≡ cut
-    → over ≡ false
-    → IfKnown all next (λ xs ys.
+    → over ≡ false → IfKnown all next (λ xs ys.
     mid (with_records (told ++ record { file = file; records = [] } ∷ []) (to_come here over xs)))
-    → ((t : List Told) → mid t → last t)
-    → IfSome input (λ bytes.
+    → ((t : List Told) → mid t → last t) → IfSome input (λ bytes.
     last (told ++ record { file = file; records = records_of cut bytes } ∷ []))
 file_told told file cut here over input all next mid last a e f h ends =
     let one = subst (λ t. IfKnown all next (λ xs ys. mid

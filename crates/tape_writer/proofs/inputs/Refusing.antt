@@ -2,36 +2,29 @@
 use Rattle.std.proofs.Common.{◌≡◌, ◌<◌, ◌≤◌, ℕ, ◌+◌, List, [], ◌∷◌, ◌++◌, Bool, true, false, Option}
 use Rattle.std.proofs.Common.{Some, None, length, map, take, drop, get_or, refl, sym, ap, subst}
 use Rattle.std.proofs.Common.{◌∙◌, arith, append_assoc, take-append-drop, length-append, inl, inr}
-use Rattle.std.specs.Prelude.{IfSome, if◌then◌else◌}
+use Rattle.std.proofs.Common.{IfSome, if◌then◌else◌}
 use Rattle.std.specs.Io.KnownBytes.{Consumes, Keeps, prepend_known}
 use Rattle.std.proofs.lemmas.List.{length-take-le, drop_more, map-append, length-map}
 use Rattle.tape_image.specs.Reader.{IfKnown}
 use Rattle.tape_label.specs.declared.values.Head1.{Head1}
 use Rattle.tape_blocks.specs.declared.parts.Shape.{Shape}
 use Rattle.tape_blocks.specs.Packing.{HasRecordLength}
-use Rattle.tape_writer.specs.declared.course.Opened.{Opened}
-use Rattle.tape_writer.specs.declared.phase.Phase.{Phase}
-use Rattle.tape_writer.specs.declared.phase.Phase.TheVariants.{Filing}
-use Rattle.tape_writer.specs.declared.phase.OpenFile.{OpenFile}
-use Rattle.tape_writer.specs.declared.fault.WriteFault.{WriteFault}
+use Rattle.tape_writer.specs.declared.{course.Opened.Opened, phase.Phase.Phase}
+use Rattle.tape_writer.specs.declared.{phase.Phase.TheVariants.Filing, phase.OpenFile.OpenFile}
+use Rattle.tape_writer.specs.declared.{fault.WriteFault.WriteFault, fault.SetFault.SetFault}
+use Rattle.tape_writer.specs.declared.{inputs.records.InputFault.InputFault, inputs.cut.Cut.Cut}
 use Rattle.tape_writer.specs.declared.fault.WriteFault.TheVariants as faults
-use Rattle.tape_writer.specs.Told.{Told}
-use Rattle.tape_writer.specs.Faults.{IsEnding}
-use Rattle.tape_writer.specs.State.{IfFiling, HasLength}
-use Rattle.tape_writer.specs.Refusals.{IsInFile, IsPutFault}
-use Rattle.tape_writer.specs.declared.fault.SetFault.{SetFault}
+use Rattle.tape_writer.specs.{Told.Told, Faults.IsEnding, State.IfFiling, State.HasLength}
+use Rattle.tape_writer.specs.{Refusals.IsInFile, Refusals.IsPutFault}
 use Rattle.tape_writer.specs.declared.fault.SetFault.TheVariants.{Write, ReadFailed}
-use Rattle.tape_writer.specs.declared.inputs.records.InputFault.{InputFault}
 use Rattle.tape_writer.specs.declared.inputs.records.InputFault.TheVariants as inputs
-use Rattle.tape_writer.specs.declared.inputs.cut.Cut.{Cut}
 use Rattle.tape_writer.specs.declared.inputs.cut.Cut.TheVariants.{Lines, Length, Whole}
 use Rattle.tape_writer.specs.Records.{records_from, records_of, to_come, given, longest}
 use Rattle.tape_writer.specs.Records.{ends_before, is_full, Adds, IsFirstLong, GrowsLong}
 use Rattle.tape_writer.specs.WriteFaults.{told_as, IsOther, OneIsOther, IsPuttingFault}
 use Rattle.tape_writer.specs.WriteFaults.{IsInputFault, IsFileFault, IsFilesFault}
 use Rattle.tape_writer.proofs.inputs.Cutting.{SoFar, read_ahead}
-use Rattle.tape_writer.proofs.Fitting.{within_longest}
-use Rattle.tape_writer.proofs.inputs.Filing.{Wrote}
+use Rattle.tape_writer.proofs.{Fitting.within_longest, inputs.Filing.Wrote}
 use Rattle.tape_writer.proofs.inputs.Putting.{Put, known_then}
 
 -- ---- records that get too long

@@ -1,28 +1,21 @@
 -- Where the writing of files stops: no volume is left, or the device failed.
 use Rattle.std.proofs.Common.{◌≡◌, ℕ, ◌+◌, ◌<◌, List, [], ◌∷◌, ◌++◌, Bool, true, false, Option}
 use Rattle.std.proofs.Common.{Some, None, length, map, drop, get_or, sym, ap, subst, ◌∙◌}
-use Rattle.std.proofs.Common.{append-nil}
-use Rattle.std.proofs.Common.{arith}
-use Rattle.std.specs.Prelude.{IfSome}
+use Rattle.std.proofs.Common.{append-nil, arith, IfSome}
 use Rattle.std.proofs.lemmas.List.{drop_more, map-append}
 use Rattle.tape_image.specs.Reader.{IfKnown}
 use Rattle.tape_label.specs.declared.values.Head1.{Head1}
 use Rattle.tape_blocks.specs.declared.parts.Shape.{Shape}
-use Rattle.tape_writer.specs.declared.fault.WriteFault.{WriteFault}
-use Rattle.tape_writer.specs.declared.fault.WriteFault.TheVariants.{Device}
-use Rattle.tape_writer.specs.declared.fault.SetFault.{SetFault}
-use Rattle.tape_writer.specs.declared.fault.SetFault.TheVariants.{Write}
+use Rattle.tape_writer.specs.declared.{fault.WriteFault.WriteFault}
+use Rattle.tape_writer.specs.declared.{fault.WriteFault.TheVariants.Device, fault.SetFault.SetFault}
+use Rattle.tape_writer.specs.declared.{fault.SetFault.TheVariants.Write, inputs.cut.Cut.Cut}
 use Rattle.tape_writer.specs.Tapes.{Tapes, Failures, Grows, Rose}
 use Rattle.tape_writer.specs.Told.{Told, with_record, with_file}
-use Rattle.tape_writer.specs.State.{SetState, IsOutOfVolumes}
-use Rattle.tape_writer.specs.declared.inputs.cut.Cut.{Cut}
+use Rattle.tape_writer.specs.{State.SetState, State.IsOutOfVolumes, ToldFiles.with_records}
+use Rattle.tape_writer.specs.{ToldFiles.told_files, NoVolume.GaveUp, NoVolume.GaveUpIn}
 use Rattle.tape_writer.specs.Records.{to_come, records_of, given}
-use Rattle.tape_writer.specs.ToldFiles.{with_records, told_files}
-use Rattle.tape_writer.specs.NoVolume.{GaveUp, GaveUpIn}
-use Rattle.tape_writer.proofs.Last.{rose_from}
+use Rattle.tape_writer.proofs.{Last.rose_from, inputs.Filing.Wrote, inputs.Finished.all_known}
 use Rattle.tape_writer.proofs.inputs.Putting.{Put, known_one, known_then, with_records-one}
-use Rattle.tape_writer.proofs.inputs.Filing.{Wrote}
-use Rattle.tape_writer.proofs.inputs.Finished.{all_known}
 
 -- ---- no volume is left
 

@@ -1,8 +1,7 @@
 use Rattle.std.proofs.Common.{rules, ◌∙◌, refl, sym, subst, inl}
 use Rattle.tape_writer.proofs.Written.{end_at, put_kept}
 use Rattle.byteorder.specs.Endian.{little_bytes}
-use Rattle.tape_image.specs.Word.{end_word}
-use Rattle.tape_image.specs.Writer.{finished}
+use Rattle.tape_image.specs.{Word.end_word, Writer.finished}
 use Rattle.tape_writer.specs.Images.{AreImages}
 use Rattle.tape_writer.proofs.images.ImageTapes.end_image.Goals as goal
 

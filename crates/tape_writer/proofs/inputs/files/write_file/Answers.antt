@@ -1,16 +1,12 @@
 use Rattle.std.proofs.Common.{◌≡◌, ◌+◌, ◌∙◌, length, inr, arith}
 use Rattle.tape_writer.specs.declared.fault.WriteFault.TheVariants.{OutOfVolumes, OutOfMemory}
 use Rattle.std.proofs.lemmas.Result.{err_from_is_err_and}
-use Rattle.tape_writer.specs.State.{IsWriting}
-use Rattle.tape_writer.specs.Told.{opened_by}
-use Rattle.tape_writer.proofs.Last.{rose_from}
-use Rattle.tape_writer.proofs.inputs.Putting.{file_told}
+use Rattle.tape_writer.specs.{State.IsWriting, Told.opened_by}
+use Rattle.tape_writer.proofs.{Last.rose_from, inputs.Putting.file_told, Standing.inside_writing}
 use Rattle.tape_writer.proofs.inputs.Refusing.{input_fault, end_fault}
 use Rattle.tape_writer.proofs.inputs.Stopping.{file_out, end_out}
-use Rattle.tape_writer.proofs.Standing.{inside_writing}
-use Rattle.tape_writer.proofs.inputs.Leaving.{begin_left, none_left, if_any, file_left}
-use Rattle.tape_writer.proofs.inputs.Leaving.{end_left, ended_left, ending_other}
-use Rattle.tape_writer.proofs.inputs.Leaving.{end_ends, of_writer}
+use Rattle.tape_writer.proofs.inputs.Leaving.{begin_left, none_left, if_any, file_left, end_left}
+use Rattle.tape_writer.proofs.inputs.Leaving.{ended_left, ending_other, end_ends, of_writer}
 use Rattle.tape_writer.proofs.inputs.files.write_file.Goals as goal
 
 pub returns-in-Ok-end_file-clause-told : goal.returns-in-Ok-end_file-clause-told

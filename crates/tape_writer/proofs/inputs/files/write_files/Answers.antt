@@ -1,15 +1,11 @@
-use Rattle.std.proofs.Common.{rules, arith, get_or, ◌+◌, ◌++◌, ◌∷◌, [], length, refl, subst}
-use Rattle.std.proofs.Common.{◌∙◌, ◌≤◌, IfSome}
+use Rattle.std.proofs.Common.{rules, arith, get_or, ◌+◌, ◌++◌, ◌∷◌, [], length, refl, subst, ◌∙◌}
+use Rattle.std.proofs.Common.{◌≤◌, IfSome}
 use Rattle.tape_set.specs.Tight.{least_capacity}
 use Rattle.std.proofs.lemmas.Result.{err_from_is_err_and}
-use Rattle.tape_writer.proofs.Last.{rose_from}
-use Rattle.tape_writer.specs.State.{IsWriting}
-use Rattle.tape_writer.specs.Told.{opened_by}
-use Rattle.tape_writer.specs.Records.{records_of}
-use Rattle.tape_writer.proofs.inputs.Filing.{wrote_none, wrote_one}
-use Rattle.tape_writer.proofs.inputs.Refusing.{wrote_fault}
+use Rattle.tape_writer.proofs.{Last.rose_from, inputs.Filing.wrote_none, inputs.Filing.wrote_one}
+use Rattle.tape_writer.proofs.{inputs.Refusing.wrote_fault, inputs.Leaving.wrote_left}
+use Rattle.tape_writer.specs.{State.IsWriting, Told.opened_by, Records.records_of}
 use Rattle.tape_writer.proofs.inputs.Stopping.{wrote_out, grows_self, grows_then}
-use Rattle.tape_writer.proofs.inputs.Leaving.{wrote_left}
 use Rattle.tape_writer.proofs.inputs.files.write_files.Goals as goal
 
 pub files-init : goal.files-init

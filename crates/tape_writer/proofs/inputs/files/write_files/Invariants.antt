@@ -2,8 +2,7 @@ use Rattle.std.proofs.Common.{◌≡◌, ◌<◌, ◌≤◌, ◌+◌, ◌-◌, l
 use Rattle.tape_blocks.specs.Packing.{IsWritable}
 use Rattle.tape_set.specs.Tight.{least_capacity}
 use Rattle.tape_writer.specs.declared.phase.Phase.TheVariants.{Between}
-use Rattle.tape_writer.specs.State.{IsWriting}
-use Rattle.tape_writer.specs.Tapes.{Grows}
+use Rattle.tape_writer.specs.{State.IsWriting, Tapes.Grows}
 use Rattle.tape_writer.proofs.inputs.Filing.{Wrote}
 use Rattle.tape_writer.proofs.inputs.files.write_files.Given as goal
 

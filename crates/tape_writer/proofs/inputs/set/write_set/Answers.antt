@@ -1,16 +1,11 @@
 use Rattle.std.proofs.Common.{◌≡◌, ◌≤◌, [], ap, sym, subst, ◌∙◌, map, inl, inr}
 use Rattle.tape_set.specs.Tight.{least_capacity}
-use Rattle.tape_writer.specs.Images.{Holds}
-use Rattle.tape_writer.specs.Refusals.{IsFinishFault}
-use Rattle.tape_writer.specs.NoVolume.{GaveUpIn, GaveUpSet}
-use Rattle.tape_writer.specs.ToldFiles.{IfAllKnown, told_files}
-use Rattle.tape_writer.specs.LeftOf.{IsLeftOfAll, IsLeftSet}
-use Rattle.tape_writer.specs.WriteSet.{IsSetOfImages}
+use Rattle.tape_writer.specs.{Images.Holds, Refusals.IsFinishFault, NoVolume.GaveUpIn}
+use Rattle.tape_writer.specs.{NoVolume.GaveUpSet, ToldFiles.IfAllKnown, ToldFiles.told_files}
+use Rattle.tape_writer.specs.{LeftOf.IsLeftOfAll, LeftOf.IsLeftSet, WriteSet.IsSetOfImages}
 use Rattle.tape_writer.specs.WriteFaults.{IsFaultOfCut, IsFilesFault, IsOfWriter}
-use Rattle.tape_writer.proofs.Last.{rose_none}
-use Rattle.tape_writer.proofs.Standing.{behind_writing}
+use Rattle.tape_writer.proofs.{Last.rose_none, Standing.behind_writing, inputs.Heads.head_fault}
 use Rattle.tape_writer.proofs.inputs.Finished.{set_of_images, if_cut, all_known}
-use Rattle.tape_writer.proofs.inputs.Heads.{head_fault}
 use Rattle.tape_writer.proofs.inputs.Leaving.{left_without, refused_left, finish_other}
 use Rattle.tape_writer.proofs.inputs.set.write_set.Goals as goal
 

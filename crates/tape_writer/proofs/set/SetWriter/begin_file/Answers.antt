@@ -1,12 +1,8 @@
 use Rattle.std.proofs.Common.{rules, inl, inr, refl, sym, ap, subst, ◌∙◌}
-use Rattle.tape_writer.specs.Faults.{IsEnding}
-use Rattle.tape_writer.specs.State.{SetState}
-use Rattle.tape_writer.proofs.Standing.{behind_writing}
+use Rattle.tape_writer.specs.{Faults.IsEnding, State.SetState}
+use Rattle.tape_writer.proofs.{Standing.behind_writing, Asked.asked_of, Calls.begin_told}
+use Rattle.tape_writer.proofs.{Left.left_begin, Last.lasting_self}
 use Rattle.tape_writer.specs.declared.phase.Phase.TheVariants.{Failed}
-use Rattle.tape_writer.proofs.Asked.{asked_of}
-use Rattle.tape_writer.proofs.Calls.{begin_told}
-use Rattle.tape_writer.proofs.Left.{left_begin}
-use Rattle.tape_writer.proofs.Last.{lasting_self}
 use Rattle.tape_writer.proofs.set.SetWriter.begin_file.Goals as goal
 
 pub returns-in-Err-clause-lasting : goal.returns-in-Err-clause-lasting
@@ -17,19 +13,10 @@ returns-in_default-new-clause-lasting g c = rw (← c.self.view_is) (lasting_sel
 
 pub returns-in_default-new-clause-front : goal.returns-in_default-new-clause-front
 returns-in_default-new-clause-front g c =
-    let old : SetState g.row.T.Denot = record {
-      out = c.self.inside.tape.out;
-      volumes = c.self.inside.volumes.items;
-      capacity = c.self.inside.capacity;
-      set_id = c.self.inside.set_id;
-      files = c.self.inside.files.items;
-      course = c.self.inside.tape.course;
-      phase = c.self.inside.phase;
-    } in
     let between = ap (λ (z : SetState g.row.T.Denot). z.phase) c.self.view_is
     ∙ c.in_default.ensures.ok.0 in
     rw (← c.self.view_is) (λ told k ends.
-    inl (behind_writing (g.T.TapeOut.holds c.self.inside.tape.out) old told between k))
+    inl (behind_writing (g.T.TapeOut.holds c.self.inside.tape.out) _ told between k))
 
 pub returns-in-Err-clause-front : goal.returns-in-Err-clause-front
 returns-in-Err-clause-front g c = λ told k ends. absurd (c.in-Err.ensures.ending ends)
@@ -62,20 +49,11 @@ returns-then-is_err-clause-lasting g c = rw (← c.self.view_is) (lasting_self _
 
 pub returns-in-Ok-begin-clause-told : goal.returns-in-Ok-begin-clause-told
 returns-in-Ok-begin-clause-told g c =
-    let old : SetState g.row.T.Denot = record {
-      out = c.self.inside.tape.out;
-      volumes = c.self.inside.volumes.items;
-      capacity = c.self.inside.capacity;
-      set_id = c.self.inside.set_id;
-      files = c.self.inside.files.items;
-      course = c.self.inside.tape.course;
-      phase = c.self.inside.phase;
-    } in
     let between = ap (λ (z : SetState g.row.T.Denot). z.phase) c.self.view_is
     ∙ c.in_default.ensures.ok.0 in
     rw (← c.self.view_is) (λ told k.
     begin_told (g.T.TapeOut.holds c.self.inside.tape.out)
-    (g.T.TapeOut.holds c.begin.new.tape.out) old
+    (g.T.TapeOut.holds c.begin.new.tape.out) _
     c.begin.new.tape.out c.deref.result.now c.push.new.self.items c.next_file-file.result
     c.begin.new.tape.course c.in-Ok.packer told c.args.head c.args.shape between (search rules)
     (search rules) (search rules)
@@ -92,19 +70,10 @@ returns-in-Ok-begin-clause-asked g c =
 
 pub returns-then-is_err-clause-front : goal.returns-then-is_err-clause-front
 returns-then-is_err-clause-front g c =
-    let old : SetState g.row.T.Denot = record {
-      out = c.self.inside.tape.out;
-      volumes = c.self.inside.volumes.items;
-      capacity = c.self.inside.capacity;
-      set_id = c.self.inside.set_id;
-      files = c.self.inside.files.items;
-      course = c.self.inside.tape.course;
-      phase = c.self.inside.phase;
-    } in
     let between = ap (λ (z : SetState g.row.T.Denot). z.phase) c.self.view_is
     ∙ c.in_default.ensures.ok.0 in
     rw (← c.self.view_is) (λ told k ends.
-    inl (behind_writing (g.T.TapeOut.holds c.self.inside.tape.out) old told between k))
+    inl (behind_writing (g.T.TapeOut.holds c.self.inside.tape.out) _ told between k))
 
 pub returns-in-Err-begin-clause-front : goal.returns-in-Err-begin-clause-front
 returns-in-Err-begin-clause-front g c =

@@ -1,9 +1,6 @@
 use Rattle.std.proofs.Common.{rules}
-use Rattle.tape_writer.specs.State.{SetState}
-use Rattle.tape_writer.proofs.Asked.{asked_of}
-use Rattle.tape_writer.proofs.Last.{lasting_self}
+use Rattle.tape_writer.proofs.{Asked.asked_of, Last.lasting_self, Left.left_end}
 use Rattle.tape_writer.proofs.Calls.{end_told, stuck_told}
-use Rattle.tape_writer.proofs.Left.{left_end}
 use Rattle.tape_writer.proofs.set.SetWriter.end_file.Goals as goal
 
 pub returns-in-Between-clause-lasting : goal.returns-in-Between-clause-lasting
@@ -17,36 +14,18 @@ returns-in-Finished-clause-lasting g c = rw (← c.self.view_is) (lasting_self _
 
 pub returns-in-Ok-clause-told : goal.returns-in-Ok-clause-told
 returns-in-Ok-clause-told g c =
-    let old : SetState g.row.T.Denot = record {
-      out = c.self.inside.tape.out;
-      volumes = c.self.inside.volumes.items;
-      capacity = c.self.inside.capacity;
-      set_id = c.self.inside.set_id;
-      files = c.self.inside.files.items;
-      course = c.self.inside.tape.course;
-      phase = c.self.inside.phase;
-    } in
     rw (← c.self.view_is) (λ told k.
     end_told (g.T.TapeOut.holds c.self.inside.tape.out)
-    (g.T.TapeOut.holds c.end_file.new.self.out) old
+    (g.T.TapeOut.holds c.end_file.new.self.out) _
     c.end_file.new.self.out c.deref.result.now c.end_file.new.self.course c.in-Filing.file told
     c.in-Filing.is (search rules)
     (λ past records x. c.in-Ok.ensures.filed c.self.inside.set_id past records x) k)
 
 pub returns-in-Err-clause-stuck : goal.returns-in-Err-clause-stuck
 returns-in-Err-clause-stuck g c =
-    let old : SetState g.row.T.Denot = record {
-      out = c.self.inside.tape.out;
-      volumes = c.self.inside.volumes.items;
-      capacity = c.self.inside.capacity;
-      set_id = c.self.inside.set_id;
-      files = c.self.inside.files.items;
-      course = c.self.inside.tape.course;
-      phase = c.self.inside.phase;
-    } in
     rw (← c.self.view_is) (λ told k e.
     stuck_told (g.T.TapeOut.holds c.self.inside.tape.out)
-    (g.T.TapeOut.holds c.end_file.new.self.out) old
+    (g.T.TapeOut.holds c.end_file.new.self.out) _
     c.end_file.new.self.out c.deref.result.now c.end_file.new.self.course c.in-Filing.file told
     c.in-Filing.is
     (search rules)
@@ -62,18 +41,9 @@ returns-in-Ok-clause-asked g c =
 
 pub returns-in-Err-clause-front : goal.returns-in-Err-clause-front
 returns-in-Err-clause-front g c =
-    let old : SetState g.row.T.Denot = record {
-      out = c.self.inside.tape.out;
-      volumes = c.self.inside.volumes.items;
-      capacity = c.self.inside.capacity;
-      set_id = c.self.inside.set_id;
-      files = c.self.inside.files.items;
-      course = c.self.inside.tape.course;
-      phase = c.self.inside.phase;
-    } in
     rw (← c.self.view_is) (λ told k ends.
     left_end (g.T.TapeOut.holds c.self.inside.tape.out)
-    (g.T.TapeOut.holds c.end_file.new.self.out) old c.deref.result.now c.in-Filing.file told
+    (g.T.TapeOut.holds c.end_file.new.self.out) _ c.deref.result.now c.in-Filing.file told
     c.in-Filing.is (search rules)
     (λ past records x. c.in-Err.ensures.front c.self.inside.set_id past records x) k)
 

@@ -1,8 +1,5 @@
 use Rattle.std.proofs.Common.{rules}
-use Rattle.tape_writer.specs.State.{SetState}
-use Rattle.tape_writer.proofs.Asked.{asked_of}
-use Rattle.tape_writer.proofs.Left.{left_finish}
-use Rattle.tape_writer.proofs.Last.{lasting_self}
+use Rattle.tape_writer.proofs.{Asked.asked_of, Left.left_finish, Last.lasting_self}
 use Rattle.tape_writer.proofs.set.SetWriter.finish.Goals as goal
 
 pub returns-in-Filing-clause-lasting : goal.returns-in-Filing-clause-lasting
@@ -27,18 +24,9 @@ returns-in-Ok-clause-asked g c =
 
 pub returns-in-Err-clause-front : goal.returns-in-Err-clause-front
 returns-in-Err-clause-front g c =
-    let old : SetState g.row.T.Denot = record {
-      out = c.self.inside.tape.out;
-      volumes = c.self.inside.volumes.items;
-      capacity = c.self.inside.capacity;
-      set_id = c.self.inside.set_id;
-      files = c.self.inside.files.items;
-      course = c.self.inside.tape.course;
-      phase = c.self.inside.phase;
-    } in
     rw (← c.self.view_is) (λ told k ends.
     left_finish (g.T.TapeOut.holds c.self.inside.tape.out)
-    (g.T.TapeOut.holds c.end_set.new.tape.out) old c.deref.result.now told
+    (g.T.TapeOut.holds c.end_set.new.tape.out) _ c.deref.result.now told
     (search rules) (search rules) (search rules)
     (λ some x. c.end_set.ensures.front c.self.inside.set_id told some x) k)
 

@@ -1,9 +1,6 @@
 use Rattle.std.proofs.Common.{rules}
-use Rattle.tape_writer.specs.State.{SetState}
-use Rattle.tape_writer.proofs.Asked.{asked_of}
-use Rattle.tape_writer.proofs.Last.{lasting_self}
+use Rattle.tape_writer.proofs.{Asked.asked_of, Last.lasting_self, Left.left_put}
 use Rattle.tape_writer.proofs.Calls.{put_told, stuck_put_told, if_filing}
-use Rattle.tape_writer.proofs.Left.{left_put}
 use Rattle.tape_writer.proofs.set.SetWriter.put.Goals as goal
 
 pub returns-in-Between-clause-lasting : goal.returns-in-Between-clause-lasting
@@ -17,36 +14,18 @@ returns-in-Finished-clause-lasting g c = rw (← c.self.view_is) (lasting_self _
 
 pub returns-in-Ok-clause-told : goal.returns-in-Ok-clause-told
 returns-in-Ok-clause-told g c =
-    let old : SetState g.row.T.Denot = record {
-      out = c.self.inside.tape.out;
-      volumes = c.self.inside.volumes.items;
-      capacity = c.self.inside.capacity;
-      set_id = c.self.inside.set_id;
-      files = c.self.inside.files.items;
-      course = c.self.inside.tape.course;
-      phase = c.self.inside.phase;
-    } in
     rw (← c.self.view_is) (λ told k.
     put_told (g.T.TapeOut.holds c.self.inside.tape.out)
-    (g.T.TapeOut.holds c.put_record.new.tape.out) old
+    (g.T.TapeOut.holds c.put_record.new.tape.out) _
     c.put_record.new.tape.out c.deref.result.now c.put_record.new.tape.course c.in-Filing.file
     c.put_record.new.packer told c.args.bytes.now c.in-Filing.is (search rules)
     (λ fs records x. c.in-Ok.ensures.packed c.self.inside.set_id fs records x) k)
 
 pub returns-in-Err-2-clause-stuck : goal.returns-in-Err-2-clause-stuck
 returns-in-Err-2-clause-stuck g c =
-    let old : SetState g.row.T.Denot = record {
-      out = c.self.inside.tape.out;
-      volumes = c.self.inside.volumes.items;
-      capacity = c.self.inside.capacity;
-      set_id = c.self.inside.set_id;
-      files = c.self.inside.files.items;
-      course = c.self.inside.tape.course;
-      phase = c.self.inside.phase;
-    } in
     rw (← c.self.view_is) (λ told k e.
     stuck_put_told (g.T.TapeOut.holds c.self.inside.tape.out)
-    (g.T.TapeOut.holds c.put_record.new.tape.out) old
+    (g.T.TapeOut.holds c.put_record.new.tape.out) _
     c.put_record.new.tape.out c.deref.result.now c.put_record.new.tape.course c.in-Filing.file told
     c.args.bytes.now
     c.in-Filing.is
@@ -70,18 +49,9 @@ returns-in-Ok-clause-asked g c =
 
 pub returns-in-Err-2-clause-front : goal.returns-in-Err-2-clause-front
 returns-in-Err-2-clause-front g c =
-    let old : SetState g.row.T.Denot = record {
-      out = c.self.inside.tape.out;
-      volumes = c.self.inside.volumes.items;
-      capacity = c.self.inside.capacity;
-      set_id = c.self.inside.set_id;
-      files = c.self.inside.files.items;
-      course = c.self.inside.tape.course;
-      phase = c.self.inside.phase;
-    } in
     rw (← c.self.view_is) (λ told k ends.
     left_put (g.T.TapeOut.holds c.self.inside.tape.out)
-    (g.T.TapeOut.holds c.put_record.new.tape.out) old
+    (g.T.TapeOut.holds c.put_record.new.tape.out) _
     c.put_record.new.tape.out c.deref.result.now c.put_record.new.tape.course c.in-Filing.file told
     c.args.bytes.now
     c.in-Filing.is

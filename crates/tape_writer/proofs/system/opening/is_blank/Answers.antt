@@ -1,9 +1,7 @@
-use Rattle.std.proofs.Common.{◌≡◌, ◌<◌, ℕ, Bool, List, ◌++◌, length, take, Option, None}
-use Rattle.std.proofs.Common.{Some, sym, ap, ◌∙◌, arith, rules, append-nil, length-append}
-use Rattle.std.proofs.lemmas.Bool.Decides.{Decides-eqb}
-use Rattle.std.proofs.lemmas.List.{length-take-le}
-use Rattle.std.proofs.lemmas.Slice.Eq.{slice_eq-Decides}
-use Rattle.std.specs.Prelude.{◌↔◌, IfSome, IsTrue}
+use Rattle.std.proofs.Common.{◌≡◌, ◌<◌, ℕ, Bool, List, ◌++◌, length, take, Option, None, Some, sym}
+use Rattle.std.proofs.Common.{ap, ◌∙◌, arith, rules, append-nil, length-append, ◌↔◌, IfSome, IsTrue}
+use Rattle.std.proofs.{lemmas.Bool.Decides.Decides-eqb, lemmas.List.length-take-le}
+use Rattle.std.proofs.{lemmas.Slice.Eq.slice_eq-Decides}
 use Rattle.tape_image.specs.Device.{Fills}
 use Rattle.tape_writer.proofs.system.opening.is_blank.Goals as goal
 

@@ -1,7 +1,6 @@
-use Rattle.std.proofs.Common.{◌≡◌, ◌≤◌, ◌+◌, ◌-◌, ◌++◌, length, take, false, true, refl, sym}
-use Rattle.std.proofs.Common.{subst, arith, eq-eqb}
-use Rattle.std.proofs.lemmas.Bool.{eqb-true}
-use Rattle.std.proofs.lemmas.List.{length-take-le}
+use Rattle.std.proofs.Common.{◌≡◌, ◌≤◌, ◌+◌, ◌-◌, ◌++◌, length, take, false, true, refl, sym, subst}
+use Rattle.std.proofs.Common.{arith, eq-eqb}
+use Rattle.std.proofs.{lemmas.Bool.eqb-true, lemmas.List.length-take-le}
 use Rattle.tape_writer.specs.declared.inputs.cut.Cut.TheVariants.{Lines, Length, Whole}
 use Rattle.tape_writer.specs.Records.{Adds}
 use Rattle.tape_writer.proofs.inputs.Pieces.{line_ended, line_inside, length_passed, length_inside}

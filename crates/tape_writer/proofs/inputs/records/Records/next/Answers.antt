@@ -1,6 +1,5 @@
-use Rattle.std.proofs.Common.{arith, rules, refl, sym, subst, vec_capacity}
-use Rattle.std.proofs.lemmas.Grind.{common_steps}
-use Rattle.std.proofs.lemmas.Result.{err_from_is_err_and}
+use Rattle.std.proofs.Common.{arith, rules, refl, subst, vec_capacity}
+use Rattle.std.proofs.{lemmas.Grind.common_steps, lemmas.Result.err_from_is_err_and}
 use Rattle.tape_writer.specs.Records.{Adds, GrowsLong}
 use Rattle.tape_writer.proofs.inputs.Cutting.{read_ahead, used, piece_taken, piece_more, next_given}
 use Rattle.tape_writer.proofs.inputs.Cutting.{taken}
