@@ -34,9 +34,7 @@ use Rattle.tape_run.proofs.Places.{gives_block, gives_none}
 deliver_or : (a : Answer) → (a ≡ Deliver) ⊎ (a ≢ Deliver)
 deliver_or Deliver = inl refl
 deliver_or Passed = inr (λ e. cc)
-deliver_or SectionDone = inr (λ e. cc)
-deliver_or Complete = inr (λ e. cc)
-deliver_or (Useless why) = inr (λ e. cc)
+deliver_or _ = inr (λ e. cc)
 
 slice_at : (taken rest : List TapeItem) (x : TapeItem)
     → slice_get (taken ++ x ∷ rest) (length taken) ≡ Some x

@@ -57,9 +57,7 @@ by_none : (a : Answer) (x : TapeItem) (p : Position) (k : Option FileForm) → a
     → parts_by a x p k ≡ []
 by_none Deliver x p k ne = absurd (ne refl)
 by_none Passed x p k ne = refl
-by_none SectionDone x p k ne = refl
-by_none Complete x p k ne = refl
-by_none (Useless why) x p k ne = refl
+by_none _ x p k ne = refl
 
 none_came : (core new : State) (answer : Answer) (came : Option TapeItem)
     → (answer, new) ≡ step_of core came → answer ≢ Deliver → parts_of_arrival core came ≡ []

@@ -1,18 +1,11 @@
 -- The test cases for recovered files.
-use Rattle.std.proofs.Common.{◌≡◌, ◌⊎◌, inl, inr, ℕ, List, [], ◌∷◌, Some, None}
-use Rattle.std.proofs.Common.{refl, sym, ap, subst, ◌∙◌, false, true, length, arith}
-use Rattle.std.specs.Prelude.{IfSome, Option, get_or, map, set, ◌++◌, slice_get, ◌-◌}
-use Rattle.std.proofs.Common.{Bool}
-use Rattle.tape_set.specs.Layout.{FileSet}
-use Rattle.tape_set.specs.Lawful.{IsLawful}
-use Rattle.tape_core.specs.Place.{IsPlaced}
-use Rattle.tape_run.specs.Given.{is_device, IsGiven}
-use Rattle.tape_run.specs.Mount.{IsMountOf, foreign_reel}
-use Rattle.tape_run.specs.Reeling.{Opened, IsNoted, Follows, goes_back}
+use Rattle.std.proofs.Common.{◌≡◌, ◌⊎◌, inl, inr, ℕ, List, [], ◌∷◌, Some, None, refl, sym, ap}
+use Rattle.std.proofs.Common.{subst, ◌∙◌, false, true, length, arith, Bool}
+use Rattle.std.specs.Prelude.{Option, get_or, map, set, ◌++◌, slice_get, ◌-◌}
+use Rattle.tape_run.specs.Reeling.{Opened, IsNoted, Follows, goes_back, IsKeptFor, counts_differ}
+use Rattle.tape_run.specs.Reeling.{Turn, IsTurn, Took, AreTurns, AreFirstTurns, answer_of}
 use Rattle.tape_run.specs.Stopping.{NotNoted, StopsAt}
 use Rattle.tape_core.specs.State.{State}
-use Rattle.tape_run.specs.Reeling.{IsKeptFor, counts_differ, Turn, IsTurn, Took}
-use Rattle.tape_run.specs.Reeling.{AreTurns, AreFirstTurns, answer_of}
 use Rattle.tape_run.specs.Seen.{Seen, seen}
 use Rattle.tape_run.specs.Steps.{WentBack}
 use Rattle.tape_core.specs.Stands.{weight_of}

@@ -141,52 +141,16 @@ volume_of : (p : Phase) (q : Position) → p ≢ Broken → is_finished q ≡ fa
 volume_of Broken q sound waits = absurd (sound refl)
 volume_of Over Finished sound waits = absurd (cc)
 volume_of Over (Awaits sect b part) sound waits = refl
-volume_of Volume Finished sound waits = absurd (cc)
-volume_of Volume (Awaits sect b part) sound waits = refl
-volume_of phases.VolumeLabels Finished sound waits = absurd (cc)
-volume_of phases.VolumeLabels (Awaits sect b part) sound waits = refl
-volume_of (phases.Header2 h w) Finished sound waits = absurd (cc)
-volume_of (phases.Header2 h w) (Awaits sect b part) sound waits = refl
-volume_of (phases.Headers h w) Finished sound waits = absurd (cc)
-volume_of (phases.Headers h w) (Awaits sect b part) sound waits = refl
-volume_of (phases.DataPassed h) Finished sound waits = absurd (cc)
-volume_of (phases.DataPassed h) (Awaits sect b part) sound waits = refl
-volume_of (phases.DataWanted h f n) Finished sound waits = absurd (cc)
-volume_of (phases.DataWanted h f n) (Awaits sect b part) sound waits = refl
-volume_of (phases.TrailerPassed h) Finished sound waits = absurd (cc)
-volume_of (phases.TrailerPassed h) (Awaits sect b part) sound waits = refl
-volume_of (phases.TrailerWanted h f) Finished sound waits = absurd (cc)
-volume_of (phases.TrailerWanted h f) (Awaits sect b part) sound waits = refl
-volume_of Trailers Finished sound waits = absurd (cc)
-volume_of Trailers (Awaits sect b part) sound waits = refl
-volume_of phases.NextFile Finished sound waits = absurd (cc)
-volume_of phases.NextFile (Awaits sect b part) sound waits = refl
+volume_of _ Finished sound waits = absurd (cc)
+volume_of _ (Awaits sect b part) sound waits = refl
 
 trailers_of : (p : Phase) (q : Position) → p ≢ Broken → is_finished q ≡ false
     → mounted_behind p q ≡ Trailers
 trailers_of Broken q sound waits = absurd (sound refl)
 trailers_of Over Finished sound waits = absurd (cc)
 trailers_of Over (Awaits sect b part) sound waits = refl
-trailers_of Volume Finished sound waits = absurd (cc)
-trailers_of Volume (Awaits sect b part) sound waits = refl
-trailers_of phases.VolumeLabels Finished sound waits = absurd (cc)
-trailers_of phases.VolumeLabels (Awaits sect b part) sound waits = refl
-trailers_of (phases.Header2 h w) Finished sound waits = absurd (cc)
-trailers_of (phases.Header2 h w) (Awaits sect b part) sound waits = refl
-trailers_of (phases.Headers h w) Finished sound waits = absurd (cc)
-trailers_of (phases.Headers h w) (Awaits sect b part) sound waits = refl
-trailers_of (phases.DataPassed h) Finished sound waits = absurd (cc)
-trailers_of (phases.DataPassed h) (Awaits sect b part) sound waits = refl
-trailers_of (phases.DataWanted h f n) Finished sound waits = absurd (cc)
-trailers_of (phases.DataWanted h f n) (Awaits sect b part) sound waits = refl
-trailers_of (phases.TrailerPassed h) Finished sound waits = absurd (cc)
-trailers_of (phases.TrailerPassed h) (Awaits sect b part) sound waits = refl
-trailers_of (phases.TrailerWanted h f) Finished sound waits = absurd (cc)
-trailers_of (phases.TrailerWanted h f) (Awaits sect b part) sound waits = refl
-trailers_of Trailers Finished sound waits = absurd (cc)
-trailers_of Trailers (Awaits sect b part) sound waits = refl
-trailers_of phases.NextFile Finished sound waits = absurd (cc)
-trailers_of phases.NextFile (Awaits sect b part) sound waits = refl
+trailers_of _ Finished sound waits = absurd (cc)
+trailers_of _ (Awaits sect b part) sound waits = refl
 
 pub passes_files : PassesFiles
 passes_files first later items item o sound r =

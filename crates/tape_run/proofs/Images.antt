@@ -214,10 +214,7 @@ device_or_not : (cause : ImageCause)
     → (cause ≡ Device) ⊎ ((cause ≢ Device) × (is_device_cause cause ≡ false))
 device_or_not Device = inl refl
 device_or_not Truncated = inr ((λ e. cc, refl))
-device_or_not LengthsDiffer = inr ((λ e. cc, refl))
-device_or_not (Reserved w) = inr ((λ e. cc, refl))
-device_or_not TooLong = inr ((λ e. cc, refl))
-device_or_not OutOfMemory = inr ((λ e. cc, refl))
+device_or_not _ = inr ((λ e. cc, refl))
 
 faults_there : (old mid new : State) (held now : List Portion) (p : ℕ) (bytes ys zs : List ℕ)
     (fault : ImageFault)

@@ -156,11 +156,8 @@ mod MistakesOfEngines
 mod MistakesOfListing
 mod MistakesOfMerging
 mod MistakesOfPlaces
-mod MistakesOfReels
-mod MistakesOfReports
 mod MistakesOfRuns
 mod MistakesOfReadings
-mod MistakesOfStops
 mod MistakesOfSalvage
 mod MistakesOfSaves
 mod MistakesOfCauses

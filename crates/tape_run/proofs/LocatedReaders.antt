@@ -34,16 +34,7 @@ use Rattle.tape_run.proofs.GoesBehind.{leads_over_all, passes_files}
 broken_or : (p : Phase) → (p ≡ Broken) ⊎ (p ≢ Broken)
 broken_or Broken = inl refl
 broken_or phases.Over = inr (λ e. cc)
-broken_or phases.Volume = inr (λ e. cc)
-broken_or phases.VolumeLabels = inr (λ e. cc)
-broken_or (phases.Header2 h w) = inr (λ e. cc)
-broken_or (phases.Headers h w) = inr (λ e. cc)
-broken_or (phases.DataPassed h) = inr (λ e. cc)
-broken_or (phases.DataWanted h f n) = inr (λ e. cc)
-broken_or (phases.TrailerPassed h) = inr (λ e. cc)
-broken_or (phases.TrailerWanted h f) = inr (λ e. cc)
-broken_or phases.Trailers = inr (λ e. cc)
-broken_or phases.NextFile = inr (λ e. cc)
+broken_or _ = inr (λ e. cc)
 
 broken_item : (core : State) (x : TapeItem) → core.phase ≡ Broken
     → at_item core Broken x ≡ (Useless reasons.Broken, core)

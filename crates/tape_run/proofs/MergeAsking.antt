@@ -1,24 +1,23 @@
 -- Readings that are asked for one item, one after another: how far they were read then, and the
 -- best item.
-use Rattle.std.proofs.Common.{◌≡◌, ◌≢◌, ◌⊎◌, inl, inr, ℕ, ◌+◌, ◌<◌, ◌≤◌, List, [], ◌∷◌, ◌++◌}
-use Rattle.std.proofs.Common.{length, take, Option, Some, None, refl, sym, ap, subst, map}
-use Rattle.std.proofs.Common.{◌∙◌, length-append, arith}
+use Rattle.std.proofs.Common.{◌≡◌, ◌≢◌, ℕ, ◌+◌, ◌<◌, ◌≤◌, List, [], ◌∷◌, ◌++◌, length, take, Option}
+use Rattle.std.proofs.Common.{Some, None, refl, sym, ap, subst, map, ◌∙◌, length-append, arith}
 use Rattle.std.specs.Prelude.{slice_get}
 use Rattle.std.proofs.lemmas.Option.{slice_get_past}
 use Rattle.tape_image.specs.Tape.{TapeItem}
 use Rattle.tape_image.specs.Reader.{going}
 use Rattle.tape_run.specs.declared.merge.reading.Reading.{Reading}
 use Rattle.tape_run.specs.Merging.{IsReadFrom, AreReadFrom}
-use Rattle.tape_run.specs.MergeSteps.{joined, best_items, Asked, gives, stops, AskedAll}
-use Rattle.tape_run.specs.MergeSteps.{column, HasTaken, HaveTaken, AllStopped}
-use Rattle.tape_run.specs.MergeSteps.{AreUpTo, Judges, AreJudged, StopsAs, Compares, Takes}
+use Rattle.tape_run.specs.MergeSteps.{joined, best_items, Asked, gives, stops, AskedAll, column}
+use Rattle.tape_run.specs.MergeSteps.{HasTaken, HaveTaken, AllStopped, AreUpTo, Judges, AreJudged}
+use Rattle.tape_run.specs.MergeSteps.{StopsAs}
 use Rattle.tape_run.proofs.MergeReadings.{reads_self, reads_front, reads_trans, are_better}
 use Rattle.tape_run.proofs.MergePlaces.{best_better, reads_best, best_least, best_differs}
 use Rattle.tape_run.proofs.MergeTaken.{has_given, has_stopped, stopped_off, get_front, get_last}
 use Rattle.tape_run.proofs.MergeTaken.{take_past, take_last}
 use Rattle.tape_run.proofs.MergeVerdicts.{IsOther, none_yet, Keeps, judges, judges_stop}
-use Rattle.tape_run.proofs.MergeVerdicts.{agreed_alone, second_alone, all_keep, later_other}
-use Rattle.tape_run.proofs.MergeVerdicts.{SeenAs, seen_item, seen_none, next_other}
+use Rattle.tape_run.proofs.MergeVerdicts.{agreed_alone, second_alone, all_keep, later_other, SeenAs}
+use Rattle.tape_run.proofs.MergeVerdicts.{seen_item, seen_none, next_other}
 use Rattle.tape_run.proofs.MergeRows.{AreSeenAs}
 
 -- ---- readings at a place of a tape

@@ -1,9 +1,8 @@
 -- Items that are written one after another, and counted.
-use Rattle.std.proofs.Common.{◌≡◌, ℕ, zero, suc, ◌+◌, ◌<◌, ◌≤◌, List, [], ◌∷◌, ◌++◌, length}
-use Rattle.std.proofs.Common.{Option, Some, None, Bool, true, false, refl, sym, ap, subst, ◌∙◌}
-use Rattle.std.proofs.Common.{arith}
-use Rattle.std.specs.Prelude.{◌==◌}
+use Rattle.std.proofs.Common.{◌≡◌, ℕ, zero, suc, ◌+◌, ◌<◌, ◌≤◌, List, [], ◌∷◌, ◌++◌, length, Option}
+use Rattle.std.proofs.Common.{Some, None, Bool, true, false, refl, sym, ap, subst, ◌∙◌, arith}
 use Rattle.std.proofs.Common.{length-append}
+use Rattle.std.specs.Prelude.{◌==◌}
 use Rattle.tape_image.specs.Tape.{TapeItem, block, bad, mark}
 use Rattle.tape_image.specs.Begins.{image_limit}
 use Rattle.tape_image.specs.Written.{written}
@@ -15,9 +14,9 @@ use Rattle.tape_run.specs.declared.passing.Phase.TheVariants.{Volume}
 use Rattle.tape_run.specs.declared.section.SectionState.{SectionState}
 use Rattle.tape_run.specs.declared.section.SectionState.TheVariants as states
 use Rattle.tape_run.specs.Passing.{Told, step, in_list, phase_after, told_from}
-use Rattle.tape_run.specs.MergeSteps.{bads, is_bad_one, one_if}
-use Rattle.tape_run.specs.MergeCalls.{Counts, witnesses_at, alone_in, miscounted_in}
-use Rattle.tape_run.specs.MergeCalls.{miscounted_of, has_wrong_count, Puts}
+use Rattle.tape_run.specs.MergeSteps.{is_bad_one, one_if}
+use Rattle.tape_run.specs.MergeCalls.{Counts, witnesses_at, alone_in, miscounted_in, miscounted_of}
+use Rattle.tape_run.specs.MergeCalls.{has_wrong_count, Puts}
 use Rattle.tape_run.proofs.MergeTaken.{bads-append}
 use Rattle.tape_run.proofs.NotedSoFar.{phase_after-append, told_from-append}
 
@@ -86,9 +85,7 @@ one_at_most false = omega arith
 
 wrong_one : (s : SectionState) → has_wrong_count s ≤ 1
 wrong_one states.Good = omega arith
-wrong_one states.Bad = omega arith
-wrong_one states.Count = omega arith
-wrong_one states.Cut = omega arith
+wrong_one _ = omega arith
 
 pub wrong_at_most : (t : Option Told) → miscounted_of t ≤ 1
 wrong_at_most None = omega arith

@@ -39,13 +39,10 @@ answered_item old new result item verdict len best now other beside h e compares
 -- an item that does not agree is not a bad one
 pub disagrees_good : (best : Option TapeItem) (x : TapeItem) → (agrees best x → ⊥) → x ≢ bad
 disagrees_good None x never = λ _. never tt
-disagrees_good (Some bad) x never = λ _. never tt
 disagrees_good (Some (block b)) (block c) never = λ e. cc e
-disagrees_good (Some (block b)) bad never = λ _. never tt
 disagrees_good (Some (block b)) mark never = λ e. cc e
 disagrees_good (Some mark) (block c) never = λ e. cc e
-disagrees_good (Some mark) bad never = λ _. never tt
-disagrees_good (Some mark) mark never = λ _. never tt
+disagrees_good _ _ never = λ _. never tt
 
 good_none_bad : (x : TapeItem) → x ≢ bad → one_if (is_bad_one (Some x)) ≡ 0
 good_none_bad (block b) nb = refl
@@ -73,20 +70,16 @@ pub record Fields {R : Type 0} (old new : Reading R) (len badly : ℕ) : Type 0 
 
 item_never : (v : Verdict) (s : Status) → is_stop v ≡ false → StopsAs v s → ⊥
 item_never verdicts.First s is h = h
-item_never verdicts.Bad s is h = h
-item_never verdicts.Second s is h = h
-item_never verdicts.Third s is h = h
 item_never verdicts.Ended s is h = absurd (cc is)
 item_never (verdicts.Failed fault) s is h = absurd (cc is)
+item_never _ s is h = h
 
 stop_never : (v : Verdict) (x : TapeItem) (best now other beside : Option TapeItem)
     → is_stop v ≡ true → Compares v x best now other beside → ⊥
 stop_never verdicts.First x best now other beside is h = absurd (cc is)
-stop_never verdicts.Bad x best now other beside is h = absurd (cc is)
-stop_never verdicts.Second x best now other beside is h = absurd (cc is)
-stop_never verdicts.Third x best now other beside is h = absurd (cc is)
 stop_never verdicts.Ended x best now other beside is h = h
 stop_never (verdicts.Failed fault) x best now other beside is h = h
+stop_never _ x best now other beside is h = absurd (cc is)
 
 -- the reading returned an item, with this verdict
 pub asked_item : {R : Type 0} (old new : Reading R) (verdict : Verdict) (len badly : ℕ)

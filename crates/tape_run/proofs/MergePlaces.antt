@@ -10,9 +10,6 @@ use Rattle.tape_run.proofs.MergeReadings.{reads_one_more, reads_behind, meets_bo
 -- two readings of the same item of a tape agree
 both_agree : (y x z : TapeItem) → IsReadAs y z → IsReadAs x z → agrees (Some y) x
 both_agree bad x z h k = tt
-both_agree (block b) bad z h k = tt
-both_agree mark bad z h k = tt
-both_agree mark mark z h k = tt
 both_agree (block b) (block c) z (inl e) k = absurd (cc e)
 both_agree (block b) (block c) z (inr e) (inl f) = absurd (cc f)
 both_agree (block b) (block c) z (inr e) (inr f) = cc
@@ -22,6 +19,7 @@ both_agree (block b) mark z (inr e) (inr f) = absurd (cc (e, f))
 both_agree mark (block c) z (inl e) k = absurd (cc e)
 both_agree mark (block c) z (inr e) (inl f) = absurd (cc f)
 both_agree mark (block c) z (inr e) (inr f) = absurd (cc (e, f))
+both_agree _ _ z h k = tt
 
 -- an item that agrees with the best one is a reading of the better of the two
 item_met : (best : Option TapeItem) (x : TapeItem) → agrees best x → IsReadAs x (joined best x)

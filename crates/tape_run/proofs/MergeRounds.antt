@@ -1,6 +1,6 @@
 -- A round in which all readings are asked, in the form of a loop.
 use Rattle.std.proofs.Common.{◌≡◌, ℕ, zero, suc, ◌+◌, ◌<◌, ◌≤◌, List, [], ◌∷◌, length, get_or}
-use Rattle.std.proofs.Common.{Option, None, refl, sym, ap, subst, ◌∙◌, arith}
+use Rattle.std.proofs.Common.{Option, refl, sym, subst, arith}
 use Rattle.std.proofs.Math.ListN.{set}
 use Rattle.tape_image.specs.Tape.{TapeItem}
 use Rattle.tape_run.specs.declared.merge.reading.Reading.{Reading}
@@ -74,11 +74,7 @@ first_all (y ∷ ys) (x ∷ xs) best now other beside have (then, other_then, co
 
 pub has_few : (v : Verdict) → has_first v ≤ 1
 has_few verdicts.First = omega arith
-has_few verdicts.Bad = omega arith
-has_few verdicts.Second = omega arith
-has_few verdicts.Third = omega arith
-has_few verdicts.Ended = omega arith
-has_few (verdicts.Failed fault) = omega arith
+has_few _ = omega arith
 
 -- ---- as a loop counts
 

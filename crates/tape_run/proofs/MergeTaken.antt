@@ -1,7 +1,7 @@
 -- A reading after one more item, or after it stopped.
 use Rattle.std.proofs.Common.{◌≡◌, ◌≢◌, ◌⊎◌, inl, inr, ℕ, ◌+◌, ◌<◌, ◌≤◌, List, [], ◌∷◌, ◌++◌}
-use Rattle.std.proofs.Common.{length, take, Some, None, refl, sym, ap, subst, ◌∙◌, arith}
-use Rattle.std.proofs.Common.{zero, suc, length-append, append-nil}
+use Rattle.std.proofs.Common.{length, take, Some, refl, sym, ap, subst, ◌∙◌, arith, zero, suc}
+use Rattle.std.proofs.Common.{length-append}
 use Rattle.std.specs.Prelude.{slice_get}
 use Rattle.std.proofs.lemmas.List.{take_at}
 use Rattle.tape_image.specs.declared.item.ImageFault.{ImageFault}
@@ -11,8 +11,7 @@ use Rattle.tape_image.specs.Step.{GivesItem, MeetsEnd, MeetsFault}
 use Rattle.tape_image.specs.Calls.{Gave}
 use Rattle.tape_run.specs.declared.merge.reading.Reading.{Reading}
 use Rattle.tape_run.specs.MergeSteps.{Stopped, CountsItem, CountsNothing, HasRead, HasTaken}
-use Rattle.tape_run.specs.MergeSteps.{TookLast, nothing, last, RisesBy, is_bad_one}
-use Rattle.tape_run.specs.MergeSteps.{one_if, bads}
+use Rattle.tape_run.specs.MergeSteps.{TookLast, nothing, last, RisesBy, is_bad_one, one_if, bads}
 
 -- ---- the reader
 

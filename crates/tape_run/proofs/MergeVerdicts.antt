@@ -182,22 +182,18 @@ seen_item (verdicts.Failed fault) x best now h = absurd h
 
 pub seen_none : (v : Verdict) (s : Status) → StopsAs v s → SeenAs v None
 seen_none verdicts.First s h = absurd h
-seen_none verdicts.Bad s h = absurd h
-seen_none verdicts.Second s h = absurd h
-seen_none verdicts.Third s h = absurd h
 seen_none verdicts.Ended s h = record { good = refl; is_bad = refl; cell = refl }
 seen_none (verdicts.Failed fault) s h = record { good = refl; is_bad = refl; cell = refl }
+seen_none _ s h = absurd h
 
 -- ---- after all were asked
 
 pub judges_stop : (v : Verdict) (s : Status) (items : List TapeItem) (best other : Option TapeItem)
     → StopsAs v s → Judges v s items best other
 judges_stop verdicts.First s items best other h = absurd h
-judges_stop verdicts.Bad s items best other h = absurd h
-judges_stop verdicts.Second s items best other h = absurd h
-judges_stop verdicts.Third s items best other h = absurd h
 judges_stop verdicts.Ended s items best other h = h
 judges_stop (verdicts.Failed fault) s items best other h = h
+judges_stop _ s items best other h = absurd h
 
 third_other : (other beside end : Option TapeItem) (x : TapeItem) → IsOther other
     → (agrees other x → ⊥) → beside ≡ other → (is_less beside ≡ false → end ≡ beside)

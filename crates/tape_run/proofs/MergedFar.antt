@@ -1,15 +1,14 @@
 -- Reading the merged image once moves a position at least as far as reading its copies again and
 -- again.
-use Rattle.std.proofs.Common.{◌≡◌, ◌≢◌, ◌<◌, ◌≤◌, ◌⊎◌, inl, inr, ℕ, zero, suc, ◌+◌, ◌-◌, List, []}
-use Rattle.std.proofs.Common.{◌∷◌, length, take, drop, Bool, true, false, cond, ltb, Option, Some}
-use Rattle.std.proofs.Common.{None}
+use Rattle.std.proofs.Common.{◌≡◌, ◌<◌, ◌≤◌, ◌⊎◌, inl, inr, ℕ, zero, suc, ◌+◌, ◌-◌, List, [], ◌∷◌}
+use Rattle.std.proofs.Common.{length, take, drop, Bool, true, false, cond, ltb, Option, Some, None}
 use Rattle.std.proofs.Common.{refl, sym, ap, subst, ◌∙◌, arith}
 use Rattle.std.specs.Prelude.{◌==◌, ◌&&◌}
 use Rattle.std.specs.List.{AllByRecursion}
 use Rattle.std.proofs.lemmas.Bool.Decides.{nat_tests}
 use Rattle.tape_set.specs.declared.position.Position.{Position}
 use Rattle.tape_set.specs.declared.position.Position.TheVariants.{Awaits, Finished}
-use Rattle.tape_set.specs.Position.{awaiting, next_section, sect_of, block_of, IsBefore, IsUpTo}
+use Rattle.tape_set.specs.Position.{awaiting, next_section, IsUpTo}
 use Rattle.tape_set.specs.Layout.{FileSet, Section, section_of, ends_file}
 use Rattle.tape_set.specs.Laws.{GoesOnOnNext}
 use Rattle.tape_set.specs.Reading.{Reading}

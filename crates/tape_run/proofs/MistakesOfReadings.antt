@@ -1,8 +1,7 @@
 -- Wrong answers that the contracts of complete readings exclude.
-use Rattle.std.proofs.Common.{◌≡◌, ◌⊎◌, inl, inr, ℕ, List, [], ◌∷◌, ◌++◌, map, Bool, true, false}
-use Rattle.std.proofs.Common.{refl, sym, ap, ◌∙◌, subst, arith, codes, length, append-nil}
-use Rattle.std.specs.Prelude.{Option, Some, None, Ok, IsSome, replicate}
-use Rattle.tape_core.specs.Memory.{portions}
+use Rattle.std.proofs.Common.{◌≡◌, ◌⊎◌, inl, inr, ℕ, List, [], ◌∷◌, map, Bool, false, refl, sym, ap}
+use Rattle.std.proofs.Common.{◌∙◌, subst, arith}
+use Rattle.std.specs.Prelude.{Option, Some, None, Ok, IsSome}
 use Rattle.tape_blocks.specs.Block.{Portion}
 use Rattle.tape_set.specs.declared.position.Position.TheVariants.{Awaits}
 use Rattle.tape_set.specs.Position.{part_of, start}
@@ -14,15 +13,12 @@ use Rattle.tape_set.proofs.Reaching.{far_keeps_part}
 use Rattle.tape_core.specs.Stands.{Stands}
 use Rattle.tape_run.specs.declared.script.Step.TheVariants.{Reel}
 use Rattle.tape_run.specs.Given.{IsGiven, AreGivenBy, counted_up, failed_of}
-use Rattle.tape_run.specs.Headline.{begins, IsRead}
+use Rattle.tape_run.specs.Headline.{begins}
 use Rattle.tape_run.specs.History.{Course, IsHistory, course, after}
 use Rattle.tape_run.specs.Mount.{MountEvent, reads, foreign_reel, saves, restarts, IsMountOf}
 use Rattle.tape_run.specs.Seen.{seen}
-use Rattle.tape_run.specs.WorkedHistory.{first, middle, worked_set, reel_1, reading}
 use Rattle.tape_run.proofs.Back.{none_failed, none_of}
 use Rattle.tape_run.proofs.CrashRuns.{goes_on}
-use Rattle.tape_run.proofs.WorkedHistory.{is_lawful}
-use Rattle.tape_run.proofs.WorkedReels.{whole_1}
 use Rattle.tape_run.proofs.script.run.Reads as run
 use Rattle.tape_run.proofs.whole.resume_and_run.Reads as resume_and_run
 use Rattle.tape_run.proofs.whole.read_file.Reads as read_file
@@ -84,71 +80,6 @@ partial_file_given R LR h d κs a session s set bytes k lawful id file all one k
     let n : 3 ≡ 0 = sym (ap part_of stands) ∙ sym (ap (λ v. part_of v.position) r.2)
     ∙ ap (λ v. part_of v.at) c ∙ front a.1.1.0 in
     absurd (omega (arith, n))
-
--- if one reader has nothing left, it returned everything, whether or not it failed
-nothing_left : (which : List Bool) (bytes : List ℕ) (given : List (List ℕ))
-    → AreGivenBy which (bytes ∷ []) (Some [] ∷ []) given → given ≡ bytes ∷ []
-nothing_left [] bytes given e = e
-nothing_left (f ∷ which) bytes [] a = absurd a
-nothing_left (f ∷ other ∷ which) bytes (g ∷ given) (is, none) = absurd none
-nothing_left (false ∷ []) bytes (g ∷ given) (is, none) =
-    ap (λ z. z ∷ given) is ∙ ap (λ z. bytes ∷ z) none
-nothing_left (true ∷ []) bytes (g ∷ given) ((rest, told, whole), none) =
-    let over : rest ≡ [] = cc told in
-    let all : bytes ≡ g = whole ∙ (ap (λ z. g ++ z) over ∙ append-nil g) in
-    ap (λ z. z ∷ given) (sym all) ∙ ap (λ z. bytes ∷ z) none
-
--- volume 1, read to its end
-abbrev all_of_1 : MountEvent
-all_of_1 = reads (reading 1 (replicate 11 true))
-
--- failing_reader_gives_nothing: the reader of volume 1 reached the end of its bytes, and failed
--- there or not, but none of its parts is in memory.
-failing_reader_gives_nothing : (R : _) (LR : _) (h : _) (d : _) (κs : _) (a : _) (session : _)
-    (s : _) → read_file.Learnt-named R LR h d κs a (Ok (session, Ok tt)) s
-    → a.1.0 ≡ codes "ABC001" → a.1.1.0 ≡ 1 → a.1.1.1.0.now ≡ Reel ∷ []
-    → map h.remaining a.1.1.1.1.0.now ≡ Some reel_1 ∷ []
-    → map h.remaining s.1.1.1.1.0.now ≡ Some [] ∷ [] → portions session.sink ≡ [] → ⊥
-failing_reader_gives_nothing R LR h d κs a session s k id file one known over none =
-    let r = k.read (reel_1 ∷ []) known in
-    let is : IsRead (codes "ABC001") 1 (Reel ∷ []) (reel_1 ∷ []) (Some [] ∷ []) r.0
-    = subst (λ v. IsRead v 1 (Reel ∷ []) (reel_1 ∷ []) (Some [] ∷ []) r.0) id
-    (subst (λ v. IsRead a.1.0 v (Reel ∷ []) (reel_1 ∷ []) (Some [] ∷ []) r.0) file
-    (subst (λ v. IsRead a.1.0 a.1.1.0 v (reel_1 ∷ []) (Some [] ∷ []) r.0) one
-    (subst (λ v. IsRead a.1.0 a.1.1.0 a.1.1.1.0.now (reel_1 ∷ []) v r.0) over r.5))) in
-    let all = nothing_left is.which reel_1 is.given is.are_given in
-    let history : IsHistory worked_set 0 (Reel ∷ []) is.given (all_of_1 ∷ [])
-    = subst (λ z. IsHistory worked_set 0 (Reel ∷ []) z (all_of_1 ∷ [])) (sym all) (whole_1, tt) in
-    let two : first ∷ middle ∷ [] ≡ []
-    = sym (is.reads worked_set (all_of_1 ∷ []) is_lawful refl refl history).1 ∙ r.1 ∙ none in
-    let n : 2 ≡ 0 = ap length two in absurd (omega (arith, n))
-
--- stopped_run_told_as_done: the sink refused a part, but the run is reported as successful. The
--- sink's parts are not those before any position to which the readers' histories lead: all of these
--- are at the start of a block, and the sink has some parts of a block.
-stopped_run_told_as_done : (S : _) (R : _) (LS : _) (LR : _) (g : _) (d : _) (h : _) (e : _)
-    (κs : _) (a : _) (session : _) (s : _) (set : FileSet) (held now : List Portion)
-    (bytes : List (List ℕ))
-    → resume_and_run.Learnt-named S R LS LR g d h e κs a (session, Ok tt) s
-    → g.holds a.1.1.0 held → IsLawful set → Stands set a.1.0.now.file a.1.0.now held
-    → map h.remaining a.1.1.1.1.0.now ≡ map Some bytes
-    → HoldsOne (g.holds session.sink) → g.holds session.sink now
-    → ((which : List Bool) (left : List (Option (List ℕ))) (given : List (List ℕ))
-    → AreGivenBy which bytes left given
-    → (hs : List MountEvent) × IsHistory set 0 a.1.1.1.0.now given hs
-    × (now ≡ before set a.1.0.now.file (course set a.1.0.now.file
-    (record { at = a.1.0.now.position; notes = [] }) hs).at → ⊥)) → ⊥
-stopped_run_told_as_done S R LS LR g d h e κs a session s set held now bytes l was lawful stands
-    known one there none =
-    let (began, from, (new, has, runs)) = l.delivers held was in
-    let run = runs bytes known in
-    let left = map h.remaining s.1.1.1.1.0.now in
-    let (hs, history, other) = none run.which left run.given run.are_given in
-    let (at, parts) = goes_on set a.1.0.now held began (seen g session new) a.1.1.1.0.now bytes left
-    hs
-    lawful stands from run history in
-    other (one now new there has ∙ parts
-    ∙ ap (λ (c : Course). before set a.1.0.now.file c.at) (sym at))
 
 -- gone_on_without_reading: no reader failed, but the session is returned as it was resumed. Its
 -- parts are not those before any position to which the reels lead.

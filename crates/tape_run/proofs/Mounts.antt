@@ -127,18 +127,14 @@ gives_rest : (set : FileSet) (x : TapeItem) (answer : Answer) (old new : State)
     → Gives set x answer old new → Gives set x answer (rest_of old) (rest_of new)
 gives_rest set x Passed old new g = g
 gives_rest set x Deliver old new g = delivers_rest set x old new g
-gives_rest set x SectionDone old new g = g
-gives_rest set x Complete old new g = g
-gives_rest set x (Useless why) old new g = g
+gives_rest set x _ old new g = g
 
 gives_silent : (set : FileSet) (x : TapeItem) (answer : Answer) (old new : State) → answer ≢ Deliver
     → new.file ≡ old.file → new.position ≡ old.position
     → Gives set x answer (rest_of old) (rest_of new)
 gives_silent set x Passed old new n f p = rw (f, p) refl
 gives_silent set x Deliver old new n f p = absurd (n refl)
-gives_silent set x SectionDone old new n f p = rw (f, p) refl
-gives_silent set x Complete old new n f p = rw (f, p) refl
-gives_silent set x (Useless why) old new n f p = rw (f, p) refl
+gives_silent set x _ old new n f p = rw (f, p) refl
 
 pub checked_of : (item : Option TapeItem) (old new : State) → Checked item old new
     → IsChecked item (rest_of new)

@@ -1,13 +1,11 @@
 -- The search that decides whether a word fits a pattern, step by step.
 use Rattle.std.proofs.Common.{◌≡◌, ◌≢◌, ◌⊎◌, inl, inr, ℕ, ◌+◌, ◌*◌, ◌-◌, ◌<◌, ◌≤◌, List, [], ◌∷◌}
-use Rattle.std.proofs.Common.{◌++◌}
-use Rattle.std.proofs.Common.{length, drop, refl, sym, ap, subst, ◌∙◌, arith, append_assoc}
-use Rattle.std.proofs.Common.{length-append}
+use Rattle.std.proofs.Common.{◌++◌, length, drop, refl, sym, ap, subst, ◌∙◌, arith, append_assoc}
+use Rattle.std.proofs.Common.{length-append, mul-le-mul_right, add-mul, one-mul, Bool, true, false}
 use Rattle.std.proofs.lemmas.List.{drop-append-le, length-drop}
 use Rattle.std.proofs.Math.Seq.{drop-append_seam}
-use Rattle.std.proofs.Common.{mul-le-mul_right, add-mul, one-mul, Bool, true, false}
 use Rattle.std.specs.Prelude.{◌==◌}
-use Rattle.tape_run.specs.UnpackChoice.{Fits, Represents}
+use Rattle.tape_run.specs.UnpackChoice.{Fits}
 
 -- no character is a star
 abbrev pub NoStar : List ℕ → Type 0
@@ -211,11 +209,6 @@ tried_later pattern word after from left rest bytes b is not t = record {
   rest_len = omega (arith, t.from_len, ap length is);
 }
 
-pub fits_at_end : (pattern word after from left rest : List ℕ) → left ≡ [] → rest ≡ []
-    → Tried pattern word after from left rest → Fits pattern word
-fits_at_end pattern word after from left rest a b t =
-    t.here (subst (λ x. Fits x rest) (sym a) b)
-
 none_of : (xs : List ℕ) → length xs ≡ 0 → xs ≡ []
 none_of [] e = refl
 none_of (x ∷ xs) e = absurd (omega (arith, e))
@@ -252,28 +245,6 @@ smaller_star pattern word after from left others rest is t =
     ) in
     let l = lower (length others) (length after) ((length word + 1) * p + 1)
     (length rest * p + length others) (length from * p + length left) less few in l
-
-pub smaller_plain : (pattern word after from left others rest bytes : List ℕ) (c : ℕ)
-    → left ≡ c ∷ others
-    → length after * ((length word + 1) * (length pattern + 1) + 1)
-    + (length from * (length pattern + 1) + length others)
-    < length after * ((length word + 1) * (length pattern + 1) + 1)
-    + (length from * (length pattern + 1) + length left)
-smaller_plain pattern word after from left others rest bytes c is = omega (arith, ap length is)
-
-pub smaller_later : (pattern word after from left rest bytes : List ℕ) (b : ℕ) → from ≡ b ∷ bytes
-    → Tried pattern word after from left rest
-    → length after * ((length word + 1) * (length pattern + 1) + 1)
-    + (length bytes * (length pattern + 1) + length after)
-    < length after * ((length word + 1) * (length pattern + 1) + 1)
-    + (length from * (length pattern + 1) + length left)
-smaller_later pattern word after from left rest bytes b is t =
-    let p = length pattern + 1 in
-    omega (
-      arith,
-      lower (length bytes) (length from) p (length after) (length left)
-          (omega (arith, ap length is)) (omega (arith, t.after_len)),
-    )
 
 pub some_left : (b : Bool) (xs : List ℕ) → b ≡ (length xs == 0) → b ≡ false → xs ≢ []
 some_left b xs e f none =

@@ -205,9 +205,7 @@ pub gives_none : (set : FileSet) (x : TapeItem) (answer : Answer) (old new : Sta
     → before set new.file new.position ≡ before set old.file old.position
 gives_none set x Passed old new e g = g
 gives_none set x Deliver old new e g = absurd (e refl)
-gives_none set x SectionDone old new e g = g
-gives_none set x Complete old new e g = g
-gives_none set x (Useless why) old new e g = g
+gives_none set x _ old new e g = g
 
 -- the item that came
 pub came_block : (arrived : Option TapeItem) (x : TapeItem) (bytes : List ℕ) → arrived ≡ Some x

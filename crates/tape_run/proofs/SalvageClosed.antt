@@ -26,7 +26,7 @@ use Rattle.tape_run.specs.SalvageWalk.{unnamed_after, one_read, section_by, seco
 use Rattle.tape_run.specs.SalvageWalk.{named_by, FoundAt, sections_in, unclosed_by, and_read}
 use Rattle.tape_run.specs.SalvageWalk.{and_unreadable, one_unreadable}
 use Rattle.tape_run.specs.SalvageClosed.{IsClosedIn, IsThere, ClosedAreThere}
-use Rattle.tape_run.proofs.SalvageLater.{PAt, all_found}
+use Rattle.tape_run.proofs.SalvageLater.{PAt, all_found, either}
 use Rattle.tape_run.proofs.SalvageComing.{all_counted, is_own, HeadersTo, Open, Comes, further}
 use Rattle.tape_run.proofs.SalvageComing.{with_label, some_first, with_doubt, at_mark, not_bad}
 use Rattle.tape_run.proofs.SalvageComing.{at_data_mark}
@@ -78,12 +78,7 @@ none_goes_on : (o : Option Kind) (xs : List TapeItem) (v : OpenSection) (k : Clo
     → Open (goes_on_by o) xs v k → ⊥
 none_goes_on None xs v k o = o
 none_goes_on (Some kinds.Vol1) xs v k o = o
-none_goes_on (Some kinds.Hdr1) xs v k o = o
-none_goes_on (Some kinds.Hdr2) xs v k o = o
-none_goes_on (Some kinds.Eof1) xs v k o = o
-none_goes_on (Some kinds.Eof2) xs v k o = o
-none_goes_on (Some kinds.Eov1) xs v k o = o
-none_goes_on (Some kinds.Eov2) xs v k o = o
+none_goes_on _ xs v k o = o
 
 only_closed : (x : TapeItem) (t : Expected) (xs : List TapeItem) (v : OpenSection) (k : Closing)
     → (Open t xs v k → ⊥) → IsClosedIn xs v k ⊎ Open t xs v k → IsClosedIn (x ∷ xs) v k
@@ -115,12 +110,7 @@ second : (u : OpenSection) (o : Option Kind) (r : Result Head2 LabelFault) (b : 
     → HeadersTo u.key u.blocks u.digest u.certain (block b ∷ xs) v k
 second u None r b xs v k h = with_label _ _ _ _ (block b) xs v k tt h
 second u (Some kinds.Hdr2) r b xs v k h = with_label _ _ _ _ (block b) xs v k tt h
-second u (Some kinds.Vol1) r b xs v k h = with_label _ _ _ _ (block b) xs v k tt h
-second u (Some kinds.Hdr1) r b xs v k h = with_label _ _ _ _ (block b) xs v k tt h
-second u (Some kinds.Eof1) r b xs v k h = with_label _ _ _ _ (block b) xs v k tt h
-second u (Some kinds.Eof2) r b xs v k h = with_label _ _ _ _ (block b) xs v k tt h
-second u (Some kinds.Eov1) r b xs v k h = with_label _ _ _ _ (block b) xs v k tt h
-second u (Some kinds.Eov2) r b xs v k h = with_label _ _ _ _ (block b) xs v k tt h
+second u _ r b xs v k h = with_label _ _ _ _ (block b) xs v k tt h
 
 -- a block in place of the trailer label
 trailer_item : (u : OpenSection) (b : List ℕ) (r : Result Trail1 LabelFault) (xs : List TapeItem)
@@ -180,85 +170,61 @@ back (Outside n) bad xs v k h none = inl (only_closed bad _ xs v k
     (none_bad (nat_lt n 2) (n == 1) _ n xs v k) (h none))
 back (Outside n) mark xs v k h none =
     inl (only_closed mark _ xs v k (none_mark (n == 0) (n == 1) xs v k) (h none))
-back (Second u) (block b) xs v k h none = elim (h none) [
-  | inl c ↦ inl (further (block b) xs v k c)
-  | inr o ↦ inr (second u (kind_at b) (head2_at b) b xs v k o)
-]
-back (Second u) bad xs v k h none = elim (h none) [
-  | inl c ↦ inl (further bad xs v k c)
-  | inr o ↦ inr (with_doubt u xs v k o)
-]
-back (Second u) mark xs v k h none = elim (h none) [
-  | inl c ↦ inl (further mark xs v k c)
-  | inr o ↦ inr (at_mark u.key u.blocks u.digest u.certain xs v k o)
-]
-back (Headers u) (block b) xs v k h none = elim (h none) [
-  | inl c ↦ inl (further (block b) xs v k c)
-  | inr o ↦ inr (with_label u.key u.blocks u.digest u.certain (block b) xs v k tt o)
-]
-back (Headers u) bad xs v k h none = elim (h none) [
-  | inl c ↦ inl (further bad xs v k c)
-  | inr o ↦ inr (with_doubt u xs v k o)
-]
-back (Headers u) mark xs v k h none = elim (h none) [
-  | inl c ↦ inl (further mark xs v k c)
-  | inr o ↦ inr (at_mark u.key u.blocks u.digest u.certain xs v k o)
-]
-back (Data u) (block b) xs v k h none = elim (h none) [
-  | inl c ↦ inl (further (block b) xs v k c)
-  | inr o ↦ inr (record {
-    data_items = block b ∷ o.data_items;
-    trailer = o.trailer;
-    trail = o.trail;
-    rest = o.rest;
-    is = ap (λ (l : List TapeItem). block b ∷ l) o.is;
-    no_data = (tt, o.no_data);
-    ends = o.ends;
-    own = o.own;
-    same_key = o.same_key;
-    all_blocks = o.all_blocks;
-    all_digest = o.all_digest;
-    readable = λ e. ((o.readable e).0, (not_bad b, (o.readable e).1));
-    closing = o.closing;
-  })
-]
-back (Data u) bad xs v k h none = elim (h none) [
-  | inl c ↦ inl (further bad xs v k c)
-  | inr o ↦ inr (record {
-    data_items = bad ∷ o.data_items;
-    trailer = o.trailer;
-    trail = o.trail;
-    rest = o.rest;
-    is = ap (λ (l : List TapeItem). bad ∷ l) o.is;
-    no_data = (tt, o.no_data);
-    ends = o.ends;
-    own = o.own;
-    same_key = o.same_key;
-    all_blocks = o.all_blocks;
-    all_digest = o.all_digest;
-    readable = λ e. absurd (some_first u.certain u.blocks (o.readable e).0);
-    closing = o.closing;
-  })
-]
-back (Data u) mark xs v k h none = elim (h none) [
-  | inl c ↦ inl (further mark xs v k c)
-  | inr o ↦ inr (at_data_mark u.key u.blocks u.digest u.certain xs v k o)
-]
+back (Second u) (block b) xs v k h none =
+    either (h none) (further (block b) xs v k) (second u (kind_at b) (head2_at b) b xs v k)
+back (Second u) bad xs v k h none = either (h none) (further bad xs v k) (with_doubt u xs v k)
+back (Second u) mark xs v k h none =
+    either (h none) (further mark xs v k) (at_mark u.key u.blocks u.digest u.certain xs v k)
+back (Headers u) (block b) xs v k h none = either (h none) (further (block b) xs v k)
+    (with_label u.key u.blocks u.digest u.certain (block b) xs v k tt)
+back (Headers u) bad xs v k h none = either (h none) (further bad xs v k) (with_doubt u xs v k)
+back (Headers u) mark xs v k h none =
+    either (h none) (further mark xs v k) (at_mark u.key u.blocks u.digest u.certain xs v k)
+back (Data u) (block b) xs v k h none = either (h none) (further (block b) xs v k) (λ o. record {
+  data_items = block b ∷ o.data_items;
+  trailer = o.trailer;
+  trail = o.trail;
+  rest = o.rest;
+  is = ap (λ (l : List TapeItem). block b ∷ l) o.is;
+  no_data = (tt, o.no_data);
+  ends = o.ends;
+  own = o.own;
+  same_key = o.same_key;
+  all_blocks = o.all_blocks;
+  all_digest = o.all_digest;
+  readable = λ e. ((o.readable e).0, (not_bad b, (o.readable e).1));
+  closing = o.closing;
+})
+back (Data u) bad xs v k h none = either (h none) (further bad xs v k) (λ o. record {
+  data_items = bad ∷ o.data_items;
+  trailer = o.trailer;
+  trail = o.trail;
+  rest = o.rest;
+  is = ap (λ (l : List TapeItem). bad ∷ l) o.is;
+  no_data = (tt, o.no_data);
+  ends = o.ends;
+  own = o.own;
+  same_key = o.same_key;
+  all_blocks = o.all_blocks;
+  all_digest = o.all_digest;
+  readable = λ e. absurd (some_first u.certain u.blocks (o.readable e).0);
+  closing = o.closing;
+})
+back (Data u) mark xs v k h none =
+    either (h none) (further mark xs v k) (at_data_mark u.key u.blocks u.digest u.certain xs v k)
 back (Trailer u) (block b) xs v k h none =
     trailer_item u b (trail1_at b) xs v k refl none (h none)
 back (Trailer u) bad xs v k h none = inl (only_closed bad (Outside 0) xs v k (λ o. o) (h none))
 back (Trailer u) mark xs v k h none = inl (only_closed mark (Outside 1) xs v k (λ o. o) (h none))
-back (Trailers u l) (block b) xs v k h none = elim (h none) [
-  | inl c ↦ inl (further (block b) xs v k c)
-  | inr o ↦ inr (record {
-    key = o.key;
-    blocks = o.blocks;
-    digest = o.digest;
-    certain = o.certain;
-    after = λ e. none_after u.after (o.after e);
-    closing = o.closing;
-  })
-]
+back (Trailers u l) (block b) xs v k h none = either (h none) (further (block b) xs v k)
+    (λ o. record {
+      key = o.key;
+      blocks = o.blocks;
+      digest = o.digest;
+      certain = o.certain;
+      after = λ e. none_after u.after (o.after e);
+      closing = o.closing;
+    })
 back (Trailers u l) bad xs v k h none =
     inl (only_closed bad (Outside 0) xs v k (λ o. o) (h none))
 back (Trailers u l) mark xs v k h none = inl (only_closed mark Next xs v k (λ o. o) (h none))

@@ -3,20 +3,19 @@ use Rattle.std.proofs.Common.{◌≡◌, inl, inr, ℕ, ◌+◌, ◌==◌, ◌&&
 use Rattle.std.proofs.Common.{◌++◌, length, Some, refl, sym, ap, ◌∙◌, arith}
 use Rattle.std.specs.Prelude.{if◌then◌else◌}
 use Rattle.std.specs.List.{AllByRecursion}
-use Rattle.tape_image.specs.Tape.{TapeItem, block, bad, mark}
+use Rattle.tape_image.specs.Tape.{TapeItem, mark}
 use Rattle.tape_set.specs.Layout.{Volume}
 use Rattle.tape_set.specs.Lawful.{IsVolume, FileForm}
 use Rattle.tape_run.specs.declared.section.SectionKey.{SectionKey}
 use Rattle.tape_run.specs.Noted.{same_key}
 use Rattle.tape_run.specs.declared.salvage.walk.Expected.{Expected}
 use Rattle.tape_run.specs.declared.salvage.walk.Expected.TheVariants.{Outside, Second, Headers}
-use Rattle.tape_run.specs.declared.salvage.walk.Expected.TheVariants.{Data, Trailer, Trailers}
-use Rattle.tape_run.specs.declared.salvage.walk.Expected.TheVariants.{Next, Over, Skipping}
-use Rattle.tape_run.specs.declared.salvage.walk.Expected.TheVariants.{Unnamed, UnnamedTrailer}
+use Rattle.tape_run.specs.declared.salvage.walk.Expected.TheVariants.{Data, Trailer, Trailers, Next}
+use Rattle.tape_run.specs.declared.salvage.walk.Expected.TheVariants.{Over, Skipping, Unnamed}
+use Rattle.tape_run.specs.declared.salvage.walk.Expected.TheVariants.{UnnamedTrailer}
 use Rattle.tape_run.specs.SalvageWalk.{step, expected_after}
 use Rattle.tape_run.specs.SalvageBlocks.{Salvaged}
-use Rattle.tape_run.specs.SalvageImage.{is_in, is_mark, read_in, closings, salvaged_from}
-use Rattle.tape_run.specs.SalvageImage.{EndsData}
+use Rattle.tape_run.specs.SalvageImage.{is_in, is_mark, read_in, closings, salvaged_from, EndsData}
 use Rattle.tape_run.specs.SalvageSections.{Labels, SectionRead, IsRead, IsOther, key_of, MayBegin}
 use Rattle.tape_run.specs.SalvageSections.{AreLabels, after_trailers, read_section, read_volume}
 use Rattle.tape_run.specs.SalvageSections.{RecoversFromReading}
@@ -49,14 +48,7 @@ module _ (key : SectionKey) where
   not_in (Outside n) x may = refl
   not_in Next x may = refl
   not_in (Second u) x may = absurd may
-  not_in (Headers u) x may = absurd may
-  not_in (Data u) x may = absurd may
-  not_in (Trailer u) x may = absurd may
-  not_in (Trailers u k) x may = absurd may
-  not_in Over x may = absurd may
-  not_in (Unnamed r) x may = absurd may
-  not_in (UnnamedTrailer r) x may = absurd may
-  not_in (Skipping n u) x may = absurd may
+  not_in _ x may = absurd may
 
   quiet : Quiet count
   quiet = record {
@@ -93,14 +85,7 @@ module _ (key : SectionKey) where
           marked false true = refl
           marked false false = refl
   not_open (Second u) may = absurd may
-  not_open (Headers u) may = absurd may
-  not_open (Data u) may = absurd may
-  not_open (Trailer u) may = absurd may
-  not_open (Trailers u k) may = absurd may
-  not_open Over may = absurd may
-  not_open (Unnamed r) may = absurd may
-  not_open (UnnamedTrailer r) may = absurd may
-  not_open (Skipping n u) may = absurd may
+  not_open _ may = absurd may
 
   pub record Once (xs : List TapeItem) : Type 0 where
     pub once : closings key (Outside 0) xs ≡ 1

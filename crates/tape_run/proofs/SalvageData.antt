@@ -1,45 +1,33 @@
 -- The data items of a section among the items that were read of an image.
-use Rattle.std.proofs.Common.{◌≡◌, ◌<◌, ◌≤◌, ℕ, ◌+◌, ◌-◌, ◌==◌, ◌&&◌, Bool, true, false, List, []}
-use Rattle.std.proofs.Common.{◌∷◌, ◌++◌, length, Option, Some, None, Result, Ok, Err, refl, sym, ap}
-use Rattle.std.proofs.Common.{subst, ◌∙◌, arith, append_assoc, append-nil}
+use Rattle.std.proofs.Common.{◌≡◌, ◌<◌, ◌≤◌, ℕ, ◌+◌, ◌-◌, ◌&&◌, Bool, true, false, List, [], ◌∷◌}
+use Rattle.std.proofs.Common.{◌++◌, length, Option, Some, None, refl, sym, ap, subst, ◌∙◌, arith}
+use Rattle.std.proofs.Common.{append_assoc, append-nil}
 use Rattle.std.specs.Prelude.{if◌then◌else◌, nat_lt, min}
 use Rattle.std.specs.List.{AllByRecursion}
 use Rattle.std.proofs.lemmas.Bool.Decides.{nat_tests}
 use Rattle.tape_image.specs.Tape.{TapeItem, block, bad, mark}
-use Rattle.tape_label.specs.declared.values.Kind.{Kind}
-use Rattle.tape_label.specs.declared.values.Kind.TheVariants as kinds
-use Rattle.tape_label.specs.declared.values.Head1.{Head1}
-use Rattle.tape_label.specs.declared.values.Trail1.{Trail1}
-use Rattle.tape_label.specs.declared.label.LabelFault.{LabelFault}
-use Rattle.tape_label.specs.Kinds.{kind_at}
-use Rattle.tape_label.specs.Reading.{head1_at, head2_at, trail1_at}
-use Rattle.tape_set.specs.Lawful.{FileForm, label_count}
+use Rattle.tape_set.specs.Lawful.{FileForm}
 use Rattle.tape_run.specs.declared.section.SectionKey.{SectionKey}
 use Rattle.tape_run.specs.Noted.{same_key}
 use Rattle.tape_run.specs.declared.salvage.copies.SectionCopy.{SectionCopy}
 use Rattle.tape_run.specs.declared.salvage.walk.OpenSection.{OpenSection}
 use Rattle.tape_run.specs.declared.salvage.walk.Closing.{Closing}
-use Rattle.tape_run.specs.declared.salvage.walk.UnnamedItems.{UnnamedItems}
 use Rattle.tape_run.specs.declared.salvage.walk.Expected.{Expected}
 use Rattle.tape_run.specs.declared.salvage.walk.Expected.TheVariants.{Outside, Second, Headers}
-use Rattle.tape_run.specs.declared.salvage.walk.Expected.TheVariants.{Data, Trailer, Trailers}
-use Rattle.tape_run.specs.declared.salvage.walk.Expected.TheVariants.{Next, Over, Skipping}
-use Rattle.tape_run.specs.declared.salvage.walk.Expected.TheVariants.{Unnamed, UnnamedTrailer}
-use Rattle.tape_run.specs.SalvageWalk.{step, expected_after, begun_by, closed_by, unnamed_by}
-use Rattle.tape_run.specs.SalvageWalk.{outside_by, outside_mark, outside_bad, goes_on_by, skipping}
-use Rattle.tape_run.specs.SalvageWalk.{unnamed_after, one_read, with_item, with_data, closes}
-use Rattle.tape_run.specs.SalvageWalk.{with_unreadable, FoundSection, named_by}
+use Rattle.tape_run.specs.declared.salvage.walk.Expected.TheVariants.{Data, Trailer, Trailers, Next}
+use Rattle.tape_run.specs.declared.salvage.walk.Expected.TheVariants.{Over, Skipping, Unnamed}
+use Rattle.tape_run.specs.declared.salvage.walk.Expected.TheVariants.{UnnamedTrailer}
+use Rattle.tape_run.specs.SalvageWalk.{step, expected_after, with_item, with_data, with_unreadable}
 use Rattle.tape_run.specs.SalvageCopies.{believed, start_of, wrong_count}
 use Rattle.tape_run.specs.SalvageLine.{section_line}
 use Rattle.tape_run.specs.SalvageBlocks.{Salvaged, salvaged_at, text_at, gap_text}
-use Rattle.tape_run.specs.SalvageImage.{is_in, is_mark, number_in, read_in, closings, EndsData}
-use Rattle.tape_run.specs.SalvageImage.{salvaged_from, text_from}
-use Rattle.tape_run.specs.SalvageEnds.{without_rest, without_gap, with_count, with_end, ended}
-use Rattle.tape_run.specs.SalvageEnds.{end_from, end_text}
-use Rattle.tape_run.specs.SalvageTaking.{image_number, copy_text, after_copy}
-use Rattle.tape_run.specs.SalvageGaps.{datum, data_in, salvaged_data, AreReadOf, ReportsGaps}
-use Rattle.tape_run.specs.SalvageGaps.{GapsAreRuns, block_lines}
-use Rattle.tape_run.proofs.SalvageOpened.{second_is, one_more}
+use Rattle.tape_run.specs.SalvageImage.{is_in, is_mark, number_in, read_in, closings, salvaged_from}
+use Rattle.tape_run.specs.SalvageImage.{text_from}
+use Rattle.tape_run.specs.SalvageEnds.{without_rest, without_gap, with_count, ended, end_from}
+use Rattle.tape_run.specs.SalvageEnds.{end_text}
+use Rattle.tape_run.specs.SalvageTaking.{image_number}
+use Rattle.tape_run.specs.SalvageGaps.{datum, data_in, salvaged_data, AreReadOf, GapsAreRuns}
+use Rattle.tape_run.proofs.SalvageOpened.{one_more}
 use Rattle.tape_run.proofs.SalvagedSoFar.{expected_after-append, salvaged_from-append}
 use Rattle.tape_run.proofs.SalvagedSoFar.{text_from-append, closings-append, read_at_mark}
 use Rattle.tape_run.proofs.SalvageRest.{no_number, none_by, rest_none}
@@ -181,15 +169,7 @@ module _ (key : SectionKey) where
         absurd (cc (none_by key true n
         (ap (λ b. (if b && true then 1 else 0) + n) (sym is) ∙ none)))
     has_data_by true (Outside n) g (x ∷ xs) fits is fresh none = absurd (cc is)
-    has_data_by true (Second u) g (x ∷ xs) fits is fresh none = absurd (cc is)
-    has_data_by true (Headers u) g (x ∷ xs) fits is fresh none = absurd (cc is)
-    has_data_by true (Trailer u) g (x ∷ xs) fits is fresh none = absurd (cc is)
-    has_data_by true (Trailers u k) g (x ∷ xs) fits is fresh none = absurd (cc is)
-    has_data_by true Next g (x ∷ xs) fits is fresh none = absurd (cc is)
-    has_data_by true Over g (x ∷ xs) fits is fresh none = absurd (cc is)
-    has_data_by true (Unnamed r) g (x ∷ xs) fits is fresh none = absurd (cc is)
-    has_data_by true (UnnamedTrailer r) g (x ∷ xs) fits is fresh none = absurd (cc is)
-    has_data_by true (Skipping n u) g (x ∷ xs) fits is fresh none = absurd (cc is)
+    has_data_by _ _ g _ fits is fresh none = absurd (cc is)
 
     data-append : (s : Expected) (xs ys : List TapeItem) → data_in key most s (xs ++ ys)
         ≡ data_in key most s xs ++ data_in key most (expected_after s xs) ys

@@ -1,7 +1,6 @@
 -- A file recovered from readings of volumes of a valid set.
-use Rattle.std.proofs.Common.{◌≡◌, ℕ, ◌&&◌, nat_lt, Bool, true, false, List, [], ◌∷◌, ◌++◌, length}
-use Rattle.std.proofs.Common.{Option, Some, refl, sym, ap, subst, ◌∙◌, arith, append-nil}
-use Rattle.std.proofs.Common.{append_assoc, ◌+◌}
+use Rattle.std.proofs.Common.{◌≡◌, ℕ, ◌&&◌, nat_lt, Bool, true, false, List, [], ◌∷◌, ◌++◌, Option}
+use Rattle.std.proofs.Common.{Some, refl, sym, ap, subst, ◌∙◌, arith, append-nil, append_assoc, ◌+◌}
 use Rattle.std.specs.Prelude.{if◌then◌else◌, ◌||◌, is_some}
 use Rattle.std.specs.List.{AllByRecursion}
 use Rattle.std.proofs.lemmas.Bool.Decides.{nat_tests}
@@ -11,17 +10,16 @@ use Rattle.tape_run.specs.declared.salvage.copies.SectionCopy.{SectionCopy}
 use Rattle.tape_run.specs.declared.salvage.walk.Closing.{Closing}
 use Rattle.tape_run.specs.declared.salvage.walk.Expected.TheVariants.{Outside}
 use Rattle.tape_run.specs.SalvageWalk.{expected_after}
-use Rattle.tape_run.specs.SalvageRecords.{Piece, nothing, torn}
+use Rattle.tape_run.specs.SalvageRecords.{Piece, nothing}
 use Rattle.tape_run.specs.SalvageCopies.{wrong_count}
 use Rattle.tape_run.specs.SalvageBlocks.{Salvaged, none_salvaged, with_block, without_block}
 use Rattle.tape_run.specs.SalvageImage.{read_in, salvaged_from}
-use Rattle.tape_run.specs.SalvageEnds.{with_end, with_count, without_gap, ended}
-use Rattle.tape_run.specs.SalvageEnds.{without_rest}
+use Rattle.tape_run.specs.SalvageEnds.{with_end, with_count, without_gap, ended, without_rest}
 use Rattle.tape_run.specs.SalvageTaking.{Taken, after_taken, after_copy, after_all, has_form}
 use Rattle.tape_run.specs.SalvageWhole.{Blocks, piece_after}
 use Rattle.tape_run.specs.SalvageSections.{SectionRead}
 use Rattle.tape_run.specs.SalvageFile.{closed_copy, IsTakenFrom, AreTakenFrom, blocks_of}
-use Rattle.tape_run.specs.SalvageFile.{file_after, RecoversBlocks, RecoversFile, RecoversUpToGap}
+use Rattle.tape_run.specs.SalvageFile.{RecoversBlocks, RecoversFile, RecoversUpToGap}
 use Rattle.tape_run.proofs.SalvageChoice.{all_append}
 use Rattle.tape_run.proofs.SalvageSections.{salvaged_blocks, piece_of}
 use Rattle.tape_run.proofs.SalvageWhole.{gives_whole, all_whole}

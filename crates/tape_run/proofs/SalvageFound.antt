@@ -15,12 +15,12 @@ use Rattle.tape_run.specs.declared.salvage.walk.OpenSection.{OpenSection}
 use Rattle.tape_run.specs.declared.salvage.walk.Closing.{Closing}
 use Rattle.tape_run.specs.declared.salvage.walk.Expected.{Expected}
 use Rattle.tape_run.specs.declared.salvage.walk.Expected.TheVariants.{Outside, Second, Headers}
-use Rattle.tape_run.specs.declared.salvage.walk.Expected.TheVariants.{Data, Trailer, Trailers}
-use Rattle.tape_run.specs.declared.salvage.walk.Expected.TheVariants.{Next, Over, Skipping}
-use Rattle.tape_run.specs.declared.salvage.walk.Expected.TheVariants.{Unnamed, UnnamedTrailer}
-use Rattle.tape_run.specs.SalvageWalk.{step, expected_after, found_from, in_list, closes}
-use Rattle.tape_run.specs.SalvageWalk.{FoundSection, FoundAt, read_after, one_further, form_by}
-use Rattle.tape_run.specs.SalvageWalk.{open_section, sections_in}
+use Rattle.tape_run.specs.declared.salvage.walk.Expected.TheVariants.{Data, Trailer, Trailers, Next}
+use Rattle.tape_run.specs.declared.salvage.walk.Expected.TheVariants.{Over, Skipping, Unnamed}
+use Rattle.tape_run.specs.declared.salvage.walk.Expected.TheVariants.{UnnamedTrailer}
+use Rattle.tape_run.specs.SalvageWalk.{step, expected_after, found_from, in_list, FoundSection}
+use Rattle.tape_run.specs.SalvageWalk.{FoundAt, read_after, one_further, form_by, open_section}
+use Rattle.tape_run.specs.SalvageWalk.{sections_in}
 use Rattle.tape_run.specs.SalvageSections.{SectionRead, IsRead, Labels, AreLabels, read_labels}
 use Rattle.tape_run.specs.SalvageSections.{read_section, read_sections, read_volume, key_of}
 use Rattle.tape_run.specs.SalvageSections.{MayBegin, after_trailers, FindsSection}
@@ -75,20 +75,11 @@ at_place (x ∷ y ∷ l) t e = absurd (cc e)
 
 none_ends : (s : Expected) (x : TapeItem) → MayBegin s → (step s x).1 ≡ None
 none_ends (Outside n) (block b) may = refl
-none_ends (Outside n) bad may = refl
-none_ends (Outside n) mark may = refl
 none_ends Next (block b) may = refl
-none_ends Next bad may = refl
-none_ends Next mark may = refl
 none_ends (Second u) x may = absurd may
-none_ends (Headers u) x may = absurd may
-none_ends (Data u) x may = absurd may
-none_ends (Trailer u) x may = absurd may
-none_ends (Trailers u k) x may = absurd may
-none_ends Over x may = absurd may
-none_ends (Unnamed r) x may = absurd may
-none_ends (UnnamedTrailer r) x may = absurd may
-none_ends (Skipping n u) x may = absurd may
+none_ends (Outside n) _ may = refl
+none_ends Next _ may = refl
+none_ends _ x may = absurd may
 
 none_second : (u : OpenSection) (x : TapeItem) → (step (Second u) x).1 ≡ None
 none_second u (block b) = refl
@@ -230,14 +221,7 @@ none_open (Outside n) may = marks (n == 0) (n == 1)
     marks false false = refl
 none_open Next may = refl
 none_open (Second u) may = absurd may
-none_open (Headers u) may = absurd may
-none_open (Data u) may = absurd may
-none_open (Trailer u) may = absurd may
-none_open (Trailers u k) may = absurd may
-none_open Over may = absurd may
-none_open (Unnamed r) may = absurd may
-none_open (UnnamedTrailer r) may = absurd may
-none_open (Skipping n u) may = absurd may
+none_open _ may = absurd may
 
 -- The sections on a volume of which the labels and tape marks were read are found as they are.
 pub volume_found : (set_id : List ℕ) (volumes : ℕ) (v : Volume) (ls : Labels)

@@ -57,11 +57,7 @@ by_cause its all Device q xs ys given end why whole (stop, a, cut) b =
 by_cause its all OutOfMemory q xs ys given end why whole a b = absurd a
 by_cause its all Truncated q xs ys given end why whole a b =
     same_front its all xs q end _ why a.0 b
-by_cause its all (Reserved w) q xs ys given end why whole a b =
-    same_front its all xs q end _ why a.0 b
-by_cause its all TooLong q xs ys given end why whole a b = same_front its all xs q end _ why a.0 b
-by_cause its all LengthsDiffer q xs ys given end why whole a b =
-    same_front its all xs q end _ why a.0 b
+by_cause its all _ q xs ys given end why whole a b = same_front its all xs q end _ why a.0 b
 
 stops_front : (its all : List TapeItem) (stop : ImageStop) (xs ys : List ℕ) (end : ℕ) (why : Stop)
     → StopsBehind its stop xs ys → Begins 0 xs all end why

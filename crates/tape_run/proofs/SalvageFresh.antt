@@ -1,10 +1,7 @@
 -- A section whose data have not begun, before and after an item.
-use Rattle.std.proofs.Common.{◌≡◌, ◌<◌, ◌≤◌, ℕ, ◌+◌, ◌-◌, ◌==◌, ◌&&◌, Bool, true, false, List, []}
-use Rattle.std.proofs.Common.{◌∷◌, ◌++◌, length, Option, Some, None, Result, Ok, Err, refl, sym, ap}
-use Rattle.std.proofs.Common.{subst, ◌∙◌, arith, append_assoc, append-nil}
-use Rattle.std.specs.Prelude.{if◌then◌else◌, nat_lt, min}
-use Rattle.std.specs.List.{AllByRecursion}
-use Rattle.std.proofs.lemmas.Bool.Decides.{nat_tests}
+use Rattle.std.proofs.Common.{◌≡◌, ℕ, ◌-◌, ◌==◌, Bool, true, false, Option, Some, None, Result, Ok}
+use Rattle.std.proofs.Common.{Err, refl, sym, subst, ◌∙◌}
+use Rattle.std.specs.Prelude.{if◌then◌else◌, nat_lt}
 use Rattle.tape_image.specs.Tape.{TapeItem, block, bad, mark}
 use Rattle.tape_label.specs.declared.values.Kind.{Kind}
 use Rattle.tape_label.specs.declared.values.Kind.TheVariants as kinds
@@ -13,37 +10,22 @@ use Rattle.tape_label.specs.declared.values.Trail1.{Trail1}
 use Rattle.tape_label.specs.declared.label.LabelFault.{LabelFault}
 use Rattle.tape_label.specs.Kinds.{kind_at}
 use Rattle.tape_label.specs.Reading.{head1_at, head2_at, trail1_at}
-use Rattle.tape_set.specs.Lawful.{FileForm, label_count}
+use Rattle.tape_set.specs.Lawful.{label_count}
 use Rattle.tape_run.specs.declared.section.SectionKey.{SectionKey}
 use Rattle.tape_run.specs.Noted.{same_key}
 use Rattle.tape_run.specs.declared.salvage.copies.SectionCopy.{SectionCopy}
 use Rattle.tape_run.specs.declared.salvage.walk.OpenSection.{OpenSection}
-use Rattle.tape_run.specs.declared.salvage.walk.Closing.{Closing}
 use Rattle.tape_run.specs.declared.salvage.walk.UnnamedItems.{UnnamedItems}
 use Rattle.tape_run.specs.declared.salvage.walk.Expected.{Expected}
 use Rattle.tape_run.specs.declared.salvage.walk.Expected.TheVariants.{Outside, Second, Headers}
-use Rattle.tape_run.specs.declared.salvage.walk.Expected.TheVariants.{Data, Trailer, Trailers}
-use Rattle.tape_run.specs.declared.salvage.walk.Expected.TheVariants.{Next, Over, Skipping}
-use Rattle.tape_run.specs.declared.salvage.walk.Expected.TheVariants.{Unnamed, UnnamedTrailer}
-use Rattle.tape_run.specs.SalvageWalk.{step, expected_after, begun_by, closed_by, unnamed_by}
-use Rattle.tape_run.specs.SalvageWalk.{outside_by, outside_mark, outside_bad, goes_on_by, skipping}
-use Rattle.tape_run.specs.SalvageWalk.{unnamed_after, one_read, with_item, with_data, closes}
-use Rattle.tape_run.specs.SalvageWalk.{with_unreadable, FoundSection, named_by, unclosed_by}
-use Rattle.tape_run.specs.SalvageCopies.{believed, start_of}
-use Rattle.tape_run.specs.SalvageLine.{section_line}
-use Rattle.tape_run.specs.SalvageBlocks.{Salvaged, salvaged_at, text_at, gap_text}
-use Rattle.tape_run.specs.SalvageImage.{is_in, is_mark, number_in, read_in, closings, EndsData}
-use Rattle.tape_run.specs.SalvageImage.{salvaged_from, text_from}
-use Rattle.tape_run.specs.SalvageEnds.{without_rest, without_gap, with_count, with_end, ended}
-use Rattle.tape_run.specs.SalvageEnds.{end_from, end_text}
-use Rattle.tape_run.specs.SalvageTaking.{image_number, copy_text, after_copy}
-use Rattle.tape_run.specs.SalvageGaps.{datum, data_in, salvaged_data, AreReadOf, ReportsGaps}
-use Rattle.tape_run.specs.SalvageGaps.{GapsAreRuns, block_lines}
-use Rattle.tape_run.proofs.SalvageOpened.{second_is, one_more}
-use Rattle.tape_run.proofs.SalvagedSoFar.{expected_after-append, salvaged_from-append}
-use Rattle.tape_run.proofs.SalvagedSoFar.{text_from-append, closings-append, read_at_mark}
-use Rattle.tape_run.proofs.SalvageRest.{no_number, none_by, rest_none}
-use Rattle.tape_run.proofs.SalvageSections.{is_number, no_mark}
+use Rattle.tape_run.specs.declared.salvage.walk.Expected.TheVariants.{Data, Trailer, Trailers, Next}
+use Rattle.tape_run.specs.declared.salvage.walk.Expected.TheVariants.{Over, Skipping, Unnamed}
+use Rattle.tape_run.specs.declared.salvage.walk.Expected.TheVariants.{UnnamedTrailer}
+use Rattle.tape_run.specs.SalvageWalk.{step, begun_by, closed_by, unnamed_by, goes_on_by, skipping}
+use Rattle.tape_run.specs.SalvageWalk.{unnamed_after, one_read, closes, named_by, unclosed_by}
+use Rattle.tape_run.specs.SalvageCopies.{start_of}
+use Rattle.tape_run.specs.SalvageImage.{is_in, read_in}
+use Rattle.tape_run.proofs.SalvageOpened.{second_is}
 
 -- ---- a section whose data have not begun
 
@@ -79,12 +61,7 @@ module _ (key : SectionKey) where
   goes_on : (k : Option Kind) → Begins (goes_on_by k)
   goes_on None = (tt, refl)
   goes_on (Some kinds.Vol1) = (tt, refl)
-  goes_on (Some kinds.Hdr1) = (tt, refl)
-  goes_on (Some kinds.Hdr2) = (tt, refl)
-  goes_on (Some kinds.Eof1) = (tt, refl)
-  goes_on (Some kinds.Eof2) = (tt, refl)
-  goes_on (Some kinds.Eov1) = (tt, refl)
-  goes_on (Some kinds.Eov2) = (tt, refl)
+  goes_on _ = (tt, refl)
 
   either : (b : Bool) (t u : Expected) → Begins t → Begins u → Begins (if b then t else u)
   either true t u x y = x
@@ -135,34 +112,18 @@ module _ (key : SectionKey) where
   enters (Data u) mark fresh off = (off, none_off (same_key u.key key) u.blocks off)
   enters (Trailer u) (block b) fresh off = closed u (trail1_at b) (head1_at b)
   enters (Trailer u) bad fresh off = (tt, refl)
-  enters (Trailer u) mark fresh off = (tt, refl)
   enters (Trailers u k) (block b) fresh off = (tt, refl)
-  enters (Trailers u k) bad fresh off = (tt, refl)
-  enters (Trailers u k) mark fresh off = (tt, refl)
   enters Next (block b) fresh off = begun (head1_at b) (Outside 0) (tt, refl)
-  enters Next bad fresh off = (tt, refl)
-  enters Next mark fresh off = (tt, refl)
-  enters Over x fresh off = (tt, refl)
   enters (Unnamed r) (block b) fresh off = begun (head1_at b) (Unnamed _) (tt, refl)
-  enters (Unnamed r) bad fresh off = (tt, refl)
-  enters (Unnamed r) mark fresh off = (tt, refl)
   enters (UnnamedTrailer r) (block b) fresh off = named r (trail1_at b) (head1_at b)
-  enters (UnnamedTrailer r) bad fresh off = (tt, refl)
-  enters (UnnamedTrailer r) mark fresh off = (tt, refl)
   enters (Skipping n u) x fresh off = skips (n - 1) u fresh
+  enters _ _ fresh off = (tt, refl)
 
   pub not_read : (s : Expected) → Fresh s → is_in key s ≡ false → read_in key s ≡ 0
   not_read (Data u) fresh off = none_off (same_key u.key key) u.blocks off
   not_read (Trailer u) fresh off = none_off (same_key u.key key) u.blocks fresh
   not_read (Outside n) fresh off = refl
-  not_read (Second u) fresh off = refl
-  not_read (Headers u) fresh off = refl
-  not_read (Trailers u k) fresh off = refl
-  not_read Next fresh off = refl
-  not_read Over fresh off = refl
-  not_read (Unnamed r) fresh off = refl
-  not_read (UnnamedTrailer r) fresh off = refl
-  not_read (Skipping n u) fresh off = refl
+  not_read _ fresh off = refl
 
   pub starts : (c : SectionCopy) → Begins (start_of c)
   starts c = by c.skip

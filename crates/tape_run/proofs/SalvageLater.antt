@@ -1,6 +1,6 @@
 -- What is true of each section that is found: proved from the last item to the first.
-use Rattle.std.proofs.Common.{◌≡◌, ℕ, Bool, true, false, List, [], ◌∷◌, ◌++◌, Option, Some, None}
-use Rattle.std.proofs.Common.{Result, Ok, Err, refl, sym, ap, subst, ◌∙◌}
+use Rattle.std.proofs.Common.{◌≡◌, ℕ, Bool, true, false, List, [], ◌∷◌, Option, Some, None, Result}
+use Rattle.std.proofs.Common.{Ok, Err, refl, sym, ap, subst, ◌∙◌, ◌⊎◌, inl, inr}
 use Rattle.std.specs.Prelude.{if◌then◌else◌}
 use Rattle.std.specs.List.{AllByRecursion}
 use Rattle.tape_image.specs.Tape.{TapeItem, block, bad, mark}
@@ -12,9 +12,9 @@ use Rattle.tape_run.specs.declared.salvage.walk.OpenSection.{OpenSection}
 use Rattle.tape_run.specs.declared.salvage.walk.Closing.{Closing}
 use Rattle.tape_run.specs.declared.salvage.walk.Expected.{Expected}
 use Rattle.tape_run.specs.declared.salvage.walk.Expected.TheVariants.{Outside, Second, Headers}
-use Rattle.tape_run.specs.declared.salvage.walk.Expected.TheVariants.{Data, Trailer, Trailers}
-use Rattle.tape_run.specs.declared.salvage.walk.Expected.TheVariants.{Next, Over, Skipping}
-use Rattle.tape_run.specs.declared.salvage.walk.Expected.TheVariants.{Unnamed, UnnamedTrailer}
+use Rattle.tape_run.specs.declared.salvage.walk.Expected.TheVariants.{Data, Trailer, Trailers, Next}
+use Rattle.tape_run.specs.declared.salvage.walk.Expected.TheVariants.{Over, Skipping, Unnamed}
+use Rattle.tape_run.specs.declared.salvage.walk.Expected.TheVariants.{UnnamedTrailer}
 use Rattle.tape_run.specs.SalvageWalk.{step, expected_after, closed_by, closes, found_from, in_list}
 use Rattle.tape_run.specs.SalvageWalk.{FoundAt, FoundSection, one_further, open_section, read_after}
 use Rattle.tape_run.specs.SalvageWalk.{sections_in, unclosed_by}
@@ -49,6 +49,11 @@ no_end u (Ok t) h v k e = chosen (closes u t) e
     chosen true e = absurd (not_closed _ v k e refl)
     chosen false e = absurd (not_closed _ v k e refl)
 
+-- one of two, from one of two others
+pub either : {A B C D : Type 0} → A ⊎ C → (A → B) → (C → D) → B ⊎ D
+either (inl a) f g = inl (f a)
+either (inr c) f g = inr (g c)
+
 -- this is true of a section that was found, if it closes
 abbrev pub PAt : (Expected → List TapeItem → OpenSection → Closing → Type 0) → Expected
     → List TapeItem → FoundAt → Type 0
@@ -80,31 +85,15 @@ module _ (P : Expected → List TapeItem → OpenSection → Closing → Type 0)
   ends_here (Trailers u l) (block b) xs v k e = absurd (not_closed _ v k e refl)
   ends_here (Trailer u) (block b) xs v k e =
       absurd (no_end u (trail1_at b) (head1_at b) v k e)
-  ends_here (Trailer u) bad xs v k e = absurd (not_closed _ v k e refl)
-  ends_here (Trailer u) mark xs v k e = absurd (not_closed _ v k e refl)
   ends_here (Outside n) (block b) xs v k e = absurd (not_closed _ v k e refl)
-  ends_here (Outside n) bad xs v k e = absurd (not_closed _ v k e refl)
-  ends_here (Outside n) mark xs v k e = absurd (not_closed _ v k e refl)
   ends_here (Second u) (block b) xs v k e = absurd (not_closed _ v k e refl)
-  ends_here (Second u) bad xs v k e = absurd (not_closed _ v k e refl)
-  ends_here (Second u) mark xs v k e = absurd (not_closed _ v k e refl)
   ends_here (Headers u) (block b) xs v k e = absurd (not_closed _ v k e refl)
-  ends_here (Headers u) bad xs v k e = absurd (not_closed _ v k e refl)
-  ends_here (Headers u) mark xs v k e = absurd (not_closed _ v k e refl)
   ends_here (Data u) (block b) xs v k e = absurd (not_closed _ v k e refl)
-  ends_here (Data u) bad xs v k e = absurd (not_closed _ v k e refl)
-  ends_here (Data u) mark xs v k e = absurd (not_closed _ v k e refl)
   ends_here Next (block b) xs v k e = absurd (not_closed _ v k e refl)
-  ends_here Next bad xs v k e = absurd (not_closed _ v k e refl)
-  ends_here Next mark xs v k e = absurd (not_closed _ v k e refl)
-  ends_here Over x xs v k e = absurd (not_closed _ v k e refl)
   ends_here (Unnamed r) (block b) xs v k e = absurd (not_closed _ v k e refl)
-  ends_here (Unnamed r) bad xs v k e = absurd (not_closed _ v k e refl)
-  ends_here (Unnamed r) mark xs v k e = absurd (not_closed _ v k e refl)
   ends_here (UnnamedTrailer r) (block b) xs v k e = absurd (not_closed _ v k e refl)
-  ends_here (UnnamedTrailer r) bad xs v k e = absurd (not_closed _ v k e refl)
-  ends_here (UnnamedTrailer r) mark xs v k e = absurd (not_closed _ v k e refl)
   ends_here (Skipping n u) x xs v k e = skips n u (x ∷ xs) v k
+  ends_here _ _ xs v k e = absurd (not_closed _ v k e refl)
 
   still_open : (s : Expected) (xs : List TapeItem) (v : OpenSection) (k : Closing)
       → open_section (expected_after s xs) ≡ Some (v, Some k) → P s xs v k
@@ -112,17 +101,10 @@ module _ (P : Expected → List TapeItem → OpenSection → Closing → Type 0)
       let same : u ≡ v = ap (section_or u) e in
       let alike : l ≡ k = ap (closing_or l) e in named u v l k [] same alike
   still_open (Outside n) [] v k e = absurd (not_closed _ v k e refl)
-  still_open (Second u) [] v k e = absurd (not_closed _ v k e refl)
-  still_open (Headers u) [] v k e = absurd (not_closed _ v k e refl)
-  still_open (Data u) [] v k e = absurd (not_closed _ v k e refl)
-  still_open (Trailer u) [] v k e = absurd (not_closed _ v k e refl)
-  still_open Next [] v k e = absurd (not_closed _ v k e refl)
-  still_open Over [] v k e = absurd (not_closed _ v k e refl)
-  still_open (Unnamed r) [] v k e = absurd (not_closed _ v k e refl)
-  still_open (UnnamedTrailer r) [] v k e = absurd (not_closed _ v k e refl)
   still_open (Skipping n u) [] v k e = skips n u [] v k
   still_open s (x ∷ xs) v k e =
       back s x xs v k (still_open (step s x).0 xs v k e)
+  still_open _ _ v k e = absurd (not_closed _ v k e refl)
 
   -- ---- all sections
 

@@ -36,14 +36,7 @@ pub may_begin : (s : Expected) (b : List ℕ) (h : Head1) → MayBegin s → hea
 may_begin (Outside n) b h may is = rw may (ap (λ r. begun_by r (unnamed_after n one_read)) is)
 may_begin Next b h may is = ap (λ r. begun_by r (Outside 0)) is
 may_begin (Second u) b h may is = absurd may
-may_begin (Headers u) b h may is = absurd may
-may_begin (Data u) b h may is = absurd may
-may_begin (Trailer u) b h may is = absurd may
-may_begin (Trailers u k) b h may is = absurd may
-may_begin Over b h may is = absurd may
-may_begin (Unnamed r) b h may is = absurd may
-may_begin (UnnamedTrailer r) b h may is = absurd may
-may_begin (Skipping n u) b h may is = absurd may
+may_begin _ b h may is = absurd may
 
 -- after its second label
 pub record Heads (u : OpenSection) (k : Option Kind) (r : Result Head2 LabelFault) : Type 0 where
@@ -82,11 +75,7 @@ second_is u (Some kinds.Hdr2) r = record {
   form = λ e. refl;
 }
 second_is u (Some kinds.Vol1) r = no_second u (Some kinds.Vol1) r refl (λ e. absurd (cc e))
-second_is u (Some kinds.Hdr1) r = no_second u (Some kinds.Hdr1) r refl (λ e. absurd (cc e))
-second_is u (Some kinds.Eof1) r = no_second u (Some kinds.Eof1) r refl (λ e. absurd (cc e))
-second_is u (Some kinds.Eof2) r = no_second u (Some kinds.Eof2) r refl (λ e. absurd (cc e))
-second_is u (Some kinds.Eov1) r = no_second u (Some kinds.Eov1) r refl (λ e. absurd (cc e))
-second_is u (Some kinds.Eov2) r = no_second u (Some kinds.Eov2) r refl (λ e. absurd (cc e))
+second_is u s r = no_second u s r refl (λ e. absurd (cc e))
 
 -- its trailer label closes it
 pub closes_it : (u : OpenSection) (t : Trail1) → t.head.sect ≡ u.key.sect

@@ -25,15 +25,7 @@ module _ (key : SectionKey) where
   stays_in (Data u) bad h m = h
   stays_in (Data u) mark h m = absurd (cc m)
   stays_in (Outside n) x h m = absurd (cc h)
-  stays_in (Second u) x h m = absurd (cc h)
-  stays_in (Headers u) x h m = absurd (cc h)
-  stays_in (Trailer u) x h m = absurd (cc h)
-  stays_in (Trailers u k) x h m = absurd (cc h)
-  stays_in Next x h m = absurd (cc h)
-  stays_in Over x h m = absurd (cc h)
-  stays_in (Unnamed r) x h m = absurd (cc h)
-  stays_in (UnnamedTrailer r) x h m = absurd (cc h)
-  stays_in (Skipping n u) x h m = absurd (cc h)
+  stays_in _ _ h m = absurd (cc h)
 
   pub none_by : (m : Bool) (n : ℕ) → (if true && m then 1 else 0) + n ≡ 0 → m ≡ false
   none_by true n e = absurd (omega (arith, e))
@@ -58,15 +50,7 @@ module _ (key : SectionKey) where
   no_number most (Data u) h =
       ap (λ (b : Bool). if b && nat_lt u.blocks most then Some u.blocks else None) h
   no_number most (Outside n) h = refl
-  no_number most (Second u) h = refl
-  no_number most (Headers u) h = refl
-  no_number most (Trailer u) h = refl
-  no_number most (Trailers u k) h = refl
-  no_number most Next h = refl
-  no_number most Over h = refl
-  no_number most (Unnamed r) h = refl
-  no_number most (UnnamedTrailer r) h = refl
-  no_number most (Skipping n u) h = refl
+  no_number most _ h = refl
 
   module _ (most : ℕ) (form : Option FileForm) where
     nothing_by : (b : Bool) (s : Expected) (g : Salvaged) (xs : List TapeItem) → is_in key s ≡ b
@@ -88,15 +72,7 @@ module _ (key : SectionKey) where
   after_mark : (s : Expected) → is_in key s ≡ true → is_in key (step s mark).0 ≡ false
   after_mark (Data u) h = refl
   after_mark (Outside n) h = absurd (cc h)
-  after_mark (Second u) h = absurd (cc h)
-  after_mark (Headers u) h = absurd (cc h)
-  after_mark (Trailer u) h = absurd (cc h)
-  after_mark (Trailers u k) h = absurd (cc h)
-  after_mark Next h = absurd (cc h)
-  after_mark Over h = absurd (cc h)
-  after_mark (Unnamed r) h = absurd (cc h)
-  after_mark (UnnamedTrailer r) h = absurd (cc h)
-  after_mark (Skipping n u) h = absurd (cc h)
+  after_mark _ h = absurd (cc h)
 
 -- the data of the section do not end again
 pub none_after : (key : SectionKey) (o : Expected) (items rest : List TapeItem)

@@ -1,7 +1,7 @@
 -- The records recovered from a section of a valid set.
-use Rattle.std.proofs.Common.{◌≡◌, ◌<◌, ◌≤◌, ℕ, ◌+◌, Bool, true, false, List, [], ◌∷◌, length}
-use Rattle.std.proofs.Common.{Option, Some, None, refl, sym, ap, subst, ◌∙◌, arith}
-use Rattle.std.specs.Prelude.{if◌then◌else◌, nat_lt}
+use Rattle.std.proofs.Common.{◌≡◌, ◌<◌, ◌≤◌, ℕ, ◌+◌, true, false, List, [], ◌∷◌, length, Option}
+use Rattle.std.proofs.Common.{Some, None, refl, sym, ap, subst, ◌∙◌, arith}
+use Rattle.std.specs.Prelude.{nat_lt}
 use Rattle.std.proofs.lemmas.Bool.Decides.{nat_tests}
 use Rattle.tape_image.specs.Tape.{TapeItem, block, bad, mark}
 use Rattle.tape_set.specs.Lawful.{FileForm}
@@ -10,17 +10,16 @@ use Rattle.tape_run.specs.Noted.{same_key}
 use Rattle.tape_run.specs.declared.salvage.walk.OpenSection.{OpenSection}
 use Rattle.tape_run.specs.declared.salvage.walk.Expected.{Expected}
 use Rattle.tape_run.specs.declared.salvage.walk.Expected.TheVariants.{Outside, Second, Headers}
-use Rattle.tape_run.specs.declared.salvage.walk.Expected.TheVariants.{Data, Trailer, Trailers}
-use Rattle.tape_run.specs.declared.salvage.walk.Expected.TheVariants.{Next, Over, Skipping}
-use Rattle.tape_run.specs.declared.salvage.walk.Expected.TheVariants.{Unnamed, UnnamedTrailer}
-use Rattle.tape_run.specs.SalvageWalk.{step, expected_after, with_item, with_data}
-use Rattle.tape_run.specs.SalvageWalk.{with_unreadable}
+use Rattle.tape_run.specs.declared.salvage.walk.Expected.TheVariants.{Data, Trailer, Trailers, Next}
+use Rattle.tape_run.specs.declared.salvage.walk.Expected.TheVariants.{Over, Skipping, Unnamed}
+use Rattle.tape_run.specs.declared.salvage.walk.Expected.TheVariants.{UnnamedTrailer}
+use Rattle.tape_run.specs.SalvageWalk.{step, with_item, with_data, with_unreadable}
 use Rattle.tape_run.specs.SalvageBlocks.{Salvaged, salvaged_at, with_block, without_block}
 use Rattle.tape_run.specs.SalvageImage.{salvaged_from, number_in}
 use Rattle.tape_run.specs.SalvageWhole.{Blocks, piece_after}
 use Rattle.tape_run.specs.SalvageSections.{SectionRead, IsRead, key_of, read_blocks, read_section}
-use Rattle.tape_run.specs.SalvageSections.{MayBegin, after_trailers}
-use Rattle.tape_run.specs.SalvageSections.{RecoversSectionOf, PassesSection}
+use Rattle.tape_run.specs.SalvageSections.{MayBegin, after_trailers, RecoversSectionOf}
+use Rattle.tape_run.specs.SalvageSections.{PassesSection}
 use Rattle.tape_run.proofs.SalvageOpened.{section_after, one_more, long}
 use Rattle.tape_run.proofs.SalvageSteps.{gathered, Walk, Quiet, first, quiet_data, section_walked}
 
@@ -40,14 +39,7 @@ none_yet : (key : SectionKey) (most : ℕ) (form : Option FileForm) (s : Expecte
 none_yet key most form (Outside n) g x may = refl
 none_yet key most form Next g x may = refl
 none_yet key most form (Second u) g x may = absurd may
-none_yet key most form (Headers u) g x may = absurd may
-none_yet key most form (Data u) g x may = absurd may
-none_yet key most form (Trailer u) g x may = absurd may
-none_yet key most form (Trailers u k) g x may = absurd may
-none_yet key most form Over g x may = absurd may
-none_yet key most form (Unnamed r) g x may = absurd may
-none_yet key most form (UnnamedTrailer r) g x may = absurd may
-none_yet key most form (Skipping n u) g x may = absurd may
+none_yet key most form _ g x may = absurd may
 
 pub quiet : (key : SectionKey) (most : ℕ) (form : Option FileForm) → Quiet (taken key most form)
 quiet key most form = record {

@@ -7,18 +7,17 @@ use Rattle.tape_run.specs.declared.section.SectionKey.{SectionKey}
 use Rattle.tape_run.specs.Noted.{same_key}
 use Rattle.tape_run.specs.declared.salvage.walk.Expected.{Expected}
 use Rattle.tape_run.specs.declared.salvage.walk.Expected.TheVariants.{Outside, Second, Headers}
-use Rattle.tape_run.specs.declared.salvage.walk.Expected.TheVariants.{Data, Trailer, Trailers}
-use Rattle.tape_run.specs.declared.salvage.walk.Expected.TheVariants.{Next, Over, Skipping}
-use Rattle.tape_run.specs.declared.salvage.walk.Expected.TheVariants.{Unnamed, UnnamedTrailer}
+use Rattle.tape_run.specs.declared.salvage.walk.Expected.TheVariants.{Data, Trailer, Trailers, Next}
+use Rattle.tape_run.specs.declared.salvage.walk.Expected.TheVariants.{Over, Skipping, Unnamed}
+use Rattle.tape_run.specs.declared.salvage.walk.Expected.TheVariants.{UnnamedTrailer}
 use Rattle.tape_run.specs.declared.salvage.walk.OpenSection.{OpenSection}
-use Rattle.tape_run.specs.SalvageWalk.{step, expected_after, with_item, with_data}
-use Rattle.tape_run.specs.SalvageWalk.{with_unreadable}
+use Rattle.tape_run.specs.SalvageWalk.{step, expected_after, with_item, with_data, with_unreadable}
 use Rattle.tape_run.specs.SalvageWhole.{Blocks}
 use Rattle.tape_run.specs.SalvageImage.{is_in, number_in, closings}
 use Rattle.tape_run.specs.SalvageGaps.{datum, data_in}
 use Rattle.tape_run.specs.SalvageSections.{SectionRead, IsRead, key_of, read_blocks, read_section}
 use Rattle.tape_run.specs.SalvageSections.{MayBegin, after_trailers, read_volume}
-use Rattle.tape_run.specs.SalvageFile.{IsTakenFrom, ReportsBlocks}
+use Rattle.tape_run.specs.SalvageFile.{ReportsBlocks}
 use Rattle.tape_run.proofs.SalvagedSoFar.{expected_after-append}
 use Rattle.tape_run.proofs.SalvageOpened.{section_after, one_more, long}
 use Rattle.tape_run.proofs.SalvageSteps.{gathered, gathered-append, Walk, Quiet, first, quiet_data}
@@ -62,14 +61,7 @@ module _ (key : SectionKey) (most : ℕ) where
   none_yet (Outside n) a x may = append-nil a
   none_yet Next a x may = append-nil a
   none_yet (Second u) a x may = absurd may
-  none_yet (Headers u) a x may = absurd may
-  none_yet (Data u) a x may = absurd may
-  none_yet (Trailer u) a x may = absurd may
-  none_yet (Trailers u k) a x may = absurd may
-  none_yet Over a x may = absurd may
-  none_yet (Unnamed r) a x may = absurd may
-  none_yet (UnnamedTrailer r) a x may = absurd may
-  none_yet (Skipping n u) a x may = absurd may
+  none_yet _ a x may = absurd may
 
   quiet : Quiet with_datum
   quiet = record {

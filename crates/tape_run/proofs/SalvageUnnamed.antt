@@ -27,7 +27,7 @@ use Rattle.tape_run.specs.SalvageWalk.{one_unreadable, second_by, closes, named_
 use Rattle.tape_run.specs.SalvageWalk.{FoundAt, sections_in, and_read}
 use Rattle.tape_run.specs.SalvageSections.{IsNoHead}
 use Rattle.tape_run.specs.SalvageUnnamed.{IsUnnamedIn, IsThereUnnamed, UnnamedAreThere}
-use Rattle.tape_run.proofs.SalvageLater.{PAt, all_found}
+use Rattle.tape_run.proofs.SalvageLater.{PAt, all_found, either}
 use Rattle.tape_run.proofs.SalvageUnnamedComing.{NoHdr1, DataTo, AfterMark, AfterOne, Open, Comes}
 use Rattle.tape_run.proofs.SalvageUnnamedComing.{further, at_mark, with_item, at_trailer}
 
@@ -55,12 +55,7 @@ none_goes_on : (o : Option Kind) (xs : List TapeItem) (v : OpenSection) (k : Clo
     → Open (goes_on_by o) xs v k → ⊥
 none_goes_on None xs v k o = o
 none_goes_on (Some kinds.Vol1) xs v k o = o
-none_goes_on (Some kinds.Hdr1) xs v k o = o
-none_goes_on (Some kinds.Hdr2) xs v k o = o
-none_goes_on (Some kinds.Eof1) xs v k o = o
-none_goes_on (Some kinds.Eof2) xs v k o = o
-none_goes_on (Some kinds.Eov1) xs v k o = o
-none_goes_on (Some kinds.Eov2) xs v k o = o
+none_goes_on _ xs v k o = o
 
 outside : (a c : Bool) (b : List ℕ) (xs : List TapeItem) (v : OpenSection) (k : Closing)
     → IsUnnamedIn xs v k ⊎ Open (if a then begun_by (head1_at b) (if c then Unnamed one_read
@@ -104,12 +99,7 @@ second : (u : OpenSection) (o : Option Kind) (r : Result Head2 LabelFault) (xs :
     (v : OpenSection) (k : Closing) → Open (second_by u o r) xs v k → NoHdr1 u.after
 second u None r xs v k h = h
 second u (Some kinds.Hdr2) r xs v k h = h
-second u (Some kinds.Vol1) r xs v k h = h
-second u (Some kinds.Hdr1) r xs v k h = h
-second u (Some kinds.Eof1) r xs v k h = h
-second u (Some kinds.Eof2) r xs v k h = h
-second u (Some kinds.Eov1) r xs v k h = h
-second u (Some kinds.Eov2) r xs v k h = h
+second u _ r xs v k h = h
 
 trailer_item : (u : OpenSection) (b : List ℕ) (r : Result Trail1 LabelFault) (xs : List TapeItem)
     (v : OpenSection) (k : Closing)
@@ -163,41 +153,29 @@ back (Outside n) (block b) xs v k h own = outside (nat_lt n 2) (n == 1) b xs v k
 back (Outside n) bad xs v k h own =
     outside_bad n (nat_lt n 2) (n == 1) xs v k refl refl (h own)
 back (Outside n) mark xs v k h own = inl (outside_mark (n == 0) (n == 1) xs v k (h own))
-back (Second u) (block b) xs v k h own = elim (h own) [
-  | inl c ↦ inl (further (block b) xs v k c)
-  | inr o ↦ inr (second u (kind_at b) (head2_at b) xs v k o)
-]
-back (Second u) bad xs v k h own =
-    elim (h own) [ inl c ↦ inl (further bad xs v k c) | inr o ↦ inr o ]
-back (Second u) mark xs v k h own =
-    elim (h own) [ inl c ↦ inl (further mark xs v k c) | inr o ↦ inr o ]
-back (Headers u) (block b) xs v k h own =
-    elim (h own) [ inl c ↦ inl (further (block b) xs v k c) | inr o ↦ inr o ]
-back (Headers u) bad xs v k h own =
-    elim (h own) [ inl c ↦ inl (further bad xs v k c) | inr o ↦ inr o ]
-back (Headers u) mark xs v k h own =
-    elim (h own) [ inl c ↦ inl (further mark xs v k c) | inr o ↦ inr o ]
-back (Data u) (block b) xs v k h own =
-    elim (h own) [ inl c ↦ inl (further (block b) xs v k c) | inr o ↦ inr o ]
-back (Data u) bad xs v k h own =
-    elim (h own) [ inl c ↦ inl (further bad xs v k c) | inr o ↦ inr o ]
-back (Data u) mark xs v k h own =
-    elim (h own) [ inl c ↦ inl (further mark xs v k c) | inr o ↦ inr o ]
+back (Second u) (block b) xs v k h own =
+    either (h own) (further (block b) xs v k) (second u (kind_at b) (head2_at b) xs v k)
+back (Second u) bad xs v k h own = either (h own) (further bad xs v k) (λ o. o)
+back (Second u) mark xs v k h own = either (h own) (further mark xs v k) (λ o. o)
+back (Headers u) (block b) xs v k h own = either (h own) (further (block b) xs v k) (λ o. o)
+back (Headers u) bad xs v k h own = either (h own) (further bad xs v k) (λ o. o)
+back (Headers u) mark xs v k h own = either (h own) (further mark xs v k) (λ o. o)
+back (Data u) (block b) xs v k h own = either (h own) (further (block b) xs v k) (λ o. o)
+back (Data u) bad xs v k h own = either (h own) (further bad xs v k) (λ o. o)
+back (Data u) mark xs v k h own = either (h own) (further mark xs v k) (λ o. o)
 back (Trailer u) (block b) xs v k h own = trailer_item u b (trail1_at b) xs v k (h own)
 back (Trailer u) bad xs v k h own = inl (only bad (Outside 0) xs v k (λ o. o) (h own))
 back (Trailer u) mark xs v k h own = elim (h own) [
   | inl c ↦ inl (further mark xs v k c)
   | inr o ↦ inl (at_mark xs v k o)
 ]
-back (Trailers u l) (block b) xs v k h own = elim (h own) [
-  | inl c ↦ inl (further (block b) xs v k c)
-  | inr o ↦ inr (record {
-    key = o.key;
-    blocks = o.blocks;
-    after = λ e. o.after (ap (option_map (λ n. min (n + 1) 4294967295)) e);
-    closing = o.closing;
-  })
-]
+back (Trailers u l) (block b) xs v k h own = either (h own) (further (block b) xs v k)
+    (λ o. record {
+      key = o.key;
+      blocks = o.blocks;
+      after = λ e. o.after (ap (option_map (λ n. min (n + 1) 4294967295)) e);
+      closing = o.closing;
+    })
 back (Trailers u l) bad xs v k h own = inl (only bad (Outside 0) xs v k (λ o. o) (h own))
 back (Trailers u l) mark xs v k h own = inl (only mark Next xs v k (λ o. o) (h own))
 back Next (block b) xs v k h own =
@@ -207,10 +185,8 @@ back Next mark xs v k h own = inl (only mark Over xs v k (λ o. o) (h own))
 back Over x xs v k h own = inl (only x Over xs v k (λ o. o) (h own))
 back (Unnamed r) (block b) xs v k h own = begun b (head1_at b) (Unnamed (and_read r)) xs v k refl
     (λ none d. with_item r.items (block b) xs v k tt none d) (h own)
-back (Unnamed r) bad xs v k h own = elim (h own) [
-  | inl c ↦ inl (further bad xs v k c)
-  | inr o ↦ inr (with_item r.items bad xs v k tt tt o)
-]
+back (Unnamed r) bad xs v k h own =
+    either (h own) (further bad xs v k) (with_item r.items bad xs v k tt tt)
 back (Unnamed r) mark xs v k h own = elim (h own) [
   | inl c ↦ inl (further mark xs v k c)
   | inr o ↦ elim o [

@@ -162,12 +162,7 @@ seconded items met b (Some kinds.Hdr2) e h = record {
   none = h.none;
   good = h.good;
 }
-seconded items met b (Some kinds.Vol1) e h = tt
-seconded items met b (Some kinds.Hdr1) e h = tt
-seconded items met b (Some kinds.Eof1) e h = tt
-seconded items met b (Some kinds.Eof2) e h = tt
-seconded items met b (Some kinds.Eov1) e h = tt
-seconded items met b (Some kinds.Eov2) e h = tt
+seconded items met b _ e h = tt
 
 pub map_push : (xs : List (List ℕ)) (b : List ℕ)
     → map block xs ++ block b ∷ [] ≡ map block (xs ++ b ∷ [])

@@ -170,9 +170,7 @@ cut_short mounted new held now bytes p notes f1 r1 r2 begins same set_id file gr
 stays_finished : (set : FileSet) (file : ℕ) (h : MountEvent)
     → after_mount set file Finished h ≡ Finished
 stays_finished set file (reads r) = refl
-stays_finished set file foreign_reel = refl
-stays_finished set file saves = refl
-stays_finished set file (restarts n) = refl
+stays_finished set file _ = refl
 
 not_read_so : (bytes : List ℕ) (left : Option (List ℕ)) (s : Seen) (core : State)
     → s.place ≡ rest_of core → s.place.position ≡ Finished → Reeled bytes left false s s

@@ -66,31 +66,8 @@ digest_is : (blocks : List (List ℕ)) (p : Phase) (x : TapeItem)
     → digest_in (digest_of blocks) p x ≡ digest_of (blocks_with blocks p x)
 digest_is blocks (Data met) (block b) = digest_push blocks b
 digest_is blocks Volume (block b) = refl
-digest_is blocks (Labels v) (block b) = refl
-digest_is blocks (Second met) (block b) = refl
-digest_is blocks (Headers met) (block b) = refl
-digest_is blocks (Trailer met) (block b) = refl
-digest_is blocks (Trailers v) (block b) = refl
-digest_is blocks (Next v) (block b) = refl
-digest_is blocks Over (block b) = refl
-digest_is blocks (Headers met) mark = refl
-digest_is blocks Volume mark = refl
-digest_is blocks (Labels v) mark = refl
-digest_is blocks (Second met) mark = refl
-digest_is blocks (Data met) mark = refl
-digest_is blocks (Trailer met) mark = refl
-digest_is blocks (Trailers v) mark = refl
-digest_is blocks (Next v) mark = refl
-digest_is blocks Over mark = refl
-digest_is blocks Volume bad = refl
-digest_is blocks (Labels v) bad = refl
-digest_is blocks (Second met) bad = refl
-digest_is blocks (Headers met) bad = refl
-digest_is blocks (Data met) bad = refl
-digest_is blocks (Trailer met) bad = refl
-digest_is blocks (Trailers v) bad = refl
-digest_is blocks (Next v) bad = refl
-digest_is blocks Over bad = refl
+digest_is blocks _ (block b) = refl
+digest_is blocks _ _ = refl
 
 -- ---- so far
 

@@ -1,11 +1,9 @@
 -- What changes a digest.
-use Rattle.std.proofs.Common.{◌≡◌, ℕ, ◌+◌, ◌-◌, ◌*◌, ◌/◌, ◌%◌, ◌^◌, ◌<◌, ◌≤◌, List, [], ◌∷◌, ◌++◌}
-use Rattle.std.proofs.Common.{refl, sym, ap, ◌∙◌, arith, length, map, drop}
-use Rattle.std.proofs.Common.{append_assoc}
+use Rattle.std.proofs.Common.{◌≡◌, ℕ, ◌+◌, ◌-◌, ◌*◌, ◌/◌, ◌%◌, ◌^◌, ◌<◌, List, [], ◌∷◌, ◌++◌, refl}
+use Rattle.std.proofs.Common.{sym, ap, ◌∙◌, arith, length, map, drop, append_assoc}
 use Rattle.std.specs.Prelude.{◌≢◌}
-use Rattle.std.specs.Int.{from_le_bytes}
+use Rattle.std.specs.Int.{from_le_bytes, w64, rotate_left}
 use Rattle.std.specs.Simd.{first_chunks}
-use Rattle.std.specs.Int.{w64, rotate_left}
 use Rattle.std.specs.Int.Bits.{bit_or}
 use Rattle.std.proofs.Math.Nat.{mul_assoc, mul-add, mul-one, mod-add-mod, mod-add-div'}
 use Rattle.std.proofs.Math.Nat.{add-mul-mod_self_right, mod-eq_of_lt}

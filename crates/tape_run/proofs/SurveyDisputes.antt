@@ -10,8 +10,7 @@ use Rattle.tape_run.specs.declared.section.SectionKey.{SectionKey}
 use Rattle.tape_run.specs.declared.survey.view.ImageSurvey.{ImageSurvey}
 use Rattle.tape_run.specs.Checked.{Reel}
 use Rattle.tape_run.specs.Reeling.{Mounting}
-use Rattle.tape_run.specs.SurveyConflicts.{Placed, placed_on, placed_in, all_placed, IsIn}
-use Rattle.tape_run.specs.SurveyConflicts.{TellsDispute}
+use Rattle.tape_run.specs.SurveyConflicts.{Placed, placed_in, all_placed, IsIn, TellsDispute}
 use Rattle.tape_run.specs.SurveyCopies.{Copy, copies_on, Noted, Held, Copied, noted_at, differs}
 use Rattle.tape_run.specs.SurveyCopies.{with_good, with_copies, disputed_by, disputed, disputed_on}
 use Rattle.tape_run.specs.SurveyDigest.{digest_of}

@@ -39,13 +39,7 @@ number_left : (number : ℕ) (p next : Phase) (n : ℕ) (w : ExpectedItem)
     → left_by number p next ≡ Leaves n w → n ≡ number
 number_left number p Over n w e = cc e
 number_left number p Volume n w e = absurd (cc e)
-number_left number p (Labels v) n w e = absurd (cc e)
-number_left number p (Second met) n w e = absurd (cc e)
-number_left number p (Headers met) n w e = absurd (cc e)
-number_left number p (Data met) n w e = absurd (cc e)
-number_left number p (Trailer met) n w e = absurd (cc e)
-number_left number p (Trailers v) n w e = absurd (cc e)
-number_left number p (Next v) n w e = absurd (cc e)
+number_left number p _ n w e = absurd (cc e)
 
 number_mark : (number : ℕ) (p next : Phase) (n : ℕ) (w : ExpectedItem)
     → behind_mark number p next ≡ Leaves n w → n ≡ number
@@ -53,11 +47,8 @@ number_mark number (Labels v) next n w e = absurd (cc e)
 number_mark number (Next v) next n w e = absurd (cc e)
 number_mark number Volume next n w e = number_left number Volume next n w e
 number_mark number (Second met) next n w e = number_left number (Second met) next n w e
-number_mark number (Headers met) next n w e = number_left number (Headers met) next n w e
-number_mark number (Data met) next n w e = number_left number (Data met) next n w e
-number_mark number (Trailer met) next n w e = number_left number (Trailer met) next n w e
-number_mark number (Trailers v) next n w e = number_left number (Trailers v) next n w e
 number_mark number Over next n w e = number_left number Over next n w e
+number_mark number s next n w e = number_left number s next n w e
 
 number_behind : (number : ℕ) (p : Phase) (x : TapeItem) (next : Phase) (n : ℕ) (w : ExpectedItem)
     → behind number p x next ≡ Leaves n w → n ≡ number

@@ -66,12 +66,7 @@ second_as : (items : List TapeItem) (blocks : List (List ℕ)) (met : Met) (k : 
     → Stood (second_with met k) items → StoodAs (second_with met k) items blocks
 second_as items blocks met None h = (h, tt)
 second_as items blocks met (Some kinds.Hdr2) h = (h, tt)
-second_as items blocks met (Some kinds.Vol1) h = (h, tt)
-second_as items blocks met (Some kinds.Hdr1) h = (h, tt)
-second_as items blocks met (Some kinds.Eof1) h = (h, tt)
-second_as items blocks met (Some kinds.Eof2) h = (h, tt)
-second_as items blocks met (Some kinds.Eov1) h = (h, tt)
-second_as items blocks met (Some kinds.Eov2) h = (h, tt)
+second_as items blocks met _ h = (h, tt)
 
 -- ---- where they are
 

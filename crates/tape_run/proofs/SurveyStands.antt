@@ -194,9 +194,4 @@ second_read items met number b (Some kinds.Hdr2) e h = record {
       ∙ append_assoc h.before (block h.hdr1 ∷ []) (block b ∷ [])
       ∙ sym (append-nil (h.before ++ block h.hdr1 ∷ block b ∷ []));
 }
-second_read items met number b (Some kinds.Vol1) e h = tt
-second_read items met number b (Some kinds.Hdr1) e h = tt
-second_read items met number b (Some kinds.Eof1) e h = tt
-second_read items met number b (Some kinds.Eof2) e h = tt
-second_read items met number b (Some kinds.Eov1) e h = tt
-second_read items met number b (Some kinds.Eov2) e h = tt
+second_read items met number b _ e h = tt

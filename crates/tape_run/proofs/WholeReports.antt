@@ -30,15 +30,12 @@ copies_read set [] [] [] c d read whole = read
 copies_read set [] [] (k ∷ ks) c d read whole = absurd whole
 copies_read set [] (line ∷ lines) ks c d read whole = absurd read
 copies_read set (reel ∷ reels) [] ks c d read whole = absurd read
-copies_read set (None ∷ reels) (line ∷ lines) ks c d read whole = absurd whole
-copies_read set (Some None ∷ reels) (line ∷ lines) ks c d read whole = absurd whole
-copies_read set (Some (Some bytes) ∷ reels) (None ∷ lines) ks c d read whole = absurd whole
-copies_read set (Some (Some bytes) ∷ reels) (Some line ∷ lines) [] c d read whole = absurd whole
 copies_read set (Some (Some bytes) ∷ reels) (Some line ∷ lines) (k ∷ ks) c d read whole =
     let (after, adds) = read.1 in
     let mid : read.0 ≡ behind_copies set c (k ∷ []) =
     whole_copies set k bytes after c line read.0 whole.0 whole.1 adds in
     copies_read set reels lines ks read.0 d read.2 whole.2 ∙ ap (λ m. behind_copies set m ks) mid
+copies_read set _ _ _ c d read whole = absurd whole
 
 abbrev found_if : Bool → Entry → Option Entry → Option Entry
 found_if b e other = if b then Some e else other

@@ -6,18 +6,13 @@ use Rattle.tape_blocks.specs.declared.parts.Form.{Form}
 use Rattle.tape_blocks.specs.Block.{Portion}
 use Rattle.tape_blocks.specs.Spans.{join}
 use Rattle.tape_image.specs.Reader.{IfKnown}
-use Rattle.tape_image.specs.Tape.{TapeItem}
-use Rattle.tape_image.specs.Begins.{Stop, Begins}
-use Rattle.tape_set.specs.declared.position.Position.{Position}
 use Rattle.tape_set.specs.declared.position.Position.TheVariants.{Finished}
 use Rattle.tape_set.specs.declared.position.Want.{Want}
 use Rattle.tape_set.specs.Position.{want_at}
-use Rattle.tape_set.specs.Layout.{FileSet}
-use Rattle.tape_set.specs.Lawful.{IsLawful}
 use Rattle.tape_core.specs.declared.event.Answer.TheVariants.{SectionDone, Useless}
 use Rattle.tape_core.specs.declared.event.Reason.TheVariants.{BlockCount, Broken, BadItem}
 use Rattle.tape_core.specs.Crash.{lost}
-use Rattle.tape_core.specs.Place.{IsPlaced, rest_of}
+use Rattle.tape_core.specs.Place.{rest_of}
 use Rattle.tape_core.specs.State.{State}
 use Rattle.tape_core.specs.Weight.{Rose}
 use Rattle.tape_core.specs.declared.sink.PartSink.{Ghosts}
@@ -34,17 +29,15 @@ use Rattle.tape_run.specs.Extracting.{IsWritten, Ends, Extracts, Stops, TellsEnd
 use Rattle.tape_run.specs.ExtractingNow.{IsPut, EndsNow, ExtractsNow, StopsNow}
 use Rattle.tape_run.specs.Given.{is_device}
 use Rattle.tape_run.specs.Headline.{HasRun}
-use Rattle.tape_run.specs.Lead.{Lead, over_reel}
-use Rattle.tape_run.specs.Mount.{MountEvent, IsMountOf, foreign_reel, after_mount}
 use Rattle.tape_image.specs.Written.{AppendsFront}
 use Rattle.tape_run.specs.OutSinks.{HasTaken, IsText, RefusesText, TellsAlways, text_so_far}
 use Rattle.tape_run.specs.OutSinks.{with_end}
 use Rattle.tape_run.specs.RecordText.{output_of}
 use Rattle.tape_run.specs.ReelLine.{reel_lines, last_line}
 use Rattle.tape_run.specs.Reeling.{Opened, Turn, answer_of, AreTurns, IsTurn, Follows}
-use Rattle.tape_run.specs.Reeling.{counts_differ, IsNoted, ReadsAndNotes}
-use Rattle.tape_run.specs.Reeling.{goes_back, IsKeptFor, AreFirstTurns, Took}
-use Rattle.tape_run.specs.Reeling.{step_behind, notes_behind, steps_of, AreTold, AreSteps}
+use Rattle.tape_run.specs.Reeling.{counts_differ, IsNoted, ReadsAndNotes, goes_back, IsKeptFor}
+use Rattle.tape_run.specs.Reeling.{AreFirstTurns, Took, step_behind, notes_behind, steps_of}
+use Rattle.tape_run.specs.Reeling.{AreTold, AreSteps}
 use Rattle.tape_run.specs.Reels.{Reads}
 use Rattle.tape_run.specs.Seen.{Seen, IsKept, seen}
 use Rattle.tape_run.specs.Steps.{Saved, Unmoved, WentBack}

@@ -1,11 +1,10 @@
 -- Examples for the definitions of `salvage`. They are the contract of the call `laws::cases`.
-use Rattle.std.specs.Prelude.{◌≡◌, ℕ, ◌%◌, Bool, true, false, List, [], ◌∷◌, codes}
-use Rattle.std.specs.Prelude.{Option, Some, None}
+use Rattle.std.specs.Prelude.{◌≡◌, ℕ, ◌%◌, Bool, true, false, List, [], ◌∷◌, codes, Option, Some}
+use Rattle.std.specs.Prelude.{None}
 use Rattle.tape_image.specs.Tape.{TapeItem, block, bad, mark}
 use Rattle.tape_blocks.specs.Tight.{Filled}
 use Rattle.tape_set.specs.Layout.{FileSet, Placed, Entry, nth, entries, is_data}
 use Rattle.tape_set.specs.Reading.{Reading}
-use Rattle.tape_run.specs.declared.section.SectionKey.{SectionKey}
 use Rattle.tape_run.specs.declared.salvage.copies.SectionCopy.{SectionCopy}
 use Rattle.tape_run.specs.declared.salvage.walk.Closing.{Closing}
 use Rattle.tape_run.specs.declared.salvage.walk.OpenSection.{OpenSection}
@@ -16,7 +15,7 @@ use Rattle.tape_run.specs.SalvageClosed.{IsNoMark, IsClosedIn, IsThere, digest_i
 use Rattle.tape_run.specs.SalvageConflicts.{are_conflicting, has_conflict, conflict_text}
 use Rattle.tape_run.specs.SalvageConflicts.{AreConflicts}
 use Rattle.tape_run.specs.SalvageDamaged.{AnySection, any_volume, IsPlain, AreApart, IsExact}
-use Rattle.tape_run.specs.SalvageDamagedSets.{IsOtherHead, IsAnyImage, IsExactCopy}
+use Rattle.tape_run.specs.SalvageDamagedSets.{IsAnyImage, IsExactCopy}
 use Rattle.tape_run.specs.SalvageGaps.{Gap, AreGaps, data_in, StartsReadable}
 use Rattle.tape_run.specs.SalvageReadings.{IsReadVolume}
 use Rattle.tape_run.specs.SalvageSets.{copies_on, HasVolume, IsReadAgain, HasBlocks, IsOnNone}

@@ -1,8 +1,7 @@
 -- Examples for the definitions of unpacking. They are the contract of the call `laws::cases`.
-use Rattle.std.specs.Prelude.{◌≡◌, ◌≢◌, ℕ, ◌<◌, ◌^◌, List, [], ◌∷◌, ◌++◌, length, Bool}
-use Rattle.std.specs.Prelude.{true, false, is_some, ◌||◌, ◌==◌, nat_lt}
-use Rattle.std.specs.Prelude.{Option, Some, None}
-use Rattle.std.specs.Prelude.{codes, map, replicate, chars, IsUtf8}
+use Rattle.std.specs.Prelude.{◌≡◌, ◌≢◌, ℕ, ◌<◌, ◌^◌, List, [], ◌∷◌, ◌++◌, length, true, false}
+use Rattle.std.specs.Prelude.{is_some, ◌||◌, ◌==◌, nat_lt, Some, None, codes, map, replicate, chars}
+use Rattle.std.specs.Prelude.{IsUtf8}
 use Rattle.std.specs.List.{AllByRecursion, flat_map}
 use Rattle.tape_label.specs.declared.values.Head1.{Head1}
 use Rattle.tape_set.specs.declared.position.Want.{Want}
@@ -24,14 +23,13 @@ use Rattle.tape_run.specs.SurveyCopies.{dispute_at}
 use Rattle.tape_run.specs.SurveyFiles.{note_at, file_key}
 use Rattle.tape_run.specs.SurveyLocations.{Located}
 use Rattle.tape_run.specs.SurveyRead.{Found, nothing_found, AreViewed}
-use Rattle.tape_run.specs.Unpacking.{file_at, set_files, files_of, file_name, FilesOn}
-use Rattle.tape_run.specs.Unpacking.{set_of, is_passed, is_read, volume_of}
+use Rattle.tape_run.specs.Unpacking.{file_at, set_files, files_of, file_name, FilesOn, set_of}
+use Rattle.tape_run.specs.Unpacking.{is_passed, is_read, volume_of}
 use Rattle.tape_run.specs.UnpackChoice.{Fits, Means, IsOfSet}
-use Rattle.tape_run.specs.UnpackLine.{file_line, unpack_outcome_text, notice_line}
-use Rattle.tape_run.specs.UnpackLine.{notice_text}
+use Rattle.tape_run.specs.UnpackLine.{file_line, unpack_outcome_text, notice_line, notice_text}
 use Rattle.tape_run.specs.UnpackLaws.{NamesDiffer, NamesStay, NamesFit, AreBytes, IsNameOfOne}
-use Rattle.tape_run.specs.UnpackTally.{nothing_counted, counted, more, total_line}
 use Rattle.tape_run.specs.UnpackLaws.{IsNoDevice, folded}
+use Rattle.tape_run.specs.UnpackTally.{nothing_counted, counted, more, total_line}
 
 -- sections 1, 2 and 4 of a file, and the first of another, on these images
 abbrev pub on_shelf : List Located

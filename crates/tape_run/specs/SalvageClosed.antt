@@ -1,12 +1,11 @@
 -- The items of a section that closes.
-use Rattle.std.specs.Prelude.{◌≡◌, ℕ, min, ◌==◌, ◌&&◌, Bool, true, List, [], ◌∷◌, ◌++◌, length}
-use Rattle.std.specs.Prelude.{Option, Some, None, Ok}
+use Rattle.std.specs.Prelude.{◌≡◌, ℕ, min, ◌==◌, ◌&&◌, true, List, [], ◌∷◌, ◌++◌, length, Some}
+use Rattle.std.specs.Prelude.{None, Ok}
 use Rattle.std.specs.List.{AllByRecursion}
 use Rattle.tape_image.specs.Tape.{TapeItem, block, bad, mark}
 use Rattle.tape_label.specs.declared.values.Head1.{Head1}
 use Rattle.tape_label.specs.declared.values.Trail1.{Trail1}
 use Rattle.tape_label.specs.Reading.{head1_at, trail1_at}
-use Rattle.tape_run.specs.declared.section.SectionKey.{SectionKey}
 use Rattle.tape_run.specs.declared.salvage.walk.OpenSection.{OpenSection}
 use Rattle.tape_run.specs.declared.salvage.walk.Closing.{Closing}
 use Rattle.tape_run.specs.SurveyDigest.{digest_with}

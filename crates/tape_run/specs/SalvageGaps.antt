@@ -1,6 +1,6 @@
 -- The lines about the blocks of a section: each longest run of unreadable blocks is one gap.
-use Rattle.std.specs.Prelude.{◌≡◌, ◌≢◌, ℕ, suc, ◌+◌, ◌≤◌, min, Bool, true, false, List}
-use Rattle.std.specs.Prelude.{[], ◌∷◌, ◌++◌, length, replicate, Option, Some, None}
+use Rattle.std.specs.Prelude.{◌≡◌, ◌≢◌, ℕ, suc, ◌+◌, ◌≤◌, min, Bool, true, false, List, [], ◌∷◌}
+use Rattle.std.specs.Prelude.{◌++◌, length, replicate, Option, Some, None}
 use Rattle.std.specs.List.{AllByRecursion}
 use Rattle.tape_image.specs.Tape.{TapeItem, block, bad, mark}
 use Rattle.tape_blocks.specs.declared.check.BlockFault.{BlockFault}
@@ -12,7 +12,7 @@ use Rattle.tape_run.specs.SalvageWalk.{step, expected_after}
 use Rattle.tape_run.specs.SalvageCopies.{believed, start_of}
 use Rattle.tape_run.specs.SalvageLine.{gap_line, torn_line, refused_line, section_line}
 use Rattle.tape_run.specs.SalvageBlocks.{Salvaged, salvaged_at}
-use Rattle.tape_run.specs.SalvageImage.{number_in, read_in, closings, salvaged_from, EndsData}
+use Rattle.tape_run.specs.SalvageImage.{number_in, read_in, closings, EndsData}
 use Rattle.tape_run.specs.SalvageEnds.{without_gap, end_text}
 use Rattle.tape_run.specs.SalvageTaking.{image_number, after_copy, copy_text}
 

@@ -3,7 +3,7 @@
 use Rattle.std.specs.Prelude.{◌≡◌, ℕ, true, List, ◌∷◌, ◌++◌, length, map, Some}
 use Rattle.std.specs.List.{AllByRecursion}
 use Rattle.tape_image.specs.Tape.{TapeItem}
-use Rattle.tape_set.specs.Layout.{FileSet, Volume, Placed, items, entries, nth, on, sections}
+use Rattle.tape_set.specs.Layout.{FileSet, Volume, items, entries, nth, on, sections}
 use Rattle.tape_set.specs.Lawful.{IsLawful, IsVolume, FileForm}
 use Rattle.tape_set.specs.Reading.{Reading, IsReadingOf, as_read}
 use Rattle.tape_set.specs.Reach.{passes}

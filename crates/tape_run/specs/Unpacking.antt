@@ -1,7 +1,7 @@
 -- Which files are unpacked from images, and under which names.
 use Rattle.std.specs.Prelude.{◌≡◌, ◌==◌, ◌&&◌, ◌||◌, not, false, ℕ, zero, suc, ◌+◌, ◌-◌, ◌/◌, ◌%◌}
-use Rattle.std.specs.Prelude.{nat_le, nat_lt, Bool, if◌then◌else◌, List, [], ◌∷◌, ◌++◌, length, map, take}
-use Rattle.std.specs.Prelude.{Option, Some, None, option_map, is_some, codes, decimal, get_or}
+use Rattle.std.specs.Prelude.{nat_le, nat_lt, Bool, if◌then◌else◌, List, [], ◌∷◌, ◌++◌, length}
+use Rattle.std.specs.Prelude.{take, Option, Some, None, option_map, is_some, codes, decimal, get_or}
 use Rattle.std.specs.List.{flat_map}
 use Rattle.tape_label.specs.declared.values.Head1.{Head1}
 use Rattle.tape_set.specs.declared.position.Want.{Want}

@@ -1,4 +1,4 @@
-use Rattle.std.proofs.Common.{◌≡◌, ◌-◌, ◌≤◌, ℕ}
+use Rattle.std.proofs.Common.{◌≡◌, ◌-◌, ◌≤◌}
 use Rattle.tape_run.specs.SurveyGaps.{gap_first}
 use Rattle.tape_run.proofs.survey.gaps.gap_first.Given as goal
 

@@ -1,4 +1,4 @@
-use Rattle.std.proofs.Common.{ℕ, ◌+◌, ◌*◌, length}
+use Rattle.std.proofs.Common.{◌+◌, ◌*◌, length}
 use Rattle.tape_run.proofs.Patterns.{Tried}
 use Rattle.tape_run.proofs.unpack.choice.fits.Given as goal
 
