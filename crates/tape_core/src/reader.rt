@@ -99,6 +99,20 @@ impl ReaderCore {
         })
     }
 
+    /// Creates a reader at a checkpoint, with no reading in progress.
+    pub fn at(checkpoint: &Checkpoint) -> ReaderCore
+        ensures { result ≡ place_of checkpoint.now }
+    {
+        ReaderCore {
+            set_id: checkpoint.set_id,
+            file: checkpoint.file,
+            position: checkpoint.position,
+            begun: checkpoint.begun,
+            known: checkpoint.known,
+            phase: Phase::Over,
+        }
+    }
+
     /// Begins reading a new reel. A broken reader stays broken, and a reader whose file is complete
     /// needs no reel.
     pub fn mount(&mut self)

@@ -47,13 +47,7 @@ pub(crate) fn reader_at(
     begun: bool,
     known: Known,
 ) -> ReaderCore {
-    let mut core = reader(rt, 1);
-    go_to(
-        rt,
-        &mut core,
-        &point_at(rt, 1, (position, begun), Some(known)),
-    );
-    core
+    ReaderCore::at(&point_at(rt, 1, (position, begun), Some(known)))
 }
 
 /// Returns part `part` of block `block` of section `sect` of file 1, as a `Want`.
