@@ -240,20 +240,3 @@ shape_fits (Some l) (Some t) k s h e f =
     ≡ z.offset)) a one in
     subst (λ (z : Shape). (z.format ≡ k.format) × (z.rec_len ≡ k.rec_len) × (z.offset ≡ k.offset)) b
     two
-
--- if both checkpoints belong to a file, so does the one at the refused part
-pub refused_set : (c d : Point) (n : ℕ) (begun : Bool) (id : List ℕ) → c.set_id ≡ id → d.set_id ≡ id
-    → (refused_point c d n begun).set_id ≡ id
-refused_set c d n begun id e f = pick (n == part_of c.position)
-  where
-    pick : (g : Bool) → (if g then c else inside_block d c.position n begun 0).set_id ≡ id
-    pick true = e
-    pick false = f
-
-pub refused_file : (c d : Point) (n : ℕ) (begun : Bool) (file : ℕ) → c.file ≡ file → d.file ≡ file
-    → (refused_point c d n begun).file ≡ file
-refused_file c d n begun file e f = pick (n == part_of c.position)
-  where
-    pick : (g : Bool) → (if g then c else inside_block d c.position n begun 0).file ≡ file
-    pick true = e
-    pick false = f

@@ -12,7 +12,7 @@ ghost use Rattle.tape_set.specs.Lawful.{FileForm};
 ghost use Rattle.tape_set.specs.Position.{part_of};
 ghost use Rattle.tape_core.specs.Follows.{IsFinal};
 ghost use Rattle.tape_core.specs.Known.{is_finished};
-ghost use Rattle.tape_core.specs.Place.{rest_of};
+ghost use Rattle.tape_core.specs.Place.{rest_of, place_of};
 ghost use Rattle.tape_core.specs.Arrive.{arrival};
 ghost use Rattle.tape_core.specs.Table.{step_of, saved};
 ghost use Rattle.tape_core.specs.Weight.{IsFront};
@@ -81,6 +81,7 @@ pub struct Refused {
 
 /// Puts the parts of a checked block from part `first` on. `begun` says whether a record is
 /// unfinished before it.
+#[inline(always)]
 pub fn put_parts<S: PartSink>(
     sink: &mut S,
     shape: &Shape,
@@ -133,6 +134,7 @@ pub struct ReelReader<S> {
 }
 
 /// Returns the event for the result of an image's reader, and the image's fault, if any.
+#[inline(always)]
 fn event_of<'a>(told: Result<Option<Item<'a>>, ImageFault>) -> (Event<'a>, Option<ImageFault>)
     ensures comes { arrival result.0 ≡ came_of (seen told.entry) }
     ensures fault { result.1 ≡ fault_of (seen told.entry) }
@@ -147,6 +149,7 @@ fn event_of<'a>(told: Result<Option<Item<'a>>, ImageFault>) -> (Event<'a>, Optio
 }
 
 /// Returns how many blocks an answer delivers, or `None` if it ends the reading.
+#[inline(always)]
 fn delivered(answer: Answer) -> Option<u32>
     ensures on { IfSome result (λ _. GoesOn answer) }
     ensures count { IfSome result (λ more. more ≡ delivered_by (answer ∷ [])) }
@@ -170,25 +173,34 @@ fn part_of(position: Position) -> u32
     }
 }
 
-/// Returns the checkpoint at part `part`, which was refused, of the block that was delivered
-/// between the checkpoints `before` and `after`.
-fn refused_point(before: &Checkpoint, after: &Checkpoint, part: u32, begun: bool) -> Checkpoint
+/// Moves a core back to the refused part of the block that it delivered after checkpoint `before`.
+#[cold]
+#[inline(never)]
+fn go_back(core: &mut ReaderCore, before: &Checkpoint, refused: &Refused)
     requires waits { is_finished before.now.position ≡ false }
-    requires from { part_of before.now.position ≤ part }
-    requires few { part ≤ longest_block }
-    requires known { is_some after.now.known ≡ true }
-    ensures { result ≡ refused_point before.now after.now part begun }
+    requires from { part_of before.now.position ≤ refused.now.part }
+    requires few { refused.now.part ≤ longest_block }
+    requires known { is_some core.old.known ≡ true }
+    requires same_set { before.now.set_id ≡ core.old.set_id }
+    requires same_file { before.now.file ≡ core.old.file }
+    ensures back { core.new ≡ place_of (refused_point before.now (saved (rest_of core.old) 0)
+        refused.now.part refused.now.begun) }
+    ensures set_id { core.new.set_id ≡ core.old.set_id }
+    ensures file { core.new.file ≡ core.old.file }
 {
     let position = before.position();
-    if part == part_of(position) {
-        return *before;
+    if refused.part == part_of(position) {
+        *core = ReaderCore::at(before);
+        return;
     }
-    after.inside_block(position, part, begun, 0)
+    let after = core.save(0);
+    *core = ReaderCore::at(&after.inside_block(position, refused.part, refused.begun, 0));
 }
 
 impl<S: PartSink> ReelReader<S> {
     /// Processes one event: passes it to the core, and puts the parts that this delivers. If a part
     /// is refused, the core's position becomes that part.
+    #[inline(always)]
     fn take(&mut self, event: Event<'_>) -> Result<Answer, SinkFault>
         requires sized { IsSized (arrival event) }
         ensures file { self.new.core.file ≡ self.old.core.file }
@@ -228,6 +240,7 @@ impl<S: PartSink> ReelReader<S> {
     }
 
     /// Puts the parts of the block that the core has just delivered, from the expected one on.
+    #[inline(always)]
     fn put_block(&mut self, before: &Checkpoint, content: &[u8]) -> Result<(), SinkFault>
         requires short { length content.now ≤ longest_block }
         requires checked { IsChecked (Some (block content.now)) (rest_of self.old.core) }
@@ -259,10 +272,7 @@ impl<S: PartSink> ReelReader<S> {
         match put_parts(&mut self.sink, &shape, content, first, before.begun) {
             Ok(()) => Ok(()),
             Err(refused) => {
-                // The core is already after the block, and moves back into it.
-                let after = self.core.save(0);
-                let point = refused_point(before, &after, refused.part, refused.begun);
-                let _ = self.core.restart(&point);
+                go_back(&mut self.core, before, &refused);
                 Err(refused.cause)
             }
         }

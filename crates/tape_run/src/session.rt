@@ -108,13 +108,7 @@ impl<S: PartSink> Session<S> {
             → IsResumed point.now held (seen S.PartSink result held) }
         ensures failures { result.failures ≡ 0 }
     {
-        // A checkpoint has a valid file number, so a core can be created.
-        let _position = point.position();
-        let Ok(mut core) = ReaderCore::new(point.set_id, point.file) else {
-            unreachable!()
-        };
-        let _ = core.restart(point);
-        Session::over(alloc, core, sink)
+        Session::over(alloc, ReaderCore::at(point), sink)
     }
 
     /// Returns the sink, with the parts delivered so far.

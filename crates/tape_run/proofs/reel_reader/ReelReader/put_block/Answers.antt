@@ -1,4 +1,4 @@
-use Rattle.std.proofs.Common.{◌≡◌, ◌≤◌, ◌++◌, ℕ, take, drop, ap, subst, ◌∙◌, refl}
+use Rattle.std.proofs.Common.{◌≡◌, ◌≤◌, ◌++◌, ℕ, take, drop, ap, subst, ◌∙◌}
 use Rattle.tape_blocks.specs.Block.{Holds}
 use Rattle.tape_blocks.specs.Judged.{begun_behind}
 use Rattle.tape_set.specs.Position.{part_of}
@@ -6,30 +6,17 @@ use Rattle.tape_core.specs.Point.{Point}
 use Rattle.tape_core.specs.Table.{saved}
 use Rattle.tape_core.specs.Place.{place_of, rest_of}
 use Rattle.tape_run.specs.Puts.{refused_point}
-use Rattle.tape_run.proofs.Places.{shape_fits, from_taken, refused_set, refused_file}
+use Rattle.tape_run.proofs.Places.{shape_fits}
 use Rattle.tape_run.proofs.reel_reader.ReelReader.put_block.Goals as goal
 
 pub returns-in-Err-clause-stops : goal.returns-in-Err-clause-stops
 returns-in-Err-clause-stops g c =
-    let behind = rest_of c.args.self.now.core in
-    let before = c.args.before.now in
-    let n = c.in-Err.refused.part in
-    let begun = c.in-Err.refused.begun in
-    let first : c.part_of-first.result ≡ part_of before.position =
-    c.part_of-first.ensures ∙ ap (λ (z : Point). part_of z.position) c.before-2.view_is in
-    let point_is : c.refused_point-point.result ≡ refused_point before (saved behind 0) n begun =
-    c.refused_point-point.ensures
-    ∙ ap (λ (z : Point). refused_point before z n begun) c.save-after.ensures.value in
-    let is_set = ap (λ (z : Point). z.set_id) point_is
-    ∙ refused_set before (saved behind 0) n _ behind.set_id c.requires.same_set refl in
-    let is_file = ap (λ (z : Point). z.file) point_is
-    ∙ refused_file before (saved behind 0) n _ behind.file c.requires.same_file refl in (
-      n,
-      begun,
-      subst (λ (f : ℕ). f ≤ n) first c.in-Err.ensures.within.0,
-      from_taken c.restart.result _ c.restart.ensures.there
-          (c.restart.ensures.taken is_set is_file)
-          ∙ ap place_of point_is,
+    let first : c.part_of-first.result ≡ part_of c.args.before.now.position =
+    c.part_of-first.ensures ∙ ap (λ (z : Point). part_of z.position) c.before-2.view_is in (
+      c.in-Err.refused.part,
+      c.in-Err.refused.begun,
+      subst (λ (f : ℕ). f ≤ c.in-Err.refused.part) first c.in-Err.ensures.within.0,
+      ap rest_of c.go_back.ensures.back,
     )
 
 pub returns-in-Err-clause-err : goal.returns-in-Err-clause-err
@@ -50,16 +37,6 @@ returns-in-Err-clause-err g c = λ held parts k known_is h was.
     few.begun_now
     ∙ (ap (λ (z : Point). begun_behind z.begun (drop c.part_of-first.result (take n parts)))
     c.before-2.view_is ∙ ap (λ (f : ℕ). begun_behind before.begun (drop f (take n parts))) first) in
-    let point_is : c.refused_point-point.result ≡ refused_point before (saved behind 0) n
-    (begun_behind before.begun (drop (part_of before.position) (take n parts))) =
-    c.refused_point-point.ensures
-    ∙ (ap (λ (z : Point). refused_point before z n c.in-Err.refused.begun)
-    c.save-after.ensures.value
-    ∙ ap (refused_point before (saved behind 0) n) begun) in
-    let is_set = ap (λ (z : Point). z.set_id) point_is
-    ∙ refused_set before (saved behind 0) n _ behind.set_id c.requires.same_set refl in
-    let is_file = ap (λ (z : Point). z.file) point_is
-    ∙ refused_file before (saved behind 0) n _ behind.file c.requires.same_file refl in
     record {
       n = n;
       from = subst (λ (f : ℕ). f ≤ n) first few.from;
@@ -68,7 +45,6 @@ returns-in-Err-clause-err g c = λ held parts k known_is h was.
           subst (λ (f : ℕ). g.S.PartSink.holds c.put_parts.new.sink (held ++ drop f (take n parts)))
           first few.held_now;
       back =
-          from_taken c.restart.result _ c.restart.ensures.there
-          (c.restart.ensures.taken is_set is_file)
-          ∙ ap place_of point_is;
+          ap rest_of c.go_back.ensures.back
+          ∙ ap (λ b. place_of (refused_point before (saved behind 0) n b)) begun;
     }

@@ -1,6 +1,5 @@
-use Rattle.std.proofs.Common.{refl, sym, ap, ◌∙◌}
+use Rattle.std.proofs.Common.{refl, ap, ◌∙◌}
 use Rattle.tape_core.specs.Place.{rest_of}
-use Rattle.tape_run.proofs.Places.{from_taken}
 use Rattle.tape_run.proofs.Begin.{is_resumed}
 use Rattle.tape_run.proofs.session.Session.resume.Goals as goal
 
@@ -8,17 +7,11 @@ pub returns-clause-session : goal.returns-clause-session
 returns-clause-session g c = λ set held s.
     is_resumed set c.args.point.now (rest_of c.over.result.core) c.over.result.failures
     (g.S.PartSink.refusals c.over.result.sink) c.over.result.notes held
-    (c.over.ensures.place ∙ from_taken c.restart.result _ c.restart.ensures.there
-    (c.restart.ensures.taken (sym (ap (λ z. z.set_id) c.point.view_is)
-    ∙ sym (ap (λ z. z.set_id) c.in-Ok.ensures.value)) (sym (ap (λ z. z.file) c.point.view_is)
-    ∙ sym (ap (λ z. z.file) c.in-Ok.ensures.value)))) c.over.ensures.notes s
+    (c.over.ensures.place ∙ ap rest_of c.at.ensures) c.over.ensures.notes s
 
 pub returns-clause-resumed : goal.returns-clause-resumed
 returns-clause-resumed g c = λ held. record {
-  place = c.over.ensures.place
-      ∙ from_taken c.restart.result _ c.restart.ensures.there (c.restart.ensures.taken
-      (sym (ap (λ z. z.set_id) c.point.view_is) ∙ sym (ap (λ z. z.set_id) c.in-Ok.ensures.value))
-      (sym (ap (λ z. z.file) c.point.view_is) ∙ sym (ap (λ z. z.file) c.in-Ok.ensures.value)));
+  place = c.over.ensures.place ∙ ap rest_of c.at.ensures;
   parts = refl;
   notes = c.over.ensures.notes;
   failures = c.over.ensures.failures;
