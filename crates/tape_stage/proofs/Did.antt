@@ -2,12 +2,12 @@
 use Rattle.std.proofs.Common.{◌≡◌, ℕ, List, length, Vec, sym}
 use Rattle.std.proofs.Common.{subst}
 use Rattle.std.specs.declared.alloc.Global.{Global}
-use Rattle.tape_stage.specs.Disk.{Torn, CutShort, Elapses}
+use Rattle.tape_stage.specs.Disk.{Torn, Elapses}
 use Rattle.tape_stage.specs.Calls.{kept_or, left_after, IsImage, WasImage, seen_image, worst_image}
 use Rattle.tape_stage.specs.Memory.{first_of}
 use Rattle.tape_stage.specs.Same.{DidCall}
 use Rattle.tape_stage.specs.declared.disk.content.Call.{Call}
-use Rattle.tape_stage.specs.declared.disk.content.Call.TheVariants.{Look, Write, Cut, Sync}
+use Rattle.tape_stage.specs.declared.disk.content.Call.TheVariants.{Write, Sync}
 use Rattle.tape_stage.specs.declared.disk.content.Content.{Content}
 use Rattle.tape_stage.proofs.CallLaws.{image_back, image_more, elapses_more}
 
@@ -34,23 +34,11 @@ did_left old mid new call is before c now =
     (subst (λ (calls : List Call). P (first_of old) calls) did.calls
     (subst (λ (f : List ℕ). P f new.calls.items) did.first now))
 
-pub looked_left : (old mid new : Content) → mid ≡ old → DidCall Look mid new → (c : List ℕ)
-    → Leaves new c → Leaves old c
-looked_left old mid new is did c now = did_left old mid new Look is did c now
-
-pub synced_left : (old mid new : Content) → mid ≡ old → DidCall Sync mid new → (c : List ℕ)
-    → Leaves new c → c ≡ old.bytes.items
-synced_left old mid new is did c now = did_left old mid new Sync is did c now
-
 pub synced_same : (old mid new : Content) → mid ≡ old → DidCall Sync mid new → (c : List ℕ)
     → Leaves new c → Leaves old c
 synced_same old mid new is did c now =
     subst (λ (b : List ℕ). Leaves old b) (sym (did_left old mid new Sync is did c now))
     (seen_image (first_of old) old.bytes.items old.calls.items old.right.fit old.right.seen)
-
-pub cut_left : (old mid new : Content) (len : ℕ) → mid ≡ old → DidCall (Cut len) mid new
-    → (c : List ℕ) → Leaves new c → (d : List ℕ) × Leaves old d × CutShort len d c
-cut_left old mid new len is did c now = did_left old mid new (Cut len) is did c now
 
 pub written_left : (old mid new : Content) (place : ℕ) (copy : Vec ℕ Global) (bytes : List ℕ)
     → mid ≡ old → copy.items ≡ bytes → DidCall (Write place copy) mid new
@@ -65,22 +53,18 @@ worst_left_now content =
     worst_image (first_of content) (kept_or content.changed content.worst.items content.bytes.items)
     content.calls.items content.right.fit content.right.worst_is
 
+pub did_open : (old mid new : Content) (call : Call) → mid ≡ old → DidCall call mid new
+    → (c : List ℕ) → left_after old.bytes.items (Leaves old) call c → Leaves new c
+did_open old mid new call is before c from =
+    let did = subst (λ (o : Content). DidCall call o new) is before in
+    let P : List ℕ → List Call → Type 0 = λ f calls. IsImage f calls c in
+    subst (λ (f : List ℕ). P f new.calls.items) (sym did.first)
+    (subst (λ (calls : List Call). P (first_of old) calls) (sym did.calls)
+    (image_more (first_of old) old.bytes.items old.calls.items call c old.right.seen from))
+
 pub written_open : (old mid new : Content) (place : ℕ) (copy : Vec ℕ Global) (bytes : List ℕ)
     → mid ≡ old → copy.items ≡ bytes → DidCall (Write place copy) mid new
     → (d c : List ℕ) → Leaves old d → Torn place (length bytes) d c → Leaves new c
-written_open old mid new place copy bytes is same before d c left torn =
-    let did = subst (λ (o : Content). DidCall (Write place copy) o new) is before in
-    let P : List ℕ → List Call → Type 0 = λ f calls. IsImage f calls c in
-    subst (λ (f : List ℕ). P f new.calls.items) (sym did.first)
-    (subst (λ (calls : List Call). P (first_of old) calls) (sym did.calls)
-    (image_more (first_of old) old.bytes.items old.calls.items (Write place copy) c old.right.seen
-    (d, left, subst (λ (b : List ℕ). Torn place (length b) d c) (sym same) torn)))
-
-pub looked_open : (old mid new : Content) → mid ≡ old → DidCall Look mid new
-    → (c : List ℕ) → Leaves old c → Leaves new c
-looked_open old mid new is before c left =
-    let did = subst (λ (o : Content). DidCall Look o new) is before in
-    let P : List ℕ → List Call → Type 0 = λ f calls. IsImage f calls c in
-    subst (λ (f : List ℕ). P f new.calls.items) (sym did.first)
-    (subst (λ (calls : List Call). P (first_of old) calls) (sym did.calls)
-    (image_more (first_of old) old.bytes.items old.calls.items Look c old.right.seen left))
+written_open old mid new place copy bytes is same did d c left torn =
+    did_open old mid new (Write place copy) is did c
+    (d, left, subst (λ (b : List ℕ). Torn place (length b) d c) (sym same) torn)

@@ -139,7 +139,6 @@ cases_of_files = record {
   first_at_a_tie = λ a b. refl;
   first_wins = λ a. omega arith;
   second_loses = λ a h. absurd (omega (arith, h));
-  found = λ f bytes is. (is.slot, is.other, is.gate);
   text = refl;
   body = refl;
   staged_is_there = λ bytes g point parts s. (s.slot, s.parts_are.long, s.parts_are.frames_are);
@@ -211,5 +210,4 @@ cases_of_faults = record {
   is_no_device = (tt, tt, tt);
   is_device = λ h. h;
   of_its_place = λ place n h. h;
-  as_of_sinks = (refl, refl, refl, refl);
 }

@@ -1,11 +1,9 @@
 -- Proofs of the examples for the remains of a stage.
-use Rattle.std.proofs.Common.{Some, ◌≡◌, [], ◌∷◌, refl, ap, ◌∙◌, length, get_or, arith}
+use Rattle.std.proofs.Common.{◌≡◌, [], ◌∷◌, refl, ap, get_or, arith}
 use Rattle.tape_blocks.specs.declared.parts.Span.TheVariants as spans
-use Rattle.tape_stage.specs.CasesOfSalvage.{CasesOfSalvage, cut_frame, frame_and_none, one_part}
+use Rattle.tape_stage.specs.CasesOfSalvage.{CasesOfSalvage, cut_frame, frame_and_none}
 use Rattle.tape_stage.specs.Frames.{NoFrameAt}
-use Rattle.tape_blocks.specs.Spans.{join}
-use Rattle.tape_stage.proofs.Once.{framed_once, staged_remains}
-use Rattle.tape_stage.specs.Salvaged.{FramedTo}
+use Rattle.tape_stage.proofs.Once.{staged_remains}
 
 no_byte : NoFrameAt 256 261 cut_frame
 no_byte span [] is = absurd (let e : 1 ≡ 0 = ap (λ l. get_or l 4 0) is.header in cc e)
@@ -21,12 +19,6 @@ no_digit spans.Middle content is =
 no_digit spans.Last content is =
     absurd (let e : 52 ≡ 51 = ap (λ l. get_or l 0 0) is.header in omega (arith, e))
 
-first_remains : FramedTo 12 (Some 262) (one_part ∷ []) frame_and_none
-first_remains = record {
-  holds = record { long = omega arith; frames_are = refl; short = (omega arith, tt) };
-  breaks = record { low = omega arith; high = omega arith; none = no_digit };
-}
-
 pub cases_of_salvage : CasesOfSalvage
 cases_of_salvage = record {
   cut_off = record {
@@ -34,16 +26,15 @@ cases_of_salvage = record {
     breaks = record { low = omega arith; high = omega arith; none = no_byte };
   };
   not_whole = λ parts framed. omega (arith, framed.holds.long);
-  one_remains = first_remains;
+  one_remains = record {
+    holds = record { long = omega arith; frames_are = refl; short = (omega arith, tt) };
+    breaks = record { low = omega arith; high = omega arith; none = no_digit };
+  };
   no_break = record {
     holds = record { long = omega arith; frames_are = refl; short = (omega arith, tt) };
     breaks = tt;
   };
   not_broken = λ parts framed. omega (arith, framed.breaks.high);
-  counted = (one_part ∷ [], first_remains, refl);
-  not_counted = λ n walked. walked.2 ∙ ap (λ ps. length (join ps).records)
-      (framed_once 12 (Some 262) (Some 262) walked.0 (one_part ∷ []) frame_and_none walked.1
-      first_remains).1;
   all_remains = staged_remains;
   all_staged = λ bytes n point parts r. record { slot = r.slot; parts_are = r.framed.holds };
   before_break = λ bytes n point place parts r. (

@@ -50,22 +50,16 @@ place_found : (version : Version) (text : List ℕ) (place : Place) → length t
     → place_at version text ≡ Ok place → HasPlace version text place
 unfolding place_at
 place_found One text place size e =
-    let b = bind_ok (number_at text 20 25) (λ block. Ok (record { block = block; part = 0 })) place
-    e in
-    let made : Place = record { block = b.0; part = 0 } in
-    subst (λ (p : Place). HasPlace One text p) {x = made} (ok_is made place b.2)
-    (number_found text 20 25 b.0 (omega arith) b.1, refl)
+    let b = bind_ok (number_at text 20 25) _ place e in
+    subst (λ (p : Place). HasPlace One text p) {x = record { block = b.0; part = 0 }}
+    (ok_is _ place b.2) (number_found text 20 25 b.0 (omega arith) b.1, refl)
 place_found Two text place size e =
-    let b =
-    bind_ok (number_at text 20 29) (λ block. number_at text 30 34 >>= λ part. Ok
-    (record { block = block; part = part })) place e in
-    let p = bind_ok (number_at text 30 34) (λ part. Ok (record { block = b.0; part = part })) place
-    b.2 in
-    let made : Place = record { block = b.0; part = p.0 } in
-    subst (λ (p : Place). HasPlace Two text p) {x = made} (ok_is made place p.2) (
+    let b = bind_ok (number_at text 20 29) _ place e in
+    let p = bind_ok (number_at text 30 34) _ place b.2 in
+    subst (λ (p : Place). HasPlace Two text p) {x = record { block = b.0; part = p.0 }}
+    (ok_is _ place p.2) (
       number_found text 20 29 b.0 (omega arith) b.1,
-      number_found text 30 34 p.0 (omega arith)
-          p.1,
+      number_found text 30 34 p.0 (omega arith) p.1,
     )
 
 place_again : (version : Version) (text : List ℕ) (place : Place) → HasPlace version text place
@@ -79,24 +73,9 @@ flags_found : (text : List ℕ) (first : ℕ) (flags : Flags) → length text �
     → flags_at text first ≡ Ok flags → HasFlags text first flags
 unfolding flags_at
 flags_found text first flags size low e =
-    let d =
-    bind_ok (flag_at text first 68 82) (λ done. flag_at text (first + 1) 49 48 >>= λ begun.
-    flag_at text (first + 2) 49 48 >>= λ known. Ok (record {
-      done = done;
-      begun = begun;
-      known =
-          known;
-    })) flags e in
-    let b =
-    bind_ok (flag_at text (first + 1) 49 48) (λ begun. flag_at text (first + 2) 49 48 >>=
-    λ known. Ok (record { done = d.0; begun = begun; known = known })) flags d.2 in
-    let k =
-    bind_ok (flag_at text (first + 2) 49 48) (λ known. Ok (record {
-      done = d.0;
-      begun =
-          b.0;
-      known = known;
-    })) flags b.2 in
+    let d = bind_ok (flag_at text first 68 82) _ flags e in
+    let b = bind_ok (flag_at text (first + 1) 49 48) _ flags d.2 in
+    let k = bind_ok (flag_at text (first + 2) 49 48) _ flags b.2 in
     let made : Flags = record { done = d.0; begun = b.0; known = k.0 } in
     subst (λ (f : Flags). HasFlags text first f) {x = made} (ok_is made flags k.2) record {
       done = flag_found text first 68 82 d.0 (omega (arith, size)) d.1;
@@ -120,29 +99,15 @@ form_found : (text : List ℕ) (first : ℕ) (form : Form) → length text ≡ 8
     → form_at text first ≡ Ok form → HasForm text first form
 unfolding form_at
 form_found text first form size low e =
-    let id = positions text (first + 8) (first + 24) in
-    let f =
-    bind_ok (format_at text first) (λ format. number_at text (first + 1) (first + 5) >>=
-    λ rec_len. number_at text (first + 6) (first + 7) >>= λ offset. Ok (record {
-      format =
-          format;
-      rec_len = rec_len;
-      offset = offset;
-      file_id = id;
-    })) form e in
-    let r = bind_ok (number_at text (first + 1) (first + 5)) (λ rec_len. number_at text (first + 6)
-    (first + 7) >>= λ offset. Ok (record {
+    let f = bind_ok (format_at text first) _ form e in
+    let r = bind_ok (number_at text (first + 1) (first + 5)) _ form f.2 in
+    let o = bind_ok (number_at text (first + 6) (first + 7)) _ form r.2 in
+    let made : Form = record {
       format = f.0;
-      rec_len = rec_len;
-      offset =
-          offset;
-      file_id = id;
-    })) form f.2 in
-    let o =
-    bind_ok (number_at text (first + 6) (first + 7))
-    (λ offset. Ok (record { format = f.0; rec_len = r.0; offset = offset; file_id = id })) form
-    r.2 in
-    let made : Form = record { format = f.0; rec_len = r.0; offset = o.0; file_id = id } in
+      rec_len = r.0;
+      offset = o.0;
+      file_id = positions text (first + 8) (first + 24);
+    } in
     subst (λ (x : Form). HasForm text first x) {x = made} (ok_is made form o.2) record {
       format = format_found text first f.0 (omega (arith, size)) f.1;
       rec_len = number_found text (first + 1) (first + 5) r.0 (omega (arith, size)) r.1;
@@ -167,10 +132,8 @@ staged_found : (text : List ℕ) (first staged : ℕ) → length text ≡ 80 →
     → staged_at text first ≡ Ok staged → HasStaged text first staged
 unfolding staged_at
 staged_found text first staged size low e =
-    let s =
-    bind_ok (number_at text first (first + 14)) (λ n. tail_at text (first + 15) >>= λ _. Ok n)
-    staged e in
-    let t = bind_ok (tail_at text (first + 15)) (λ _. Ok s.0) staged s.2 in
+    let s = bind_ok (number_at text first (first + 14)) _ staged e in
+    let t = bind_ok (tail_at text (first + 15)) _ staged s.2 in
     subst (λ (n : ℕ). HasStaged text first n) (ok_is s.0 staged t.2) record {
       number = number_found text first (first + 14) s.0 (omega (arith, size)) s.1;
       tail = tail_found text (first + 15) t.0 t.1;
@@ -196,83 +159,18 @@ unfolding fields_at
 fields_found version text f size e =
     let at = state_position version in
     let low = low_state version in
-    let id = positions text 6 11 in
-    let a =
-    bind_ok (number_at text 12 15) (λ file. number_at text 16 19 >>= λ sect. place_at version
-    text >>= λ place. flags_at text at >>= λ flags. form_at text (at + 3) >>= λ form. staged_at
-    text (at + 28) >>= λ staged. Ok (record {
-      set_id = id;
-      file = file;
-      sect = sect;
-      place =
-          place;
-      flags = flags;
-      form = form;
-      staged = staged;
-    })) f e in
-    let b = bind_ok (number_at text 16 19) (λ sect. place_at version text >>= λ place. flags_at text
-    at >>= λ flags. form_at text (at + 3) >>= λ form. staged_at text (at + 28) >>= λ staged. Ok
-    (record {
-      set_id = id;
-      file = a.0;
-      sect = sect;
-      place = place;
-      flags = flags;
-      form =
-          form;
-      staged = staged;
-    })) f a.2 in
-    let p = bind_ok (place_at version text) (λ place. flags_at text at >>= λ flags. form_at text
-    (at + 3) >>= λ form. staged_at text (at + 28) >>= λ staged. Ok (record {
-      set_id = id;
-      file =
-          a.0;
-      sect = b.0;
-      place = place;
-      flags = flags;
-      form = form;
-      staged = staged;
-    })) f b.2 in
-    let g = bind_ok (flags_at text at) (λ flags. form_at text (at + 3) >>= λ form. staged_at text
-    (at + 28) >>= λ staged. Ok (record {
-      set_id = id;
-      file = a.0;
-      sect = b.0;
-      place =
-          p.0;
-      flags = flags;
-      form = form;
-      staged = staged;
-    })) f p.2 in
-    let m = bind_ok (form_at text (at + 3)) (λ form. staged_at text (at + 28) >>= λ staged. Ok
-    (record {
-      set_id = id;
-      file = a.0;
-      sect = b.0;
-      place = p.0;
-      flags = g.0;
-      form =
-          form;
-      staged = staged;
-    })) f g.2 in
-    let s =
-    bind_ok (staged_at text (at + 28)) (λ staged. Ok (record {
-      set_id = id;
-      file = a.0;
-      sect =
-          b.0;
-      place = p.0;
-      flags = g.0;
-      form = m.0;
-      staged = staged;
-    })) f m.2 in
+    let a = bind_ok (number_at text 12 15) _ f e in
+    let b = bind_ok (number_at text 16 19) _ f a.2 in
+    let p = bind_ok (place_at version text) _ f b.2 in
+    let g = bind_ok (flags_at text at) _ f p.2 in
+    let m = bind_ok (form_at text (at + 3)) _ f g.2 in
+    let s = bind_ok (staged_at text (at + 28)) _ f m.2 in
     let made : Fields = record {
-      set_id = id;
+      set_id = positions text 6 11;
       file = a.0;
       sect = b.0;
       place = p.0;
-      flags =
-          g.0;
+      flags = g.0;
       form = m.0;
       staged = s.0;
     } in

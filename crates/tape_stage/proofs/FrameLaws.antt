@@ -19,13 +19,13 @@ frames-append [] ys = refl
 frames-append (x ∷ xs) ys = ap (λ (l : List ℕ). frame x ++ l) (frames-append xs ys) ∙ sym
     (append_assoc (frame x) (frames xs) (frames ys))
 
+pub length-frame : (part : Portion) → length (frame part) ≡ 5 + length part.bytes
+length-frame part = omega (arith, length-append (to_be_bytes w32 (length part.bytes)) part.bytes)
+
 pub length-frames : (xs : List Portion) → length (frames xs) ≡ weight_of xs
 length-frames [] = refl
 length-frames (x ∷ xs) =
-    let e = length-frames xs in
-    let f : length (frame x) ≡ 5 + length x.bytes =
-    omega (arith, length-append (to_be_bytes w32 (length x.bytes)) x.bytes) in
-    omega (arith, length-append (frame x) (frames xs), e, f)
+    omega (arith, length-append (frame x) (frames xs), length-frames xs, length-frame x)
 
 short_push : (xs : List Portion) (x : Portion) → AllShort xs → length x.bytes ≤ 99999
     → AllShort (xs ++ x ∷ [])
@@ -71,46 +71,21 @@ front_holding weight staged parts front bytes le is holding =
       short = short_front front is.rest (subst AllShort is.whole holding.short);
     }
 
--- a header and its part
-pub two_writes : (place : ℕ) (part : Portion) (header s0 s1 s2 : List ℕ)
-    → header ≡ indicator part.span ∷ to_be_bytes w32 (length part.bytes) → place ≤ length s0
-    → Holds s0 place header s1 → Holds s1 (place + 5) part.bytes s2 → IsPut place part s0 s2
-two_writes place part header s0 s1 s2 is le first second =
-    let size : length header ≡ 5 = ap length is in
-    let torn1 = holds_torn place header s0 s1 le first in
-    let room : place + 5 ≤ length s1 =
-    omega (
-      arith,
-      ap length first,
-      length-append (take place s0 ++ header)
-          (drop (place + length header) s0),
-      length-append (take place s0) header,
-      length-take-le
-          place s0 le,
-      size,
-    ) in
-    let torn2 = holds_torn (place + 5) part.bytes s1 s2 room second in
-    let head : take 5 (drop place s1) ≡ header =
-    subst (λ (n : ℕ). take n (drop place s1) ≡ header) size
-    (holds_piece place header s0 s1 le first) in
-    let head2 : take 5 (drop place s2) ≡ header =
-    alike_piece (place + 5) place 5 s1 s2 (omega arith) torn2.before ∙ head in
-    let tail : take (length part.bytes) (drop (place + 5) s2) ≡ part.bytes =
-    holds_piece (place + 5) part.bytes s1 s2 room second in
+-- a frame that was written
+pub one_write : (place : ℕ) (part : Portion) (bytes old new : List ℕ) → bytes ≡ frame part
+    → place ≤ length old → Holds old place bytes new → IsPut place part old new
+one_write place part bytes old new is le holds =
+    let size : length bytes ≡ 5 + length part.bytes = ap length is ∙ length-frame part in
     record {
-      front = torn_front (place + 5) (length part.bytes) place s1 s2 (omega arith) torn2 ∙
-          torn1.before;
-      frame_is = take-add 5 (length part.bytes) (drop place s2)
-          ∙ ap (λ (l : List ℕ). l ++ take (length part.bytes) (drop 5 (drop place s2))) head2
-          ∙ ap (λ (l : List ℕ). header ++ take (length part.bytes) l) (drop-drop 5 place s2)
-          ∙ ap (λ (l : List ℕ). header ++ l) tail
-          ∙ ap (λ (l : List ℕ). l ++ part.bytes) is;
+      front = (holds_torn place bytes old new le holds).before;
+      frame_is = subst (λ (n : ℕ). take n (drop place new) ≡ frame part) size
+          (holds_piece place bytes old new le holds ∙ is);
       long = omega (
         arith,
-        ap length second,
-        length-append (take (place + 5) s1 ++ part.bytes)
-            (drop (place + 5 + length part.bytes) s1),
-        length-append (take (place + 5) s1) part.bytes,
-        length-take-le (place + 5) s1 room,
+        size,
+        ap length holds,
+        length-append (take place old ++ bytes) (drop (place + length bytes) old),
+        length-append (take place old) bytes,
+        length-take-le place old le,
       );
     }

@@ -5,7 +5,7 @@ use Rattle.std.proofs.lemmas.List.{take-take, take_at, drop_at, drop-take, lengt
 use Rattle.std.proofs.lemmas.List.{length-drop, drop-drop}
 use Rattle.std.proofs.lemmas.Nat.{from_be_bytes-to_be_bytes_4}
 use Rattle.std.specs.Int.{to_be_bytes, from_be_bytes}
-use Rattle.std.proofs.Common.{Bool, ◌⊎◌, inl, inr}
+use Rattle.std.proofs.Common.{Bool, ◌⊎◌, inl, inr, ◌==◌, if◌then◌else◌}
 use Rattle.tape_core.specs.Weight.{Rose}
 use Rattle.tape_core.specs.declared.sink.SinkFault.{SinkFault}
 use Rattle.tape_core.specs.declared.sink.SinkFault.TheVariants.{Device, Failed}
@@ -18,24 +18,18 @@ use Rattle.tape_blocks.specs.Block.{indicator}
 use Rattle.tape_stage.specs.Staged.{Holding}
 use Rattle.tape_stage.specs.Frames.{AheadIn, IsFrameAt, NoFrameAt}
 use Rattle.tape_stage.specs.Stages.{LendsNone}
+use Rattle.tape_stage.proofs.FrameLaws.{length-frame}
 
-span_same : (s t : Span) → indicator s ≡ indicator t → s ≡ t
-span_same Whole Whole e = refl
-span_same Whole First e = absurd (omega (arith, e))
-span_same Whole Middle e = absurd (omega (arith, e))
-span_same Whole Last e = absurd (omega (arith, e))
-span_same First Whole e = absurd (omega (arith, e))
-span_same First First e = refl
-span_same First Middle e = absurd (omega (arith, e))
-span_same First Last e = absurd (omega (arith, e))
-span_same Middle Whole e = absurd (omega (arith, e))
-span_same Middle First e = absurd (omega (arith, e))
-span_same Middle Middle e = refl
-span_same Middle Last e = absurd (omega (arith, e))
-span_same Last Whole e = absurd (omega (arith, e))
-span_same Last First e = absurd (omega (arith, e))
-span_same Last Middle e = absurd (omega (arith, e))
-span_same Last Last e = refl
+-- the span with the given digit
+abbrev span_of : ℕ → Span
+span_of n = if n == 48 then Whole else (if n == 49 then First
+    else (if n == 50 then Middle else Last))
+
+span_again : (s : Span) → span_of (indicator s) ≡ s
+span_again Whole = refl
+span_again First = refl
+span_again Middle = refl
+span_again Last = refl
 
 head_same : (a b : ℕ) (x y : List ℕ) → a ∷ x ≡ b ∷ y → a ≡ b
 head_same a b x y e = cc
@@ -52,13 +46,10 @@ one_frame place end bytes s t c d a b =
     (length d) = sym a.header ∙ b.header in
     let size : length c ≡ length d =
     size_same (length c) (length d) a.short b.short (ap (drop 1) headers) in (
-      span_same s t (head_same _ _ _ _ headers),
+      sym (span_again s) ∙ ap span_of (head_same _ _ _ _ headers) ∙ span_again t,
       sym a.content_is ∙ ap
           (λ (k : ℕ). take k (drop (place + 5) bytes)) size ∙ b.content_is,
     )
-
-length-frame : (part : Portion) → length (frame part) ≡ 5 + length part.bytes
-length-frame part = omega (arith, length-append (to_be_bytes w32 (length part.bytes)) part.bytes)
 
 -- the next part, and the parts after it
 pub record OneAhead (place end : ℕ) (bytes : List ℕ) (parts : List Portion) : Type 0 where

@@ -51,13 +51,6 @@ torn_keeps place n m old new le torn = record {
       torn.no_shorter;
 }
 
-pub front_then : (m : ℕ) (a b c : List ℕ) → KeepsFront m a b → KeepsFront m b c → KeepsFront m a c
-front_then m a b c first second = record {
-  front = second.front ∙ first.front;
-  long =
-      omega (arith, first.long, second.long);
-}
-
 pub kept_front_holding : (weight : ℕ) (parts : List Portion) (old new : List ℕ)
     → KeepsFront (256 + weight) old new → Holding weight parts old → Holding weight parts new
 kept_front_holding weight parts old new kept holding =

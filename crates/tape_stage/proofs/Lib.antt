@@ -17,8 +17,6 @@ pub mod Keeps
 pub mod Makes
 mod Mistakes
 mod MistakesInCrashes
-mod MistakesOfDisks
-mod MistakesOfPoints
 pub mod Once
 pub mod Openings
 pub mod Passing
@@ -36,5 +34,4 @@ pub mod Tears
 pub mod TextLaws
 pub mod Torn
 pub mod Walks
-mod MistakesOfRefusals
 mod MistakesOfSalvage

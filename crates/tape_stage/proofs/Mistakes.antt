@@ -1,112 +1,100 @@
--- Results that the contracts of a stage exclude: each is the result of a wrong body. The
--- assumptions about a stage or its bytes (`IsStage`, `Holds`, `Staged`) are guarantees of `create`,
--- `put_part` and `save`, also on the disk in memory, which is honest.
-use Rattle.std.proofs.Common.{◌≡◌, ℕ, ◌+◌, ◌≤◌, ◌<◌, List, [], ◌∷◌, length, drop, get_or, true}
-use Rattle.std.proofs.Common.{false}
-use Rattle.std.proofs.Common.{◌-◌, inl, inr, sym, ap, ◌∙◌, subst, arith}
-use Rattle.std.specs.Prelude.{not, Some, None, Ok, Err, option_map, unwrap_or}
-use Rattle.std.specs.Prelude.{take}
-use Rattle.tape_blocks.specs.Block.{Portion}
+-- Results that the contracts of checkpoints, disks and stages exclude: each is the result of a wrong
+-- body.
+use Rattle.std.proofs.Common.{◌≡◌, ◌⊎◌, ℕ, Option, ◌+◌, List, [], ◌∷◌, ◌++◌, length, take, drop}
+use Rattle.std.proofs.Common.{get_or, true, false, refl, inl, inr, sym, ap, subst, ◌∙◌, arith}
+use Rattle.std.specs.Prelude.{replicate, Some, None, Ok, Err, option_map, unwrap_or}
 use Rattle.tape_core.specs.Point.{Point}
 use Rattle.tape_core.specs.Weight.{Rose}
-use Rattle.tape_core.specs.declared.sink.SinkFault.TheVariants.{Failed}
-use Rattle.tape_stage.specs.Body.{Slot, body_text}
+use Rattle.tape_stage.specs.Calls.{worst_by}
+use Rattle.tape_stage.specs.Disk.{CountsDown}
 use Rattle.tape_stage.specs.Faults.{IsNotDevice}
-use Rattle.tape_stage.specs.Frames.{AheadIn}
-use Rattle.tape_stage.specs.Parts.{frames, IsFront}
-use Rattle.tape_stage.specs.Staged.{best, blank, body_at, gate_at, slot_at, Staged}
-use Rattle.tape_stage.specs.Stages.{IsStage, Holds}
-use Rattle.tape_stage.specs.declared.stage.StageFault.TheVariants.{Device, Full, NoPoint}
-use Rattle.tape_stage.proofs.Once.{staged_remains}
-use Rattle.tape_stage.proofs.stage.opening.look.Reads as look
-use Rattle.tape_stage.proofs.stage.putting.StagePartWalk.next_part.Reads as next_part
-use Rattle.tape_stage.proofs.stage.putting.StagePartWalk.rewind.Reads as rewind
-use Rattle.tape_stage.proofs.stage.saving.close_gate.Reads as close_gate
-use Rattle.tape_stage.proofs.stage.saving.fill_slot.Reads as fill_slot
-use Rattle.tape_stage.proofs.stage.saving.open_gate.Reads as open_gate
-use Rattle.tape_stage.proofs.stage.Stage.cut_back.Reads as cut_back
+use Rattle.tape_stage.specs.Found.{IsFaultOf}
+use Rattle.tape_stage.specs.Memory.{first_of, memory_bytes}
+use Rattle.tape_stage.specs.Salvaged.{Remains}
+use Rattle.tape_stage.specs.Staged.{best, gate_at, slot_at}
+use Rattle.tape_stage.specs.Text.{IsPointText}
+use Rattle.tape_stage.specs.declared.disk.Disk.{Ghosts}
+use Rattle.tape_stage.specs.declared.disk.DiskFault.TheVariants as disk_faults
+use Rattle.tape_stage.specs.declared.disk.content.Call.TheVariants.{Write}
+use Rattle.tape_stage.specs.declared.disk.read_ahead.ReadAhead.{ReadAhead}
+use Rattle.tape_stage.specs.declared.point.Version.TheVariants.{One}
+use Rattle.tape_stage.specs.declared.point.text.PointFault.TheVariants as faults
+use Rattle.tape_stage.specs.declared.stage.StageFault.TheVariants.{Device, NoPoint, OutOfMemory}
+use Rattle.tape_stage.proofs.disk.file.FileDiskDisk.sync.Reads as sync
+use Rattle.tape_stage.proofs.disk.memory.MemoryDisk.crash.Reads as crash
+use Rattle.tape_stage.proofs.disk.memory_disk.MemoryDiskDisk.sync.Reads as memory_sync
+use Rattle.tape_stage.proofs.disk.write_behind.WriteBehindDisk.write_at.Reads as held_write
+use Rattle.tape_stage.proofs.point.read_point.Reads as read_point
+use Rattle.tape_stage.proofs.stage.saving.replace_slot.Reads as replace_slot
+use Rattle.tape_stage.proofs.stage.Stage.create.Reads as create
 use Rattle.tape_stage.proofs.stage.Stage.open_disk.Reads as open_disk
-use Rattle.tape_stage.proofs.stage.Stage.parts.Reads as parts
-use Rattle.tape_stage.proofs.stage.Stage.put_part.Reads as put_part
 use Rattle.tape_stage.proofs.stage.Stage.save.Reads as save
 
--- ---- the state of the stage after a call
-
--- save_forgets_that_it_failed: the disk failed, but the stage does not record it
-save_forgets_that_it_failed : (D : _) (L : _) (g : _) (d : _) (κs : _) (a : _) (s : _)
-    → save.Learnt-named D L g d κs a (Err Device) s → s.0.now.failed ≡ false → ⊥
-save_forgets_that_it_failed D L g d κs a s l w =
-    let e : false ≡ true = sym w ∙ l.ends.refused.1 in
+-- version_1_refused: a text of version 1 is refused as having an unknown version
+version_1_refused : (κs : _) (a : _) (s : _) (c : Point)
+    → read_point.Learnt-named κs a (Err faults.Version) s → IsPointText One a.0.now c → ⊥
+version_1_refused κs a s c l spelled =
+    let d : Err faults.Version ≡ Ok c = l.only One c spelled in
     absurd (cc)
 
--- put_forgets_that_it_failed: the disk failed in a put, but the stage does not record it
-put_forgets_that_it_failed : (D : _) (L : _) (g : _) (d : _) (κs : _) (a : _) (s : _)
-    → put_part.Learnt-named D L g d κs a (Err Device) s → s.0.now.failed ≡ false → ⊥
-put_forgets_that_it_failed D L g d κs a s l w =
-    let e : false ≡ true = sym w ∙ l.ends.refused.1 in
+-- ---- disks
+
+-- crash_leaves_what_is_read: the byte 2 was written over the byte 1 and not synced, but the worst
+-- contents that a crash leaves are the 2
+crash_leaves_what_is_read : (κs : _) (a : _) (z : _) (s : _) (two : _)
+    → crash.Learnt-named κs a z s → first_of a.0.content ≡ 1 ∷ []
+    → a.0.content.calls.items ≡ Write 0 two ∷ [] → two.items ≡ 2 ∷ [] → memory_bytes z ≡ 2 ∷ [] → ⊥
+crash_leaves_what_is_read κs a z s two l first calls is w =
+    let e : memory_bytes z ≡ worst_by (1 ∷ []) (1 ∷ []) (Write 0 two ∷ [])
+    = l.worst ∙ ap (λ f. worst_by f f a.0.content.calls.items) first
+    ∙ ap (worst_by (1 ∷ []) (1 ∷ [])) calls in
+    let worst : worst_by (1 ∷ []) (1 ∷ []) (Write 0 two ∷ []) ≡ 255 ∷ []
+    = ap (λ t. take 0 (1 ∷ []) ++ replicate (length t) 255 ++ drop (0 + length t) (1 ∷ [])) is in
+    absurd (let n : 2 ≡ 255 = ap (λ t. get_or t 0 0) (sym w ∙ e ∙ worst) in omega arith)
+
+none_left : (ok : Type 0) (n after : Option ℕ) → CountsDown ok n after → n ≡ Some 0 → ok → ⊥
+none_left ok n after counts none made = (subst (λ m. CountsDown ok m after) none counts).0 made
+
+-- sync_of_a_stopped_disk: no call is left, but a sync succeeds
+sync_of_a_stopped_disk : (κs : _) (a : _) (s : _) → memory_sync.Learnt-named κs a (Ok tt) s
+    → a.0.now.left ≡ Some 0 → ⊥
+sync_of_a_stopped_disk κs a s l none = none_left _ _ _ l.stop none refl
+
+none_rose : Rose 3 3 → ⊥
+none_rose (inl e) = absurd (omega (arith, e))
+none_rose (inr e) = absurd (omega (arith, e))
+
+-- fails_where_the_disk_does_not: a write is refused although the disk has not failed
+fails_where_the_disk_does_not : (D : _) (L : _) (g : _) (d : _) (κs : _) (a : _) (s : _)
+    → held_write.Learnt-named D L g d κs a (Err disk_faults.Device) s
+    → g.faults a.0.now.disk ≡ 3 → g.faults s.0.now.disk ≡ 3 → ⊥
+fails_where_the_disk_does_not D L g d κs a s l was is =
+    none_rose (subst (Rose 3) is (subst (λ n. Rose n (g.faults s.0.now.disk)) was l.cause))
+
+-- counts_a_failure_of_nobody: one failure is counted although the disk has not failed
+counts_a_failure_of_nobody : (D : Type 0) (g : Ghosts D) (h : ReadAhead D g) → h.failed ≡ 1
+    → g.faults h.disk ≡ 0 → ⊥
+counts_a_failure_of_nobody D g h one none = absurd (omega (arith, h.caused))
+
+-- sync_failure_forgotten: the file could not be synced, but later calls succeed
+sync_failure_forgotten : (F : _) (L : _) (r : _) (dr : _) (w : _) (dw : _) (k : _) (dk : _)
+    (o : _) (dp : _) (κs : _) (a : _) (s : _)
+    → sync.Learnt-named F L r dr w dw k dk o dp κs a (Err disk_faults.Device) s
+    → s.0.now.lost ≡ false → ⊥
+sync_failure_forgotten F L r dr w dw k dk o dp κs a s l is =
+    let e : false ≡ true = sym is ∙ l.lost in
     absurd (cc)
 
--- full_after_the_write: a full stage wrote a frame of 85 bytes before it refused the call
-full_after_the_write : (D : _) (L : _) (g : _) (d : _) (κs : _) (a : _) (s : _)
-    → put_part.Learnt-named D L g d κs a (Err Full) s
-    → g.length_of s.0.now.disk ≡ g.length_of a.0.now.disk + 85 → ⊥
-full_after_the_write D L g d κs a s l w =
-    let e : g.length_of s.0.now.disk ≡ g.length_of a.0.now.disk
-    = ap (λ t. g.length_of t.disk) l.ends.refused in
-    absurd (omega arith)
-
--- cut_at_once_below_the_saved_weight: a weight of 170 is acknowledged, but the stage is cut to 85
--- immediately, so the checkpoint counts more than exists
-cut_at_once_below_the_saved_weight : (D : _) (L : _) (g : _) (d : _) (κs : _) (a : _) (s : _)
-    (acked all front : List Portion) → cut_back.Learnt-named D L g d κs a (Ok tt) s
-    → g.is_honest a.0.now.disk → IsStage a.0.now acked all → IsFront a.1.0.now.staged front all
-    → s.0.now.acknowledged.staged ≡ 170 → s.0.now.weight ≡ 85 → ⊥
-cut_at_once_below_the_saved_weight D L g d κs a s acked all front l honest stage first told w =
-    let e : s.0.now.acknowledged.staged ≤ s.0.now.weight
-    = (l.ok honest acked all front stage first).1.behind in
-    absurd (omega arith)
-
--- ---- reading the parts
-
--- if the whole weight was walked, no part is to come
-none_left : (walked weight : ℕ) (bytes : List ℕ) (one : Portion)
-    → AheadIn (256 + walked) (256 + weight) bytes (one ∷ []) → walked ≡ weight → ⊥
-none_left walked weight bytes one ahead w =
-    let n : 256 + weight - (256 + walked) ≡ 0 = omega (arith, w) in
-    let e : [] ≡ frames (one ∷ [])
-    = subst (λ k. take k (drop (256 + walked) bytes) ≡ frames (one ∷ [])) n ahead.frames_are in
+-- lost_disk_synced: after a failed sync the file is not synced again, but success is reported
+lost_disk_synced : (F : _) (L : _) (r : _) (dr : _) (w : _) (dw : _) (k : _) (dk : _)
+    (o : _) (dp : _) (κs : _) (a : _) (s : _)
+    → sync.Learnt-named F L r dr w dw k dk o dp κs a (Ok tt) s
+    → a.0.now.lost ≡ true → ⊥
+lost_disk_synced F L r dr w dw k dk o dp κs a s l is =
+    let e : true ≡ false = sym is ∙ l.alive in
     absurd (cc)
 
--- parts_from_anywhere: a reader of a stage with one part begins after that part
-parts_from_anywhere : (D : _) (L : _) (g : _) (d : _) (κs : _) (a : _) (z : _) (s : _)
-    (one : Portion) → parts.Learnt-named D L g d κs a z s → Holds a.0.now (one ∷ [])
-    → z.stage.now.walked ≡ z.stage.now.weight → ⊥
-parts_from_anywhere D L g d κs a z s one l holds w =
-    none_left z.stage.now.walked z.stage.now.weight (g.seen z.stage.now.disk) one
-    (l.all (one ∷ []) holds).1 w
-
--- rewind_stays: a walk over a stage with one part begins after that part
-rewind_stays : (D : _) (L : _) (g : _) (d : _) (κs : _) (a : _) (z : _) (s : _) (one : Portion)
-    → rewind.Learnt-named D L g d κs a z s → Holds a.0.now (one ∷ [])
-    → s.0.now.walked ≡ s.0.now.weight → ⊥
-rewind_stays D L g d κs a z s one l holds w =
-    none_left s.0.now.walked s.0.now.weight (g.seen s.0.now.disk) one
-    (l.all (one ∷ []) holds).1 w
-
-not_rose : (n : ℕ) → n < 10 → Rose n n → ⊥
-not_rose n few (inl e) = absurd (omega (arith, few, e))
-not_rose n few (inr e) = absurd (omega (arith, few, e))
-
--- refusal_without_a_cause: after the last part a call of the walk is refused, and the refusal is
--- not counted
-refusal_without_a_cause : (D : _) (L : _) (g : _) (d : _) (κs : _) (a : _) (s : _)
-    → (h : next_part.tells D L g d κs a (Err Failed) s) → a.0.now.refused ≡ 3
-    → h.0.lender-at-none.refused ≡ 3 → ⊥
-refusal_without_a_cause D L g d κs a s h before after =
-    not_rose 3 (omega arith) (subst (Rose 3) after
-    (subst (λ n. Rose n h.0.lender-at-none.refused) before h.0.holds-at-none.counts))
-
--- ---- results of opening
+-- ---- stages
 
 -- older_slot_opened: the slots have the generations 3 and 4, but the older one is opened
 older_slot_opened : (D : _) (L : _) (g : _) (d : _) (κs : _) (a : _) (opened : _) (s : _)
@@ -133,51 +121,39 @@ no_stage_emptied D L g d κs a refused s l w ten none =
     = l.refused.same_length (subst IsNotDevice (sym w) tt) in
     absurd (let n : 0 ≡ 10 = sym none ∙ e ∙ ten in omega arith)
 
--- no_point_of_256_bytes: a new stage of 256 bytes, without parts, is reported as not a stage
-no_point_of_256_bytes : (D : _) (L : _) (g : _) (d : _) (κs : _) (a : _) (s : _) (point : Point)
-    → look.Learnt-named D L g d κs a (Err NoPoint) s → g.is_honest a.0.now
-    → g.length_of a.0.now ≡ 256 → Staged (g.seen a.0.now) 1 point [] → ⊥
-no_point_of_256_bytes D L g d κs a s point l honest size staged =
-    l.none honest tt 1 point None [] (staged_remains (g.seen a.0.now) 1 point [] staged)
+-- bad_frame_told_as_no_stage: a frame is damaged, and the fault says that no slot is valid
+bad_frame_told_as_no_stage : (D : _) (L : _) (g : _) (d : _) (κs : _) (a : _) (refused : _) (s : _)
+    (n : _) (point : _) (place : _) (parts : _)
+    → open_disk.Learnt-named D L g d κs a (Err refused) s → g.is_honest a.1.0
+    → Remains (g.seen a.1.0) n point (Some place) parts → refused.fault ≡ NoPoint → ⊥
+bad_frame_told_as_no_stage D L g d κs a refused s n point place parts l honest is w =
+    let says : IsFaultOf (g.seen a.1.0) NoPoint
+    = subst (IsFaultOf (g.seen a.1.0)) w (l.refused.says honest) in
+    says n point (Some place) parts is
 
--- ---- durable bytes
+-- disk_cut_without_memory: there was no memory to create a stage, and the disk was changed
+disk_cut_without_memory : (D : _) (L : _) (g : _) (d : _) (κs : _) (a : _) (refused : _) (s : _)
+    → create.Learnt-named D L g d κs a (Err refused) s → refused.fault ≡ OutOfMemory
+    → g.moment a.1.0 ≡ 0 → g.moment refused.disk ≡ 1 → ⊥
+disk_cut_without_memory D L g d κs a refused s l w before later =
+    let n : 1 ≡ 0 =
+    sym later ∙ ap g.moment (l.unwritten (subst IsNotDevice (sym w) tt)) ∙ before in
+    absurd (omega (arith, n))
 
--- cut_at_opening_before_a_sync: the second slot was read, but a crash may lose it
-cut_at_opening_before_a_sync : (D : _) (L : _) (g : _) (d : _) (κs : _) (a : _) (found : _) (s : _)
-    (c : List ℕ) (slot : Slot) → look.Learnt-named D L g d κs a (Ok found) s
-    → g.is_honest a.0.now → g.may_leave s.0.now c → slot_at true (g.seen s.0.now) ≡ Some slot
-    → slot_at true c ≡ None → ⊥
-cut_at_opening_before_a_sync D L g d κs a found s c slot l honest left read lost =
-    let e : None ≡ Some slot = sym lost ∙ ap (slot_at true) (l.durable honest c left) ∙ read in
-    absurd (cc)
-
--- filled_before_the_frames_are_synced: the gate is closed, but a crash may lose a frame of 85 bytes
-filled_before_the_frames_are_synced : (D : _) (L : _) (g : _) (d : _) (κs : _) (a : _) (s : _)
-    (c : List ℕ) → close_gate.Learnt-named D L g d κs a (Ok tt) s → g.is_honest a.0.now
-    → g.may_leave s.0.now c → length (g.seen s.0.now) ≡ 341 → length c ≡ 256 → ⊥
-filled_before_the_frames_are_synced D L g d κs a s c l honest left read lost =
-    let e : c ≡ g.seen s.0.now = l.synced.durable honest c left in
-    absurd (let n : 256 ≡ 341 = sym lost ∙ ap length e ∙ read in omega arith)
+-- acknowledged_though_not_saved: a checkpoint of weight 85 could not be saved, but is acknowledged in
+-- place of the earlier one of weight 0
+acknowledged_though_not_saved : (D : _) (L : _) (g : _) (d : _) (κs : _) (a : _) (s : _)
+    → save.Learnt-named D L g d κs a (Err Device) s
+    → a.1.0.now.staged ≡ 85 → a.0.now.acknowledged.staged ≡ 0
+    → s.0.now.acknowledged ≡ a.1.0.now → ⊥
+acknowledged_though_not_saved D L g d κs a s l heavy light is =
+    let n : 0 ≡ 85 = sym light ∙ ap (λ (p : Point). p.staged) (sym l.stays ∙ is) ∙ heavy in
+    absurd (omega (arith, n))
 
 -- acknowledged_before_the_last_sync: the gate is open, but a crash may leave it closed
 acknowledged_before_the_last_sync : (D : _) (L : _) (g : _) (d : _) (κs : _) (a : _) (s : _)
-    (c : List ℕ) → open_gate.Learnt-named D L g d κs a (Ok tt) s → g.is_honest a.0.now
+    (c : List ℕ) → replace_slot.Learnt-named D L g d κs a (Ok tt) s → g.is_honest a.0.now
     → g.may_leave s.0.now c → gate_at true (g.seen s.0.now) ≡ 79 → gate_at true c ≡ 67 → ⊥
 acknowledged_before_the_last_sync D L g d κs a s c l honest left read lost =
     let e : c ≡ g.seen s.0.now = l.synced.durable honest c left in
     absurd (let n : 67 ≡ 79 = sym lost ∙ ap (gate_at true) e ∙ read in omega arith)
-
--- gate_before_sync: the second slot was filled with generation 2, but a crash may leave it
--- unwritten
-gate_before_sync : (D : _) (L : _) (g : _) (d : _) (κs : _) (a : _) (s : _) (c : List ℕ)
-    → fill_slot.Learnt-named D L g d κs a (Ok tt) s → g.is_honest a.0.now → g.may_leave s.0.now c
-    → a.1.0 ≡ false → a.1.1.0 ≡ 2 → body_at true c ≡ blank → ⊥
-unfolding body_text
-gate_before_sync D L g d κs a s c l honest left first two lost =
-    let next : Point = a.1.1.1.0 in
-    let filled : body_at true (g.seen s.0.now) ≡ body_text 2 next
-    = subst (λ b. body_at (not b) (g.seen s.0.now) ≡ body_text 2 next) first
-    (subst (λ n. body_at (not a.1.0) (g.seen s.0.now) ≡ body_text n next) two (l.body honest)) in
-    let e : blank ≡ body_text 2 next
-    = sym lost ∙ ap (body_at true) (l.synced.durable honest c left) ∙ filled in
-    absurd (let n : 48 ≡ 50 = ap (λ t. get_or t 14 0) e in omega arith)

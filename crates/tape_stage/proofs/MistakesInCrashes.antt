@@ -2,16 +2,14 @@
 -- would be possible with a wrong body, and no crash before the call could leave it. The assumptions
 -- about a stage (`IsStage`, `Ready`) are guarantees of `create` and `save`.
 use Rattle.std.proofs.Common.{◌≡◌, ◌⊎◌, inl, inr, ℕ, ◌+◌, Bool, true, false, List, length}
-use Rattle.std.proofs.Common.{get_or, sym, ap, ◌∙◌, subst, arith}
+use Rattle.std.proofs.Common.{sym, ap, ◌∙◌, subst, arith}
 use Rattle.std.specs.Prelude.{not, Some, option_map, unwrap_or}
 use Rattle.tape_blocks.specs.Block.{Portion}
 use Rattle.tape_core.specs.Point.{Point}
 use Rattle.tape_stage.specs.Parts.{IsFront}
-use Rattle.tape_stage.specs.Staged.{body_at, gate_at, read_slot, slot_at, FrontOf, IsEither, Loses}
+use Rattle.tape_stage.specs.Staged.{body_at, gate_at, read_slot, slot_at, IsEither, Loses}
 use Rattle.tape_stage.specs.Staged.{Ready, Staged, StagedIn}
 use Rattle.tape_stage.specs.Stages.{Holds, IsStage, Survived}
-use Rattle.tape_stage.proofs.Torn.{alike_byte}
-use Rattle.tape_stage.proofs.stage.putting.write_frame.Reads as write_frame
 use Rattle.tape_stage.proofs.stage.saving.close_gate.Reads as close_gate
 use Rattle.tape_stage.proofs.stage.Stage.restart.Reads as restart
 use Rattle.tape_stage.proofs.stage.Stage.save.Reads as save
@@ -39,18 +37,19 @@ body_read second n point next other parts more c says (inr new) =
     absurd (let m : n + 5 ≡ n + 1 = ap (λ v. unwrap_or (option_map (λ b. b.0) v) 0) e in
     omega arith)
 
--- gate_before_sync_in_a_crash: inside a save the gate of the next slot is open over a body that is
+-- gate_before_sync: inside a save the gate of the next slot is open over a body that is
 -- not synced, which has a later generation and another checkpoint
-gate_before_sync_in_a_crash : (D : _) (L : _) (g : _) (d : _) (κs : _) (a : _) (z : _) (s : _)
-    (acked parts : List Portion) (c : List ℕ) (other : Point)
+gate_before_sync : (D : _) (L : _) (g : _) (d : _) (κs : _) (a : _) (z : _) (s : _)
+    (acked parts front : List Portion) (c : List ℕ) (other : Point)
     → save.Learnt-named D L g d κs a z s → g.is_honest a.0.now.disk → IsStage a.0.now acked parts
+    → IsFront a.1.0.now.staged front parts
     → g.left_since s.0.now.disk (g.moment a.0.now.disk) c
     → (g.left_since a.0.now.disk (g.moment a.0.now.disk) c → ⊥)
     → slot_at (not a.0.now.in_second) c ≡ Some (a.0.now.generation + 5, other) → ⊥
-gate_before_sync_in_a_crash D L g d κs a z s acked parts c other l honest stage left before says =
-    body_read a.0.now.in_second a.0.now.generation a.0.now.acknowledged a.1.0.now other acked parts
-    c says (since_then before
-    ((l.any_moment honest acked parts stage).before (g.moment a.0.now.disk) c (omega arith) left))
+gate_before_sync D L g d κs a z s acked parts front c other l honest stage of left before says =
+    body_read a.0.now.in_second a.0.now.generation a.0.now.acknowledged a.1.0.now other acked front
+    c says (since_then before ((l.any_moment honest acked parts front stage of).before
+    (g.moment a.0.now.disk) c (omega arith) left))
 
 -- closed_gate_closed_again: the second slot is current, and a torn write opens the closed gate of
 -- the first, over a body with a later generation
@@ -67,19 +66,6 @@ closed_gate_closed_again D L g d κs a z s n point other parts c l honest ready 
     let e : StagedIn true n point parts c
     = subst (λ b. StagedIn b n point parts c) second staged in
     wins true n other (subst (Loses true n) says e.other)
-
--- parts_taken_away_and_put_back: while a second part is put, the first byte of the first part is 0
-parts_taken_away_and_put_back : (D : _) (L : _) (g : _) (d : _) (κs : _) (a : _) (z : _) (s : _)
-    (c : List ℕ) → write_frame.Learnt-named D L g d κs a z s → g.is_honest a.0.now → a.1.0 ≡ 341
-    → ((b : List ℕ) → g.may_leave a.0.now b → get_or b 256 0 ≡ 48)
-    → g.left_since s.0.now (g.moment a.0.now) c
-    → (g.left_since a.0.now (g.moment a.0.now) c → ⊥) → get_or c 256 0 ≡ 0 → ⊥
-parts_taken_away_and_put_back D L g d κs a z s c l honest place there left before gone =
-    let e : FrontOf a.1.0 (g.may_leave a.0.now) c = since_then before
-    ((l.any_moment honest).before (g.moment a.0.now) c (omega arith) left) in
-    let n : get_or c 256 0 ≡ get_or e.0 256 0
-    = alike_byte a.1.0 256 e.0 c (omega (arith, place)) e.2 in
-    absurd (let m : 0 ≡ 48 = sym gone ∙ n ∙ there e.0 e.1 in omega arith)
 
 -- a file that was cut to parts of weight 85, although 170 were acknowledged and no later slot is
 -- valid

@@ -53,20 +53,6 @@ damaged_stage_cut_by_reading : (D : _) (L : _) (g : _) (d : _) (κs : _) (a : _)
 damaged_stage_cut_by_reading D L g d κs a opened s l ten none =
     absurd (let n : 0 ≡ 10 = sym none ∙ l.reads.same_length ∙ ten in omega arith)
 
--- records_counted_at_first_parts: a record in two parts is not counted
-records_counted_at_first_parts : (D : _) (L : _) (g : _) (d : _) (κs : _) (a : _) (opened : _)
-    (s : _) (n : ℕ) (point : Point) (parts : List Portion)
-    → open_read_only.Learnt-named D L g d κs a (Ok opened) s → g.is_honest a.1.0
-    → Remains (g.seen a.1.0) n point None parts → length (join parts).records ≡ 1
-    → opened.records ≡ 0 → ⊥
-records_counted_at_first_parts D L g d κs a opened s n point parts l honest is one zero =
-    let found = l.remains honest in
-    let same = remains_once (g.seen a.1.0) found.0 n opened.point point opened.broken None
-    found.1 parts found.2 is in
-    let counted : opened.records ≡ length (join parts).records =
-    found.4 ∙ ap (λ ps. length (join ps).records) same.3 in
-    absurd (omega (arith, counted, one, zero))
-
 -- read_only_stage_takes_parts: a stage that was opened for reading only accepts changes
 read_only_stage_takes_parts : (D : _) (L : _) (g : _) (d : _) (κs : _) (a : _) (opened : _)
     (s : _) → open_read_only.Learnt-named D L g d κs a (Ok opened) s

@@ -2,10 +2,7 @@
 use Rattle.std.proofs.Common.{◌≡◌, ℕ, ◌+◌, ◌≤◌, ◌<◌, List, ◌∷◌, length, min, drop}
 use Rattle.std.proofs.Common.{w32, Some, sym, ap, ◌∙◌, subst, arith}
 use Rattle.std.specs.Prelude.{Option, None}
-use Rattle.std.specs.Int.{to_be_bytes, from_be_bytes}
-use Rattle.std.proofs.lemmas.Nat.{from_be_bytes-to_be_bytes_4}
-use Rattle.tape_blocks.specs.declared.parts.Span.{Span}
-use Rattle.tape_blocks.specs.Block.{Portion, indicator}
+use Rattle.tape_blocks.specs.Block.{Portion}
 use Rattle.tape_blocks.specs.Spans.{join}
 use Rattle.tape_core.specs.Point.{Point}
 use Rattle.tape_stage.specs.Found.{IsFound, IsBadPlace}
@@ -48,15 +45,6 @@ framed_broken staged place limit records bytes is le high walked count none = (
   },
   count,
 )
-
--- a header states one length
-pub same_size : (header : List ℕ) (span other : Span) (size n : ℕ) → header ≡ indicator span
-    ∷ to_be_bytes w32 size → header ≡ indicator other ∷ to_be_bytes w32 n → size ≤ 99999 → n ≤ 99999
-    → size ≡ n
-same_size header span other size n a b low high =
-    let e : to_be_bytes w32 size ≡ to_be_bytes w32 n = ap (drop 1) (sym a ∙ b) in
-    sym (from_be_bytes-to_be_bytes_4 size (omega arith)) ∙ ap (from_be_bytes w32) e ∙
-    from_be_bytes-to_be_bytes_4 n (omega arith)
 
 -- the same under other names
 pub walked_as : (staged n : ℕ) (broken : Option ℕ) (records : ℕ) (old new : List ℕ)

@@ -6,9 +6,9 @@ use Rattle.std.proofs.lemmas.List.{length-take}
 use Rattle.std.proofs.lemmas.Bool.Decides.{eqb_tells}
 use Rattle.tape_stage.specs.Disk.{Torn, Holds, Only}
 use Rattle.tape_blocks.specs.Block.{Portion}
-use Rattle.tape_stage.specs.Body.{body_of, FitBody}
+use Rattle.tape_stage.specs.Body.{body_of, body_text, FitBody}
 use Rattle.tape_stage.specs.Staged.{slot_place, gate_at, body_at, read_slot, slot_at}
-use Rattle.tape_stage.specs.Staged.{Loses, StagedIn, IsClosed, IsFilled, IsNext, IsEither}
+use Rattle.tape_stage.specs.Staged.{Loses, StagedIn, IsClosed, IsNext, IsEither, Holding}
 use Rattle.tape_stage.specs.Staged.{Ready}
 use Rattle.tape_stage.specs.Moments.{After}
 use Rattle.tape_core.specs.Point.{Point}
@@ -17,6 +17,13 @@ use Rattle.tape_stage.proofs.Tears.{KeptIn, torn_other, gate_alike, torn_gate_bo
 use Rattle.tape_stage.proofs.Tears.{kept_holding, alike_staged, loses_gate, closed_none, open_reads}
 use Rattle.tape_stage.proofs.Tears.{none_loses}
 use Rattle.tape_stage.proofs.Bodies.{body_reads}
+
+-- the other slot contains the next generation after a closed gate, for parts that are on the disk
+pub record IsFilled (second : Bool) (g : ℕ) (point next : Point) (parts more : List Portion)
+    (bytes : List ℕ) : Type 0 where
+  pub closed : IsClosed second g point parts bytes
+  pub body : body_at (not second) bytes ≡ body_text (g + 1) next
+  pub holds : Holding next.staged more bytes
 
 -- a call that preserves a slot and the frames preserves the staged data, if the other slot remains
 -- older

@@ -48,13 +48,9 @@ pub text_found : (text : List ℕ) (v : Version) (f : Fields) → text_at text �
 unfolding text_at
 text_found text v f e =
     let c = get_or text 4 0 in
-    let a = text_cases (eqb (length text) 80) (bytes_eq (take 4 text) (codes "TPCK"))
-    (version_by c >>= λ version. fields_at version text >>= λ fields. Ok (version, fields))
-    (v, f) e in
-    let b =
-    bind_ok (version_by c) (λ version. fields_at version text >>= λ fields. Ok
-    (version, fields)) (v, f) a.2 in
-    let d = bind_ok (fields_at b.0 text) (λ fields. Ok (b.0, fields)) (v, f) b.2 in
+    let a = text_cases (eqb (length text) 80) (bytes_eq (take 4 text) (codes "TPCK")) _ (v, f) e in
+    let b = bind_ok (version_by c) _ (v, f) a.2 in
+    let d = bind_ok (fields_at b.0 text) _ (v, f) b.2 in
     let size : length text ≡ 80 = eqb-true _ _ a.0 in
     let same : (b.0, d.0) ≡ (v, f) = ok_is (b.0, d.0) (v, f) d.2 in
     subst (λ (r : Version × Fields). Reads r.0 r.1 text) {x = (b.0, d.0)} same record {

@@ -23,23 +23,23 @@ walked_holding place bytes le walked = record {
   short = walked.short;
 }
 
-pub walked_more : (place size : ℕ) (span : Span) (header bytes : List ℕ)
-    → place + (5 + size) ≤ length bytes → header ≡ take 5 (drop place bytes)
-    → header ≡ indicator span ∷ to_be_bytes w32 size → size ≤ 99999
+pub walked_more : (place size : ℕ) (span : Span) (bytes : List ℕ)
+    → place + (5 + size) ≤ length bytes
+    → take 5 (drop place bytes) ≡ indicator span ∷ to_be_bytes w32 size → size ≤ 99999
     → (old : WalkedTo place bytes) → (new : WalkedTo (place + (5 + size)) bytes)
     × (new.parts ≡ old.parts ++ record {
       span =
           span;
       bytes = take size (drop (place + 5) bytes);
     } ∷ [])
-walked_more place size span header bytes room read is short walked =
+walked_more place size span bytes room is short walked =
     let content : List ℕ = take size (drop (place + 5) bytes) in
     let part : Portion = record { span = span; bytes = content } in
     let n : length content ≡ size =
     length-take-le size (drop (place + 5) bytes)
     (omega (arith, length-drop (place + 5) bytes)) in
     let head : take 5 (drop place bytes) ≡ indicator span ∷ to_be_bytes w32 (length content) =
-    sym read ∙ is ∙ ap (λ (k : ℕ). indicator span ∷ to_be_bytes w32 k) (sym n) in
+    is ∙ ap (λ (k : ℕ). indicator span ∷ to_be_bytes w32 k) (sym n) in
     let whole : take (5 + size) (drop place bytes) ≡ frame part =
     take-add 5 size (drop place bytes) ∙ ap (λ (l : List ℕ). l ++ take size
     (drop 5 (drop place bytes))) head

@@ -16,12 +16,10 @@ use Rattle.tape_core.specs.Point.{Point}
 use Rattle.tape_core.specs.Stands.{weight_of}
 use Rattle.tape_core.specs.Weight.{Rose}
 use Rattle.tape_core.specs.declared.sink.SinkFault.{SinkFault}
-use Rattle.tape_core.specs.declared.sink.SinkFault.TheVariants as sink
 use Rattle.tape_stage.specs.declared.disk.content.Call.TheVariants.{Cut, Sync}
 use Rattle.tape_stage.specs.Body.{body_text, point_text}
 use Rattle.tape_stage.specs.Calls.{IsImage, WasImage, worst_by}
 use Rattle.tape_stage.specs.declared.disk.Disk.{Ghosts}
-use Rattle.tape_stage.specs.declared.stage.Found.{Found}
 use Rattle.tape_stage.specs.declared.disk.memory.MemoryDisk.{MemoryDisk}
 use Rattle.tape_stage.specs.declared.stage.part_reader.PartReader.{PartReader}
 use Rattle.tape_stage.specs.declared.stage.Stage.{Stage}
@@ -29,8 +27,8 @@ use Rattle.tape_stage.specs.declared.stage.StageFault.TheVariants.{NoPoint, BadF
 use Rattle.tape_stage.specs.declared.stage.StageFault.TheVariants.{OutOfMemory, Failed, Full}
 use Rattle.tape_stage.specs.Disk.{Torn, CutShort, Elapses, Follows, Allows, NoMore, Only}
 use Rattle.tape_stage.specs.Disk as disk
-use Rattle.tape_stage.specs.Faults.{SaysNone, IsNotDevice, OnBadFrame, sink_fault_of}
-use Rattle.tape_stage.specs.Found.{IsBadPlace, IsFound}
+use Rattle.tape_stage.specs.Faults.{SaysNone, IsNotDevice, OnBadFrame}
+use Rattle.tape_stage.specs.Found.{IsBadPlace}
 use Rattle.tape_stage.specs.Frames.{AheadIn, IsFrameAt, NoFrameAt}
 use Rattle.tape_stage.specs.Holding.{with_held, LeftTorn, LeftSince}
 use Rattle.tape_stage.specs.Memory.{memory_leaves, memory_left, memory_bytes, first_of}
@@ -182,11 +180,6 @@ pub record CasesOfFiles : Type 0 where
   -- so if both are equal, the first slot is not replaced by the second, but the second by the first
   pub first_wins : (a : Point) → Loses false 3 (Some (3, a))
   pub second_loses : (a : Point) → Loses true 3 (Some (3, a)) → ⊥
-  -- the bytes determine the current slot, and whether the other slot is open
-  pub found : (f : Found) (bytes : List ℕ) → IsFound f bytes
-      → (slot_at f.in_second bytes ≡ Some (f.generation, f.point))
-      × Loses f.in_second f.generation (slot_at (not f.in_second) bytes)
-      × (f.other_open ≡ (gate_at (not f.in_second) bytes == 79))
   -- the text of a checkpoint, and the bytes written after a gate
   pub text : point_text worked_point ≡ worked_text
   pub body : body_text 9 worked_point ≡ codes "000000000000009" ++ (worked_text ++ replicate 32 32)
@@ -341,6 +334,3 @@ pub record CasesOfFaults : Type 0 where
   pub is_no_device : IsNotDevice OutOfMemory × IsNotDevice NoPoint × IsNotDevice (BadFrame 300)
   pub is_device : IsNotDevice Device → ⊥
   pub of_its_place : (place n : ℕ) → OnBadFrame (BadFrame place) (λ p. p ≡ n) → place ≡ n
-  -- the faults of a stage as faults of a sink
-  pub as_of_sinks : (sink_fault_of Device ≡ sink.Device) × (sink_fault_of Full ≡ sink.Full)
-      × (sink_fault_of OutOfMemory ≡ sink.OutOfMemory) × (sink_fault_of Failed ≡ sink.Failed)

@@ -8,7 +8,7 @@ use Rattle.tape_core.specs.Point.{Point}
 use Rattle.tape_stage.specs.Found.{IsBadPlace, IsFaultOf}
 use Rattle.tape_stage.specs.Frames.{NoFrameAt}
 use Rattle.tape_stage.specs.Parts.{frames}
-use Rattle.tape_stage.specs.Salvaged.{FramedTo, Remains, RemainsNone, RemainsOnce, WalkedOver}
+use Rattle.tape_stage.specs.Salvaged.{FramedTo, Remains, RemainsNone, RemainsOnce}
 use Rattle.tape_stage.specs.Staged.{Staged, best, slot_at}
 use Rattle.tape_stage.specs.declared.stage.StageFault.TheVariants.{NoPoint, BadFrame}
 
@@ -34,9 +34,6 @@ pub record CasesOfSalvage : Type 0 where
   -- nothing is damaged if the frames should end after the first
   pub no_break : FramedTo 6 None (one_part ∷ []) frame_and_none
   pub not_broken : (parts : List Portion) → FramedTo 6 (Some 262) parts frame_and_none → ⊥
-  -- a walk counts the records that end before the damage
-  pub counted : WalkedOver 12 (Some 262) 1 frame_and_none
-  pub not_counted : (n : ℕ) → WalkedOver 12 (Some 262) n frame_and_none → n ≡ 1
   -- all staged parts remain, and if nothing is damaged the remaining parts are staged
   pub all_remains : (bytes : List ℕ) (n : ℕ) (point : Point) (parts : List Portion)
       → Staged bytes n point parts → Remains bytes n point None parts

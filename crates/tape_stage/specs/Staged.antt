@@ -68,13 +68,6 @@ pub record IsClosed (second : Bool) (g : ℕ) (point : Point) (parts : List Port
   pub staged : StagedIn second g point parts bytes
   pub closed : gate_at (not second) bytes ≡ 79 → ⊥
 
--- the same, and the other slot contains the next generation, for parts that are on the disk
-pub record IsFilled (second : Bool) (g : ℕ) (point next : Point) (parts more : List Portion)
-    (bytes : List ℕ) : Type 0 where
-  pub closed : IsClosed second g point parts bytes
-  pub body : body_at (not second) bytes ≡ body_text (g + 1) next
-  pub holds : Holding next.staged more bytes
-
 -- Between two calls: the acknowledged data are on the disk, in all contents that a crash may leave.
 pub record Ready (second : Bool) (g : ℕ) (point : Point) (parts : List Portion) (other_open : Bool)
     (seen : List ℕ) (may_leave : List ℕ → Type 0) : Type 0 where

@@ -124,7 +124,7 @@ pub struct Stage<D: Disk> {
     pub(crate) failed: bool,
     /// Whether parts can be read: the disk did not fail in a change.
     pub(crate) readable: bool,
-    /// A buffer for the part that is returned.
+    /// A buffer for the frame that is written or the part that is returned.
     pub(crate) buffer: Vec<u8>,
     /// The weight of the parts that a walk has returned.
     pub(crate) walked: u64,
@@ -134,7 +134,7 @@ pub struct Stage<D: Disk> {
     ghost usable: { failed ≡ false → readable ≡ true },
     ghost settled: { readable ≡ true → pending ≡ None },
     ghost behind: { walked ≤ weight },
-    ghost room: { longest_part ≤ length buffer.items },
+    ghost room: { longest_part + 5 ≤ length buffer.items },
     ghost bounded: { weight ≤ most_staged },
     ghost bounded_generation: { generation ≤ most_generation },
 }

@@ -28,7 +28,7 @@ fn refuses(stage: &mut Stage<MemoryDisk>) -> bool {
 
 #[test]
 fn a_failed_stage_refuses_until_it_is_opened_again(rt: HostRuntime) {
-    let Some((mut stage, _)) = stopping(rt.alloc(), 7) else {
+    let Some((mut stage, _)) = stopping(rt.alloc(), 6) else {
         assert!(rt; false);
         return;
     };
@@ -158,7 +158,7 @@ fn openings(alloc: Global, left: &[u8], saved: &Saved) -> Result<u64, AllocError
 
 #[test]
 fn a_stop_at_each_call(rt: HostRuntime) {
-    for calls in 0..41 {
+    for calls in 0..36 {
         let Some((disk, saved)) = stopped_after(rt.alloc(), calls) else {
             assert!(rt; false);
             return;
@@ -170,7 +170,7 @@ fn a_stop_at_each_call(rt: HostRuntime) {
 #[test]
 fn a_stop_at_each_call_of_opening_behind_each_stop(rt: HostRuntime) -> Result<(), AllocError> {
     // Opening makes at most 10 calls: it walks over up to 4 frames.
-    for calls in 0..41 {
+    for calls in 0..36 {
         let Some((disk, saved)) = stopped_after(rt.alloc(), calls) else {
             assert!(rt; false);
             return Ok(());
@@ -193,18 +193,18 @@ fn acknowledged_after(alloc: Global, calls: u64) -> Option<u64> {
 /// The number of calls after which the disk stops, and the weight acknowledged then.
 ///
 /// Opening makes 6 calls: a sync, the length, both slots, the length, a truncation and its sync.
-/// Appending a part makes 2 calls. The first save makes 5 calls, of which 3 are syncs; each later
+/// Appending a part makes 1 call. The first save makes 5 calls, of which 3 are syncs; each later
 /// save makes 6, since it closes a gate first. Rolling back makes 7 calls, including its
 /// truncation.
 const WEIGHTS: &[(u64, u64)] = &[
-    (14, 0),
-    (15, 170),
-    (22, 170),
-    (23, 255),
-    (28, 255),
-    (29, 170),
-    (39, 170),
-    (40, 340),
+    (12, 0),
+    (13, 170),
+    (19, 170),
+    (20, 255),
+    (25, 255),
+    (26, 170),
+    (34, 170),
+    (35, 340),
 ];
 
 #[test]

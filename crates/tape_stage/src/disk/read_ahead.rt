@@ -95,18 +95,6 @@ impl<D: Disk> ReadAhead<D> {
         rest.len()
     }
 
-    /// Drops the bytes read ahead.
-    fn forget(&mut self)
-        ensures disk { self.new.disk ≡ self.old.disk }
-        ensures bytes { self.new.bytes ≡ self.old.bytes }
-        ensures none { self.new.held ≡ 0 }
-        ensures start { self.new.start ≡ 0 }
-        ensures calm { self.new.failed ≡ self.old.failed }
-    {
-        self.held = 0;
-        self.start = 0;
-    }
-
     /// Reads ahead at offset `place`, as many bytes as exist and fit. A failure is ignored, since
     /// no caller asked for all of these bytes.
     fn look_ahead(&mut self, place: u64)
@@ -203,7 +191,8 @@ impl<D: Disk> Disk for ReadAhead<D> {
 
     #[inline(always)]
     fn write_at(&mut self, place: u64, bytes: &[u8]) -> Result<(), DiskFault> {
-        self.forget();
+        self.held = 0;
+        self.start = 0;
         match self.disk.write_at(place, bytes) {
             Ok(()) => Ok(()),
             Err(_) => Err(self.fail()),
@@ -211,7 +200,8 @@ impl<D: Disk> Disk for ReadAhead<D> {
     }
 
     fn cut(&mut self, len: u64) -> Result<(), DiskFault> {
-        self.forget();
+        self.held = 0;
+        self.start = 0;
         match self.disk.cut(len) {
             Ok(()) => Ok(()),
             Err(_) => Err(self.fail()),

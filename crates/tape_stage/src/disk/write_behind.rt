@@ -67,14 +67,10 @@ impl<D: Disk> WriteBehind<D> {
             self.start = 0;
             return Ok(());
         }
-        match self.disk.write_at(self.start, self.bytes.as_slice()) {
-            Ok(()) => {
-                self.bytes.clear();
-                self.start = 0;
-                Ok(())
-            }
-            Err(fault) => Err(fault),
-        }
+        self.disk.write_at(self.start, self.bytes.as_slice())?;
+        self.bytes.clear();
+        self.start = 0;
+        Ok(())
     }
 
     /// Returns whether `size` bytes fit in the buffer, and their offsets from `place` are below
@@ -85,13 +81,6 @@ impl<D: Disk> WriteBehind<D> {
         ensures low { OnTrue result (place + size < 2 ^ 64) }
     {
         size <= self.bytes.capacity() - self.bytes.len() && place.checked_add(size as u64).is_some()
-    }
-
-    /// Returns whether `place` is the offset after the end of the buffer.
-    fn continues(&self, place: u64) -> bool
-        ensures end { OnTrue result (self.now.start + length self.now.bytes.items ≡ place) }
-    {
-        self.start <= place && place - self.start == self.bytes.len() as u64
     }
 
     /// Appends `bytes` to the buffer.
@@ -155,8 +144,8 @@ impl<D: Disk> Disk for WriteBehind<D> {
 
     #[inline(always)]
     fn write_at(&mut self, place: u64, bytes: &[u8]) -> Result<(), DiskFault> {
-        if self.fits(place, bytes.len()) {
-            if self.continues(place) {
+        if self.start + self.bytes.len() as u64 == place {
+            if self.fits(place, bytes.len()) {
                 self.add(bytes);
                 return Ok(());
             }

@@ -1,7 +1,7 @@
 //! Frames (the header and content of a part): walking, reading and truncating them.
 
 ghost use Rattle.std.specs.Prelude.{◌≡◌, ◌+◌, ◌≤◌, ◌<◌, ◌∷◌, List, length, OnOk};
-ghost use Rattle.std.specs.Prelude.{OnErr, IfOk, MatchOption, take, IsErrOf, true, false, IfErr};
+ghost use Rattle.std.specs.Prelude.{OnErr, IfOk, MatchOption, take, drop, IsErrOf, true, false, IfErr, IfSome, None};
 ghost use Rattle.std.specs.Prelude.{◌⊎◌};
 ghost use Rattle.std.specs.Int.{to_be_bytes};
 ghost use Rattle.std.proofs.Common.{w32};
@@ -42,7 +42,7 @@ fn span_by(digit: u8) -> Option<Span>
 }
 
 /// Returns the span and the length in a header, if it is valid.
-pub(crate) fn header_of(header: &[u8; 5]) -> Option<(Span, u64)>
+fn header_of(header: &[u8; 5]) -> Option<(Span, u64)>
     ensures { MatchOption result (IsNoHeader header.now)
         (λ found. (found.1 ≤ longest_part)
         × (header.now ≡ indicator found.0 ∷ to_be_bytes w32 found.1)) }
@@ -53,6 +53,37 @@ pub(crate) fn header_of(header: &[u8; 5]) -> Option<(Span, u64)>
         return None;
     }
     Some((span, u64::from(size)))
+}
+
+/// Reads the header of the frame that begins at offset `place` and ends at or before `end`. Returns
+/// its span and the length of its part, or `None` if there is no such frame.
+#[inline(always)]
+fn frame_at<D: Disk>(disk: &mut D, place: u64, end: u64) -> Result<Option<(Span, u64)>, DiskFault>
+    requires order { place ≤ end }
+    requires there { end ≤ D.length_of disk.old }
+    ensures short { IfOk result (λ found. IfSome found (λ frame. frame.1 ≤ longest_part)) }
+    ensures ends { IfOk result (λ found. IfSome found (λ frame. place + (5 + frame.1) ≤ end)) }
+    ensures header { D.is_honest disk.old → IfOk result (λ found. IfSome found (λ frame.
+        take 5 (drop place (D.seen disk.old)) ≡ indicator frame.0 ∷ to_be_bytes w32 frame.1)) }
+    ensures none { D.is_honest disk.old → IfOk result
+        (λ found. found ≡ None → NoFrameAt place end (D.seen disk.old)) }
+    ensures cause { OnErr result (Rose (D.faults disk.old) (D.faults disk.new)) }
+    ensures calm { OnOk result (D.faults disk.new ≡ D.faults disk.old) }
+    ensures reads { OnlyReads D.Disk disk.old disk.new }
+    ensures honest { D.is_honest disk.old → D.is_honest disk.new }
+{
+    if end - place < 5 {
+        return Ok(None);
+    }
+    let mut header = [0; 5];
+    disk.read(place, &mut header)?;
+    let Some((span, size)) = header_of(&header) else {
+        return Ok(None);
+    };
+    if size > end - place - 5 {
+        return Ok(None);
+    }
+    Ok(Some((span, size)))
 }
 
 /// The result of a walk over the frames of a stage.
@@ -83,18 +114,12 @@ pub(crate) fn walk<D: Disk>(disk: &mut D, staged: u64) -> Result<Walked, DiskFau
     let mut place: u64 = 256;
     let mut records: u64 = 0;
     while place < end {
-        let broken = Some(place);
-        if limit - place < 5 {
-            return Ok(Walked { broken, records });
-        }
-        let mut header = [0; 5];
-        disk.read(place, &mut header)?;
-        let Some((span, size)) = header_of(&header) else {
-            return Ok(Walked { broken, records });
+        let Some((span, size)) = frame_at(disk, place, limit)? else {
+            return Ok(Walked {
+                broken: Some(place),
+                records,
+            });
         };
-        if size > limit - place - 5 {
-            return Ok(Walked { broken, records });
-        }
         if !span.leaves() {
             records += 1;
         }
@@ -132,19 +157,12 @@ pub(crate) fn read_frame<D: Disk>(
     ensures reads { OnlyReads D.Disk disk.old disk.new }
     ensures honest { D.is_honest disk.old → D.is_honest disk.new }
 {
-    if end - place < 5 {
-        return Err(SinkFault::Failed);
-    }
-    let mut header = [0; 5];
-    let Ok(()) = disk.read(place, &mut header) else {
+    let Ok(found) = frame_at(disk, place, end) else {
         return Err(SinkFault::Device);
     };
-    let Some((span, size)) = header_of(&header) else {
+    let Some((span, size)) = found else {
         return Err(SinkFault::Failed);
     };
-    if size > end - place - 5 {
-        return Err(SinkFault::Failed);
-    }
     let size = size as usize;
     let Ok(()) = disk.read(place + 5, &mut buffer[..size]) else {
         return Err(SinkFault::Device);
@@ -165,16 +183,11 @@ impl<D: Disk> Stage<D> {
         ensures any_moment { D.is_honest self.old.disk → (acked parts : List Portion)
             → IsStage self.old acked parts → Passes D.Disk self.old.disk self.new.disk
             (StagedIn self.old.in_second self.old.generation self.old.acknowledged acked) }
-        ensures was_alive { self.old.failed ≡ false }
+        ensures device { IfErr result (λ fault. fault ≡ StageFault.Device) }
         ensures weight { OnOk result (self.new.weight ≡ staged) }
-        ensures refused { IfErr result (λ fault. (fault ≡ StageFault.Device)
-            × (self.new.failed ≡ true) × (self.new.weight ≡ self.old.weight)) }
-        ensures refusals { self.new.refused ≡ self.old.refused }
         ensures acknowledged { self.new.acknowledged ≡ self.old.acknowledged }
         ensures pending { self.new.pending ≡ self.old.pending }
-        ensures cause { IsErrOf result StageFault.Device
-            → Rose (D.faults self.old.disk) (D.faults self.new.disk) }
-        ensures honest { SameFact (D.is_honest self.old.disk) (D.is_honest self.new.disk) }
+        ensures ends { EndsCall self.old result self.new }
     {
         // No sync: bytes after that weight do not count, whether or not a crash leaves them.
         match self.disk.cut(256 + staged) {

@@ -16,13 +16,13 @@ ghost use Rattle.tape_stage.specs.Parts.{longest_part};
 
 use crate::disk::{Disk, DiskFault};
 use crate::point::text::{put, whole};
-use crate::point::{read_point, write_point};
+use crate::point::write_point;
 use crate::stage::opening::look;
 use crate::stage::{CLOSED, OPEN, Stage, StageFault};
 use arrayvec::ArrayVec;
 use std::alloc::{AllocError, Global};
 use tape_core::Checkpoint;
-use tape_label::{digits_of, digits_value};
+use tape_label::digits_of;
 
 /// Returns the bytes after a gate: the generation, the checkpoint and spaces.
 pub(crate) fn body_bytes(generation: u64, point: Checkpoint) -> [u8; 127]
@@ -37,25 +37,12 @@ pub(crate) fn body_bytes(generation: u64, point: Checkpoint) -> [u8; 127]
     whole(body)
 }
 
-/// Returns the generation and the checkpoint in the bytes after a gate, if they are valid.
-pub(crate) fn read_body(body: &[u8]) -> Option<(u64, Checkpoint)>
-    requires { length body.now ≡ 127 }
-    ensures says { body_of body.now ≡ result }
-    ensures generation { IfSome result (λ read. read.0 ≤ most_generation) }
-    ensures staged { IfSome result (λ read. read.1.staged ≤ most_staged) }
-{
-    let generation = digits_value(&body[..15])?;
-    match read_point(&body[15..95]) {
-        Ok(point) => Some((generation, point)),
-        Err(_) => None,
-    }
-}
+/// The size of the longest frame.
+const ROOM: usize = 100_004;
 
-const ROOM: usize = 100_000;
-
-/// Allocates the buffer for the parts that are returned.
+/// Allocates the buffer for the frames of parts.
 pub(crate) fn buffer_of(alloc: Global) -> Result<Vec<u8>, AllocError>
-    ensures room { IfOk result (λ buffer. longest_part ≤ length buffer.items) }
+    ensures room { IfOk result (λ buffer. longest_part + 5 ≤ length buffer.items) }
 {
     Vec::from_elem(alloc, 0u8, ROOM)
 }

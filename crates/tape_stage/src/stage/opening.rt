@@ -14,22 +14,27 @@ ghost use Rattle.tape_stage.specs.OnlyReading.{OnlyReads};
 ghost use Rattle.tape_stage.specs.Body.{most_generation};
 
 use crate::disk::Disk;
+use crate::point::read_point;
 use crate::stage::frames::{Walked, walk};
-use crate::stage::open_disk::read_body;
 use crate::stage::{Found, OPEN, StageFault};
 use tape_core::Checkpoint;
+use tape_label::digits_value;
 
-/// Returns the contents of a slot, if its gate is open.
+/// Returns the generation and the checkpoint in a slot, if its gate is open and they are valid.
 fn read_slot(gate: u8, body: &[u8]) -> Option<(u64, Checkpoint)>
     requires { length body.now ≡ 127 }
     ensures says { read_slot gate body.now ≡ result }
     ensures generation { IfSome result (λ read. read.0 ≤ most_generation) }
     ensures staged { IfSome result (λ read. read.1.staged ≤ most_staged) }
 {
-    if gate == OPEN {
-        return read_body(body);
+    if gate != OPEN {
+        return None;
     }
-    None
+    let generation = digits_value(&body[..15])?;
+    match read_point(&body[15..95]) {
+        Ok(point) => Some((generation, point)),
+        Err(_) => None,
+    }
 }
 
 /// Returns the contents of the first or the second slot.

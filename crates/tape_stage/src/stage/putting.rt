@@ -46,26 +46,33 @@ fn header(span: Span, size: u32) -> [u8; 5]
     [digit(span), n[0], n[1], n[2], n[3]]
 }
 
-/// Writes a part's frame at offset `place`.
+/// Writes a part's frame at offset `place`. `buffer` provides room for the frame.
 #[inline(always)]
-fn write_frame<D: Disk>(disk: &mut D, place: u64, part: Part<'_>) -> Result<(), DiskFault>
+fn write_frame<D: Disk>(
+    disk: &mut D,
+    buffer: &mut [u8],
+    place: u64,
+    part: Part<'_>,
+) -> Result<(), DiskFault>
     requires there { place ≤ D.length_of disk.old }
     requires short { length part.bytes.now ≤ longest_part }
-    requires low { place < 2 ^ 60 }
+    requires room { longest_part + 5 ≤ length buffer.old }
     ensures written { D.is_honest disk.old
         → OnOk result (IsPut place (view part.entry) (D.seen disk.old) (D.seen disk.new)) }
     ensures long { OnOk result (place + (5 + length part.entry.bytes.now) ≤ D.length_of disk.new) }
+    ensures size { length buffer.new ≡ length buffer.old }
     ensures kept { D.is_honest disk.old → KeepsFront place (D.seen disk.old) (D.seen disk.new) }
     ensures any_moment { D.is_honest disk.old
         → Passes D.Disk disk.old disk.new (FrontOf place (D.may_leave disk.old)) }
     ensures cause { OnErr result (Rose (D.faults disk.old) (D.faults disk.new)) }
     ensures honest { SameFact (D.is_honest disk.old) (D.is_honest disk.new) }
 {
+    let size = 5 + part.bytes.len();
+    buffer[..5].copy_from_slice(&header(part.span, part.bytes.len() as u32));
+    buffer[5..size].copy_from_slice(part.bytes);
     // No sync: the part counts once a checkpoint that includes it is saved, and saving begins with
     // a sync.
-    let header = header(part.span, part.bytes.len() as u32);
-    disk.write_at(place, &header)?;
-    disk.write_at(place + 5, part.bytes)
+    disk.write_at(place, &buffer[..size])
 }
 
 impl<D: Disk> Stage<D> {
@@ -104,7 +111,7 @@ impl<D: Disk> Stage<D> {
             return Err(StageFault::Full);
         }
         let place = 256 + self.weight;
-        match write_frame(&mut self.disk, place, part) {
+        match write_frame(&mut self.disk, self.buffer.as_mut_slice(), place, part) {
             Ok(()) => {
                 self.weight += size;
                 Ok(())

@@ -1,16 +1,15 @@
 //! Saving: slots, their gates, and the order of writes and syncs.
 
-ghost use Rattle.std.specs.Prelude.{◌≡◌, ◌≤◌, ◌<◌, ◌+◌, ℕ, List, false, not, OnOk, OnErr, IfOk};
-ghost use Rattle.std.specs.Prelude.{IfErr, IsErrOf, Some, None, ◌⊎◌, ◌^◌, Bool, length};
+ghost use Rattle.std.specs.Prelude.{◌≡◌, ◌≤◌, ◌<◌, ◌+◌, ℕ, List, false, not, OnOk, OnErr};
+ghost use Rattle.std.specs.Prelude.{IsErrOf, Some, None, ◌⊎◌, ◌^◌, Bool};
 ghost use Rattle.tape_blocks.specs.Block.{Portion};
 ghost use Rattle.tape_core.specs.Point.{Point};
-ghost use Rattle.tape_stage.specs.Moments.{EndsSynced, IsDurable, Passes};
+ghost use Rattle.tape_stage.specs.Body.{most_generation};
+ghost use Rattle.tape_stage.specs.Moments.{EndsSynced, Passes};
 ghost use Rattle.tape_stage.specs.Parts.{IsFront};
 ghost use Rattle.tape_stage.specs.Staged.{Holding, IsEither, KeepsFrames, Staged, slot_place};
-ghost use Rattle.tape_stage.specs.Staged.{body_at, gate_at, StagedIn, IsClosed, IsFilled, IsNext};
-ghost use Rattle.tape_stage.specs.Staged.{Ready};
-ghost use Rattle.tape_stage.specs.Stages.{IsStage, HasRefused, EndsCall};
-ghost use Rattle.tape_stage.specs.Body.{most_generation, body_text, FitBody};
+ghost use Rattle.tape_stage.specs.Staged.{StagedIn, IsClosed, IsNext, Ready};
+ghost use Rattle.tape_stage.specs.Stages.{IsStage, EndsCall};
 
 use crate::disk::{Disk, DiskFault};
 use crate::stage::open_disk::{body_bytes, write_kept};
@@ -18,77 +17,6 @@ use crate::stage::{CLOSED, MOST_GENERATION, OPEN, Stage, StageFault};
 use tape_core::Checkpoint;
 
 impl<D: Disk> Stage<D> {
-    /// Returns the next generation to save, `Failed` if the disk failed, or `Full` if no generation
-    /// is left.
-    fn next_generation(&self) -> Result<u64, StageFault>
-        ensures next { IfOk result (λ generation. generation ≡ self.now.generation + 1) }
-        ensures room { OnOk result (self.now.generation < most_generation) }
-        ensures alive { OnOk result (self.now.failed ≡ false) }
-        ensures refused { IfErr result (HasRefused self.now self.now) }
-        ensures calm { IsErrOf result StageFault.Device → ⊥ }
-        ensures full { IsErrOf result StageFault.Full → most_generation ≤ self.now.generation }
-    {
-        if self.failed {
-            return Err(StageFault::Failed);
-        }
-        if self.generation >= MOST_GENERATION {
-            return Err(StageFault::Full);
-        }
-        Ok(self.generation + 1)
-    }
-
-    /// Makes `point` the acknowledged checkpoint; the parts are unchanged.
-    pub(crate) fn acknowledge(&mut self, point: &Checkpoint) -> Result<(), StageFault>
-        requires { point.now.staged ≤ self.old.weight }
-        ensures pending { IsErrOf result StageFault.Device → self.new.pending ≡ Some point.now }
-        ensures not_pending { OnOk result (self.new.pending ≡ None) }
-        ensures full { IsErrOf result StageFault.Full → most_generation ≤ self.old.generation }
-        ensures ok { D.is_honest self.old.disk → OnOk result ((acked parts front : List Portion)
-            → IsStage self.old acked parts → Holding point.now.staged front (D.seen self.old.disk)
-            → IsStage self.new front parts) }
-        ensures any_moment { D.is_honest self.old.disk → (acked parts front : List Portion)
-            → IsStage self.old acked parts → Holding point.now.staged front (D.seen self.old.disk)
-            → Passes D.Disk self.old.disk self.new.disk (IsEither self.old.in_second
-            self.old.generation self.old.acknowledged point.now acked front) }
-        ensures acknowledged { OnOk result (self.new.acknowledged ≡ point.now) }
-        ensures stays { OnErr result (self.new.acknowledged ≡ self.old.acknowledged) }
-        ensures weight { self.new.weight ≡ self.old.weight }
-        ensures calm { OnOk result (D.faults self.new.disk ≡ D.faults self.old.disk) }
-        ensures frames { D.is_honest self.old.disk
-            → KeepsFrames (D.seen self.old.disk) (D.seen self.new.disk) }
-        ensures alive { OnOk result (self.new.failed ≡ false) }
-        ensures slot { OnOk result (self.new.in_second ≡ not self.old.in_second) }
-        ensures generation { OnOk result (self.new.generation ≡ self.old.generation + 1) }
-        ensures ends { EndsCall self.old result self.new }
-    {
-        let generation = self.next_generation()?;
-        let next = *point;
-        match replace_slot(
-            &mut self.disk,
-            self.in_second,
-            self.other_open,
-            generation,
-            next,
-        ) {
-            Ok(()) => {
-                self.generation = generation;
-                self.in_second = !self.in_second;
-                self.other_open = true;
-                let kept = *point;
-                self.acknowledged = kept;
-                self.pending = None;
-                Ok(())
-            }
-            Err(_) => {
-                self.failed = true;
-                self.readable = false;
-                let kept = *point;
-                self.pending = Some(kept);
-                Err(StageFault::Device)
-            }
-        }
-    }
-
     /// Returns the last acknowledged checkpoint: that of the last call that successfully created,
     /// opened, saved or rolled back the stage.
     pub fn acknowledged(&self) -> Checkpoint
@@ -109,7 +37,8 @@ impl<D: Disk> Stage<D> {
         self.pending
     }
 
-    /// Makes `point` the acknowledged checkpoint, which counts all parts.
+    /// Makes `point` the acknowledged checkpoint, which counts all parts or the first of them. No
+    /// part is dropped.
     ///
     /// # Errors
     ///
@@ -117,23 +46,58 @@ impl<D: Disk> Stage<D> {
     /// cases nothing is changed. After `Device` the checkpoint is pending, and the stage must be
     /// opened again.
     pub fn save(&mut self, point: &Checkpoint) -> Result<(), StageFault>
-        requires { point.now.staged ≡ self.old.weight }
+        requires { point.now.staged ≤ self.old.weight }
         ensures pending { IsErrOf result StageFault.Device → self.new.pending ≡ Some point.now }
         ensures not_pending { OnOk result (self.new.pending ≡ None) }
         ensures full { IsErrOf result StageFault.Full → most_generation ≤ self.old.generation }
-        ensures ok { D.is_honest self.old.disk → OnOk result ((acked parts : List Portion)
-            → IsStage self.old acked parts → IsStage self.new parts parts) }
-        ensures any_moment { D.is_honest self.old.disk → (acked parts : List Portion)
-            → IsStage self.old acked parts → Passes D.Disk self.old.disk self.new.disk (IsEither
-            self.old.in_second self.old.generation self.old.acknowledged point.now acked parts) }
-        ensures frames { D.is_honest self.old.disk
-            → KeepsFrames (D.seen self.old.disk) (D.seen self.new.disk) }
-        ensures weight { self.new.weight ≡ self.old.weight }
+        ensures ok { D.is_honest self.old.disk → OnOk result ((acked parts front : List Portion)
+            → IsStage self.old acked parts → IsFront point.now.staged front parts
+            → IsStage self.new front parts) }
+        ensures any_moment { D.is_honest self.old.disk → (acked parts front : List Portion)
+            → IsStage self.old acked parts → IsFront point.now.staged front parts
+            → Passes D.Disk self.old.disk self.new.disk (IsEither self.old.in_second
+            self.old.generation self.old.acknowledged point.now acked front) }
         ensures acknowledged { OnOk result (self.new.acknowledged ≡ point.now) }
         ensures stays { OnErr result (self.new.acknowledged ≡ self.old.acknowledged) }
+        ensures weight { self.new.weight ≡ self.old.weight }
+        ensures calm { OnOk result (D.faults self.new.disk ≡ D.faults self.old.disk) }
+        ensures frames { D.is_honest self.old.disk
+            → KeepsFrames (D.seen self.old.disk) (D.seen self.new.disk) }
+        ensures alive { OnOk result (self.new.failed ≡ false) }
+        ensures slot { OnOk result (self.new.in_second ≡ not self.old.in_second) }
+        ensures generation { OnOk result (self.new.generation ≡ self.old.generation + 1) }
         ensures ends { EndsCall self.old result self.new }
     {
-        self.acknowledge(point)
+        if self.failed {
+            return Err(StageFault::Failed);
+        }
+        if self.generation >= MOST_GENERATION {
+            return Err(StageFault::Full);
+        }
+        let generation = self.generation + 1;
+        let next = *point;
+        match replace_slot(
+            &mut self.disk,
+            self.in_second,
+            self.other_open,
+            generation,
+            next,
+        ) {
+            Ok(()) => {
+                self.generation = generation;
+                self.in_second = !self.in_second;
+                self.other_open = true;
+                self.acknowledged = next;
+                self.pending = None;
+                Ok(())
+            }
+            Err(_) => {
+                self.failed = true;
+                self.readable = false;
+                self.pending = Some(next);
+                Err(StageFault::Device)
+            }
+        }
     }
 
     /// Makes `point` the acknowledged checkpoint, which counts only the first parts, and drops the
@@ -166,7 +130,7 @@ impl<D: Disk> Stage<D> {
         let staged = point.staged;
         // The checkpoint is saved before the disk is truncated: truncating first could drop parts
         // that the older checkpoint counts.
-        match self.acknowledge(point) {
+        match self.save(point) {
             Ok(()) => self.cut_parts(staged),
             Err(fault) => Err(fault),
         }
@@ -206,57 +170,6 @@ pub(crate) fn close_gate<D: Disk>(
     disk.sync()
 }
 
-/// Writes the next generation and its checkpoint after the closed gate.
-pub(crate) fn fill_slot<D: Disk>(
-    disk: &mut D,
-    in_second: bool,
-    generation: u64,
-    next: Checkpoint,
-) -> Result<(), DiskFault>
-    requires room { 256 ≤ D.length_of disk.old }
-    requires fits { generation < 10 ^ 15 }
-    ensures closed { D.is_honest disk.old
-        → OnOk result ((g : ℕ) (point : Point) (parts : List Portion)
-        → IsClosed in_second g point parts (D.seen disk.old)
-        → IsClosed in_second g point parts (D.seen disk.new)) }
-    ensures fit { FitBody generation next }
-    ensures body { D.is_honest disk.old → OnOk result
-        (body_at (not in_second) (D.seen disk.new) ≡ body_text generation next) }
-    ensures frames { D.is_honest disk.old → KeepsFrames (D.seen disk.old) (D.seen disk.new) }
-    ensures any_moment { D.is_honest disk.old → (g : ℕ) (point : Point) (parts : List Portion)
-        → IsClosed in_second g point parts (D.seen disk.old)
-        → IsDurable D.Disk disk.old
-        → Passes D.Disk disk.old disk.new (StagedIn in_second g point parts) }
-    ensures long { OnOk result (D.length_of disk.new ≡ D.length_of disk.old) }
-    ensures synced { EndsSynced D.Disk disk.old result disk.new }
-{
-    // Whatever a crash leaves of these bytes does not count, because their gate is closed on the
-    // disk.
-    let body = body_bytes(generation, next);
-    write_kept(disk, gate_place(!in_second) + 1, &body)
-}
-
-/// Opens the gate of the slot that was filled.
-pub(crate) fn open_gate<D: Disk>(disk: &mut D, in_second: bool) -> Result<(), DiskFault>
-    requires { 256 ≤ D.length_of disk.old }
-    ensures opened { D.is_honest disk.old
-        → OnOk result ((g : ℕ) (point next : Point) (parts more : List Portion)
-        → FitBody (g + 1) next → IsFilled in_second g point next parts more (D.seen disk.old)
-        → IsNext in_second (g + 1) next more (D.seen disk.new)) }
-    ensures frames { D.is_honest disk.old → KeepsFrames (D.seen disk.old) (D.seen disk.new) }
-    ensures any_moment { D.is_honest disk.old
-        → (g : ℕ) (point next : Point) (parts more : List Portion)
-        → FitBody (g + 1) next → IsFilled in_second g point next parts more (D.seen disk.old)
-        → IsDurable D.Disk disk.old
-        → Passes D.Disk disk.old disk.new (IsEither in_second g point next parts more) }
-    ensures long { OnOk result (D.length_of disk.new ≡ D.length_of disk.old) }
-    ensures synced { EndsSynced D.Disk disk.old result disk.new }
-{
-    // A single byte, after everything that it makes valid was synced: a crash leaves the gate open
-    // or closed.
-    write_kept(disk, gate_place(!in_second), &[OPEN])
-}
-
 /// Replaces the older slot with the next generation. A crash leaves the current or the next
 /// generation.
 pub(crate) fn replace_slot<D: Disk>(
@@ -282,9 +195,12 @@ pub(crate) fn replace_slot<D: Disk>(
     ensures long { OnOk result (D.length_of disk.new ≡ D.length_of disk.old) }
     ensures synced { EndsSynced D.Disk disk.old result disk.new }
 {
-    // Each step is synced before the next begins: the gate is closed before its body changes, and
-    // opened when the body is durable.
+    // Each step is synced before the next begins. Whatever a crash leaves of the body does not
+    // count, because its gate is closed on the disk.
     close_gate(disk, in_second, is_open)?;
-    fill_slot(disk, in_second, generation, next)?;
-    open_gate(disk, in_second)
+    let body = body_bytes(generation, next);
+    write_kept(disk, gate_place(!in_second) + 1, &body)?;
+    // A single byte, after everything that it makes valid was synced: a crash leaves the gate open
+    // or closed.
+    write_kept(disk, gate_place(!in_second), &[OPEN])
 }

@@ -1,13 +1,10 @@
-use Rattle.std.proofs.Common.{◌≡◌, ◌∙◌, true, false, rules, subst, sym, Result, Ok, Err}
+use Rattle.std.proofs.Common.{◌≡◌, ◌∙◌, subst, sym, Result, Ok, Err}
 use Rattle.std.specs.Prelude.{IfErr}
 use Rattle.tape_core.specs.Point.{Point}
 use Rattle.tape_stage.specs.Parts.{IsFront}
-use Rattle.tape_stage.proofs.Results.{on_ok, if_err}
-use Rattle.tape_stage.specs.declared.disk.Disk.{Ghosts}
-use Rattle.tape_stage.specs.declared.stage.Stage.{Stage}
 use Rattle.tape_stage.specs.declared.stage.StageFault.{StageFault}
 use Rattle.tape_stage.specs.declared.stage.StageFault.TheVariants.{Device, Full}
-use Rattle.tape_stage.specs.Stages.{HasRefused}
+use Rattle.tape_stage.proofs.Results.{on_ok}
 use Rattle.tape_stage.proofs.stage.Stage.cut_back.Goals as goal
 
 pub returns-then-self-staged-clause-ok : goal.returns-then-self-staged-clause-ok
@@ -24,22 +21,6 @@ returns-clause-ok g c honest =
     on_ok c.restart.result (λ holds acked parts front is of. (front, holds acked parts front is of))
     (c.restart.ensures.ok honest)
 
-cut_refused : {D : Type 0} {disk : Ghosts D} (old new : Stage D disk) (fault : StageFault)
-    → old.failed ≡ false → (fault ≡ Device) × (new.failed ≡ true) × (new.weight ≡ old.weight)
-    → HasRefused old new fault
-cut_refused old new fault alive is = rw is.0 (alive, is.1, is.2)
-
-pub returns-then-self-staged-clause-ends : goal.returns-then-self-staged-clause-ends
-returns-then-self-staged-clause-ends g c = record {
-  was_alive = search rules;
-  refused = if_err c.cut_parts.result (λ fault is. cut_refused c.args.self.now c.cut_parts.new.self
-      fault c.cut_parts.ensures.was_alive is) c.cut_parts.ensures.refused;
-  refusals = search rules;
-  cause = search rules;
-  honest = search rules;
-  back = search rules;
-}
-
 -- cutting parts off fails by the disk alone
 not_full : (result : Result (Unit {0}) StageFault) → IfErr result (λ fault. fault ≡ Device)
     → result ≡ Err Full → ⊥
@@ -51,4 +32,4 @@ not_full (Err fault) h full =
 
 pub returns-then-self-staged-clause-full : goal.returns-then-self-staged-clause-full
 returns-then-self-staged-clause-full g c full = absurd (not_full c.cut_parts.result
-    (if_err c.cut_parts.result (λ fault is. is.0) c.cut_parts.ensures.refused) full)
+    c.cut_parts.ensures.device full)

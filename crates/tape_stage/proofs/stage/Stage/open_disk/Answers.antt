@@ -1,16 +1,20 @@
-use Rattle.std.proofs.Common.{◌≡◌, ℕ, Err, refl, sym, ap, subst, arith}
+use Rattle.std.proofs.Common.{◌≡◌, ◌⊎◌, ℕ, List, Err, refl, sym, ap, subst, arith}
 use Rattle.std.specs.Prelude.{Option, Some}
+use Rattle.tape_blocks.specs.Block.{Portion}
 use Rattle.tape_core.specs.Weight.{Rose}
-use Rattle.tape_stage.specs.Salvaged.{FramedTo}
+use Rattle.tape_stage.specs.Salvaged.{FramedTo, Remains}
+use Rattle.tape_stage.specs.Stages.{OpensOver}
 use Rattle.tape_stage.specs.Staged.{Holding}
 use Rattle.tape_stage.specs.declared.stage.StageFault.TheVariants.{BadFrame, Device, Failed, Full}
 use Rattle.tape_stage.proofs.Backs.{ready_survives, ready_returns}
 use Rattle.tape_stage.proofs.Finds.{found_read}
 use Rattle.tape_stage.proofs.Held.{opened_holds}
-use Rattle.tape_stage.proofs.Openings.{cut_opened, cut_passes, cut_stopped, read_refuses}
+use Rattle.tape_stage.proofs.Openings.{IsOpened, cut_opened, cut_passes, cut_stopped, read_refuses}
 use Rattle.tape_stage.proofs.Remaining.{broken_bad, broken_none, found_remains}
 use Rattle.tape_stage.proofs.Remaining.{none_staged, whole_framed}
 use Rattle.tape_stage.proofs.Results.{no_frame_says}
+use Rattle.tape_stage.proofs.stage.Stage.open_disk.Given.{Over}
+use Rattle.tape_stage.proofs.stage.Stage.open_disk.Goals.{After-cut_kept, In-Ok-cut_kept}
 use Rattle.tape_stage.proofs.stage.Stage.open_disk.Goals as goal
 
 -- ---- nothing was found
@@ -33,29 +37,54 @@ returns-in-Some-clause-refused g c =
     let found = c.in-Ok.looked.0 in
     let place = c.in-Some.place in
     let old = g.D.Disk.seen c.args.disk in
+    let remains : g.D.Disk.is_honest c.args.disk → (parts : List Portion)
+    × Remains old found.generation found.point (Some place) parts = λ h.
+    let framed = l.framed h in (
+      framed.0,
+      found_remains found (Some place) framed.0 old (l.found h)
+          (subst (λ (b : Option ℕ). FramedTo found.point.staged b framed.0 old) c.in-Some.is
+          framed.1),
+    ) in
     read_refuses g.D.Disk _ _ c.look.ensures.reads (BadFrame place)
-    (λ h says.
-    let framed = l.framed h in
-    broken_none old found.generation found.point place framed.0
-    (found_remains found (Some place) framed.0 old (l.found h)
-    (subst (λ (b : Option ℕ). FramedTo found.point.staged b framed.0 old) c.in-Some.is framed.1)))
-    (λ h.
-    let framed = l.framed h in
-    broken_bad old found.generation found.point place framed.0
-    (found_remains found (Some place) framed.0 old (l.found h)
-    (subst (λ (b : Option ℕ). FramedTo found.point.staged b framed.0 old) c.in-Some.is framed.1)))
+    (λ h says. broken_none old found.generation found.point place (remains h).0 (remains h).1)
+    (λ h. broken_bad old found.generation found.point place (remains h).0 (remains h).1)
     (λ e. let no : BadFrame place ≡ Full = e in cc)
     (λ e. let no : BadFrame place ≡ Failed = e in cc)
     (λ e. absurd (let no : BadFrame place ≡ Device = e in cc))
 
--- ---- the cut failed
+-- ---- the bytes after the stage are removed
+
+whole : (g : Over) (c : After-cut_kept g) (h : g.D.Disk.is_honest c.args.disk)
+    → Holding c.in-Ok.looked.0.point.staged (c.in-Ok.ensures.framed h).0
+    (g.D.Disk.seen c.args.disk)
+whole g c h = whole_framed c.in-Ok.looked.0.point.staged c.in-Ok.looked.1.broken
+    (c.in-Ok.ensures.framed h).0 (g.D.Disk.seen c.args.disk) c.in_default.is
+    (c.in-Ok.ensures.framed h).1
+
+passes : (g : Over) (c : After-cut_kept g) → g.D.Disk.is_honest c.args.disk
+    → OpensOver g.D.Disk c.args.disk c.cut_kept.new.disk
+passes g c h =
+    let l = c.in-Ok.ensures in
+    cut_passes g.D.Disk _ _ _ c.look.ensures.reads h c.in-Ok.looked.0 (l.found h) _
+    c.staged.ensures.value (l.framed h).0 (whole g c h)
+    (c.cut_kept.ensures.any_moment (l.ends.honest h) (l.durable h))
+
+opened : (g : Over) (c : In-Ok-cut_kept g) (h : g.D.Disk.is_honest c.args.disk)
+    → Holding c.in-Ok.looked.0.point.staged (c.in-Ok.ensures.framed h).0
+    (g.D.Disk.seen c.args.disk)
+    → IsOpened g.D.Disk c.in-Ok.looked.0 c.args.disk c.cut_kept.new.disk
+opened g c h holding =
+    let l = c.in-Ok.ensures in
+    let cut = c.in-Ok-cut_kept.ensures in
+    cut_opened g.D.Disk _ _ _ c.look.ensures.reads h c.in-Ok.looked.0 (l.found h) _
+    c.staged.ensures.value (l.framed h).0 holding (cut.cut (l.ends.honest h))
+    (cut.synced.durable (l.ends.honest h))
 
 pub returns-in_default-cut_kept-clause-refused : goal.returns-in_default-cut_kept-clause-refused
 returns-in_default-cut_kept-clause-refused g c =
     let l = c.in-Ok.ensures in
     let found = c.in-Ok.looked.0 in
-    let reads = c.look.ensures.reads in
-    let old = g.D.Disk.seen c.args.disk in
+    let at = (goal.at.returns-in_default-cut_kept-clause-refused g c).After-cut_kept in
     record {
       none = λ h says. absurd says;
       says = λ h. tt;
@@ -63,90 +92,55 @@ returns-in_default-cut_kept-clause-refused g c =
       not_failed = λ e. let no : Device ≡ Failed = e in cc;
       cause = λ e. subst (λ (n : ℕ). Rose n (g.D.Disk.faults c.cut_kept.new.disk)) l.calm
           c.in_default-cut_kept.ensures.synced.cause;
-      any_moment = λ h.
-          let framed = l.framed h in
-          cut_passes g.D.Disk _ _ _ reads h found (l.found h) _ c.staged.ensures.value framed.0
-          (whole_framed found.point.staged c.in-Ok.looked.1.broken framed.0 old c.in_default.is
-          framed.1) (c.cut_kept.ensures.any_moment (l.ends.honest h) (l.durable h));
-      kept = λ h. cut_stopped g.D.Disk _ _ _ reads h found (l.found h) _ c.staged.ensures.value
-          (c.in_default-cut_kept.ensures.partly (l.ends.honest h));
+      any_moment = passes g at;
+      kept = λ h. cut_stopped g.D.Disk _ _ _ c.look.ensures.reads h found (l.found h) _
+          c.staged.ensures.value (c.in_default-cut_kept.ensures.partly (l.ends.honest h));
       untouched = λ h calm. absurd calm;
       foreign = λ h none.
-          let framed = l.framed h in
-          absurd (none found.generation found.point framed.0 (found_read found framed.0 old
-          (l.found h) (whole_framed found.point.staged c.in-Ok.looked.1.broken framed.0 old
-          c.in_default.is framed.1)));
+          absurd (none found.generation found.point (l.framed h).0 (found_read found
+          (l.framed h).0 (g.D.Disk.seen c.args.disk) (l.found h) (whole g at h)));
       same_length = λ calm. absurd calm;
     }
 
--- ---- everything succeeded
-
 pub returns-clause-any_moment : goal.returns-clause-any_moment
-returns-clause-any_moment g c h =
-    let l = c.in-Ok.ensures in
-    let found = c.in-Ok.looked.0 in
-    let framed = l.framed h in
-    cut_passes g.D.Disk _ _ _ c.look.ensures.reads h found (l.found h) _ c.staged.ensures.value
-    framed.0 (whole_framed found.point.staged c.in-Ok.looked.1.broken framed.0
-    (g.D.Disk.seen c.args.disk) c.in_default.is framed.1)
-    (c.cut_kept.ensures.any_moment (l.ends.honest h) (l.durable h))
+returns-clause-any_moment g c = passes g (goal.at.returns-clause-any_moment g c).After-cut_kept
 
 pub returns-clause-ok : goal.returns-clause-ok
 returns-clause-ok g c h =
-    let l = c.in-Ok.ensures in
-    let found = c.in-Ok.looked.0 in
-    let framed = l.framed h in
-    let cut = c.in-Ok-cut_kept.ensures in
-    let there = l.ends.honest h in
-    let opened = cut_opened g.D.Disk _ _ _ c.look.ensures.reads h found (l.found h) _
-    c.staged.ensures.value framed.0 (whole_framed found.point.staged c.in-Ok.looked.1.broken
-    framed.0 (g.D.Disk.seen c.args.disk) c.in_default.is framed.1) (cut.cut there)
-    (cut.synced.durable there) in (
-      opened.parts,
-      opened.read,
+    let at = goal.at.returns-clause-ok g c in
+    let is = opened g at.In-Ok-cut_kept h (whole g at.After-cut_kept h) in (
+      is.parts,
+      is.read,
       refl,
       record {
         alive = refl;
-        ready = opened.ready;
-        holds = subst (λ (w : ℕ). Holding w opened.parts (g.D.Disk.seen c.cut_kept.new.disk))
-            (sym c.staged-2.ensures.value) opened.ready.staged.parts_are;
+        ready = is.ready;
+        holds = subst (λ (w : ℕ). Holding w is.parts (g.D.Disk.seen c.cut_kept.new.disk))
+            (sym c.staged-2.ensures.value) is.ready.staged.parts_are;
         behind = omega (arith, c.staged-2.ensures.value);
       },
     )
 
 pub returns-clause-resumes : goal.returns-clause-resumes
 returns-clause-resumes g c h =
-    let l = c.in-Ok.ensures in
     let found = c.in-Ok.looked.0 in
-    let framed = l.framed h in
-    let cut = c.in-Ok-cut_kept.ensures in
-    let there = l.ends.honest h in
-    let new = g.D.Disk.seen c.cut_kept.new.disk in
-    let left = g.D.Disk.may_leave c.cut_kept.new.disk in
-    let opened = cut_opened g.D.Disk _ _ _ c.look.ensures.reads h found (l.found h) _
-    c.staged.ensures.value framed.0 (whole_framed found.point.staged c.in-Ok.looked.1.broken
-    framed.0 (g.D.Disk.seen c.args.disk) c.in_default.is framed.1) (cut.cut there)
-    (cut.synced.durable there) in (
+    let disk = c.cut_kept.new.disk in
+    let at = goal.at.returns-clause-resumes g c in
+    let is = opened g at.In-Ok-cut_kept h (whole g at.After-cut_kept h) in (
       found.generation,
-      opened.parts,
-      opened.read,
-      opened_holds c.cut_kept.new.disk found.in_second found.generation found.point
-          found.other_open c.staged-2.result opened.parts c.staged-2.ensures.value
-          (cut.synced.honest there) opened.ready,
-      ready_returns new left found.in_second found.generation found.point found.other_open
-          opened.parts opened.ready,
+      is.parts,
+      is.read,
+      opened_holds disk found.in_second found.generation found.point found.other_open
+          c.staged-2.result is.parts c.staged-2.ensures.value
+          (c.in-Ok-cut_kept.ensures.synced.honest (c.in-Ok.ensures.ends.honest h)) is.ready,
+      ready_returns (g.D.Disk.seen disk) (g.D.Disk.may_leave disk) found.in_second
+          found.generation found.point found.other_open is.parts is.ready,
     )
 
 pub returns-clause-survives : goal.returns-clause-survives
 returns-clause-survives g c h =
-    let l = c.in-Ok.ensures in
     let found = c.in-Ok.looked.0 in
-    let framed = l.framed h in
-    let cut = c.in-Ok-cut_kept.ensures in
-    let there = l.ends.honest h in
-    let opened = cut_opened g.D.Disk _ _ _ c.look.ensures.reads h found (l.found h) _
-    c.staged.ensures.value framed.0 (whole_framed found.point.staged c.in-Ok.looked.1.broken
-    framed.0 (g.D.Disk.seen c.args.disk) c.in_default.is framed.1) (cut.cut there)
-    (cut.synced.durable there) in
+    let at = goal.at.returns-clause-survives g c in
+    let is = opened g at.In-Ok-cut_kept h (whole g at.After-cut_kept h) in
     ready_survives (g.D.Disk.seen c.cut_kept.new.disk) (g.D.Disk.may_leave c.cut_kept.new.disk)
-    found.in_second found.generation found.point found.other_open opened.parts opened.ready
+    found.in_second found.generation found.point found.other_open is.parts is.ready

@@ -1,65 +1,113 @@
-use Rattle.std.proofs.Common.{inl}
+use Rattle.std.proofs.Common.{◌≡◌, ◌+◌, ◌∙◌, inl, ℕ, List, length, ap, arith}
+use Rattle.tape_blocks.specs.Block.{Portion}
+use Rattle.tape_core.specs.Point.{Point}
+use Rattle.tape_stage.specs.Moments.{Passes}
+use Rattle.tape_stage.specs.Staged.{Holding, KeepsFrames, Ready, StagedIn}
+use Rattle.tape_stage.proofs.Bodies.{length-body}
+use Rattle.tape_stage.proofs.Keeps.{frames_then, frames_holding, torn_body_frames, torn_gate_frames}
 use Rattle.tape_stage.proofs.Passing.{weaken, follow}
 use Rattle.tape_stage.proofs.Results.{on_ok}
-use Rattle.tape_stage.proofs.Keeps.{frames_then, frames_holding}
+use Rattle.tape_stage.proofs.SlotSteps.{IsFilled, filled_done, filled_body, filled_after}
+use Rattle.tape_stage.proofs.SlotSteps.{opened_done, opened_after}
+use Rattle.tape_stage.proofs.stage.saving.replace_slot.Given.{Over}
+use Rattle.tape_stage.proofs.stage.saving.replace_slot.Goals.{After-write_kept, In_ok-write_kept}
 use Rattle.tape_stage.proofs.stage.saving.replace_slot.Goals as goal
 
-pub returns-in_err-close_gate-clause-any_moment : goal.returns-in_err-close_gate-clause-any_moment
-returns-in_err-close_gate-clause-any_moment g c honest g' point parts more next_is ready holding =
-    weaken g.D.Disk _ _ _ _ (λ x old. inl old)
-    (c.close_gate.ensures.any_moment honest g' point parts ready)
+size : (g : Over) (c : After-write_kept g) → length c.body_bytes-body.result ≡ 127
+size g c = ap length c.body_bytes-body.ensures.text ∙ length-body _ _ c.body_bytes-body.ensures.fit
 
-pub returns-in_err-fill_slot-clause-any_moment : goal.returns-in_err-fill_slot-clause-any_moment
-returns-in_err-fill_slot-clause-any_moment g c honest g' point parts more next_is ready holding =
-    let honest1 = c.in_ok-close_gate.ensures.synced.honest honest in
-    let closed = c.in_ok-close_gate.ensures.closed honest g' point parts ready in
+-- the frames are unchanged after the body was written
+frames : (g : Over) (c : After-write_kept g) → g.D.Disk.is_honest c.args.disk.now
+    → KeepsFrames (g.D.Disk.seen c.args.disk.now) (g.D.Disk.seen c.write_kept.new.disk)
+frames g c honest = frames_then _ _ _ (c.close_gate.ensures.frames honest)
+    (torn_body_frames _ _ _ _ (size g c) (rw c.gate_place.ensures at
+    (c.write_kept.ensures.torn (c.in_ok-close_gate.ensures.synced.honest honest))))
+
+-- a crash until then leaves the current generation
+filling : (g : Over) (c : After-write_kept g) → g.D.Disk.is_honest c.args.disk.now
+    → (n : ℕ) (point : Point) (parts : List Portion)
+    → Ready c.args.in_second n point parts c.args.is_open (g.D.Disk.seen c.args.disk.now)
+    (g.D.Disk.may_leave c.args.disk.now)
+    → Passes g.D.Disk c.args.disk.now c.write_kept.new.disk (StagedIn c.args.in_second n point parts)
+filling g c honest n point parts ready =
+    let first = c.in_ok-close_gate.ensures in
+    follow g.D.Disk _ _ _ _ (c.close_gate.ensures.any_moment honest n point parts ready)
+    (weaken g.D.Disk _ _ _ _
+    (λ x after. filled_after c.args.in_second n point parts c.body_bytes-body.result _ _ x
+    (size g c) (first.closed honest n point parts ready) (first.synced.durable honest)
+    (rw c.gate_place.ensures at after))
+    (c.write_kept.ensures.any_moment (first.synced.honest honest)))
+
+-- the slot was filled
+filled : (g : Over) (c : In_ok-write_kept g) → g.D.Disk.is_honest c.args.disk.now
+    → KeepsFrames (g.D.Disk.seen c.args.disk.now) (g.D.Disk.seen c.write_kept.new.disk)
+    → (n : ℕ) (point : Point) (parts more : List Portion) → n + 1 ≡ c.args.generation
+    → Ready c.args.in_second n point parts c.args.is_open (g.D.Disk.seen c.args.disk.now)
+    (g.D.Disk.may_leave c.args.disk.now)
+    → Holding c.args.next.staged more (g.D.Disk.seen c.args.disk.now)
+    → IsFilled c.args.in_second n point c.args.next parts more
+    (g.D.Disk.seen c.write_kept.new.disk)
+filled g c honest kept n point parts more next_is ready holding =
+    let first = c.in_ok-close_gate.ensures in
+    let honest1 = first.synced.honest honest in
+    let body = c.body_bytes-body.ensures in
+    let size = ap length body.text ∙ length-body _ _ body.fit in
+    let holds = rw c.gate_place.ensures at (c.in_ok-write_kept.ensures.written honest1) in
+    record {
+      closed = filled_done _ _ _ _ _ _ _ size holds (first.closed honest n point parts ready);
+      body = rw (← next_is) at (filled_body _ _ _ _ size (omega (
+        arith,
+        g.met.D.Disk.long_as_seen c.close_gate.new.disk honest1,
+        first.long,
+        c.requires.room,
+      )) holds ∙ body.text);
+      holds = frames_holding _ _ _ _ kept holding;
+    }
+
+pub returns-in_err-close_gate-clause-any_moment : goal.returns-in_err-close_gate-clause-any_moment
+returns-in_err-close_gate-clause-any_moment g c honest n point parts more next_is ready holding =
     weaken g.D.Disk _ _ _ _ (λ x old. inl old)
-    (follow g.D.Disk _ _ _ _ (c.close_gate.ensures.any_moment honest g' point parts ready)
-    (c.fill_slot.ensures.any_moment honest1 g' point parts closed
-    (c.in_ok-close_gate.ensures.synced.durable honest)))
+    (c.close_gate.ensures.any_moment honest n point parts ready)
+
+pub returns-in_err-write_kept-clause-any_moment : goal.returns-in_err-write_kept-clause-any_moment
+returns-in_err-write_kept-clause-any_moment g c honest n point parts more next_is ready holding =
+    weaken g.D.Disk _ _ _ _ (λ x old. inl old)
+    (filling g (goal.at.returns-in_err-write_kept-clause-any_moment g c).After-write_kept honest n
+    point parts ready)
+
+pub returns-in_err-write_kept-clause-frames : goal.returns-in_err-write_kept-clause-frames
+returns-in_err-write_kept-clause-frames g c honest =
+    frames g (goal.at.returns-in_err-write_kept-clause-frames g c).After-write_kept honest
 
 pub returns-clause-done : goal.returns-clause-done
 returns-clause-done g c honest =
-    let honest1 = c.in_ok-close_gate.ensures.synced.honest honest in
-    let honest2 = c.in_ok-fill_slot.ensures.synced.honest honest1 in
-    on_ok c.open_gate.result
-    (λ to g' point parts more next_is ready holding.
-    let closed = c.in_ok-close_gate.ensures.closed honest g' point parts ready in
-    rw next_is at (to g' point c.args.next parts more (rw (← next_is) at c.fill_slot.ensures.fit)
-    (record {
-      closed = c.in_ok-fill_slot.ensures.closed honest1 g' point parts closed;
-      body = rw (← next_is) at (c.in_ok-fill_slot.ensures.body honest1);
-      holds = frames_holding _ _ _ _ (frames_then _ _ _ (c.close_gate.ensures.frames honest)
-          (c.fill_slot.ensures.frames honest1)) holding;
-    })))
-    (c.open_gate.ensures.opened honest2)
+    let at = goal.at.returns-clause-done g c in
+    on_ok c.write_kept-2.result
+    (λ holds n point parts more next_is ready holding.
+    rw next_is at (opened_done _ _ _ _ _ _ _ _ (rw (← next_is) at c.body_bytes-body.ensures.fit)
+    (filled g at.In_ok-write_kept honest (frames g at.After-write_kept honest) n point parts more
+    next_is ready holding)
+    (rw c.gate_place-2.ensures at holds)))
+    (c.write_kept-2.ensures.written (c.in_ok-write_kept.ensures.synced.honest
+    (c.in_ok-close_gate.ensures.synced.honest honest)))
 
 pub returns-clause-any_moment : goal.returns-clause-any_moment
-returns-clause-any_moment g c honest g' point parts more next_is ready holding =
+returns-clause-any_moment g c honest n point parts more next_is ready holding =
+    let at = goal.at.returns-clause-any_moment g c in
     let honest1 = c.in_ok-close_gate.ensures.synced.honest honest in
-    let honest2 = c.in_ok-fill_slot.ensures.synced.honest honest1 in
-    let closed = c.in_ok-close_gate.ensures.closed honest g' point parts ready in
     follow g.D.Disk _ _ _ _
     (weaken g.D.Disk _ _ _ _ (λ x old. inl old)
-    (follow g.D.Disk _ _ _ _ (c.close_gate.ensures.any_moment honest g' point parts ready)
-    (c.fill_slot.ensures.any_moment honest1 g' point parts closed
-    (c.in_ok-close_gate.ensures.synced.durable honest))))
-    (c.open_gate.ensures.any_moment honest2 g' point c.args.next parts more
-    (rw (← next_is) at c.fill_slot.ensures.fit) (record {
-      closed = c.in_ok-fill_slot.ensures.closed honest1 g' point parts closed;
-      body = rw (← next_is) at (c.in_ok-fill_slot.ensures.body honest1);
-      holds = frames_holding _ _ _ _ (frames_then _ _ _ (c.close_gate.ensures.frames honest)
-          (c.fill_slot.ensures.frames honest1)) holding;
-    }) (c.in_ok-fill_slot.ensures.synced.durable honest1))
-
-pub returns-in_err-fill_slot-clause-frames : goal.returns-in_err-fill_slot-clause-frames
-returns-in_err-fill_slot-clause-frames g c honest =
-    frames_then _ _ _ (c.close_gate.ensures.frames honest)
-    (c.fill_slot.ensures.frames (c.in_ok-close_gate.ensures.synced.honest honest))
+    (filling g at.After-write_kept honest n point parts ready))
+    (weaken g.D.Disk _ _ _ _
+    (λ x after. opened_after _ _ _ _ _ _ _ _ x (rw (← next_is) at c.body_bytes-body.ensures.fit)
+    (filled g at.In_ok-write_kept honest (frames g at.After-write_kept honest) n point parts more
+    next_is ready holding)
+    (c.in_ok-write_kept.ensures.synced.durable honest1) (rw c.gate_place-2.ensures at after))
+    (c.write_kept-2.ensures.any_moment (c.in_ok-write_kept.ensures.synced.honest honest1)))
 
 pub returns-clause-frames : goal.returns-clause-frames
 returns-clause-frames g c honest =
-    let honest1 = c.in_ok-close_gate.ensures.synced.honest honest in
-    let honest2 = c.in_ok-fill_slot.ensures.synced.honest honest1 in
-    frames_then _ _ _ (frames_then _ _ _ (c.close_gate.ensures.frames honest)
-    (c.fill_slot.ensures.frames honest1)) (c.open_gate.ensures.frames honest2)
+    frames_then _ _ _
+    (frames g (goal.at.returns-clause-frames g c).After-write_kept honest)
+    (torn_gate_frames _ _ _ (rw c.gate_place-2.ensures at (c.write_kept-2.ensures.torn
+    (c.in_ok-write_kept.ensures.synced.honest (c.in_ok-close_gate.ensures.synced.honest honest)))))

@@ -1,17 +1,12 @@
 use Rattle.tape_stage.specs.declared.disk.content.Call.TheVariants.{Look}
-use Rattle.tape_stage.proofs.Did.{did_elapses, looked_left, looked_open}
+use Rattle.tape_stage.proofs.Did.{did_elapses, did_left, did_open}
 use Rattle.tape_stage.proofs.disk.memory_disk.MemoryDiskDisk.len.Goals as goal
 
 pub returns-in-Ok-clause-crash : goal.returns-in-Ok-clause-crash
-returns-in-Ok-clause-crash c _ d now =
-    looked_left c.args.self.now.content c.count.new.self.content c.look.new.self
-    c.count.ensures.content c.in-Ok.ensures.ok d now
+returns-in-Ok-clause-crash c _ = did_left _ _ _ Look c.count.ensures.content c.in-Ok.ensures.ok
 
 pub returns-in-Ok-clause-time : goal.returns-in-Ok-clause-time
-returns-in-Ok-clause-time c _ = did_elapses c.args.self.now.content c.count.new.self.content
-    c.look.new.self Look c.count.ensures.content c.in-Ok.ensures.ok
+returns-in-Ok-clause-time c _ = did_elapses _ _ _ Look c.count.ensures.content c.in-Ok.ensures.ok
 
 pub returns-in-Ok-clause-stays : goal.returns-in-Ok-clause-stays
-returns-in-Ok-clause-stays c _ d left =
-    looked_open c.args.self.now.content c.count.new.self.content c.look.new.self
-    c.count.ensures.content c.in-Ok.ensures.ok d left
+returns-in-Ok-clause-stays c _ = did_open _ _ _ Look c.count.ensures.content c.in-Ok.ensures.ok

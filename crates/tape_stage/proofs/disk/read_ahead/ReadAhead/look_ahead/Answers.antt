@@ -1,4 +1,4 @@
-use Rattle.std.proofs.Common.{◌≡◌, ◌+◌, ◌≤◌, take, slice_range, sym, subst, refl, arith}
+use Rattle.std.proofs.Common.{refl, arith}
 use Rattle.tape_stage.proofs.Caused.{caused_on}
 use Rattle.tape_stage.proofs.disk.read_ahead.ReadAhead.look_ahead.Goals as goal
 
@@ -10,11 +10,9 @@ invariant_of-self g c =
       caused = caused_on c.len.result h.failed _ _ h.small h.caused done.cause done.calm;
       small = h.small;
       fits = h.fits;
-      within = subst (λ n. h.start + h.held ≤ n) (sym done.same_length) h.within;
+      within = rw done.same_length h.within;
       low = h.low;
-      right = λ now. let was = done.honest.back now in
-          subst (λ xs. slice_range xs h.start (h.start + h.held) ≡ take h.held h.bytes.items)
-          (sym (done.same was)) (h.right was);
+      right = λ now. rw (done.same (done.honest.back now)) (h.right (done.honest.back now));
     }
 
 pub invariant_of-self-else-is_ok : goal.invariant_of-self-else-is_ok

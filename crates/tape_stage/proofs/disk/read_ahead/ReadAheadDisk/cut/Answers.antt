@@ -4,14 +4,13 @@ use Rattle.tape_stage.proofs.disk.read_ahead.ReadAheadDisk.cut.Goals as goal
 
 pub invariant_of-self : goal.invariant_of-self
 invariant_of-self g c =
-    let h = c.forget.new.self in
-    let none = c.forget.ensures in
+    let h = c.args.self.now in
     let done = c.cut.ensures in
     record {
       caused = caused_on c.cut.result h.failed _ _ h.small h.caused done.cause done.calm;
       small = h.small;
-      fits = h.fits;
-      within = omega (arith, none.none, none.start);
-      low = h.low;
-      right = λ now. rw (none.none, none.start) refl;
+      fits = omega arith;
+      within = omega arith;
+      low = omega arith;
+      right = λ now. refl;
     }

@@ -1,4 +1,3 @@
-use Rattle.std.proofs.Common.{◌≡◌, ◌+◌, ◌≤◌, take, slice_range, sym, subst}
 use Rattle.tape_stage.proofs.Caused.{caused_on}
 use Rattle.tape_stage.proofs.disk.read_ahead.ReadAheadDisk.sync.Goals as goal
 
@@ -10,9 +9,7 @@ invariant_of-self g c =
       caused = caused_on c.sync.result h.failed _ _ h.small h.caused done.cause done.calm;
       small = h.small;
       fits = h.fits;
-      within = subst (λ n. h.start + h.held ≤ n) (sym done.same_length) h.within;
+      within = rw done.same_length h.within;
       low = h.low;
-      right = λ now. let was = done.back now in
-          subst (λ xs. slice_range xs h.start (h.start + h.held) ≡ take h.held h.bytes.items)
-          (sym (done.same was)) (h.right was);
+      right = λ now. rw (done.same (done.back now)) (h.right (done.back now));
     }

@@ -12,10 +12,10 @@ returns-then-is_empty-clause-stays g c honest x left =
     nil_from_length h.bytes.items (grind (arith, common_steps)) in
     none_left _ _ _ x (left_none _ _ _ x none left)
 
-pub returns-in-Ok-clause-stays : goal.returns-in-Ok-clause-stays
-returns-in-Ok-clause-stays g c honest x left =
+pub returns-clause-stays : goal.returns-clause-stays
+returns-clause-stays g c honest x left =
     let same : c.as_slice.result.now ≡ c.args.self.now.bytes.items = search rules in
-    none_left _ _ _ x (c.in-Ok.ensures.any honest left.0 x left.1 (rw (← same) at left.2))
+    none_left _ _ _ x (c.in_ok-write_at.ensures.any honest left.0 x left.1 (rw (← same) at left.2))
 
 pub returns-then-is_empty-clause-looks : goal.returns-then-is_empty-clause-looks
 returns-then-is_empty-clause-looks g c = record {
@@ -30,21 +30,21 @@ returns-then-is_empty-clause-looks g c = record {
   honest = search rules;
 }
 
-pub returns-in-Ok-clause-looks : goal.returns-in-Ok-clause-looks
-returns-in-Ok-clause-looks g c = record {
+pub returns-clause-looks : goal.returns-clause-looks
+returns-clause-looks g c = record {
   same_length = search rules;
   same = grind (arith, common_steps);
   crash = search rules;
   time = λ honest.
       let same : c.as_slice.result.now ≡ c.args.self.now.bytes.items = search rules in
-      passed_elapses _ _ _ _ _ _ _ _ _ _ (rw same at (c.in-Ok.ensures.any honest))
+      passed_elapses _ _ _ _ _ _ _ _ _ _ (rw same at (c.in_ok-write_at.ensures.any honest))
       (λ t x. g.met.D.Disk.counts_now _ t x (c.write_at.ensures.honest.onward honest))
       (c.write_at.ensures.time honest);
   honest = search rules;
 }
 
-pub returns-in-Err-clause-looks : goal.returns-in-Err-clause-looks
-returns-in-Err-clause-looks g c = record {
+pub returns-in_err-write_at-clause-looks : goal.returns-in_err-write_at-clause-looks
+returns-in_err-write_at-clause-looks g c = record {
   same_length = search rules;
   same = grind (arith, common_steps);
   crash = λ honest x left.

@@ -1,4 +1,4 @@
-use Rattle.std.proofs.Common.{length, sym, arith}
+use Rattle.std.proofs.Common.{◌≡◌, ◌+◌, length, arith}
 use Rattle.tape_stage.specs.Holding.{torn_same}
 use Rattle.tape_stage.proofs.HoldingLaws.{then_elapses, then_stays, then_allows}
 use Rattle.tape_stage.proofs.HoldingLaws.{holds_more, same_elapses, more_elapses}
@@ -9,34 +9,38 @@ use Rattle.tape_stage.proofs.disk.write_behind.WriteBehindDisk.write_at.Goals as
 
 -- ---- bytes appended to the buffer
 
-pub returns-then-continues-clause-written : goal.returns-then-continues-clause-written
-returns-then-continues-clause-written g c honest =
+pub returns-then-fits-clause-written : goal.returns-then-fits-clause-written
+returns-then-fits-clause-written g c honest =
     let h = c.args.self.now in
     let added = c.add.ensures in
-    rw (added.disk, added.start, added.bytes, sym c.if-continues.ensures.end)
+    let end : c.args.place ≡ h.start + length h.bytes.items = omega arith in
+    rw (added.disk, added.start, added.bytes, end)
     (holds_more h.start h.bytes.items c.args.bytes.now (g.D.Disk.seen h.disk)
     (omega (arith, g.met.D.Disk.long_as_seen h.disk honest, h.within)))
 
-pub returns-then-continues-clause-crash : goal.returns-then-continues-clause-crash
-returns-then-continues-clause-crash g c honest =
+pub returns-then-fits-clause-crash : goal.returns-then-fits-clause-crash
+returns-then-fits-clause-crash g c honest =
     let added = c.add.ensures in
-    added_follows g.D.Disk.may_leave _ _ _ _ _ _ _ _ added.disk added.start added.bytes
-    c.if-continues.ensures.end
+    let end : c.args.self.now.start + length c.args.self.now.bytes.items ≡ c.args.place =
+    omega arith in
+    added_follows g.D.Disk.may_leave _ _ _ _ _ _ _ _ added.disk added.start added.bytes end
 
-pub returns-then-continues-clause-stays : goal.returns-then-continues-clause-stays
-returns-then-continues-clause-stays g c honest =
+pub returns-then-fits-clause-stays : goal.returns-then-fits-clause-stays
+returns-then-fits-clause-stays g c honest =
     let added = c.add.ensures in
-    added_stays g.D.Disk.may_leave _ _ _ _ _ _ _ _ added.disk added.start added.bytes
-    c.if-continues.ensures.end
+    let end : c.args.self.now.start + length c.args.self.now.bytes.items ≡ c.args.place =
+    omega arith in
+    added_stays g.D.Disk.may_leave _ _ _ _ _ _ _ _ added.disk added.start added.bytes end
 
-pub returns-then-continues-clause-any : goal.returns-then-continues-clause-any
-returns-then-continues-clause-any g c honest =
+pub returns-then-fits-clause-any : goal.returns-then-fits-clause-any
+returns-then-fits-clause-any g c honest =
     let added = c.add.ensures in
-    added_allows g.D.Disk.may_leave _ _ _ _ _ _ _ _ added.disk added.start added.bytes
-    c.if-continues.ensures.end
+    let end : c.args.self.now.start + length c.args.self.now.bytes.items ≡ c.args.place =
+    omega arith in
+    added_allows g.D.Disk.may_leave _ _ _ _ _ _ _ _ added.disk added.start added.bytes end
 
-pub returns-then-continues-clause-time : goal.returns-then-continues-clause-time
-returns-then-continues-clause-time g c honest =
+pub returns-then-fits-clause-time : goal.returns-then-fits-clause-time
+returns-then-fits-clause-time g c honest =
     let added = c.add.ensures in
     same_elapses g.D.Disk.moment g.D.Disk.left_since g.D.Disk.may_leave _ _ _ _ _ _ _ _ added.disk
     added.start added.bytes (more_elapses _ _ _ _ _ c.args.bytes.now)

@@ -1,9 +1,11 @@
-use Rattle.std.proofs.Common.{◌≡◌, List, ap, inr}
+use Rattle.std.proofs.Common.{◌≡◌, ◌∙◌, ℕ, List, [], ap, sym, inr, append-nil}
 use Rattle.std.specs.Prelude.{Option, Some, None, Err}
 use Rattle.tape_blocks.specs.Block.{Portion}
 use Rattle.tape_core.specs.Crash.{IsThis}
 use Rattle.tape_core.specs.Point.{Point}
-use Rattle.tape_stage.proofs.Held.{refused_holds, change_refused}
+use Rattle.tape_core.specs.Stands.{weight_of}
+use Rattle.tape_stage.specs.Parts.{IsFront}
+use Rattle.tape_stage.proofs.Held.{stage_holds, refused_holds, change_refused}
 use Rattle.tape_stage.proofs.Keeps.{frames_holding}
 use Rattle.tape_stage.specs.Stages.{Returns}
 use Rattle.tape_stage.proofs.Backs.{returned_kept, returned_now, adds_this, adds_refused}
@@ -12,6 +14,19 @@ use Rattle.tape_stage.proofs.stage.putting.StagePartSink.keep.Goals as goal
 -- there is a pending checkpoint while one is being saved
 saved_none : {pending : Option Point} {point : Point} → pending ≡ Some point → pending ≡ None → ⊥
 saved_none some none = cc
+
+-- all parts are the first of their weight
+all_of : (staged : ℕ) (parts : List Portion) → staged ≡ weight_of parts → IsFront staged parts parts
+all_of staged parts weighs =
+    record { rest = []; whole = sym (append-nil parts); weighs = sym weighs }
+
+pub returns-in-Ok-clause-same : goal.returns-in-Ok-clause-same
+returns-in-Ok-clause-same g c parts holds =
+    let e = c.in-Ok.ensures in
+    let honest = holds.honest (c.args.self.now.settled (c.args.self.now.usable e.ends.was_alive)) in
+    let was = holds.ready e.ends.was_alive in
+    stage_holds c.save.new.self parts parts (e.ends.honest honest)
+    (e.ok honest was.0 parts parts was.1 (all_of _ parts (c.requires ∙ holds.weighs)))
 
 pub returns-in-Err-clause-same : goal.returns-in-Err-clause-same
 returns-in-Err-clause-same g c parts holds =
@@ -31,7 +46,8 @@ returns-in-Ok-clause-kept g c parts holds =
     let only : (back : Point) (there : List Portion) → Returns new back there
     → (back ≡ c.args.point.now) × (there ≡ parts) =
     λ back there r. returned_kept new parts c.args.point.now back there
-    (e.ok honest was.0 parts was.1) e.acknowledged r in (
+    (e.ok honest was.0 parts parts was.1 (all_of _ parts (c.requires ∙ holds.weighs)))
+    e.acknowledged r in (
       only,
       λ back there r. only back there
           (returned_now new (e.ends.honest honest) (g.met.D.Disk.only_now new.disk) back there r),
@@ -44,7 +60,8 @@ returns-in-Ok-clause-crash g c parts holds =
     let honest = holds.honest (s.settled (s.usable e.ends.was_alive)) in
     let was = holds.ready e.ends.was_alive in
     adds_this s c.save.new.self was.0 parts parts c.args.point.now
-    (g.met.D.Disk.seen_now s.disk honest) was.1 (e.any_moment honest was.0 parts was.1)
+    (g.met.D.Disk.seen_now s.disk honest) was.1 (e.any_moment honest was.0 parts parts was.1
+    (all_of _ parts (c.requires ∙ holds.weighs)))
 
 pub returns-in-Err-clause-crash : goal.returns-in-Err-clause-crash
 returns-in-Err-clause-crash g c parts holds =
@@ -55,7 +72,8 @@ returns-in-Err-clause-crash g c parts holds =
     let honest = holds.honest (s.settled (s.usable alive)) in
     let was = holds.ready alive in
     adds_this s c.save.new.self was.0 parts parts c.args.point.now
-    (g.met.D.Disk.seen_now s.disk honest) was.1 (e.any_moment honest was.0 parts was.1))
+    (g.met.D.Disk.seen_now s.disk honest) was.1 (e.any_moment honest was.0 parts parts was.1
+    (all_of _ parts (c.requires ∙ holds.weighs))))
 
 pub returns-in-Err-clause-why : goal.returns-in-Err-clause-why
 returns-in-Err-clause-why g c =
