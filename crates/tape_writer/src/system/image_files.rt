@@ -48,7 +48,9 @@ impl<'a, R: Host> ImageFiles<'a, R> {
     }
 
     /// Returns the volumes whose images ended, and their sizes.
-    pub fn into_ended(self) -> Vec<Ended> {
+    pub fn into_ended(self) -> Vec<Ended>
+        ensures { result ≡ self.entry.ended }
+    {
         self.ended
     }
 }

@@ -1,5 +1,5 @@
 //! Writes a set to image files in a directory.
-ghost use Rattle.std.specs.Prelude.{◌≡◌};
+ghost use Rattle.std.specs.Prelude.{◌≡◌, ◌≢◌};
 ghost use Rattle.tape_writer.specs.Blank.{volume_id};
 ghost use Rattle.tape_writer.specs.System.{of_set};
 
@@ -76,7 +76,10 @@ fn set_id(prefix: Prefix) -> Field<6>
 
 /// Returns the fault of a refusal: instead of the fault of a device, the fault of its file. Writes
 /// the buffered bytes of the current volume first.
-fn told<R: Host>(refused: RefusedSet<ImageFiles<'_, R>>) -> SystemFault {
+fn told<R: Host>(refused: RefusedSet<ImageFiles<'_, R>>) -> SystemFault
+    ensures { refused.entry.fault ≢ SetFault.Write WriteFault.Device
+        → result ≡ of_set refused.entry.fault }
+{
     let RefusedSet {
         fault,
         images: _ended,
