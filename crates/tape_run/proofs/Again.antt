@@ -110,6 +110,7 @@ stops_in_round {S} {L} {R} {W} gs size gives remaining old new
       are_turns = s.last.are_turns;
       more = s.last.more;
       few = s.last.few;
+      silent = s.last.silent;
       most = omega (arith, s.last.fewer, s.last.few);
       want = None;
       records = 0;
@@ -162,6 +163,7 @@ stops_at_end_again {S} {L} {R} {W} gs size gives remaining old new
       are_turns = (left, t.last.are_turns, inl (refl, refl));
       more = [];
       few = omega arith;
+      silent = λ other. refl;
       most = omega (arith, t.last.most);
       want = e.want;
       records = e.records;

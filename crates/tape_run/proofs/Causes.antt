@@ -1,6 +1,6 @@
 -- The causes for which records were not written: the cause of one call, if no call before it was
 -- refused.
-use Rattle.std.proofs.Common.{◌≡◌, ◌<◌, ℕ, suc, ◌+◌, List, [], ◌∷◌, ◌++◌, length, take}
+use Rattle.std.proofs.Common.{◌≡◌, ◌<◌, ℕ, suc, ◌+◌, ◌-◌, List, [], ◌∷◌, ◌++◌, length, take}
 use Rattle.std.specs.Prelude.{◌≢◌, ◌⊎◌, is_some}
 use Rattle.std.proofs.Common.{Bool, true, false, Result, Ok, Err, OnOk, IfErr}
 use Rattle.std.proofs.Common.{refl, sym, ap, inl, inr, subst, ◌∙◌, arith}
@@ -118,16 +118,21 @@ step_fails g back TooFewReels old new h = absurd h
 step_fails g back OutOfMemory old new h = ap (λ s. g.refusals s.sink) h
 step_fails g back OtherFile old new h = absurd h
 
+none_there : (notes : List Point) → length notes ≡ 0 → notes ≡ []
+none_there [] e = refl
+none_there (c ∷ notes) e = absurd (omega (arith, e))
+
 -- the session did not roll back to its last checkpoint
 pub back_fails : {S : Type 0} (g : Ghosts S) (n : ℕ) (fault : RunFault) (old new : SessionState S)
-    → length old.notes ≡ n + 1 → RefusesRestart g n fault old new
+    → n ≡ length old.notes - 1 → RefusesRestart g n fault old new
     → ReadingFails g true (Run fault) old new
-back_fails g n (Sink cause) old new one (same, inl r) = inl r
-back_fails g n (Sink cause) old new one (same, inr (is, calm, none)) = inr (is, none)
-back_fails g n NoSuchPoint old new one (few, same) = absurd (omega (arith, one, few))
-back_fails g n TooFewReels old new one h = absurd h
-back_fails g n OutOfMemory old new one h = absurd h
-back_fails g n OtherFile old new one h = absurd h
+back_fails g n (Sink cause) old new last (same, inl r) = inl r
+back_fails g n (Sink cause) old new last (same, inr (is, calm, none)) = inr (is, none)
+back_fails g n NoSuchPoint old new last (few, same) =
+    (refl, none_there old.notes (omega (arith, last, few)))
+back_fails g n TooFewReels old new last h = absurd h
+back_fails g n OutOfMemory old new last h = absurd h
+back_fails g n OtherFile old new last h = absurd h
 
 -- after one more checkpoint there is one
 no_longer_none : (notes : List Point) (point : Point) → notes ++ point ∷ [] ≡ [] → notes ≡ []

@@ -98,6 +98,7 @@ stops_reading {S} {L} {R} {W} gs size gives remaining old new shelf
       are_turns = s.are_turns;
       more = s.more;
       few = s.few;
+      silent = s.silent;
       most = omega (arith, s.fewer, s.few);
       want = None;
       records = 0;
@@ -146,6 +147,7 @@ stops_at_end {S} {L} {R} {W} gs size gives remaining old mid new
       are_turns = (left, t.are_turns, inl (refl, refl));
       more = [];
       few = omega arith;
+      silent = λ other. refl;
       most = omega (arith, t.most);
       want = e.want;
       records = e.records;

@@ -1,6 +1,6 @@
 -- The states that a crash leaves of a session in which a step failed.
-use Rattle.std.proofs.Common.{◌≡◌, ◌⊎◌, ℕ, ◌+◌, Bool, true, List, [], length, Some, slice_get}
-use Rattle.std.proofs.Common.{refl, sym, ap, subst, ◌∙◌, inl, inr, arith}
+use Rattle.std.proofs.Common.{◌≡◌, ◌⊎◌, ℕ, ◌+◌, ◌-◌, Bool, true, List, [], ◌∷◌, length, Some}
+use Rattle.std.proofs.Common.{slice_get, refl, sym, ap, subst, ◌∙◌, inl, inr, arith}
 use Rattle.tape_blocks.specs.Block.{Portion}
 use Rattle.tape_core.specs.Crash.{Returns, AddsNothing, AddsOnly}
 use Rattle.tape_core.proofs.Crashes.{only_among, only_same, only_then}
@@ -75,14 +75,20 @@ pub save_left : {S : Type 0} (g : Ghosts S) (goes : Bool) (a b : SessionState S)
 save_left g goes a b held now fault has fails =
     stays_left g goes a b held now has (save_stays fault (seen g a held) (seen g b now) fails)
 
+-- the last checkpoint of a session, if there is one
+pub last_of : (notes : List Point) (n : ℕ) (c : Point) → n ≡ length notes - 1
+    → slice_get notes n ≡ Some c → length notes ≡ n + 1
+last_of [] n c last e = absurd (cc e)
+last_of (d ∷ notes) n c last e = omega (arith, last)
+
 -- the session rolled back, or did not
 pub restart_left : {S : Type 0} (g : Ghosts S) (a b : SessionState S) (held : List Portion) (n : ℕ)
-    → length a.notes ≡ n + 1
+    → n ≡ length a.notes - 1
     → AddsOnly (IsNoteOf n (seen g a held)) (g.crashes a.sink) (g.crashes b.sink)
     → LeavesStep g true a held b
-restart_left {S} g a b held n count =
+restart_left {S} g a b held n last =
     only_among (IsNoteOf n (seen g a held)) _ (g.crashes a.sink) (g.crashes b.sink)
-    (λ back there i. inl (refl, (n, count, i)))
+    (λ back there i. inl (refl, (n, last_of a.notes n back last i.0, i)))
 
 -- ---- after a reel
 

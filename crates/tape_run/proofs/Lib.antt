@@ -91,6 +91,7 @@ mod QuotedNames
 pub mod RecordFronts
 mod Turns
 mod StoppedThere
+mod Settled
 mod TurnSteps
 mod Rounds
 mod Extracted

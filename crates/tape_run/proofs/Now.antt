@@ -77,6 +77,7 @@ stops_reading_now {S} {L} {R} {O} gs size gives remaining old new
       are_turns = s.are_turns;
       more = s.more;
       few = s.few;
+      silent = s.silent;
       most = omega (arith, s.fewer, s.few);
       want = None;
       records = 0;
@@ -125,6 +126,7 @@ stops_at_end_now {S} {L} {R} {O} gs size gives remaining old mid new
       are_turns = (left, t.are_turns, inl (refl, refl));
       more = [];
       few = omega arith;
+      silent = λ other. refl;
       most = omega (arith, t.most);
       want = want;
       records = records;

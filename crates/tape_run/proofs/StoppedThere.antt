@@ -13,16 +13,15 @@ use Rattle.tape_core.specs.Weight.{IsFront}
 use Rattle.tape_core.specs.declared.sink.PartSink.{Ghosts}
 use Rattle.tape_run.specs.Crash.{IsWalked}
 use Rattle.tape_run.specs.Given.{is_device}
-use Rattle.tape_run.specs.Reeling.{Opened, Follows, IsNoted, IsKeptFor, counts_differ}
+use Rattle.tape_run.specs.Reeling.{Turn, Opened, IsTurn, Follows, IsNoted, counts_differ}
 use Rattle.tape_run.specs.Reels.{Reads}
-use Rattle.tape_run.specs.Seen.{Seen, seen, IsKept, KeepsNotes, IfSeen, IsSeen, IsSeenUnless}
+use Rattle.tape_run.specs.Seen.{Seen, seen, IsKept, KeepsNotes}
 use Rattle.tape_run.specs.SessionState.{SessionState}
-use Rattle.tape_run.specs.Steps.{Reeled, ReelFails, SaveFails}
-use Rattle.tape_run.specs.Stopping.{IsStopped, NotNoted, ReadsOnly, StopsInReel}
+use Rattle.tape_run.specs.Steps.{Reeled, ReelFails, Unmoved}
+use Rattle.tape_run.specs.Stopping.{IsStopped, NotNoted, ReadsOnly, StopsAt, StopsInReel}
 use Rattle.tape_run.specs.declared.fault.EngineFault.{EngineFault}
+use Rattle.tape_run.specs.declared.fault.EngineFault.TheVariants.{WriteFailed}
 use Rattle.tape_run.specs.declared.fault.RunFault.{RunFault}
-use Rattle.tape_run.specs.declared.fault.RunFault.TheVariants.{Sink}
-use Rattle.tape_core.specs.declared.sink.SinkFault.TheVariants.{Device}
 use Rattle.tape_run.specs.declared.reel_reader.ReelAnswer.{ReelAnswer}
 use Rattle.tape_run.proofs.Notes.{front_self, front_trans}
 use Rattle.tape_run.proofs.Turns.{noted}
@@ -59,6 +58,18 @@ pub stopped_there : {S R : Type 0} (g : Ghosts S) (remaining : R → Option (Lis
     → g.holds a.sink held → IsStopped g remaining back spares a.core (seen g a held) None fault a
 stopped_there g remaining back spares a held fault has =
     (held, (λ live. has), record { place = refl; parts = refl; notes = refl; count = refl })
+
+-- only the line of an image was not reported
+pub line_stops : {R : Type 0} (remaining : R → Option (List ℕ)) (back spares : Bool) (core : State)
+    (old : Seen) (image : Option R) (turn : Turn) (next : State) (new : Seen)
+    → IsTurn remaining image turn → Follows back spares core old (turn ∷ []) next new
+    → StopsAt remaining back spares core old image WriteFailed next new
+line_stops remaining back spares core old None None next new is (waits, (at, same)) =
+    subst (Unmoved old) (sym same)
+    (record { place = refl; parts = refl; notes = refl; count = refl })
+line_stops remaining back spares core old None (Some o) next new is follows = absurd is
+line_stops remaining back spares core old (Some image) turn next new is follows =
+    (turn, is, follows)
 
 -- a reel was not read to its end
 pub reel_stops : (back : Bool) (had : Option (List ℕ)) (fault : RunFault) (old new : Seen)
@@ -106,31 +117,6 @@ pub fault_then : {A B : Type 0} (r : Result A B) (P Q : B → Type 0) → ((e : 
     → IfErr r P → IfErr r Q
 fault_then (Ok x) P Q f h = tt
 fault_then (Err e) P Q f h = f e h
-
--- ---- the step after a reel
-
--- the session did not roll back
-pub not_back : {S : Type 0} (g : Ghosts S) (back doubtful : Bool) (fault : RunFault)
-    (a b : SessionState S) → back ≡ true → doubtful ≡ true
-    → IfSeen g a (λ old. IsKept old
-    → IsSeenUnless (fault ≡ Sink Device) g b (NotNoted true true fault old))
-    → IfSeen g a (λ old. IsKeptFor back old
-    → IsSeenUnless ((back ≡ true) × (fault ≡ Sink Device)) g b (NotNoted back doubtful fault old))
-not_back g true true fault a b is doubt h = λ held was kept.
-    let (now, there, fails) = h held was kept in
-    (now, (λ live. there (λ lost. live (refl, lost))), fails)
-not_back g true false fault a b is doubt h = absurd (cc doubt)
-not_back g false doubtful fault a b is doubt h = absurd (cc is)
-
--- no checkpoint was made
-pub not_saved : {S : Type 0} (g : Ghosts S) (back doubtful : Bool) (fault : RunFault)
-    (a b : SessionState S) → (doubtful ≡ false)
-    × IfSeen g a (λ old. IsSeen g b (SaveFails fault old))
-    → IfSeen g a (λ old. IsKeptFor back old
-    → IsSeenUnless ((back ≡ true) × (fault ≡ Sink Device)) g b (NotNoted back doubtful fault old))
-not_saved g back false fault a b (is, h) = λ held was kept.
-    let (now, has, fails) = h held was in (now, (λ live. has), fails)
-not_saved g back true fault a b (is, h) = absurd (cc is)
 
 -- ---- a session that only read on
 

@@ -12,7 +12,7 @@ use Rattle.tape_run.specs.Seen.{Seen, IsKept}
 use Rattle.tape_run.proofs.Sessions.{kept_save, kept_restart}
 use Rattle.tape_run.specs.Steps.{Reeled}
 use Rattle.tape_run.specs.ReelLine.{reel_line, reel_lines}
-use Rattle.tape_run.specs.Reeling.{counts_differ, IsNoted, IsKeptFor, IsReported}
+use Rattle.tape_run.specs.Reeling.{counts_differ, IsNoted, IsKeptFor}
 use Rattle.tape_run.specs.Reeling.{Turn, Opened, answer_of, Follows, Mounting, AreMounted}
 
 -- ---- lines
@@ -112,13 +112,3 @@ pub kept_for : (back : Bool) (old new : Seen) → (IsKept old → IsKept new) �
     → IsKeptFor back new
 kept_for false old new f k = tt
 kept_for true old new f k = f k
-
--- ---- calls
-
--- the lines of at most one more image
-pub part_line : (number : ℕ) (outcome : Option ReelAnswer) (old new : Option (List ℕ))
-    → AppendsFront old new (reel_line number outcome) → IsReported number old new
-part_line number outcome old new (front, rest, wrote, all) =
-    (outcome ∷ [], omega arith, (front, rest, wrote, append-nil (reel_line number outcome) ∙ all))
-
--- ---- an image whose reading failed

@@ -1,5 +1,5 @@
 -- What `extract` leaves.
-use Rattle.std.specs.Prelude.{◌≡◌, ◌⊎◌, ℕ, ◌+◌, ◌<◌, ◌≤◌, List, [], ◌++◌, length, map, Option}
+use Rattle.std.specs.Prelude.{◌≡◌, ◌≢◌, ◌⊎◌, ℕ, ◌+◌, ◌<◌, ◌≤◌, List, [], ◌++◌, length, map, Option}
 use Rattle.std.specs.Prelude.{Some, None, ⊤, Bool, false}
 use Rattle.std.specs.Io.KnownBytes.{Appends}
 use Rattle.tape_blocks.specs.Block.{Portion}
@@ -12,6 +12,7 @@ use Rattle.tape_core.specs.declared.sink.PartSink.{Ghosts}
 use Rattle.tape_run.specs.Crash.{LeavesSaved}
 use Rattle.tape_run.specs.Stopping.{IsStopped}
 use Rattle.tape_run.specs.declared.fault.EngineFault.{EngineFault}
+use Rattle.tape_run.specs.declared.fault.EngineFault.TheVariants.{WriteFailed}
 use Rattle.tape_run.specs.declared.reel_reader.ReelAnswer.{ReelAnswer}
 use Rattle.tape_run.specs.Seen.{Seen, IfSeen}
 use Rattle.tape_run.specs.SessionState.{SessionState}
@@ -99,6 +100,7 @@ pub record Stops {S L R W : Type 0} (g : Ghosts S) (size : L → ℕ) (gives : M
   pub are_turns : AreFirstTurns gives remaining shelf turns image left
   pub more : List (Option ReelAnswer)
   pub few : length more ≤ 1
+  pub silent : fault ≢ WriteFailed → more ≡ []
   pub most : length turns + length more ≤ size shelf
   pub want : Option Want
   pub records : ℕ

@@ -1,6 +1,6 @@
 -- What `extract` leaves after several passes over the images.
-use Rattle.std.specs.Prelude.{◌≡◌, ◌⊎◌, ℕ, ◌+◌, ◌<◌, ◌≤◌, List, ◌++◌, length, map, Option, None}
-use Rattle.std.specs.Prelude.{true}
+use Rattle.std.specs.Prelude.{◌≡◌, ◌≢◌, ◌⊎◌, ℕ, ◌+◌, ◌<◌, ◌≤◌, List, [], ◌++◌, length, map, Option}
+use Rattle.std.specs.Prelude.{None, true}
 use Rattle.std.specs.Io.KnownBytes.{Appends}
 use Rattle.tape_blocks.specs.declared.parts.Form.{Form}
 use Rattle.tape_set.specs.declared.position.Position.TheVariants.{Finished}
@@ -10,6 +10,7 @@ use Rattle.tape_core.specs.declared.sink.PartSink.{Ghosts}
 use Rattle.tape_run.specs.Crash.{LeavesSaved}
 use Rattle.tape_run.specs.Stopping.{IsStopped}
 use Rattle.tape_run.specs.declared.fault.EngineFault.{EngineFault}
+use Rattle.tape_run.specs.declared.fault.EngineFault.TheVariants.{WriteFailed}
 use Rattle.tape_run.specs.declared.reel_reader.ReelAnswer.{ReelAnswer}
 use Rattle.tape_run.specs.Extracting.{Ends, TellsEnd}
 use Rattle.tape_image.specs.Written.{AppendsFront}
@@ -64,6 +65,7 @@ pub record StopsAgain {S L R W : Type 0} (g : Ghosts S) (size : L → ℕ) (give
   pub are_turns : AreFirstTurns gives remaining between turns image left
   pub more : List (Option ReelAnswer)
   pub few : length more ≤ 1
+  pub silent : fault ≢ WriteFailed → more ≡ []
   pub most : length turns + length more ≤ size shelf
   pub want : Option Want
   pub records : ℕ

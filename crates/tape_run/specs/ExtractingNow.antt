@@ -1,6 +1,6 @@
 -- What `extract` leaves if the records are written while the images are read.
-use Rattle.std.specs.Prelude.{◌≡◌, ◌≢◌, ◌⊎◌, ℕ, ◌+◌, ◌<◌, ◌≤◌, List, ◌++◌, length, map, Option, Some}
-use Rattle.std.specs.Prelude.{None, ⊤, false}
+use Rattle.std.specs.Prelude.{◌≡◌, ◌≢◌, ◌⊎◌, ℕ, ◌+◌, ◌<◌, ◌≤◌, List, [], ◌++◌, length, map, Option}
+use Rattle.std.specs.Prelude.{Some, None, ⊤, false}
 use Rattle.std.specs.Io.KnownBytes.{Appends}
 use Rattle.tape_blocks.specs.Block.{Portion}
 use Rattle.tape_blocks.specs.Spans.{join}
@@ -16,6 +16,7 @@ use Rattle.tape_blocks.specs.declared.parts.Form.{Form}
 use Rattle.tape_run.specs.Extracting.{TellsEnd}
 use Rattle.tape_run.specs.Stopping.{IsStopped}
 use Rattle.tape_run.specs.declared.fault.EngineFault.{EngineFault}
+use Rattle.tape_run.specs.declared.fault.EngineFault.TheVariants.{WriteFailed}
 use Rattle.tape_image.specs.Written.{AppendsFront}
 use Rattle.tape_run.specs.RecordText.{output_of}
 use Rattle.tape_run.specs.ReelLine.{reel_lines, last_line}
@@ -77,6 +78,7 @@ pub record StopsNow {S L R O : Type 0} (g : Ghosts S) (size : L → ℕ) (gives 
   pub are_turns : AreFirstTurns gives remaining shelf turns image left
   pub more : List (Option ReelAnswer)
   pub few : length more ≤ 1
+  pub silent : fault ≢ WriteFailed → more ≡ []
   pub most : length turns + length more ≤ size shelf
   pub want : Option Want
   pub records : ℕ

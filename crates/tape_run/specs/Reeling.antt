@@ -32,8 +32,7 @@ use Rattle.tape_run.specs.Headline.{HasRun}
 use Rattle.tape_run.specs.declared.script.Step.{Step}
 use Rattle.tape_run.specs.declared.script.Step.TheVariants.{Reel, Save, Restart}
 use Rattle.tape_run.specs.SessionState.{SessionState}
-use Rattle.tape_image.specs.Written.{AppendsFront}
-use Rattle.tape_run.specs.ReelLine.{reel_line, reel_lines}
+use Rattle.tape_run.specs.ReelLine.{reel_lines}
 
 -- An image that was opened: the bytes that its reader had and has left, if these are known, the
 -- answer of its reel, and whether a checkpoint was made after it.
@@ -210,13 +209,13 @@ Carries g back old new so = IfSeen g old (λ was. IsKeptFor back was
     → IsSeen g new (λ is. IsKeptFor back is × so was is
     × KeepsLast g old was.parts new is.parts))
 
--- The image with this number was read, or skipped, and its line was reported.
+-- The image was read, with this answer, or it was not opened.
 pub record Takes {S R : Type 0} (g : Ghosts S) (remaining : R → Option (List ℕ))
-    (back spares : Bool) (old new : SessionState S) (image : Option R) (number : ℕ)
-    (said says : Option (List ℕ)) : Type 0 where
+    (back spares : Bool) (old new : SessionState S) (image : Option R)
+    (answer : Option ReelAnswer) : Type 0 where
   pub turn : Turn
   pub is_turn : IsTurn remaining image turn
-  pub line : Appends said says (reel_line number (answer_of turn))
+  pub answers : answer_of turn ≡ answer
   pub follows : Carries g back old new
       (λ was is. Follows back spares old.core was (turn ∷ []) new.core is)
 
@@ -234,11 +233,6 @@ pub record TakesAll {S L R : Type 0} (g : Ghosts S) (size before : ℕ) (gives :
   pub none : size ≡ 0 → new ≡ old
   pub follows : Carries g back old new
       (λ was is. Follows back spares old.core was turns new.core is)
-
--- Only a prefix of the lines of at most one image, which has this number, was reported.
-abbrev pub IsReported : ℕ → Option (List ℕ) → Option (List ℕ) → Type 0
-IsReported number said says = (more : List (Option ReelAnswer)) × (length more ≤ 1)
-    × AppendsFront said says (reel_lines number more)
 
 -- The session's position is here, and its sink contains these parts; and a crash leaves only its
 -- last checkpoint, if it has made one since its old state or only that was left before.

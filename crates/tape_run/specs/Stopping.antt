@@ -1,6 +1,6 @@
 -- The work of `extract` on images, ended by a fault: what was reported, and where the session is.
-use Rattle.std.specs.Prelude.{◌≡◌, ◌⊎◌, ℕ, ◌+◌, ◌-◌, ◌<◌, ◌≤◌, List, [], ◌∷◌, ◌++◌, length, map}
-use Rattle.std.specs.Prelude.{Option, Some, None, IfSome, Bool, true, false}
+use Rattle.std.specs.Prelude.{◌≡◌, ◌≢◌, ◌⊎◌, ℕ, ◌+◌, ◌-◌, ◌<◌, ◌≤◌, List, [], ◌∷◌, ◌++◌, length}
+use Rattle.std.specs.Prelude.{map, Option, Some, None, IfSome, Bool, true, false}
 use Rattle.tape_core.specs.State.{State}
 use Rattle.tape_core.specs.Weight.{IsFront}
 use Rattle.tape_core.specs.declared.sink.PartSink.{Ghosts}
@@ -67,7 +67,8 @@ abbrev pub ReadsOnly : {S : Type 0} → Ghosts S → SessionState S → SessionS
 ReadsOnly g old new = IfSeen g old (λ was. IsSeen g new (HasReadOn was))
 
 -- Images were read in their order until a fault ended the run: a line was reported for each of
--- them, and a prefix of one for one more. The images after that one were not opened.
+-- them, and a prefix of one for one more, unless that one could not be read or saved. The images
+-- after that one were not opened.
 pub record StopsReading {S L R : Type 0} (g : Ghosts S) (size before : ℕ) (gives : Mounting L R)
     (remaining : R → Option (List ℕ)) (back spares : Bool) (old new : SessionState S)
     (shelf left : L) (said says : Option (List ℕ)) (fault : EngineFault) : Type 0 where
@@ -77,6 +78,7 @@ pub record StopsReading {S L R : Type 0} (g : Ghosts S) (size before : ℕ) (giv
   pub fewer : length turns < size
   pub more : List (Option ReelAnswer)
   pub few : length more ≤ 1
+  pub silent : fault ≢ WriteFailed → more ≡ []
   pub lines : AppendsFront said says (reel_lines (before + 1) (map answer_of turns ++ more))
   pub follows : IfSeen g old (λ was. IsKeptFor back was → (core : State) × (now : Seen)
       × Follows back spares old.core was turns core now

@@ -1,15 +1,12 @@
 //! A source of images, opened one after another.
 
-ghost use Rattle.std.specs.Prelude.{◌≡◌, ◌≢◌, ◌≤◌, ◌+◌, Some, Bool, OnOk, OnErr, true, false};
-ghost use Rattle.std.specs.Prelude.{ℕ, IfOk, IfErr, length};
+ghost use Rattle.std.specs.Prelude.{◌≡◌, ◌≢◌, ◌≤◌, ◌+◌, ℕ, length, OnOk, OnErr, IfOk, IfErr};
 ghost use Rattle.tape_set.specs.declared.position.Position.TheVariants.{Finished};
 ghost use Rattle.tape_run.specs.Causes.{ReadingFails, IsCalm};
-ghost use Rattle.tape_run.specs.Crash.{KeepsLast, LeavesStep};
-ghost use Rattle.tape_run.specs.Seen.{IsKept, IfSeen, IsSeen, IsSeenUnless};
-ghost use Rattle.tape_run.specs.Reeling.{Takes, TakesAll, IsReported, counts_differ};
-ghost use Rattle.tape_run.specs.Steps.{SaveFails};
-ghost use Rattle.tape_run.specs.Stopping.{NotNoted, IsStopped, StopsReading};
-ghost use Rattle.tape_run.specs.Reeling.{IsNoted, WentToLast, IsKeptFor, Mounting, Took};
+ghost use Rattle.tape_run.specs.Crash.{LeavesStep};
+ghost use Rattle.tape_run.specs.Reeling.{Takes, TakesAll, counts_differ, IsKeptFor, Mounting, Took};
+ghost use Rattle.tape_run.specs.Seen.{IfSeen};
+ghost use Rattle.tape_run.specs.Stopping.{IsStopped, StopsReading};
 
 use crate::extract::line::ReelLine;
 use crate::fault::{EngineFault, NO_MEMORY, RunFault};
@@ -18,7 +15,7 @@ use crate::session::Session;
 use crate::text::write_line;
 use std::alloc::AllocError;
 use std::io::{Read, Write};
-use tape_core::{Answer, PartSink, Reason, SinkFault};
+use tape_core::{Answer, PartSink, Reason};
 
 /// A source of images, each of which is opened by its number.
 pub trait ImageSource<R: Read> {
@@ -112,155 +109,47 @@ pub fn read_round<S: PartSink, R: Read + Drop, L: ImageSource<R>, P: Write>(
         let Ok(image) = images.mount(number) else {
             return Err(NO_MEMORY);
         };
+        let outcome = read_image(session, image, back, spares)?;
         let number = lines + number as u64 + 1;
-        take_image(session, image, number, back, spares, report)?;
+        write_line(report, &ReelLine { number, outcome })?;
     }
     Ok(())
 }
 
-/// Reads image `number`, or skips it if it cannot be opened, and prints its line.
-fn take_image<S: PartSink, R: Read + Drop, P: Write>(
+/// Reads an image, if it could be opened, and then saves the session, unless it spares checkpoints
+/// and its last one has the same position. If the reel is suspect nothing is saved, so that a stage
+/// keeps its state from before that reel, or the session rolls back. Returns the reel's answer.
+fn read_image<S: PartSink, R: Read + Drop>(
     session: &mut Session<S>,
     image: Option<R>,
-    number: u64,
     back: bool,
     spares: bool,
-    report: &mut P,
-) -> Result<(), EngineFault>
+) -> Result<Option<ReelAnswer>, RunFault>
     requires waits { session.old.core.position ≢ Finished }
-    ensures ok { OnOk result (Takes S.PartSink R.remaining back spares session.old session.new
-        image number (P.contents report.old) (P.contents report.new)) }
-    ensures err { OnErr result (IsReported number (P.contents report.old) (P.contents report.new)) }
-    ensures left { OnErr result (IfSeen S.PartSink session.old (λ old. IsKeptFor back old
-        → LeavesStep S.PartSink back session.old old.parts session.new)) }
-    ensures stops { IfErr result (λ fault. IfSeen S.PartSink session.old (λ old. IsKeptFor back old
-        → IsStopped S.PartSink R.remaining back spares session.old.core old image fault
-        session.new)) }
-    ensures cause { IfErr result (λ fault.
-        ReadingFails S.PartSink back fault session.old session.new) }
-    ensures calm { OnOk result (IsCalm S.PartSink session.old session.new) }
-{
-    match image {
-        Some(mut device) => take_reel(session, &mut device, number, back, spares, report),
-        None => {
-            let outcome = None;
-            Ok(write_line(report, &ReelLine { number, outcome })?)
-        }
-    }
-}
-
-/// Reads a reel, saves a checkpoint or rolls back, and then prints the reel's line. So a reported
-/// reel is saved.
-fn take_reel<S: PartSink, R: Read, P: Write>(
-    session: &mut Session<S>,
-    device: &mut R,
-    number: u64,
-    back: bool,
-    spares: bool,
-    report: &mut P,
-) -> Result<(), EngineFault>
-    requires waits { session.old.core.position ≢ Finished }
-    ensures ok { OnOk result (Takes S.PartSink R.remaining back spares session.old session.new
-        (Some device.old) number (P.contents report.old) (P.contents report.new)) }
-    ensures err { OnErr result (IsReported number (P.contents report.old) (P.contents report.new)) }
-    // A reel that could not be saved is not reported.
-    ensures silent { IfErr result (λ fault. fault ≢ EngineFault.WriteFailed
-        → P.contents report.new ≡ P.contents report.old) }
-    ensures left { OnErr result (IfSeen S.PartSink session.old (λ old. IsKeptFor back old
-        → LeavesStep S.PartSink back session.old old.parts session.new)) }
-    ensures stops { IfErr result (λ fault. IfSeen S.PartSink session.old (λ old. IsKeptFor back old
-        → IsStopped S.PartSink R.remaining back spares session.old.core old (Some device.old)
-        fault session.new)) }
-    ensures cause { IfErr result (λ fault.
-        ReadingFails S.PartSink back fault session.old session.new) }
-    ensures calm { OnOk result (IsCalm S.PartSink session.old session.new) }
-{
-    let answer = session.reel(device)?;
-    settle(session, &answer, back, spares)?;
-    let outcome = Some(answer);
-    Ok(write_line(report, &ReelLine { number, outcome })?)
-}
-
-/// Saves the session after a reel, as `note` does; after a suspect one, a session that may roll
-/// back does so. Returns whether a checkpoint was made.
-fn settle<S: PartSink>(
-    session: &mut Session<S>,
-    answer: &ReelAnswer,
-    back: bool,
-    spares: bool,
-) -> Result<bool, RunFault>
-    ensures ok { IfOk result (λ noted. IfSeen S.PartSink session.old (λ old. IsKeptFor back old
-        → IsSeen S.PartSink session.new (λ new.
-        IsNoted back spares (counts_differ answer.now.answer) noted old new
-        × KeepsLast S.PartSink session.old old.parts session.new new.parts))) }
+    ensures ok { IfOk result (λ answer. Takes S.PartSink R.remaining back spares
+        session.old session.new image answer) }
     ensures left { IfSeen S.PartSink session.old (λ old. IsKeptFor back old
         → LeavesStep S.PartSink back session.old old.parts session.new) }
-    ensures stays { IfErr result (λ fault. IfSeen S.PartSink session.old (λ old. IsKeptFor back old
-        → IsSeenUnless ((back ≡ true) × (fault ≡ RunFault.Sink SinkFault.Device)) S.PartSink
-        session.new (NotNoted back (counts_differ answer.now.answer) fault old))) }
+    ensures stops { IfErr result (λ fault. IfSeen S.PartSink session.old (λ old. IsKeptFor back old
+        → IsStopped S.PartSink R.remaining back spares session.old.core old image
+        (EngineFault.Run fault) session.new)) }
     ensures cause { IfErr result (λ fault.
         ReadingFails S.PartSink back (EngineFault.Run fault) session.old session.new) }
     ensures calm { OnOk result (IsCalm S.PartSink session.old session.new) }
 {
-    if back && counts_differ(answer) {
-        go_back(session)?;
-        return Ok(false);
+    let Some(mut device) = image else {
+        return Ok(None);
+    };
+    let answer = session.reel(&mut device)?;
+    if counts_differ(&answer) {
+        if back {
+            let last = session.notes().saturating_sub(1);
+            session.restart(last)?;
+        }
+    } else if !(spares && session.is_noted()) {
+        session.save()?;
     }
-    note(session, answer, spares)
-}
-
-/// Rolls back to the last checkpoint.
-fn go_back<S: PartSink>(session: &mut Session<S>) -> Result<(), RunFault>
-    ensures ok { OnOk result (IfSeen S.PartSink session.old (λ old. IsKept old
-        → IsSeen S.PartSink session.new (λ new. WentToLast old new
-        × KeepsLast S.PartSink session.old old.parts session.new new.parts))) }
-    ensures left { IfSeen S.PartSink session.old (λ old. IsKept old
-        → LeavesStep S.PartSink true session.old old.parts session.new) }
-    ensures stays { IfErr result (λ fault. IfSeen S.PartSink session.old (λ old. IsKept old
-        → IsSeenUnless (fault ≡ RunFault.Sink SinkFault.Device) S.PartSink session.new
-        (NotNoted true true fault old))) }
-    ensures cause { IfErr result (λ fault.
-        ReadingFails S.PartSink true (EngineFault.Run fault) session.old session.new) }
-    ensures calm { OnOk result (IsCalm S.PartSink session.old session.new) }
-{
-    let notes = session.notes();
-    if notes == 0 {
-        return Err(RunFault::NoSuchPoint);
-    }
-    session.restart(notes - 1)
-}
-
-/// Saves the session, unless it spares checkpoints and its last one has the same position. If the
-/// reel is suspect nothing is saved, so that a stage keeps its state from before that reel. Returns
-/// whether a checkpoint was made.
-fn note<S: PartSink>(
-    session: &mut Session<S>,
-    answer: &ReelAnswer,
-    spares: bool,
-) -> Result<bool, RunFault>
-    ensures doubtful { counts_differ answer.now.answer ≡ true → session.new ≡ session.old }
-    ensures ok { IfOk result (λ noted. IfSeen S.PartSink session.old (λ old.
-        IsSeen S.PartSink session.new (λ new.
-        IsNoted false spares (counts_differ answer.now.answer) noted old new
-        × KeepsLast S.PartSink session.old old.parts session.new new.parts))) }
-    ensures left { (back : Bool) → IfSeen S.PartSink session.old (λ old.
-        LeavesStep S.PartSink back session.old old.parts session.new) }
-    ensures stays { IfErr result (λ fault. (counts_differ answer.now.answer ≡ false)
-        × IfSeen S.PartSink session.old (λ old.
-        IsSeen S.PartSink session.new (SaveFails fault old))) }
-    ensures cause { IfErr result (λ fault. (back : Bool) →
-        ReadingFails S.PartSink back (EngineFault.Run fault) session.old session.new) }
-    ensures calm { OnOk result (IsCalm S.PartSink session.old session.new) }
-{
-    if counts_differ(answer) {
-        return Ok(false);
-    }
-    let noted = session.is_noted();
-    if spares && noted {
-        return Ok(false);
-    }
-    session.save()?;
-    Ok(true)
+    Ok(Some(answer))
 }
 
 /// Returns whether the trailer label of the reel, or of a reel before it, gave a different number

@@ -2,7 +2,7 @@ use Rattle.std.proofs.Common.{◌≡◌, ◌+◌, [], ◌∷◌, ◌++◌, lengt
 use Rattle.std.proofs.Common.{arith, rules, length-append, append-nil, map, inl, inr, None}
 use Rattle.std.proofs.KnownBytes.{Appends-nil}
 use Rattle.std.specs.Io.KnownBytes.{Appends}
-use Rattle.tape_run.specs.ReelLine.{reel_lines}
+use Rattle.tape_run.specs.ReelLine.{reel_line, reel_lines}
 use Rattle.tape_run.specs.Reeling.{answer_of, IsTurn}
 use Rattle.tape_run.specs.Seen.{seen}
 use Rattle.tape_run.proofs.Extracted.{all_of_it}
@@ -11,15 +11,13 @@ use Rattle.tape_run.proofs.Lasting.{last_same, last_then}
 use Rattle.tape_run.proofs.Causes.{calm_same, calm_then, then_fails}
 use Rattle.tape_run.proofs.Ended.{told_err}
 use Rattle.tape_run.proofs.Left.{left_saved, same_left}
-use Rattle.tape_run.proofs.StoppedThere.{stopped_there}
+use Rattle.tape_run.specs.declared.fault.EngineFault.TheVariants.{Run}
+use Rattle.tape_run.proofs.StoppedThere.{line_stops, stopped_there}
 use Rattle.tape_run.proofs.extract.images.read_round.Goals as goal
 
-pub returns-in_err-take_image-clause-err : goal.returns-in_err-take_image-clause-err
-returns-in_err-take_image-clause-err g c =
+pub returns-in_err-outcome-clause-err : goal.returns-in_err-outcome-clause-err
+returns-in_err-outcome-clause-err g c =
     let (turns, e, are, lines, none, f, calm) = c.loop-number.invariant in
-    let (more, few, part) = c.in_err-take_image.ensures.err in
-    let number : c.args.lines + c.loop-number.number + 1 ≡ c.args.lines + 1 + length turns =
-    omega (arith, e) in
     let mounted = subst (λ n. g.L.ImageSource.gives c.loop-number.images n c.in-Ok.image
     c.mount.new.self) (sym e) c.in-Ok.ensures.ok in
     told_err _ _ _ c.from_residual.ensures.1 (record {
@@ -27,19 +25,59 @@ returns-in_err-take_image-clause-err g c =
       image = c.in-Ok.image;
       are_turns = (c.loop-number.images, are, inr mounted);
       fewer = omega (arith, e, c.loop-number-test.true);
-      more = more;
-      few = few;
-      lines = front_behind (c.args.lines + 1) _ _ _ turns more _ number lines part;
+      more = [];
+      few = omega arith;
+      silent = λ other. refl;
+      lines = all_of_it _ _ (reel_lines (c.args.lines + 1) (map answer_of turns ++ []))
+          (subst (λ l. Appends (g.P.Write.contents c.args.report.now)
+          (g.P.Write.contents c.loop-number.report) (reel_lines (c.args.lines + 1) l))
+          (sym (append-nil (map answer_of turns))) lines);
       follows = λ held was kept.
           let (now, has, (still, follows, lasts)) = f held was kept in (
             c.loop-number.session.core,
             seen g.S.PartSink c.loop-number.session now,
             follows,
-            left_saved g.S.PartSink
-                c.args.back c.args.session.now c.loop-number.session
-                c.take_image.new.session held now lasts
-                (c.in_err-take_image.ensures.left now has still),
-            c.in_err-take_image.ensures.stops now has still,
+            left_saved g.S.PartSink c.args.back c.args.session.now c.loop-number.session
+                c.read_image.new.session held now lasts (c.read_image.ensures.left now has still),
+            c.in_err-outcome.ensures.stops now has still,
+          );
+    })
+
+pub returns-in_err-write_line-clause-err : goal.returns-in_err-write_line-clause-err
+returns-in_err-write_line-clause-err g c =
+    let (turns, e, are, lines, none, f, calm) = c.loop-number.invariant in
+    let taken = c.in_ok-outcome.ensures.ok in
+    let n = c.args.lines + c.loop-number.number + 1 in
+    let (front, rest, wrote, all) = c.in_err-write_line.ensures.err in
+    let number : n ≡ c.args.lines + 1 + length turns = omega (arith, e) in
+    let mounted = subst (λ n. g.L.ImageSource.gives c.loop-number.images n c.in-Ok.image
+    c.mount.new.self) (sym e) c.in-Ok.ensures.ok in
+    told_err _ _ _ c.from_residual-in_err-write_line.ensures.1 (record {
+      turns = turns;
+      image = c.in-Ok.image;
+      are_turns = (c.loop-number.images, are, inr mounted);
+      fewer = omega (arith, e, c.loop-number-test.true);
+      more = c.in_ok-outcome.outcome ∷ [];
+      few = omega arith;
+      silent = λ other. absurd (other refl);
+      lines = front_behind (c.args.lines + 1) _ _ _ turns (c.in_ok-outcome.outcome ∷ []) n number
+          lines (front, rest, wrote, append-nil (reel_line n c.in_ok-outcome.outcome) ∙ all);
+      follows = λ held was kept.
+          let (now, has, (still, follows, lasts)) = f held was kept in
+          let (end, has_end, (then, one, last)) = taken.follows now has still in (
+            c.loop-number.session.core,
+            seen g.S.PartSink c.loop-number.session now,
+            follows,
+            left_saved g.S.PartSink c.args.back c.args.session.now c.loop-number.session
+                c.read_image.new.session held now lasts (c.read_image.ensures.left now has still),
+            (
+              end,
+              (λ live. has_end),
+              line_stops g.R.Read.remaining c.args.back c.args.spares c.loop-number.session.core
+                  (seen g.S.PartSink c.loop-number.session now) c.in-Ok.image taken.turn
+                  c.read_image.new.session.core (seen g.S.PartSink c.read_image.new.session end)
+                  taken.is_turn one,
+            ),
           );
     })
 
@@ -54,6 +92,7 @@ returns-in_default-clause-err g c =
       fewer = omega (arith, e, c.loop-number-test.true);
       more = [];
       few = omega arith;
+      silent = λ other. refl;
       lines = all_of_it _ _ (reel_lines (c.args.lines + 1) (map answer_of turns ++ []))
           (subst (λ l. Appends (g.P.Write.contents c.args.report.now)
           (g.P.Write.contents c.loop-number.report) (reel_lines (c.args.lines + 1) l))
@@ -96,7 +135,7 @@ pub loop-number-preserved : goal.loop-number-preserved
 loop-number-preserved g c =
     let (turns, e, are, lines, none, f, calm) = c.loop-number.invariant in
     let n = c.loop-number.number in
-    let taken = c.in_ok-take_image.ensures.ok in
+    let taken = c.in_ok-outcome.ensures.ok in
     let number : c.args.lines + n + 1 ≡ c.args.lines + 1 + length turns = omega (arith, e) in
     let at : n ≡ 0 + length turns = omega (arith, e) in
     let mounted = subst (λ m. g.L.ImageSource.gives c.loop-number.images m c.in-Ok.image
@@ -106,7 +145,10 @@ loop-number-preserved g c =
       one_mounted g.L.ImageSource.gives (IsTurn g.R.Read.remaining) c.args.images.now 0 turns
           c.loop-number.images
           taken.turn c.in-Ok.image c.mount.new.self are mounted taken.is_turn,
-      line_behind (c.args.lines + 1) _ _ _ turns taken.turn _ number lines taken.line,
+      line_behind (c.args.lines + 1) _ _ _ turns taken.turn _ number lines
+          (subst (λ o. Appends (g.P.Write.contents c.loop-number.report)
+          (g.P.Write.contents c.write_line.new.writer) (reel_line (c.args.lines + n + 1) o))
+          (sym taken.answers) c.in_ok-write_line.ensures.ok),
       λ zero. absurd (omega (arith, zero)),
       λ held was kept.
           let (now, has, (still, follows, lasts)) = f held was kept in
@@ -118,21 +160,28 @@ loop-number-preserved g c =
               follows_then c.args.back c.args.spares _ _ turns _ _ (taken.turn ∷ []) _ _ follows
                   one,
               last_then g.S.PartSink
-                  c.args.session.now c.loop-number.session c.take_image.new.session held now next
+                  c.args.session.now c.loop-number.session c.read_image.new.session held now next
                   lasts last,
             ),
           ),
-      calm_then g.S.PartSink c.args.session.now c.loop-number.session c.take_image.new.session calm
-          c.in_ok-take_image.ensures.calm,
+      calm_then g.S.PartSink c.args.session.now c.loop-number.session c.read_image.new.session calm
+          c.in_ok-outcome.ensures.calm,
     )
 
-pub returns-in_err-take_image-clause-cause : goal.returns-in_err-take_image-clause-cause
-returns-in_err-take_image-clause-cause g c =
+pub returns-in_err-outcome-clause-cause : goal.returns-in_err-outcome-clause-cause
+returns-in_err-outcome-clause-cause g c =
     let (turns, e, are, lines, none, f, calm) = c.loop-number.invariant in
     told_err _ _ _ c.from_residual.ensures.1 (then_fails g.S.PartSink
-    g.S.PartSink.refuses_change c.args.back
-    c.in_err-take_image.field-0.0 c.args.session.now c.loop-number.session
-    c.take_image.new.session calm c.in_err-take_image.ensures.cause)
+    g.S.PartSink.refuses_change c.args.back (Run c.in_err-outcome.field-0.0)
+    c.args.session.now c.loop-number.session c.read_image.new.session calm
+    c.in_err-outcome.ensures.cause)
+
+pub returns-in_err-write_line-clause-cause : goal.returns-in_err-write_line-clause-cause
+returns-in_err-write_line-clause-cause g c =
+    let (turns, e, are, lines, none, f, calm) = c.loop-number.invariant in
+    let all = calm_then g.S.PartSink c.args.session.now c.loop-number.session
+    c.read_image.new.session calm c.in_ok-outcome.ensures.calm in
+    told_err _ _ _ c.from_residual-in_err-write_line.ensures.1 all.calm
 
 pub returns-in_default-clause-cause : goal.returns-in_default-clause-cause
 returns-in_default-clause-cause g c =
