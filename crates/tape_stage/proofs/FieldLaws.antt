@@ -4,7 +4,7 @@ use Rattle.std.proofs.Common.{◌∷◌, length, take, drop, replicate, Ok, refl
 use Rattle.std.proofs.Common.{subst, arith}
 use Rattle.tape_label.specs.Positions.{positions}
 use Rattle.tape_stage.specs.Text.{state_letter, flag_digit, format_letter}
-use Rattle.tape_stage.specs.Reading.{◌>>=◌, number_at, flag_at, format_at, tail_at}
+use Rattle.tape_stage.specs.Reading.{number_at, flag_at, format_at, tail_at}
 use Rattle.tape_stage.specs.Reading.{place_at, flags_at, form_at, staged_at, state_position}
 use Rattle.tape_stage.specs.Reading.{fields_at}
 use Rattle.tape_stage.specs.declared.point.Version.{Version}

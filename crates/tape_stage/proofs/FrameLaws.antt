@@ -10,9 +10,8 @@ use Rattle.tape_blocks.specs.Block.{Portion}
 use Rattle.tape_core.specs.Stands.{weight_of}
 use Rattle.tape_stage.specs.Parts.{IsFront}
 use Rattle.tape_stage.specs.Parts.{frame, frames, AllShort}
-use Rattle.tape_blocks.specs.Block.{indicator}
 use Rattle.tape_stage.specs.Staged.{Holding, IsPut}
-use Rattle.tape_stage.proofs.Torn.{alike_piece, holds_torn, holds_piece, torn_front}
+use Rattle.tape_stage.proofs.Torn.{alike_piece, holds_torn, holds_piece}
 
 frames-append : (xs ys : List Portion) → frames (xs ++ ys) ≡ frames xs ++ frames ys
 frames-append [] ys = refl

@@ -1,8 +1,8 @@
 -- Results that the contracts of checkpoints, disks and stages exclude: each is the result of a wrong
 -- body.
-use Rattle.std.proofs.Common.{◌≡◌, ◌⊎◌, ℕ, Option, ◌+◌, List, [], ◌∷◌, ◌++◌, length, take, drop}
+use Rattle.std.proofs.Common.{◌≡◌, ℕ, Option, ◌+◌, List, [], ◌∷◌, ◌++◌, length, take, drop}
 use Rattle.std.proofs.Common.{get_or, true, false, refl, inl, inr, sym, ap, subst, ◌∙◌, arith}
-use Rattle.std.specs.Prelude.{replicate, Some, None, Ok, Err, option_map, unwrap_or}
+use Rattle.std.specs.Prelude.{replicate, Some, Ok, Err, option_map, unwrap_or}
 use Rattle.tape_core.specs.Point.{Point}
 use Rattle.tape_core.specs.Weight.{Rose}
 use Rattle.tape_stage.specs.Calls.{worst_by}

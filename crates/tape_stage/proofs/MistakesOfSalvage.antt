@@ -1,7 +1,6 @@
 -- Results that the contract of opening a damaged stage excludes: each is the result of a wrong
 -- body.
-use Rattle.std.proofs.Common.{◌≡◌, ℕ, List, [], ◌∷◌, length, true, false, sym, ap, ◌∙◌, arith}
-use Rattle.tape_blocks.specs.Spans.{join}
+use Rattle.std.proofs.Common.{◌≡◌, ℕ, List, [], ◌∷◌, true, false, sym, ap, ◌∙◌, arith}
 use Rattle.std.specs.Prelude.{Option, Some, None, Ok, Err}
 use Rattle.tape_blocks.specs.Block.{Portion}
 use Rattle.tape_core.specs.Point.{Point}

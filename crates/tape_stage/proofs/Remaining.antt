@@ -1,6 +1,6 @@
 -- The remains of a damaged stage.
-use Rattle.std.proofs.Common.{◌≡◌, ℕ, ◌+◌, ◌≤◌, ◌<◌, List, ◌∷◌, length, min, drop}
-use Rattle.std.proofs.Common.{w32, Some, sym, ap, ◌∙◌, subst, arith}
+use Rattle.std.proofs.Common.{◌≡◌, ℕ, ◌+◌, ◌≤◌, ◌<◌, List, length, min}
+use Rattle.std.proofs.Common.{Some, subst, arith}
 use Rattle.std.specs.Prelude.{Option, None}
 use Rattle.tape_blocks.specs.Block.{Portion}
 use Rattle.tape_blocks.specs.Spans.{join}

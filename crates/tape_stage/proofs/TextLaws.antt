@@ -15,7 +15,7 @@ use Rattle.tape_stage.specs.declared.point.Version.{Version}
 use Rattle.tape_stage.specs.declared.point.Version.TheVariants.{One, Two}
 use Rattle.tape_stage.specs.declared.point.Fields.{Fields}
 use Rattle.tape_stage.specs.Text.{version_digit, place_pieces, rest_pieces, pieces, Fit}
-use Rattle.tape_stage.specs.Reading.{◌>>=◌, state_position, version_by, fields_at, text_at}
+use Rattle.tape_stage.specs.Reading.{state_position, version_by, fields_at, text_at}
 use Rattle.tape_stage.proofs.Steps.{HasDigits, bind_ok, done, ok_is}
 use Rattle.tape_stage.proofs.FieldLaws.{HasFields, fields_found, fields_again}
 

@@ -1,4 +1,4 @@
-use Rattle.std.proofs.Common.{◌≡◌, ℕ, ◌+◌, ◌-◌, List, [], ◌∷◌, ◌++◌, take, drop, min, Some}
+use Rattle.std.proofs.Common.{◌≡◌, ◌+◌, List, [], ◌∷◌, ◌++◌, take, drop, min}
 use Rattle.std.proofs.Common.{length, refl, sym, ap, subst, ◌∙◌, arith}
 use Rattle.tape_blocks.specs.Block.{Portion}
 use Rattle.tape_blocks.specs.Spans.{join}

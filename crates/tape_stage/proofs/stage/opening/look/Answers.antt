@@ -1,4 +1,4 @@
-use Rattle.std.proofs.Common.{◌≡◌, List, ℕ, take, ap, ◌∙◌, sym}
+use Rattle.std.proofs.Common.{◌≡◌, take, ap, ◌∙◌, sym}
 use Rattle.tape_stage.proofs.Finds.{front_same, found_alike, none_remains}
 use Rattle.tape_stage.proofs.Remaining.{walked_as}
 use Rattle.tape_stage.proofs.stage.opening.look.Given.{Over}
