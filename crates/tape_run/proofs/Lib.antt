@@ -52,10 +52,9 @@ mod WorkedDays
 pub mod Fitting
 mod ListLines
 mod ListedSoFar
-mod ListFronts
 mod ListExamples
-mod PlacedSoFar
 mod PlacedExamples
+mod WithoutOffsets
 mod Reporting
 pub mod SurveyGaps
 pub mod SurveyChain

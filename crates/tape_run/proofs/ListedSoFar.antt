@@ -1,9 +1,10 @@
--- What `list` has done after some items, and its result from there.
-use Rattle.std.proofs.Common.{◌≡◌, ◌≢◌, ℕ, ◌+◌, List, [], ◌∷◌, ◌++◌, length, Option}
+-- What a listing has done after some items, and its result from there.
+use Rattle.std.proofs.Common.{◌≡◌, ◌≢◌, ◌≤◌, ℕ, ◌+◌, ◌-◌, List, [], ◌∷◌, ◌++◌, length, Option}
 use Rattle.std.proofs.Common.{Result, Err, IfErr, refl, sym, ap, subst, ◌∙◌, arith}
-use Rattle.std.proofs.Common.{append-nil, length-append}
+use Rattle.std.proofs.Common.{append-nil, append_assoc, length-append}
+use Rattle.std.specs.Prelude.{Bool, unwrap_or}
 use Rattle.std.specs.Io.KnownBytes.{Appends, Keeps}
-use Rattle.std.proofs.KnownBytes.{Appends-trans, Appends-nil}
+use Rattle.std.proofs.KnownBytes.{Appends-trans}
 use Rattle.tape_image.specs.declared.item.Ending.{Ending}
 use Rattle.tape_image.specs.declared.item.ImageCause.{ImageCause}
 use Rattle.tape_image.specs.declared.item.ImageCause.TheVariants.{Truncated, LengthsDiffer}
@@ -11,164 +12,211 @@ use Rattle.tape_image.specs.declared.item.ImageCause.TheVariants.{Reserved, TooL
 use Rattle.tape_image.specs.declared.item.ImageCause.TheVariants.{OutOfMemory}
 use Rattle.tape_image.specs.declared.item.ImageFault.{ImageFault}
 use Rattle.tape_image.specs.Tape.{TapeItem}
-use Rattle.tape_image.specs.Begins.{ends, faults, Walks}
+use Rattle.tape_image.specs.Begins.{image_limit}
 use Rattle.tape_image.specs.Reader.{IfKnown}
 use Rattle.tape_image.specs.Step.{TakesItem, TakesEnd, TakesFault}
-use Rattle.tape_image.proofs.Walks.{known_start, known_item, known_end, known_fault}
-use Rattle.tape_image.proofs.Walks.{TakesFault-begins, IfKnown-map}
-use Rattle.tape_run.specs.ListLine.{line_of}
-use Rattle.tape_run.specs.Listing.{lines_from, end_line, listing_of, IsListing}
+use Rattle.tape_image.specs.Written.{AppendsFront}
+use Rattle.tape_image.proofs.Walks.{known_then, IfKnown-map}
 use Rattle.tape_run.specs.declared.fault.ListFault.{ListFault}
 use Rattle.tape_run.specs.declared.fault.ListFault.TheVariants.{WriteFailed}
-use Rattle.tape_image.specs.Written.{AppendsFront}
-use Rattle.tape_run.specs.Listed.{ListsToEnd, ListsToFault, FitsCause, FitsFault, AppendsInto}
-use Rattle.tape_run.specs.Listed.{StopsWriting, at_item, at_end, at_fault}
+use Rattle.tape_run.specs.ListLine.{line_of}
+use Rattle.tape_run.specs.Listed.{AppendsInto, Outcome, FitsCause}
+use Rattle.tape_run.specs.Placed.{PlacedItem, Places, item_extent, shown_line, placed_line}
+use Rattle.tape_run.specs.Placed.{placed_lines, placed_end, PlacesToEnd, PlacesToFault}
+use Rattle.tape_run.specs.Placed.{StopsPlacing, at_item, at_end, at_fault, FitsPlaces}
 use Rattle.tape_run.proofs.Fitting.{kept}
-use Rattle.tape_run.proofs.ListLines.{lines_from-append}
+
+-- one item more
+pub Places-then : (p q : ℕ) (items : List PlacedItem) (x : PlacedItem) (xs ys zs : List ℕ)
+    → Places p items q xs ys → x.from ≡ q → TakesItem q x.item x.behind ys zs
+    → Places p (items ++ x ∷ []) x.behind xs zs
+Places-then p q [] x xs ys zs (here, same) from t =
+    let P : ℕ → Type 0 = λ n. TakesItem n x.item x.behind xs zs in
+    let Q : List ℕ → Type 0 = λ l. TakesItem q x.item x.behind l zs in
+    (from ∙ sym here, zs, subst P (sym here) (subst Q (sym same) t), (refl, refl))
+Places-then p q (y ∷ more) x xs ys zs (at, mid, takes, rest) from t =
+    (at, mid, takes, Places-then y.behind q more x mid ys zs rest from t)
+
+placed_lines-append : (offsets : Bool) (n : ℕ) (items more : List PlacedItem)
+    → placed_lines offsets n (items ++ more)
+    ≡ placed_lines offsets n items ++ placed_lines offsets (n + length items) more
+placed_lines-append offsets n [] more =
+    ap (λ m. placed_lines offsets m more) (let same : n ≡ n + 0 = omega arith in same)
+placed_lines-append offsets n (x ∷ items) more =
+    let lines = placed_lines offsets in
+    let same : n + 1 + length items ≡ n + length (x ∷ items) = omega arith in
+    ap (λ l. placed_line offsets n x ++ l) (placed_lines-append offsets (n + 1) items more
+    ∙ ap (λ m. lines (n + 1) items ++ lines m more) same)
+    ∙ sym (append_assoc (placed_line offsets n x) (lines (n + 1) items)
+    (lines (n + length (x ∷ items)) more))
 
 -- Of the bytes `all` the items up to an offset were read, and `left` is left; their lines were
 -- written.
-pub record SoFar (all left : Option (List ℕ))
-    (place count : ℕ) (old new : Option (List ℕ)) : Type 0 where
-  pub items : List TapeItem
-  pub known : IfKnown all left (λ xs ys. Walks 0 xs items place ys)
+pub record SoFar (offsets : Bool) (all left : Option (List ℕ)) (place count : ℕ)
+    (old new : Option (List ℕ)) : Type 0 where
+  pub items : List PlacedItem
+  pub known : IfKnown all left (Places 0 items place)
   pub counted : length items ≡ count
-  pub wrote : Appends old new (lines_from 1 items)
+  pub wrote : Appends old new (placed_lines offsets 1 items)
 
-pub starts : (all left w : Option (List ℕ)) (place : ℕ) → place ≡ 0 → left ≡ all
-    → SoFar all left place 0 w w
-starts all left w place first same =
-    let P : ℕ → Type 0 = λ p. IfKnown all left (λ xs ys. Walks 0 xs [] p ys) in
-    record {
-      items = [];
-      known = subst P (sym first) (known_start all left 0 same);
-      counted = refl;
-      wrote = Appends-nil w;
-    }
+-- the item that a call returned, with its offsets
+abbrev pub met : TapeItem → ℕ → ℕ → PlacedItem
+met item p q = record { item = item; from = p; behind = q }
 
 -- the lines of some items and of one more
-one_line : (items : List TapeItem) (item : TapeItem) (count : ℕ) → length items ≡ count
-    → lines_from 1 (items ++ item ∷ []) ≡ lines_from 1 items ++ line_of (count + 1) item
-one_line items item count counted =
+pub one_line : (offsets : Bool) (items : List PlacedItem) (x : PlacedItem) (count : ℕ)
+    → length items ≡ count → placed_lines offsets 1 (items ++ x ∷ [])
+    ≡ placed_lines offsets 1 items ++ placed_line offsets (count + 1) x
+one_line offsets items x count counted =
+    let done = placed_lines offsets 1 items in
     let number : 1 + length items ≡ count + 1 = omega arith in
-    lines_from-append 1 items (item ∷ [])
-    ∙ ap (λ n. lines_from 1 items ++ (line_of n item ++ [])) number
-    ∙ ap (λ l. lines_from 1 items ++ l) (append-nil (line_of (count + 1) item))
+    placed_lines-append offsets 1 items (x ∷ [])
+    ∙ ap (λ n. done ++ (placed_line offsets n x ++ [])) number
+    ∙ ap (λ l. done ++ l) (append-nil (placed_line offsets (count + 1) x))
 
-pub one_more : (all left next : Option (List ℕ))
+known_more : (all left next : Option (List ℕ)) (p q : ℕ) (items : List PlacedItem) (item : TapeItem)
+    → IfKnown all left (Places 0 items p) → IfKnown left next (TakesItem p item q)
+    → IfKnown all next (Places 0 (items ++ met item p q ∷ []) q)
+known_more all left next p q items item a b =
+    known_then all left next (Places 0 items p) (TakesItem p item q)
+    (Places 0 (items ++ met item p q ∷ []) q)
+    (λ xs ys zs s t. Places-then 0 p items (met item p q) xs ys zs s refl t) a b
+
+pub one_more : (offsets : Bool) (all left next : Option (List ℕ))
     (p q count : ℕ) (item : TapeItem) (old mid new : Option (List ℕ))
-    → SoFar all left p count old mid → IfKnown left next (TakesItem p item q)
-    → Appends mid new (line_of (count + 1) item)
-    → SoFar all next q (count + 1) old new
-one_more all left next p q count item old mid new s takes line = record {
-  items = s.items ++ item ∷ [];
-  known = known_item all left next 0 p q s.items item s.known takes;
-  counted = length-append s.items (item ∷ []) ∙ ap (λ n. n + 1) s.counted;
-  wrote = subst (Appends old new) (sym (one_line s.items item count s.counted))
-      (Appends-trans old mid new (lines_from 1 s.items) (line_of (count + 1) item) s.wrote line);
-}
+    → SoFar offsets all left p count old mid → IfKnown left next (TakesItem p item q)
+    → Appends mid new (placed_line offsets (count + 1) (met item p q))
+    → SoFar offsets all next q (count + 1) old new
+one_more offsets all left next p q count item old mid new s takes line =
+    let x = met item p q in
+    record {
+      items = s.items ++ x ∷ [];
+      known = known_more all left next p q s.items item s.known takes;
+      counted = length-append s.items (x ∷ []) ∙ ap (λ n. n + 1) s.counted;
+      wrote = subst (Appends old new) (sym (one_line offsets s.items x count s.counted))
+          (Appends-trans old mid new (placed_lines offsets 1 s.items)
+          (placed_line offsets (count + 1) x) s.wrote line);
+    }
 
-listed_to_end : (items : List TapeItem) (ending : Ending) (place : ℕ) (xs ys : List ℕ)
-    → TakesEnd 0 items ending place xs ys → IsListing xs (listing_of items (ends ending))
-listed_to_end items ending place xs ys t =
-    record { items = items; end = t.end; stop = ends ending; begins = t.begins; listed = refl }
-
-listed_to_fault : (items : List TapeItem) (fault : ImageFault) (xs ys : List ℕ)
-    → TakesFault 0 items fault xs ys → fault.cause ≢ Device → IsListing xs (lines_from 1 items)
-listed_to_fault items fault xs ys t other = record {
-  items = items;
-  end = fault.place;
-  stop = faults fault.cause;
-  begins = TakesFault-begins 0 items fault xs ys t other;
-  listed = sym (append-nil (lines_from 1 items));
-}
-
-pub ends_at : (all left next : Option (List ℕ))
+pub ends_at : (offsets : Bool) (all left next : Option (List ℕ))
     (p q count : ℕ) (ending : Ending) (old mid new : Option (List ℕ))
-    → SoFar all left p count old mid → IfKnown left next (TakesEnd p [] ending q)
-    → Appends mid new (end_line ending)
-    → IfKnown all next (ListsToEnd old new)
-ends_at all left next p q count ending old mid new s takes line =
-    IfKnown-map all next (TakesEnd 0 s.items ending q) (ListsToEnd old new)
-    (λ xs ys t. record {
+    → SoFar offsets all left p count old mid → IfKnown left next (TakesEnd p [] ending q)
+    → Appends mid new (placed_end offsets ending q)
+    → IfKnown all next (PlacesToEnd offsets old new)
+ends_at offsets all left next p q count ending old mid new s takes line =
+    known_then all left next (Places 0 s.items p) (TakesEnd p [] ending q)
+    (PlacesToEnd offsets old new)
+    (λ xs ys zs stand t. record {
       items = s.items;
+      at = p;
+      rest = ys;
+      stand = stand;
       ending = ending;
       place = q;
       takes = t;
-      listed = listed_to_end s.items ending q xs ys t;
-      wrote = Appends-trans old mid new (lines_from 1 s.items) (end_line ending) s.wrote line;
+      wrote = Appends-trans old mid new (placed_lines offsets 1 s.items)
+          (placed_end offsets ending q) s.wrote line;
     })
-    (known_end all left next 0 p q s.items ending s.known takes)
+    s.known takes
 
-pub fails_at : (all left next : Option (List ℕ))
+pub fails_at : (offsets : Bool) (all left next : Option (List ℕ))
     (p count : ℕ) (fault : ImageFault) (old mid new : Option (List ℕ))
-    → SoFar all left p count old mid → IfKnown left next (TakesFault p [] fault) → Keeps mid new
-    → IfKnown all next (ListsToFault fault old new)
-fails_at all left next p count fault old mid new s takes keeps =
-    IfKnown-map all next (TakesFault 0 s.items fault) (ListsToFault fault old new)
-    (λ xs ys t. record {
+    → SoFar offsets all left p count old mid → p ≤ image_limit
+    → IfKnown left next (TakesFault p [] fault) → Keeps mid new
+    → IfKnown all next (PlacesToFault offsets fault old new)
+fails_at offsets all left next p count fault old mid new s near takes keeps =
+    known_then all left next (Places 0 s.items p) (TakesFault p [] fault)
+    (PlacesToFault offsets fault old new)
+    (λ xs ys zs stand t. record {
       items = s.items;
+      at = p;
+      rest = ys;
+      stand = stand;
+      within = near;
       takes = t;
-      listed = listed_to_fault s.items fault xs ys t;
-      wrote = kept old mid new (lines_from 1 s.items) s.wrote keeps;
+      wrote = kept old mid new (placed_lines offsets 1 s.items) s.wrote keeps;
     })
-    (known_fault all left next 0 p s.items fault s.known takes)
+    s.known takes
 
 -- any cause except lack of memory
-pub fits_cause : (cause : ImageCause) (fault : ImageFault) (before after old new : Option (List ℕ))
-    → cause ≢ OutOfMemory → IfKnown before after (ListsToFault fault old new)
-    → FitsCause cause fault before after old new
-fits_cause OutOfMemory fault before after old new other h = absurd (other refl)
-fits_cause Truncated fault before after old new other h = h
-fits_cause LengthsDiffer fault before after old new other h = h
-fits_cause (Reserved w) fault before after old new other h = h
-fits_cause TooLong fault before after old new other h = h
-fits_cause Device fault before after old new other h = h
+pub fits_cause : (to_fault : ImageFault → Outcome) (cause : ImageCause) (fault : ImageFault)
+    (before after old new : Option (List ℕ))
+    → cause ≢ OutOfMemory → IfKnown before after (to_fault fault old new)
+    → FitsCause to_fault cause fault before after old new
+fits_cause to_fault OutOfMemory fault before after old new other h = absurd (other refl)
+fits_cause to_fault Truncated fault before after old new other h = h
+fits_cause to_fault LengthsDiffer fault before after old new other h = h
+fits_cause to_fault (Reserved w) fault before after old new other h = h
+fits_cause to_fault TooLong fault before after old new other h = h
+fits_cause to_fault Device fault before after old new other h = h
 
 -- further text was written after the earlier text
-pub into : (old mid new : Option (List ℕ)) (all part : List ℕ) → Appends old mid all
+into : (old mid new : Option (List ℕ)) (all part : List ℕ) → Appends old mid all
     → AppendsFront mid new part → AppendsInto old new all part
 into old mid new all part wrote front =
     (front.0, front.1, Appends-trans old mid new all front.0 wrote front.2, front.3)
 
 -- the line of an item was not written completely
-pub stops_at_item : (all left next : Option (List ℕ))
+pub stops_at_item : (offsets : Bool) (all left next : Option (List ℕ))
     (p q count : ℕ) (item : TapeItem) (old mid new : Option (List ℕ))
-    → SoFar all left p count old mid → IfKnown left next (TakesItem p item q)
-    → AppendsFront mid new (line_of (count + 1) item) → IfKnown all next (StopsWriting old new)
-stops_at_item all left next p q count item old mid new s takes front =
-    let line = subst (λ n. AppendsFront mid new (line_of (n + 1) item)) (sym s.counted) front in
-    IfKnown-map all next (λ xs ys. Walks 0 xs (s.items ++ item ∷ []) q ys) (StopsWriting old new)
-    (λ xs ys walks. at_item s.items item q walks
-    (into old mid new (lines_from 1 s.items) (line_of (length s.items + 1) item) s.wrote line))
-    (known_item all left next 0 p q s.items item s.known takes)
+    → SoFar offsets all left p count old mid → q ≤ image_limit
+    → IfKnown left next (TakesItem p item q)
+    → AppendsFront mid new (placed_line offsets (count + 1) (met item p q))
+    → IfKnown all next (StopsPlacing offsets old new)
+stops_at_item offsets all left next p q count item old mid new s near takes front =
+    let x = met item p q in
+    let line = subst (λ n. AppendsFront mid new (placed_line offsets (n + 1) x)) (sym s.counted)
+    front in
+    known_then all left next (Places 0 s.items p) (TakesItem p item q)
+    (StopsPlacing offsets old new)
+    (λ xs ys zs stand t. at_item s.items x q (Places-then 0 p s.items x xs ys zs stand refl t) near
+    (into old mid new (placed_lines offsets 1 s.items)
+    (placed_line offsets (length s.items + 1) x) s.wrote line))
+    s.known takes
 
 -- the last line was not written completely
-pub stops_at_end : (all left next : Option (List ℕ))
+pub stops_at_end : (offsets : Bool) (all left next : Option (List ℕ))
     (p q count : ℕ) (ending : Ending) (old mid new : Option (List ℕ))
-    → SoFar all left p count old mid → IfKnown left next (TakesEnd p [] ending q)
-    → AppendsFront mid new (end_line ending) → IfKnown all next (StopsWriting old new)
-stops_at_end all left next p q count ending old mid new s takes front =
-    IfKnown-map all next (TakesEnd 0 s.items ending q) (StopsWriting old new)
-    (λ xs ys t. at_end s.items ending q t
-    (into old mid new (lines_from 1 s.items) (end_line ending) s.wrote front))
-    (known_end all left next 0 p q s.items ending s.known takes)
+    → SoFar offsets all left p count old mid → IfKnown left next (TakesEnd p [] ending q)
+    → AppendsFront mid new (placed_end offsets ending q)
+    → IfKnown all next (StopsPlacing offsets old new)
+stops_at_end offsets all left next p q count ending old mid new s takes front =
+    known_then all left next (Places 0 s.items p) (TakesEnd p [] ending q)
+    (StopsPlacing offsets old new)
+    (λ xs ys zs stand t. at_end s.items p ys ending q stand t
+    (into old mid new (placed_lines offsets 1 s.items) (placed_end offsets ending q) s.wrote front))
+    s.known takes
 
 -- the lines before a fault were written, but not flushed
-pub stops_at_fault : (all left next : Option (List ℕ))
+pub stops_at_fault : (offsets : Bool) (all left next : Option (List ℕ))
     (p count : ℕ) (fault : ImageFault) (old mid new : Option (List ℕ))
-    → SoFar all left p count old mid → IfKnown left next (TakesFault p [] fault) → Keeps mid new
-    → IfKnown all next (StopsWriting old new)
-stops_at_fault all left next p count fault old mid new s takes keeps =
-    IfKnown-map all next (TakesFault 0 s.items fault) (StopsWriting old new)
-    (λ xs ys t. at_fault s.items fault t (kept old mid new (lines_from 1 s.items) s.wrote keeps))
-    (known_fault all left next 0 p s.items fault s.known takes)
+    → SoFar offsets all left p count old mid → p ≤ image_limit
+    → IfKnown left next (TakesFault p [] fault) → Keeps mid new
+    → IfKnown all next (StopsPlacing offsets old new)
+stops_at_fault offsets all left next p count fault old mid new s near takes keeps =
+    IfKnown-map all next (PlacesToFault offsets fault old new) (StopsPlacing offsets old new)
+    (λ xs ys f. at_fault fault f)
+    (fails_at offsets all left next p count fault old mid new s near takes keeps)
 
 -- a write failed after this was read
-pub write_failed : {T : Type 0} (result : Result T ListFault)
+pub write_failed : {T : Type 0} (offsets : Bool) (result : Result T ListFault)
     (before after old new : Option (List ℕ)) → result ≡ Err WriteFailed
-    → IfKnown before after (StopsWriting old new)
-    → IfErr result (FitsFault before after old new)
-write_failed {T} result before after old new is stops =
-    let P : Result T ListFault → Type 0 = λ r. IfErr r (FitsFault before after old new) in
+    → IfKnown before after (StopsPlacing offsets old new)
+    → IfErr result (FitsPlaces offsets before after old new)
+write_failed {T} offsets result before after old new is stops =
+    let P : Result T ListFault → Type 0 = λ r. IfErr r (FitsPlaces offsets before after old new) in
     subst P (sym is) stops
+
+-- the line that is written from the results of the calls
+pub line_is : (offsets : Bool) (size behind from p q n : ℕ) (extent : Option ℕ) (item : TapeItem)
+    (line : List ℕ) → size ≡ unwrap_or extent (behind - from) → extent ≡ item_extent item
+    → behind ≡ q → from ≡ p → line ≡ line_of n item
+    → shown_line offsets behind size line ≡ placed_line offsets n (met item p q)
+line_is offsets size behind from p q n extent item line sized known ends begins tells =
+    let l = line_of n item in
+    let shown = shown_line offsets in
+    let of : ℕ → ℕ → ℕ = λ b f. unwrap_or (item_extent item) (b - f) in
+    ap (shown behind size) tells
+    ∙ ap (λ s. shown behind s l) (sized ∙ ap (λ x. unwrap_or x (behind - from)) known)
+    ∙ ap (λ b. shown b (of b from) l) ends
+    ∙ ap (λ f. shown q (of q f) l) begins

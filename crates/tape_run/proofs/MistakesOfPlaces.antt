@@ -2,7 +2,7 @@
 use Rattle.std.proofs.Common.{◌≡◌, ℕ, List, [], ◌∷◌, ◌++◌, length, map, sym, refl}
 use Rattle.std.proofs.Common.{ap, ◌∙◌, subst, arith, codes}
 use Rattle.std.proofs.lemmas.List.{length-map}
-use Rattle.std.specs.Prelude.{Some, Ok, slice_index}
+use Rattle.std.specs.Prelude.{Some, Ok, slice_index, true}
 use Rattle.std.specs.Fmt.{digits}
 use Rattle.std.specs.Io.KnownBytes.{Appends}
 use Rattle.tape_image.specs.declared.item.Ending.TheVariants.{Physical}
@@ -14,7 +14,7 @@ use Rattle.tape_image.proofs.Uniqueness.{Begins-one}
 use Rattle.tape_image.proofs.Walks.{TakesEnd-behind}
 use Rattle.tape_run.specs.Placed.{PlacedItem, Places, PlacesToEnd, placed_lines, placed_end}
 use Rattle.tape_run.proofs.PlacedExamples.{placed_first, one_places}
-use Rattle.tape_run.proofs.list_places.list_places_to.Reads as list_places_to
+use Rattle.tape_run.proofs.list.list_places_to.Reads as list_places_to
 
 -- a tape mark after an erase gap
 abbrev behind_gap : PlacedItem
@@ -36,7 +36,7 @@ same_items items x bytes rest ys left at q place end ending stand takes one begi
     one_places items (x ∷ []) 0 at q bytes rest ys stand one few
 
 -- its line begins with a 4
-its_first : (more : List ℕ) → slice_index (placed_lines 1 (behind_gap ∷ []) ++ more) 0 ≡ 52
+its_first : (more : List ℕ) → slice_index (placed_lines true 1 (behind_gap ∷ []) ++ more) 0 ≡ 52
 unfolding digits
 its_first more = refl
 
@@ -49,19 +49,19 @@ first_is_four : (R : _) (W : _) (LR : _) (LW : _) (g : _) (d : _) (h : _) (e : _
     → Places 0 (behind_gap ∷ []) 8 bytes ys → Begins 0 bytes (mark ∷ []) end (ends Physical)
     → slice_index text 0 ≡ 52
 first_is_four R W LR LW g d h e κs a s bytes left text ys end l b q old new stand begins =
-    let k : (xs ys : List ℕ) → Type 0 = PlacesToEnd (h.contents a.1.1.0.now) (h.contents
+    let k : (xs ys : List ℕ) → Type 0 = PlacesToEnd true (h.contents a.1.1.0.now) (h.contents
     s.1.1.0.now) in
     let r : k bytes left = subst (λ v. IfKnown (Some bytes) v k) q
     (subst (λ v. IfKnown v (g.remaining s.1.0.now) k) b l.ok) in
-    let told = placed_lines 1 r.items ++ placed_end r.ending r.place in
+    let told = placed_lines true 1 r.items ++ placed_end true r.ending r.place in
     let w : Appends (Some []) (Some text) told
     = subst (λ v. Appends (Some []) v told) new
     (subst (λ v. Appends v (h.contents s.1.1.0.now) told) old r.wrote) in
     let same = same_items r.items behind_gap bytes r.rest ys left r.at 8 r.place end r.ending
     r.stand r.takes stand begins in
     ap (λ v. slice_index v 0) w
-    ∙ ap (λ is. slice_index (placed_lines 1 is ++ placed_end r.ending r.place) 0) same
-    ∙ its_first (placed_end r.ending r.place)
+    ∙ ap (λ is. slice_index (placed_lines true 1 is ++ placed_end true r.ending r.place) 0) same
+    ∙ its_first (placed_end true r.ending r.place)
 
 -- place_behind_the_item: the offset of the item's end is reported
 place_behind_the_item : (R : _) (W : _) (LR : _) (LW : _) (g : _) (d : _) (h : _) (e : _) (κs : _)

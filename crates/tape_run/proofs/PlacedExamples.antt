@@ -20,7 +20,7 @@ use Rattle.tape_run.specs.PlacedExamples.{PlacesAreWorked, PlacedAreFirst, OnePl
 use Rattle.tape_run.specs.PlacedExamples.{PlaceIsOfWord, items_of}
 use Rattle.tape_run.specs.PlacedExamples.{PlacesEndSays, PlacesFaultSays, PlacesStopSays}
 use Rattle.tape_run.proofs.ListExamples.{into_front}
-use Rattle.tape_run.proofs.PlacedSoFar.{met}
+use Rattle.tape_run.proofs.ListedSoFar.{met}
 
 pub placed_worked : PlacesAreWorked
 unfolding digits
@@ -186,40 +186,42 @@ pub mark_word : PlaceIsOfWord mark
 mark_word p q xs ys t = omega (arith, t.place, mark_long t.spelling (mark ∷ []) t.spelled refl)
 
 -- the meaning of the outcomes of a listing with offsets
-pub ended : (old new : Option (List ℕ)) (bytes left : List ℕ) → PlacesEndSays old new bytes left
-ended old new bytes left l = (
+pub ended : (offsets : Bool) (old new : Option (List ℕ)) (bytes left : List ℕ)
+    → PlacesEndSays offsets old new bytes left
+ended offsets old new bytes left l = (
   TakesEnd-behind 0 l.at l.place bytes l.rest left (items_of l.items) l.ending
       (placed_first l.items 0 l.at bytes l.rest l.stand) l.takes,
   l.wrote,
 )
 
-pub faulted : (fault : ImageFault) (old new : Option (List ℕ)) (bytes left : List ℕ)
-    → PlacesFaultSays fault old new bytes left
-faulted fault old new bytes left l = (
+pub faulted : (offsets : Bool) (fault : ImageFault) (old new : Option (List ℕ))
+    (bytes left : List ℕ) → PlacesFaultSays offsets fault old new bytes left
+faulted offsets fault old new bytes left l = (
   TakesFault-behind 0 l.at bytes l.rest left (items_of l.items) fault
       (placed_first l.items 0 l.at bytes l.rest l.stand) l.takes,
   l.wrote,
 )
 
-pub stopped : (old new : Option (List ℕ)) (bytes left : List ℕ) → PlacesStopSays old new bytes left
-stopped old new bytes left (at_item done x at stand wrote) =
+pub stopped : (offsets : Bool) (old new : Option (List ℕ)) (bytes left : List ℕ)
+    → PlacesStopSays offsets old new bytes left
+stopped offsets old new bytes left (at_item done x at stand near wrote) =
     let walks = placed_first (done ++ x ∷ []) 0 at bytes left stand in
-    let line = placed_line (length done + 1) x in (
+    let line = placed_line offsets (length done + 1) x in
+    let lines = placed_lines offsets 1 done in (
       (flat_map (λ s. s.bytes) walks.leads.spellings, walks.leads.whole),
-      (placed_lines 1 done ++ line, into_front old new (placed_lines 1 done) line wrote),
+      (lines ++ line, into_front old new lines line wrote),
     )
-stopped old new bytes left (at_end items at rest ending place stand takes wrote) =
+stopped offsets old new bytes left (at_end items at rest ending place stand takes wrote) =
     let all = TakesEnd-behind 0 at place bytes rest left (items_of items) ending
     (placed_first items 0 at bytes rest stand) takes in
-    let line = placed_end ending place in (
+    let line = placed_end offsets ending place in
+    let lines = placed_lines offsets 1 items in (
       (all.taken, all.whole),
-      (placed_lines 1 items ++ line, into_front old new (placed_lines 1 items) line wrote),
+      (lines ++ line, into_front old new lines line wrote),
     )
-stopped old new bytes left (at_fault fault f) =
-    let all = (faulted fault old new bytes left f).0 in (
+stopped offsets old new bytes left (at_fault fault f) =
+    let all = (faulted offsets fault old new bytes left f).0 in
+    let lines = placed_lines offsets 1 f.items in (
       (all.given, all.whole),
-      (
-        placed_lines 1 f.items,
-        (placed_lines 1 f.items, [], f.wrote, sym (append-nil (placed_lines 1 f.items))),
-      ),
+      (lines, (lines, [], f.wrote, sym (append-nil lines))),
     )

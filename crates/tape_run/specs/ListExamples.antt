@@ -44,7 +44,8 @@ StopSays old new bytes left = StopsWriting old new bytes left
 pub record FaultFits (before after old new : Option (List ℕ)) : Type 0 where
   pub of_writer : FitsFault before after old new WriteFailed
       → IfKnown before after (StopsWriting old new)
-  pub of_memory : (fault : ImageFault) → FitsCause OutOfMemory fault before after old new
+  pub of_memory : (fault : ImageFault)
+      → FitsCause ListsToFault OutOfMemory fault before after old new
       → (fault.place ≡ 0) × (after ≡ before) × Keeps old new
 
 -- the meaning of the outcomes of `list`

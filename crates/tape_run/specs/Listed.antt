@@ -63,16 +63,27 @@ pub data StopsWriting (old new : Option (List ℕ)) (bytes left : List ℕ) : Ty
       → Appends old new (lines_from 1 items)
       → StopsWriting old new bytes left
 
+-- what was written, and which bytes were read and left
+abbrev pub Outcome : Type 1
+Outcome = Option (List ℕ) → Option (List ℕ) → List ℕ → List ℕ → Type 0
+
 -- If memory was refused nothing was read or written. Otherwise the image was listed up to its
 -- fault.
-abbrev pub FitsCause : ImageCause → ImageFault → Option (List ℕ) → Option (List ℕ)
-    → Option (List ℕ) → Option (List ℕ) → Type 0
-FitsCause OutOfMemory fault before after old new =
+abbrev pub FitsCause : (ImageFault → Outcome) → ImageCause → ImageFault → Option (List ℕ)
+    → Option (List ℕ) → Option (List ℕ) → Option (List ℕ) → Type 0
+FitsCause to_fault OutOfMemory fault before after old new =
     (fault.place ≡ 0) × (after ≡ before) × Keeps old new
-FitsCause _ fault before after old new = IfKnown before after (ListsToFault fault old new)
+FitsCause to_fault _ fault before after old new = IfKnown before after (to_fault fault old new)
 
--- the fault is reported where it is, for a reader with the bytes `before` and then `after`
+-- The fault is reported where it is, for a reader with the bytes `before` and then `after`; this
+-- is the outcome at a fault of the image, and after a failed write.
+abbrev pub FitsBy : (ImageFault → Outcome) → Outcome → Option (List ℕ) → Option (List ℕ)
+    → Option (List ℕ) → Option (List ℕ) → ListFault → Type 0
+FitsBy to_fault stops before after old new (Image fault) =
+    FitsCause to_fault fault.cause fault before after old new
+FitsBy to_fault stops before after old new WriteFailed = IfKnown before after (stops old new)
+
+-- the fault is reported where it is, with the outcome of a listing
 abbrev pub FitsFault : Option (List ℕ) → Option (List ℕ) → Option (List ℕ) → Option (List ℕ)
     → ListFault → Type 0
-FitsFault before after old new (Image fault) = FitsCause fault.cause fault before after old new
-FitsFault before after old new WriteFailed = IfKnown before after (StopsWriting old new)
+FitsFault = FitsBy ListsToFault StopsWriting

@@ -1,22 +1,19 @@
--- The listing of an image with the offset and the size of each item, and the state after a run that
--- writes it; the writer contained `old` before and contains `new` after.
-use Rattle.std.specs.Prelude.{◌≡◌, ℕ, ◌+◌, ◌-◌, List, [], ◌∷◌, ◌++◌, length, Option, Some, None}
-use Rattle.std.specs.Prelude.{codes, decimal, unwrap_or}
-use Rattle.std.specs.Io.KnownBytes.{Appends, Keeps}
+-- The listing of an image item by item, with or without the offset and the size of each, and the
+-- state after a run that writes it; the writer contained `old` before and contains `new` after.
+use Rattle.std.specs.Prelude.{◌≡◌, ◌≤◌, ℕ, ◌+◌, ◌-◌, List, [], ◌∷◌, ◌++◌, length, Option, Some}
+use Rattle.std.specs.Prelude.{None, Bool, if◌then◌else◌, codes, decimal, unwrap_or}
+use Rattle.std.specs.Io.KnownBytes.{Appends}
 use Rattle.tape_image.specs.declared.item.Ending.{Ending}
-use Rattle.tape_image.specs.declared.item.ImageCause.{ImageCause}
-use Rattle.tape_image.specs.declared.item.ImageCause.TheVariants.{OutOfMemory}
 use Rattle.tape_image.specs.declared.item.ImageFault.{ImageFault}
 use Rattle.tape_image.specs.Tape.{TapeItem, block, bad, mark}
 use Rattle.tape_image.specs.Word.{block_extent}
 use Rattle.tape_image.specs.Spelling.{end_len}
-use Rattle.tape_image.specs.Reader.{IfKnown}
+use Rattle.tape_image.specs.Begins.{image_limit}
 use Rattle.tape_image.specs.Step.{TakesItem, TakesEnd, TakesFault}
 use Rattle.tape_run.specs.declared.fault.ListFault.{ListFault}
-use Rattle.tape_run.specs.declared.fault.ListFault.TheVariants.{Image, WriteFailed}
 use Rattle.tape_run.specs.ListLine.{line_of}
 use Rattle.tape_run.specs.Listing.{end_line}
-use Rattle.tape_run.specs.Listed.{AppendsInto}
+use Rattle.tape_run.specs.Listed.{AppendsInto, FitsBy}
 
 -- an item, the end of the item before it, and its own end
 pub record PlacedItem : Type 0 where
@@ -43,74 +40,70 @@ item_extent mark = Some 4
 abbrev pub item_size : PlacedItem → ℕ
 item_size x = unwrap_or (item_extent x.item) (x.behind - x.from)
 
--- a line after the offset and the size of its item
-abbrev pub told_at : ℕ → ℕ → List ℕ → List ℕ
-told_at place size line = decimal place ++ codes " " ++ decimal size ++ codes " " ++ line
+-- a line; with `offsets`, after the offset and the size of its item, which ends at this offset
+abbrev pub shown_line : Bool → ℕ → ℕ → List ℕ → List ℕ
+shown_line offsets behind size line =
+    if offsets then decimal (behind - size) ++ codes " " ++ decimal size ++ codes " " ++ line
+    else line
 
 -- the line of an item with this number: it begins as many bytes before its end as it takes
-abbrev pub placed_line : ℕ → PlacedItem → List ℕ
-placed_line n x = told_at (x.behind - item_size x) (item_size x) (line_of n x.item)
+abbrev pub placed_line : Bool → ℕ → PlacedItem → List ℕ
+placed_line offsets n x = shown_line offsets x.behind (item_size x) (line_of n x.item)
 
 -- the lines of items, the first of which has this number
-abbrev pub placed_lines : ℕ → List PlacedItem → List ℕ
-placed_lines n [] = []
-placed_lines n (x ∷ more) = placed_line n x ++ placed_lines (n + 1) more
+abbrev pub placed_lines : Bool → ℕ → List PlacedItem → List ℕ
+placed_lines offsets n [] = []
+placed_lines offsets n (x ∷ more) = placed_line offsets n x ++ placed_lines offsets (n + 1) more
 
 -- the last line, after the given number of bytes: an end-of-medium marker has an offset and a size
 -- too
-abbrev pub placed_end : Ending → ℕ → List ℕ
-placed_end ending behind = told_at (behind - end_len ending) (end_len ending) (end_line ending)
+abbrev pub placed_end : Bool → Ending → ℕ → List ℕ
+placed_end offsets ending behind = shown_line offsets behind (end_len ending) (end_line ending)
 
 -- All items up to the end of the medium were read; their lines and the last line were written. The
 -- rest of the bytes begins after the end-of-medium marker, if there is one.
-pub record PlacesToEnd (old new : Option (List ℕ)) (bytes left : List ℕ) : Type 0 where
-  pub items : List PlacedItem
-  pub at : ℕ
-  pub rest : List ℕ
-  pub stand : Places 0 items at bytes rest
-  pub ending : Ending
-  pub place : ℕ
-  pub takes : TakesEnd at [] ending place rest left
-  pub wrote : Appends old new (placed_lines 1 items ++ placed_end ending place)
+pub record PlacesToEnd (offsets : Bool) (old new : Option (List ℕ)) (bytes left : List ℕ) : Type 0
+  where
+    pub items : List PlacedItem
+    pub at : ℕ
+    pub rest : List ℕ
+    pub stand : Places 0 items at bytes rest
+    pub ending : Ending
+    pub place : ℕ
+    pub takes : TakesEnd at [] ending place rest left
+    pub wrote : Appends old new (placed_lines offsets 1 items ++ placed_end offsets ending place)
 
 -- The items before the fault were read, and their lines were written.
-pub record PlacesToFault (fault : ImageFault) (old new : Option (List ℕ)) (bytes left : List ℕ) :
-    Type 0 where
+pub record PlacesToFault (offsets : Bool) (fault : ImageFault) (old new : Option (List ℕ))
+    (bytes left : List ℕ) : Type 0 where
   pub items : List PlacedItem
   pub at : ℕ
   pub rest : List ℕ
   pub stand : Places 0 items at bytes rest
+  pub within : at ≤ image_limit
   pub takes : TakesFault at [] fault rest left
-  pub wrote : Appends old new (placed_lines 1 items)
+  pub wrote : Appends old new (placed_lines offsets 1 items)
 
 -- After a failed write: the bytes that were read, and the line that was not written completely.
 -- Nothing is read after the item of that line.
-pub data StopsPlacing (old new : Option (List ℕ)) (bytes left : List ℕ) : Type 0 where
-  -- at the line of an item
-  at_item : (done : List PlacedItem) (x : PlacedItem) (at : ℕ)
-      → Places 0 (done ++ x ∷ []) at bytes left
-      → AppendsInto old new (placed_lines 1 done) (placed_line (length done + 1) x)
-      → StopsPlacing old new bytes left
-  -- at the last line, or when it was flushed
-  at_end : (items : List PlacedItem) (at : ℕ) (rest : List ℕ) (ending : Ending) (place : ℕ)
-      → Places 0 items at bytes rest → TakesEnd at [] ending place rest left
-      → AppendsInto old new (placed_lines 1 items) (placed_end ending place)
-      → StopsPlacing old new bytes left
-  -- when the lines before a fault of the image were flushed
-  at_fault : (fault : ImageFault) → PlacesToFault fault old new bytes left
-      → StopsPlacing old new bytes left
-
--- If memory was refused nothing was read or written. Otherwise the image was listed up to its
--- fault.
-abbrev pub FitsPlacesCause : ImageCause → ImageFault → Option (List ℕ) → Option (List ℕ)
-    → Option (List ℕ) → Option (List ℕ) → Type 0
-FitsPlacesCause OutOfMemory fault before after old new =
-    (fault.place ≡ 0) × (after ≡ before) × Keeps old new
-FitsPlacesCause _ fault before after old new = IfKnown before after (PlacesToFault fault old new)
+pub data StopsPlacing (offsets : Bool) (old new : Option (List ℕ)) (bytes left : List ℕ) : Type 0
+  where
+    -- at the line of an item
+    at_item : (done : List PlacedItem) (x : PlacedItem) (at : ℕ)
+        → Places 0 (done ++ x ∷ []) at bytes left → at ≤ image_limit
+        → AppendsInto old new (placed_lines offsets 1 done)
+        (placed_line offsets (length done + 1) x)
+        → StopsPlacing offsets old new bytes left
+    -- at the last line, or when it was flushed
+    at_end : (items : List PlacedItem) (at : ℕ) (rest : List ℕ) (ending : Ending) (place : ℕ)
+        → Places 0 items at bytes rest → TakesEnd at [] ending place rest left
+        → AppendsInto old new (placed_lines offsets 1 items) (placed_end offsets ending place)
+        → StopsPlacing offsets old new bytes left
+    -- when the lines before a fault of the image were flushed
+    at_fault : (fault : ImageFault) → PlacesToFault offsets fault old new bytes left
+        → StopsPlacing offsets old new bytes left
 
 -- the fault is reported where it is, for a reader with the bytes `before` and then `after`
-abbrev pub FitsPlaces : Option (List ℕ) → Option (List ℕ) → Option (List ℕ) → Option (List ℕ)
-    → ListFault → Type 0
-FitsPlaces before after old new (Image fault) =
-    FitsPlacesCause fault.cause fault before after old new
-FitsPlaces before after old new WriteFailed = IfKnown before after (StopsPlacing old new)
+abbrev pub FitsPlaces : Bool → Option (List ℕ) → Option (List ℕ) → Option (List ℕ)
+    → Option (List ℕ) → ListFault → Type 0
+FitsPlaces offsets = FitsBy (PlacesToFault offsets) (StopsPlacing offsets)

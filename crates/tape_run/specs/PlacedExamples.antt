@@ -1,6 +1,7 @@
 -- Examples for the listing with offsets: a worked one, in which each number is the one in the
 -- image's bytes.
-use Rattle.std.specs.Prelude.{◌≡◌, ℕ, ◌+◌, ◌-◌, List, [], ◌∷◌, ◌++◌, length, map, codes, Option}
+use Rattle.std.specs.Prelude.{◌≡◌, ℕ, ◌+◌, ◌-◌, Bool, true, List, [], ◌∷◌, ◌++◌, length, map, codes}
+use Rattle.std.specs.Prelude.{Option}
 use Rattle.std.specs.Io.KnownBytes.{Appends, Keeps}
 use Rattle.tape_image.specs.declared.item.Ending.TheVariants.{Marked}
 use Rattle.tape_image.specs.declared.item.ImageCause.TheVariants.{OutOfMemory}
@@ -13,7 +14,7 @@ use Rattle.tape_run.specs.declared.fault.ListFault.TheVariants.{WriteFailed}
 use Rattle.tape_image.specs.Written.{AppendsFront}
 use Rattle.tape_run.specs.Placed.{PlacedItem, Places, item_size, placed_lines, placed_end}
 use Rattle.tape_run.specs.Placed.{PlacesToEnd, PlacesToFault, StopsPlacing, FitsPlaces}
-use Rattle.tape_run.specs.Placed.{FitsPlacesCause}
+use Rattle.tape_run.specs.Listed.{FitsCause}
 
 -- a gap, a mark, a gap and a bad block of nine bytes, and an end-of-medium marker
 abbrev pub some_items : List PlacedItem
@@ -22,7 +23,7 @@ some_items = record { item = mark; from = 0; behind = 8 }
 
 -- a worked listing
 abbrev pub PlacesAreWorked : Type 0
-PlacesAreWorked = placed_lines 1 some_items ++ placed_end Marked 34
+PlacesAreWorked = placed_lines true 1 some_items ++ placed_end true Marked 34
     ≡ codes "4 4 000001 MARK\n8 22 000002 BAD\n30 4 END MARKED\n"
 
 -- the items at these places are those that the bytes begin with
@@ -47,38 +48,42 @@ items_of items = map (λ x. x.item) items
 
 -- the outcome of a run that reached the end of the medium: it lists the same items as `list`, each
 -- in its line
-abbrev pub PlacesEndSays : Option (List ℕ) → Option (List ℕ) → List ℕ → List ℕ → Type 0
-PlacesEndSays old new bytes left = (l : PlacesToEnd old new bytes left)
+abbrev pub PlacesEndSays : Bool → Option (List ℕ) → Option (List ℕ) → List ℕ → List ℕ → Type 0
+PlacesEndSays offsets old new bytes left = (l : PlacesToEnd offsets old new bytes left)
     → TakesEnd 0 (items_of l.items) l.ending l.place bytes left
-    × Appends old new (placed_lines 1 l.items ++ placed_end l.ending l.place)
+    × Appends old new (placed_lines offsets 1 l.items ++ placed_end offsets l.ending l.place)
 
 -- the outcome of a run that found a fault of the image
-abbrev pub PlacesFaultSays : ImageFault → Option (List ℕ) → Option (List ℕ) → List ℕ → List ℕ
-    → Type 0
-PlacesFaultSays fault old new bytes left = (l : PlacesToFault fault old new bytes left)
+abbrev pub PlacesFaultSays : Bool → ImageFault → Option (List ℕ) → Option (List ℕ) → List ℕ
+    → List ℕ → Type 0
+PlacesFaultSays offsets fault old new bytes left =
+    (l : PlacesToFault offsets fault old new bytes left)
     → TakesFault 0 (items_of l.items) fault bytes left
-    × Appends old new (placed_lines 1 l.items)
+    × Appends old new (placed_lines offsets 1 l.items)
 
 -- the outcome of a run whose write failed
-abbrev pub PlacesStopSays : Option (List ℕ) → Option (List ℕ) → List ℕ → List ℕ → Type 0
-PlacesStopSays old new bytes left = StopsPlacing old new bytes left
+abbrev pub PlacesStopSays : Bool → Option (List ℕ) → Option (List ℕ) → List ℕ → List ℕ → Type 0
+PlacesStopSays offsets old new bytes left = StopsPlacing offsets old new bytes left
     → ((taken : List ℕ) × (bytes ≡ taken ++ left)) × ((text : List ℕ) × AppendsFront old new text)
 
 -- the meaning of any fault
-pub record PlacesFaultFits (before after old new : Option (List ℕ)) : Type 0 where
-  pub of_writer : FitsPlaces before after old new WriteFailed
-      → IfKnown before after (StopsPlacing old new)
-  pub of_memory : (fault : ImageFault) → FitsPlacesCause OutOfMemory fault before after old new
+pub record PlacesFaultFits (offsets : Bool) (before after old new : Option (List ℕ)) : Type 0 where
+  pub of_writer : FitsPlaces offsets before after old new WriteFailed
+      → IfKnown before after (StopsPlacing offsets old new)
+  pub of_memory : (fault : ImageFault)
+      → FitsCause (PlacesToFault offsets) OutOfMemory fault before after old new
       → (fault.place ≡ 0) × (after ≡ before) × Keeps old new
 
 -- the meaning of the outcomes of a listing with offsets
 pub record PlacesSay : Type 0 where
-  pub at_end : (old new : Option (List ℕ)) (bytes left : List ℕ) → PlacesEndSays old new bytes left
-  pub at_fault : (fault : ImageFault) (old new : Option (List ℕ)) (bytes left : List ℕ)
-      → PlacesFaultSays fault old new bytes left
-  pub stopped : (old new : Option (List ℕ)) (bytes left : List ℕ)
-      → PlacesStopSays old new bytes left
-  pub fits : (before after old new : Option (List ℕ)) → PlacesFaultFits before after old new
+  pub at_end : (offsets : Bool) (old new : Option (List ℕ)) (bytes left : List ℕ)
+      → PlacesEndSays offsets old new bytes left
+  pub at_fault : (offsets : Bool) (fault : ImageFault) (old new : Option (List ℕ))
+      (bytes left : List ℕ) → PlacesFaultSays offsets fault old new bytes left
+  pub stopped : (offsets : Bool) (old new : Option (List ℕ)) (bytes left : List ℕ)
+      → PlacesStopSays offsets old new bytes left
+  pub fits : (offsets : Bool) (before after old new : Option (List ℕ))
+      → PlacesFaultFits offsets before after old new
   pub worked : PlacesAreWorked
   pub first : PlacedAreFirst
   pub one : OnePlaces

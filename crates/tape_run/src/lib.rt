@@ -13,7 +13,6 @@ mod lacks;
 pub mod laws;
 mod list;
 mod list_line;
-mod list_places;
 mod merge;
 pub mod merge_laws;
 mod met;
@@ -42,8 +41,7 @@ pub use extract::{
 };
 pub use fault::{EngineFault, ListFault, RunFault, Stopped, WriteFailed};
 pub use laws::{only_refusals_stop, stands_across_crashes, stood_comes_back};
-pub use list::list_to;
-pub use list_places::list_places_to;
+pub use list::{list_places_to, list_to};
 pub use merge::candidate::Candidate;
 pub use merge::now::{MergeEnd, MergeStop, merge_now};
 pub use merge::open::{merge_to, open_all};

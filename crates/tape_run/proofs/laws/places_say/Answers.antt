@@ -7,7 +7,7 @@ returns c = record {
   at_end = ended;
   at_fault = faulted;
   stopped = stopped;
-  fits = λ before after old new. record { of_writer = λ h. h; of_memory = λ fault h. h };
+  fits = λ offsets before after old new. record { of_writer = λ h. h; of_memory = λ fault h. h };
   worked = placed_worked;
   first = placed_first;
   one = one_places;

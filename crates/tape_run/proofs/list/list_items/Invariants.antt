@@ -9,8 +9,9 @@ invariant-items g l = record {
   on : l.image.status ≡ going;
   limit : l.image.place ≤ image_limit;
   few : l.number * 4 ≤ l.image.place;
+  here : l.from ≡ l.image.place;
   same_device : l.image.device ≡ l.fn.image.device;
-  so_far : SoFar l.fn.image.left l.image.left l.image.place l.number
+  so_far : SoFar l.offsets l.fn.image.left l.image.left l.image.place l.number
       (g.W.Write.contents l.fn.writer) (g.W.Write.contents l.writer);
 }
 
