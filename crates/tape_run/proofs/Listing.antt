@@ -1,20 +1,18 @@
 -- The lines, sets and missing sections of a catalogue, index by index.
-use Rattle.std.proofs.Common.{◌≡◌, ℕ, zero, suc, ◌+◌, ◌-◌, ◌<◌, Bool, true, false, List, [], ◌∷◌}
-use Rattle.std.proofs.Common.{◌++◌, map, take, slice_get, Some, refl, sym, ap, ◌∙◌, arith}
-use Rattle.std.proofs.Common.{append-nil, append_assoc}
-use Rattle.std.specs.List.{flat_map}
+use Rattle.std.proofs.Common.{◌≡◌, ℕ, zero, suc, ◌+◌, ◌-◌, ◌<◌, ◌≤◌, Bool, true, false, List, []}
+use Rattle.std.proofs.Common.{◌∷◌, ◌++◌, length, map, take, drop, slice_get, Some, refl, sym, ap}
+use Rattle.std.proofs.Common.{◌∙◌, arith, append_assoc}
 use Rattle.std.specs.Map.{lookup}
 use Rattle.std.specs.Str.{bytes_eq}
 use Rattle.std.proofs.Math.Seq.{take-suc}
 use Rattle.std.proofs.lemmas.Option.{slice_get_within, get_or_from_slice_get}
-use Rattle.std.proofs.lemmas.List.{map-append}
-use Rattle.std.proofs.lemmas.Grind.{flat_map-append}
+use Rattle.std.proofs.lemmas.List.{map-append, drop_more, drop_all}
 use Rattle.indexmap.specs.IndexMap.{insert_entry}
 use Rattle.tape_run.specs.declared.section.SectionLine.{SectionLine}
-use Rattle.tape_run.specs.declared.section.Lack.{Lack}
 use Rattle.tape_run.specs.Passing.{Told}
 use Rattle.tape_run.specs.Lacks.{line_of, SetFiles, greatest, with_file, sets_from, lack_of}
 use Rattle.tape_run.specs.Lacks.{one_lack, file_lacks, set_lacks}
+use Rattle.tape_run.specs.NextLack.{lacks_after, lacks_from}
 
 -- one place more
 pub take_get : {A : Type 0} (xs : List A) (i : ℕ) (x : A) → Some x ≡ slice_get xs i
@@ -66,7 +64,7 @@ put_file (x ∷ xs) set_id file =
     put_here x xs set_id file (bytes_eq set_id x.0) refl (put_file xs set_id file)
 
 -- the missing sections of one more file
-pub lack_behind : (c : List Told) (set_id : List ℕ) (file left : ℕ) → 0 < left
+lack_behind : (c : List Told) (set_id : List ℕ) (file left : ℕ) → 0 < left
     → file_lacks c set_id file left
     ≡ one_lack set_id file (lack_of c set_id file) ++ file_lacks c set_id (file + 1) (left - 1)
 lack_behind c set_id file zero some = absurd (omega arith)
@@ -74,35 +72,55 @@ lack_behind c set_id file (suc n) some =
     let one : n ≡ suc n - 1 = omega arith in
     ap (λ m. one_lack set_id file (lack_of c set_id file) ++ file_lacks c set_id (file + 1) m) one
 
--- the missing sections of the files from this one on, after those of this file were added
-pub lack_added : (c : List Told) (set_id : List ℕ) (old new goal : List Lack) (before greatest : ℕ)
-    → before < greatest
-    → new ≡ old ++ one_lack set_id (before + 1) (lack_of c set_id (before + 1))
-    → old ++ file_lacks c set_id (before + 1) (greatest - before) ≡ goal
-    → new ++ file_lacks c set_id (before + 1 + 1) (greatest - (before + 1)) ≡ goal
-lack_added c set_id old new goal before greatest within put was =
-    let here = one_lack set_id (before + 1) (lack_of c set_id (before + 1)) in
-    let fewer : greatest - (before + 1) ≡ greatest - before - 1 = omega (arith, within) in
-    let some : 0 < greatest - before = omega (arith, within) in
-    ap (λ ls. ls ++ file_lacks c set_id (before + 1 + 1) (greatest - (before + 1))) put
-    ∙ append_assoc old here (file_lacks c set_id (before + 1 + 1) (greatest - (before + 1)))
-    ∙ ap (λ n. old ++ (here ++ file_lacks c set_id (before + 1 + 1) n)) fewer
-    ∙ ap (λ ls. old ++ ls) (sym (lack_behind c set_id (before + 1) (greatest - before) some))
-    ∙ was
+-- the elements from an index on
+pub drop_get : {A : Type 0} (xs : List A) (i : ℕ) (x : A) → Some x ≡ slice_get xs i
+    → drop i xs ≡ x ∷ drop (i + 1) xs
+drop_get xs i x at =
+    let here = sym at in
+    drop_more xs i x (slice_get_within xs i x here)
+    ∙ ap (λ y. y ∷ drop (i + 1) xs) (get_or_from_slice_get xs i x x here)
 
--- and if no file is left
-pub lacks_all : (c : List Told) (set_id : List ℕ) (new goal : List Lack) (file left : ℕ) → left ≡ 0
-    → new ++ file_lacks c set_id file left ≡ goal → new ≡ goal
-lacks_all c set_id new goal file left none was =
-    sym (append-nil new) ∙ ap (λ n. new ++ file_lacks c set_id file n) (sym none) ∙ was
+-- no file was searched
+all_files : (c : List Told) (sets : List SetFiles) → lacks_after c 0 sets ≡ set_lacks c sets
+all_files c [] = refl
+all_files c (x ∷ sets) =
+    let same : x.1 - 0 ≡ x.1 = omega arith in
+    ap (λ n. file_lacks c x.0 1 n ++ set_lacks c sets) same
 
--- the missing sections of the files of the set at an index
-pub set_added : (c : List Told) (sets : List SetFiles) (old new : List Lack) (i : ℕ) (x : SetFiles)
-    → Some x ≡ slice_get sets i → new ≡ old ++ file_lacks c x.0 1 x.1
-    → old ≡ set_lacks c (take i sets) → new ≡ set_lacks c (take (i + 1) sets)
-set_added c sets old new i x at put was =
-    let lacks_in : SetFiles → List Lack = λ y. file_lacks c y.0 1 y.1 in
-    put ∙ ap (λ ls. ls ++ lacks_in x) was
-    ∙ ap (λ ls. flat_map lacks_in (take i sets) ++ ls) (sym (append-nil (lacks_in x)))
-    ∙ sym (flat_map-append lacks_in (take i sets) (x ∷ []))
-    ∙ ap (flat_map lacks_in) (sym (take_get sets i x at))
+-- a search begins
+pub lacks_first : (c : List Told) (sets : List SetFiles) → lacks_from c sets 0 0 ≡ set_lacks c sets
+lacks_first c sets = all_files c sets
+
+-- and ends
+pub lacks_end : (c : List Told) (sets : List SetFiles) (i file : ℕ) → length sets ≤ i
+    → lacks_from c sets i file ≡ []
+lacks_end c sets i file behind = ap (lacks_after c file) (drop_all i sets behind)
+
+-- all files of a set were searched
+pub set_done : (c : List Told) (sets : List SetFiles) (i file : ℕ) (x : SetFiles)
+    → Some x ≡ slice_get sets i → x.1 ≤ file
+    → lacks_from c sets i file ≡ lacks_from c sets (i + 1) 0
+set_done c sets i file x at all =
+    let rest = drop (i + 1) sets in
+    let none : x.1 - file ≡ 0 = omega (arith, all) in
+    ap (lacks_after c file) (drop_get sets i x at)
+    ∙ ap (λ n. file_lacks c x.0 (file + 1) n ++ set_lacks c rest) none
+    ∙ sym (all_files c rest)
+
+-- the next file of a set
+pub file_done : (c : List Told) (sets : List SetFiles) (i file : ℕ) (x : SetFiles)
+    → Some x ≡ slice_get sets i → file < x.1
+    → lacks_from c sets i file
+    ≡ one_lack x.0 (file + 1) (lack_of c x.0 (file + 1)) ++ lacks_from c sets i (file + 1)
+file_done c sets i file x at some =
+    let rest = set_lacks c (drop (i + 1) sets) in
+    let one = one_lack x.0 (file + 1) (lack_of c x.0 (file + 1)) in
+    let more = file_lacks c x.0 (file + 1 + 1) in
+    let left : 0 < x.1 - file = omega (arith, some) in
+    let fewer : x.1 - file - 1 ≡ x.1 - (file + 1) = omega (arith, some) in
+    let sets_are = drop_get sets i x at in
+    ap (lacks_after c file) sets_are
+    ∙ ap (λ l. l ++ rest) (lack_behind c x.0 (file + 1) (x.1 - file) left)
+    ∙ append_assoc one (more (x.1 - file - 1)) rest
+    ∙ ap (λ n. one ++ (more n ++ rest)) fewer
+    ∙ ap (λ l. one ++ l) (sym (ap (lacks_after c (file + 1)) sets_are))

@@ -1,20 +1,17 @@
 -- The part of a report that has been written, and the text that comes next.
 use Rattle.std.proofs.Common.{◌≡◌, inl, inr, ℕ, ◌+◌, ◌-◌, ◌<◌, suc, Bool, List}
-use Rattle.std.proofs.Common.{[], ◌∷◌, ◌++◌, length, map, take, drop, get_or, Option, option_map}
+use Rattle.std.proofs.Common.{[], ◌∷◌, ◌++◌, length, Option, option_map}
 use Rattle.std.proofs.Common.{Result, Ok, Err, IfOk, OnOk, OnErr, refl, sym, ap, subst, ◌∙◌}
 use Rattle.std.proofs.Common.{arith, append_assoc, append-nil, length-append}
 use Rattle.std.specs.List.{flat_map}
 use Rattle.std.specs.Io.KnownBytes.{Appends}
 use Rattle.std.proofs.KnownBytes.{Appends-trans, Appends-nil}
-use Rattle.std.proofs.lemmas.List.{take_more, take-append-drop}
 use Rattle.std.proofs.lemmas.List.Concat.{flat_map-append}
 use Rattle.tape_run.specs.declared.section.ImageLine.{ImageLine}
-use Rattle.tape_run.specs.declared.section.SectionLine.{SectionLine}
-use Rattle.tape_run.specs.declared.section.Lack.{Lack}
 use Rattle.tape_run.specs.Passing.{Told}
-use Rattle.tape_run.specs.Lacks.{line_of, lacks, found_all}
+use Rattle.tape_run.specs.Lacks.{found_all}
 use Rattle.tape_run.specs.CheckLine.{image_line, image_lines}
-use Rattle.tape_run.specs.Checked.{Reel, IsReel, AddsImage, AddsImages, summary, summary_of}
+use Rattle.tape_run.specs.Checked.{Reel, IsReel, AddsImage, AddsImages, summary}
 use Rattle.tape_run.specs.Checked.{summary_behind, Reports, ReportsInPart, TellsImage}
 use Rattle.tape_run.specs.Checked.{TellsImages, StopsAtImage}
 use Rattle.tape_image.specs.Written.{AppendsFront}
@@ -241,42 +238,52 @@ reported_in_part size gives remaining shelf left d old mid new told part =
           (sym (append-nil (lines ++ summary d)));
     }
 
--- the texts of the elements up to an index, and of the next one
-one_text : (X : Type 0) (f : X → List ℕ) (xs : List X) (place : ℕ) (x z : X) → place < length xs
-    → x ≡ get_or xs place z → flat_map f (take (place + 1) xs) ≡ flat_map f (take place xs) ++ f x
-one_text X f xs place x z within is =
-    ap (flat_map f) (take_more xs place z within ∙ ap (λ y. take place xs ++ y ∷ []) (sym is))
-    ∙ flat_map-append f (take place xs) (x ∷ [])
-    ∙ ap (λ l. flat_map f (take place xs) ++ l) (append-nil (f x))
+-- the texts of the first elements were written, and `rest` is left
+pub record TextsSoFar {X : Type 0} (f : X → List ℕ) (all rest : List X) (old new : Option (List ℕ))
+    : Type 0 where
+  pub done : List X
+  pub whole : all ≡ done ++ rest
+  pub wrote : Appends old new (flat_map f done)
 
--- all texts are those up to an index, the next one, and the others
-all_texts : (X : Type 0) (f : X → List ℕ) (xs : List X) (place : ℕ) (x z : X)
-    → place < length xs → x ≡ get_or xs place z
-    → flat_map f xs ≡ (flat_map f (take place xs) ++ f x) ++ flat_map f (drop (place + 1) xs)
-all_texts X f xs place x z within is =
-    ap (flat_map f) (sym (take-append-drop (place + 1) xs))
-    ∙ flat_map-append f (take (place + 1) xs) (drop (place + 1) xs)
-    ∙ ap (λ l. l ++ flat_map f (drop (place + 1) xs)) (one_text X f xs place x z within is)
+pub texts_start : {X : Type 0} (f : X → List ℕ) (all rest : List X) (w : Option (List ℕ))
+    → rest ≡ all → TextsSoFar f all rest w w
+texts_start f all rest w same = record { done = []; whole = sym same; wrote = Appends-nil w }
 
--- after these the text of the element at the index was written
-pub text_more : {X : Type 0} (f : X → List ℕ) (xs : List X) (place : ℕ) (x : X) (text : List ℕ)
-    (old mid new : Option (List ℕ)) → place < length xs → x ≡ get_or xs place x → text ≡ f x
-    → Appends old mid (flat_map f (take place xs)) → Appends mid new text
-    → Appends old new (flat_map f (take (place + 1) xs))
-text_more {X} f xs place x text old mid new within is same before wrote =
-    subst (Appends old new) (sym (one_text X f xs place x x within is))
-    (Appends-trans old mid new (flat_map f (take place xs)) (f x) before
-    (subst (Appends mid new) same wrote))
+one_text : {X : Type 0} (f : X → List ℕ) (done : List X) (x : X)
+    → flat_map f (done ++ x ∷ []) ≡ flat_map f done ++ f x
+one_text f done x = flat_map-append f done (x ∷ [])
+    ∙ ap (λ l. flat_map f done ++ l) (append-nil (f x))
 
--- a prefix of that text was written
-pub text_front : {X : Type 0} (f : X → List ℕ) (xs : List X) (place : ℕ) (x : X) (text : List ℕ)
-    (old mid new : Option (List ℕ)) → place < length xs → x ≡ get_or xs place x → text ≡ f x
-    → Appends old mid (flat_map f (take place xs)) → AppendsFront mid new text
-    → AppendsFront old new (flat_map f xs)
-text_front {X} f xs place x text old mid new within is same before part =
-    front_then old mid new (flat_map f (take place xs)) (f x) (flat_map f (drop (place + 1) xs))
-    (flat_map f xs) before (subst (AppendsFront mid new) same part)
-    (all_texts X f xs place x x within is)
+-- one more text was written
+pub text_more : {X : Type 0} (f : X → List ℕ) (all rest next : List X) (x : X) (text : List ℕ)
+    (old mid new : Option (List ℕ)) → TextsSoFar f all rest old mid → rest ≡ x ∷ next → text ≡ f x
+    → Appends mid new text → TextsSoFar f all next old new
+text_more f all rest next x text old mid new s is same wrote = record {
+  done = s.done ++ x ∷ [];
+  whole = s.whole ∙ ap (λ l. s.done ++ l) is ∙ sym (append_assoc s.done (x ∷ []) next);
+  wrote = subst (Appends old new) (sym (one_text f s.done x))
+      (Appends-trans old mid new (flat_map f s.done) (f x) s.wrote
+      (subst (Appends mid new) same wrote));
+}
+
+-- a prefix of it was written
+pub text_front : {X : Type 0} (f : X → List ℕ) (all rest next : List X) (x : X) (text : List ℕ)
+    (old mid new : Option (List ℕ)) → TextsSoFar f all rest old mid → rest ≡ x ∷ next → text ≡ f x
+    → AppendsFront mid new text → AppendsFront old new (flat_map f all)
+text_front f all rest next x text old mid new s is same part =
+    let whole : all ≡ (s.done ++ x ∷ []) ++ next =
+    s.whole ∙ ap (λ l. s.done ++ l) is ∙ sym (append_assoc s.done (x ∷ []) next) in
+    front_then old mid new (flat_map f s.done) (f x) (flat_map f next) (flat_map f all) s.wrote
+    (subst (AppendsFront mid new) same part)
+    (ap (flat_map f) whole ∙ flat_map-append f (s.done ++ x ∷ []) next
+    ∙ ap (λ l. l ++ flat_map f next) (one_text f s.done x))
+
+-- all were written
+pub texts_end : {X : Type 0} (f : X → List ℕ) (all rest : List X) (old new : Option (List ℕ))
+    → TextsSoFar f all rest old new → rest ≡ [] → Appends old new (flat_map f all)
+texts_end f all rest old new s none =
+    subst (λ l. Appends old new (flat_map f l))
+    (sym (s.whole ∙ ap (λ l. s.done ++ l) none ∙ append-nil s.done)) s.wrote
 
 -- a prefix of a summary with these parts
 pub in_first : (old new : Option (List ℕ)) (a b c : List ℕ) → AppendsFront old new a
@@ -292,17 +299,6 @@ pub in_third : (old first second new : Option (List ℕ)) (a b c : List ℕ) →
     → Appends first second b → AppendsFront second new c → AppendsFront old new (a ++ b ++ c)
 in_third old first second new a b c one two part = front_then old second new (a ++ b) c [] (a ++ b
     ++ c) (Appends-trans old first second a b one two) part (sym (append-nil (a ++ b ++ c)))
-
--- the summary describes what was found
-pub summed_up : (old new : Option (List ℕ)) (d : List Told) (listed : List SectionLine)
-    (lacking : List Lack) (found : Bool) → listed ≡ map line_of d → lacking ≡ lacks d
-    → found ≡ found_all d
-    → AppendsFront old new (summary_of listed lacking found) → AppendsFront old new (summary d)
-summed_up old new d listed lacking found lines lack all part =
-    subst (AppendsFront old new)
-    (ap (λ l. summary_of l lacking found) lines ∙ ap (λ l. summary_of (map line_of d) l found) lack
-    ∙ ap (λ b. summary_of (map line_of d) (lacks d) b) all)
-    part
 
 pub if_ok : {T E : Type 0} (r : Result T E) (P Q : T → Type 0) → IfOk r P
     → ((x : T) → P x → Q x) → IfOk r Q

@@ -27,6 +27,7 @@ pub mod Shown
 pub mod Noted
 pub mod Added
 pub mod Lacks
+pub mod NextLack
 pub mod WholeSet
 -- Preserved item by item, and the terms in which laws describe those above.
 pub mod Passing

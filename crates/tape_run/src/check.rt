@@ -1,14 +1,13 @@
 //! `check`: which file sections are on any images, which of them are complete, and which are
 //! missing.
 
-ghost use Rattle.std.specs.Prelude.{◌≡◌, [], List, map, option_map, IfOk, IfErr, OnOk, OnErr};
+ghost use Rattle.std.specs.Prelude.{◌≡◌, [], map, option_map, IfOk, IfErr, OnOk, OnErr};
 ghost use Rattle.std.specs.List.{flat_map};
 ghost use Rattle.std.specs.Io.KnownBytes.{Appends};
-ghost use Rattle.tape_run.specs.Passing.{Told};
-ghost use Rattle.tape_run.specs.Lacks.{line_of, lacks, found_all};
+ghost use Rattle.tape_run.specs.Lacks.{line_of, set_lacks, found_all};
 ghost use Rattle.tape_run.specs.CheckLine.{section_line, lack_line};
 ghost use Rattle.tape_run.specs.Checked.{AddsImage, TellsImage, TellsImages, StopsAtImage};
-ghost use Rattle.tape_run.specs.Checked.{last_line, summary_of, summary, Reports};
+ghost use Rattle.tape_run.specs.Checked.{last_line, summary, Reports};
 ghost use Rattle.tape_run.specs.Checked.{ReportsInPart, IsCheckFault};
 ghost use Rattle.tape_image.specs.Written.{AppendsFront};
 
@@ -16,8 +15,9 @@ use crate::catalogue::Catalogue;
 use crate::check_line::{image_line, lack_line, section_line};
 use crate::extract::images::ImageSource;
 use crate::fault::{EngineFault, NO_MEMORY, WriteFailed};
-use crate::report::check_set;
-use crate::section::{ImageLine, Lack, SectionLine};
+use crate::report::{Sets, found_all, line_of, next_lack, sets_of};
+use crate::section::ImageLine;
+use crate::sections::Sections;
 use crate::text::{flush, write_text};
 use std::alloc::{AllocError, Global};
 use std::io::{Read, Write};
@@ -49,7 +49,7 @@ pub fn check_to<R: Read + Drop, L: ImageSource<R>, P: Write>(
 {
     let mut catalogue = Catalogue::new(alloc);
     check_images(&mut catalogue, images, report)?;
-    summarize(alloc, &catalogue, report)
+    summarize(alloc, &catalogue.sections, report)
 }
 
 /// Opens the images in their order, adds the sections on each, and writes a line for it.
@@ -115,88 +115,62 @@ fn read_image<R: Read + Drop>(
 /// sections were found.
 fn summarize<P: Write>(
     alloc: Global,
-    catalogue: &Catalogue,
+    sections: &Sections,
     report: &mut P,
 ) -> Result<bool, EngineFault>
-    ensures ok { IfOk result (λ found. (found ≡ found_all catalogue.now)
-        × Appends (P.contents report.old) (P.contents report.new) (summary catalogue.now)) }
+    ensures ok { IfOk result (λ found. (found ≡ found_all sections.now.entries)
+        × Appends (P.contents report.old) (P.contents report.new)
+        (summary sections.now.entries)) }
     ensures front { OnErr result (AppendsFront (P.contents report.old) (P.contents report.new)
-        (summary catalogue.now)) }
+        (summary sections.now.entries)) }
     ensures fault { IfErr result IsCheckFault }
 {
-    let Ok(met) = check_set(alloc, catalogue) else {
+    let Ok(sets) = sets_of(alloc, sections) else {
         return Err(NO_MEMORY);
     };
-    let (listed, lacking) = (met.lines.as_slice(), met.lacks.as_slice());
-    let found = is_found(listed, lacking);
-    write_summary(report, listed, lacking, found)?;
+    write_sections(report, sections)?;
+    write_lacks(report, sections, &sets)?;
+    let found = found_all(sections, &sets);
+    pass_on(report, last_line(found))?;
     Ok(found)
 }
 
-/// Returns whether sections were found and none is missing.
-fn is_found(listed: &[SectionLine], lacking: &[Lack]) -> bool
-    ensures { (met : List Told) → listed.now ≡ map line_of met → lacking.now ≡ lacks met
-        → result ≡ found_all met }
-{
-    match listed {
-        [] => false,
-        [_, ..] => lacking.is_empty(),
-    }
-}
-
-/// Writes the part of a report that follows the lines of the images, and flushes.
-fn write_summary<P: Write>(
-    report: &mut P,
-    listed: &[SectionLine],
-    lacking: &[Lack],
-    found: bool,
-) -> Result<(), WriteFailed>
-    ensures ok { OnOk result (Appends (P.contents report.old) (P.contents report.new)
-        (summary_of listed.now lacking.now found)) }
-    ensures front { OnErr result (AppendsFront (P.contents report.old) (P.contents report.new)
-        (summary_of listed.now lacking.now found)) }
-{
-    write_sections(report, listed)?;
-    write_lacks(report, lacking)?;
-    write_last(report, found)
-}
-
 /// Writes a line for each section.
-fn write_sections<P: Write>(report: &mut P, listed: &[SectionLine]) -> Result<(), WriteFailed>
+fn write_sections<P: Write>(report: &mut P, sections: &Sections) -> Result<(), WriteFailed>
     ensures ok { OnOk result (Appends (P.contents report.old) (P.contents report.new)
-        (flat_map section_line listed.now)) }
+        (flat_map section_line (map line_of sections.now.entries))) }
     ensures front { OnErr result (AppendsFront (P.contents report.old) (P.contents report.new)
-        (flat_map section_line listed.now)) }
+        (flat_map section_line (map line_of sections.now.entries))) }
 {
-    for section in listed {
-        let line = section_line(section);
+    for place in 0..sections.len() {
+        let Some((key, entry)) = sections.get_index(place) else {
+            unreachable!()
+        };
+        let line = section_line(&line_of(key, entry));
         write_text(report, &line)?;
     }
     Ok(())
 }
 
 /// Writes a line for each missing section.
-fn write_lacks<P: Write>(report: &mut P, lacking: &[Lack]) -> Result<(), WriteFailed>
+fn write_lacks<P: Write>(
+    report: &mut P,
+    sections: &Sections,
+    sets: &Sets,
+) -> Result<(), WriteFailed>
     ensures ok { OnOk result (Appends (P.contents report.old) (P.contents report.new)
-        (flat_map lack_line lacking.now)) }
+        (flat_map lack_line (set_lacks sections.now.entries sets.now.entries))) }
     ensures front { OnErr result (AppendsFront (P.contents report.old) (P.contents report.new)
-        (flat_map lack_line lacking.now)) }
+        (flat_map lack_line (set_lacks sections.now.entries sets.now.entries))) }
 {
-    for lack in lacking {
-        let line = lack_line(lack);
+    let (mut place, mut file) = (0usize, 0u16);
+    'search: while let Some((set, lack)) = next_lack(sections, sets, place, file) {
+        let line = lack_line(&lack);
         write_text(report, &line)?;
+        place = set;
+        file = lack.file;
     }
     Ok(())
-}
-
-/// Writes the last line if all was found, and flushes the report.
-fn write_last<P: Write>(report: &mut P, found: bool) -> Result<(), WriteFailed>
-    ensures ok { OnOk result (Appends (P.contents report.old) (P.contents report.new)
-        (last_line found)) }
-    ensures front { OnErr result (AppendsFront (P.contents report.old) (P.contents report.new)
-        (last_line found)) }
-{
-    pass_on(report, last_line(found))
 }
 
 /// Writes a text, and flushes.

@@ -1,11 +1,12 @@
 //! The sections of a catalogue, and the missing ones.
 
-ghost use Rattle.std.specs.Prelude.{◌≡◌, ◌<◌, ◌+◌, ◌++◌, [], length, map, take, IfOk, OnOk};
+ghost use Rattle.std.specs.Prelude.{◌≡◌, ◌<◌, ◌+◌, [], length, map, take, IfOk, OnOk};
 ghost use Rattle.std.specs.Map.{lookup};
 ghost use Rattle.std.specs.Result.{IsOkUnless};
 ghost use Rattle.std.specs.Str.{bytes_eq};
-ghost use Rattle.tape_run.specs.Lacks.{line_of, greatest, with_file, sets_from, lack_of, one_lack};
-ghost use Rattle.tape_run.specs.Lacks.{file_lacks, set_lacks, lacks, is_none_lacking};
+ghost use Rattle.tape_run.specs.Lacks.{line_of, greatest, with_file, sets_from, set_lacks, lacks};
+ghost use Rattle.tape_run.specs.Lacks.{is_none_lacking, found_all};
+ghost use Rattle.tape_run.specs.NextLack.{IsNext};
 ghost use Rattle.tape_run.specs.declared.fault.RunFault.TheVariants as faults;
 
 use crate::catalogue::Catalogue;
@@ -121,59 +122,48 @@ pub(crate) fn sets_of(alloc: Global, sections: &Sections) -> Result<Sets, AllocE
     Ok(sets)
 }
 
-/// Appends the first missing section of a file, if any.
-fn add_lack(
-    lacks: &mut Vec<Lack>,
-    sections: &Sections,
-    set_id: Field<6>,
-    file: u16,
-) -> Result<(), AllocError>
-    ensures { OnOk result (lacks.new.items
-        ≡ lacks.old.items ++ one_lack set_id file (lack_of sections.now.entries set_id file)) }
-{
-    let Some(sect) = lack_of(sections, set_id, file) else {
-        return Ok(());
-    };
-    match lacks.push(Lack { set_id, file, sect }) {
-        Ok(()) => Ok(()),
-        Err(_) => Err(AllocError),
-    }
-}
-
-/// Appends the first missing section of each file of a set, up to file number `greatest`.
-fn add_lacks(
-    lacks: &mut Vec<Lack>,
-    sections: &Sections,
-    set_id: Field<6>,
-    greatest: u16,
-) -> Result<(), AllocError>
-    ensures { OnOk result (lacks.new.items
-        ≡ lacks.old.items ++ file_lacks sections.now.entries set_id 1 greatest) }
-{
-    for before in 0..greatest {
-        add_lack(lacks, sections, set_id, before + 1)?;
-    }
-    Ok(())
-}
-
-/// Appends the first missing sections for the set at index `place`, after those of the sets before
-/// it.
-fn add_set(
-    lacks: &mut Vec<Lack>,
+/// Returns the next missing section, with the index of its set, after the first `searched` files of
+/// the set at index `first`.
+pub(crate) fn next_lack(
     sections: &Sections,
     sets: &Sets,
-    place: usize,
-) -> Result<(), AllocError>
-    requires { place < length sets.now.entries }
-    ensures { OnOk result (
-        lacks.old.items ≡ set_lacks sections.now.entries (take place sets.now.entries)
-        → lacks.new.items ≡ set_lacks sections.now.entries (take (place + 1) sets.now.entries)) }
+    first: usize,
+    searched: u16,
+) -> Option<(usize, Lack)>
+    ensures { IsNext sections.now.entries sets.now.entries first searched result }
 {
-    let Some((set_id, greatest)) = sets.get_index(place) else {
-        unreachable!()
-    };
-    add_lacks(lacks, sections, *set_id, *greatest)?;
-    Ok(())
+    let (mut place, mut file) = (first, searched);
+    'search: while place < sets.len() {
+        let Some((set_id, greatest)) = sets.get_index(place) else {
+            unreachable!()
+        };
+        if file >= *greatest {
+            place += 1;
+            file = 0;
+        } else {
+            file += 1;
+            if let Some(sect) = lack_of(sections, *set_id, file) {
+                let set_id = *set_id;
+                return Some((place, Lack { set_id, file, sect }));
+            }
+        }
+    }
+    None
+}
+
+/// Returns whether no section of the given sets is missing.
+fn lacks_none(sections: &Sections, sets: &Sets) -> bool
+    ensures { result ≡ is_none_lacking (set_lacks sections.now.entries sets.now.entries) }
+{
+    next_lack(sections, sets, 0, 0).is_none()
+}
+
+/// Returns whether sections were found, in these sets, and none is missing.
+pub(crate) fn found_all(sections: &Sections, sets: &Sets) -> bool
+    requires { sets.now.entries ≡ sets_from [] sections.now.entries }
+    ensures { result ≡ found_all sections.now.entries }
+{
+    !sections.is_empty() && lacks_none(sections, sets)
 }
 
 /// Returns the first missing section of each incomplete file of the given sets.
@@ -182,30 +172,16 @@ fn lacks_of(alloc: Global, sections: &Sections, sets: &Sets) -> Result<Vec<Lack>
         lacks.items ≡ set_lacks sections.now.entries sets.now.entries) }
 {
     let mut lacks = Vec::new(alloc);
-    for place in 0..sets.len() {
-        add_set(&mut lacks, sections, sets, place)?;
-    }
-    Ok(lacks)
-}
-
-/// Returns whether no section of the given sets is missing. Stops at the first set of which one is,
-/// and holds the missing sections of that set only.
-pub(crate) fn lacks_none(
-    alloc: Global,
-    sections: &Sections,
-    sets: &Sets,
-) -> Result<bool, AllocError>
-    ensures { IfOk result (λ none.
-        none ≡ is_none_lacking (set_lacks sections.now.entries sets.now.entries)) }
-{
-    let mut lacks = Vec::new(alloc);
-    for place in 0..sets.len() {
-        add_set(&mut lacks, sections, sets, place)?;
-        if !lacks.is_empty() {
-            return Ok(false);
+    let (mut place, mut file) = (0usize, 0u16);
+    'search: while let Some((set, lack)) = next_lack(sections, sets, place, file) {
+        place = set;
+        file = lack.file;
+        match lacks.push(lack) {
+            Ok(()) => {}
+            Err(_) => return Err(AllocError),
         }
     }
-    Ok(true)
+    Ok(lacks)
 }
 
 /// Returns the report on the given sections.

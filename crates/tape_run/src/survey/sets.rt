@@ -18,7 +18,7 @@ use super::problems::add_problems;
 use super::rows::{file_cells, form_cells};
 use super::view::Findings;
 use crate::lacks::lack_of;
-use crate::report::{lacks_none, sets_of};
+use crate::report::{found_all, sets_of};
 use crate::section::{Entry, SectionKey};
 use crate::sections::Sections;
 use crate::text::{Identifier, Trimmed, append};
@@ -311,10 +311,7 @@ fn is_complete(alloc: Global, sections: &Sections) -> Result<bool, AllocError>
     ensures { IfOk result (λ found. found ≡ found_all sections.now.entries) }
 {
     let sets = sets_of(alloc, sections)?;
-    if sections.is_empty() {
-        return Ok(false);
-    }
-    lacks_none(alloc, sections, &sets)
+    Ok(found_all(sections, &sets))
 }
 
 /// Returns whether the section at index `place` is complete.

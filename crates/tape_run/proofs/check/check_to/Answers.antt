@@ -1,14 +1,28 @@
+use Rattle.std.proofs.Common.{◌≡◌, subst, rules}
+use Rattle.tape_run.specs.Checked.{TellsImages}
 use Rattle.tape_run.proofs.Reporting.{reported, reported_in_part, if_ok, if_err}
 use Rattle.tape_run.proofs.check.check_to.Goals as goal
 
 pub returns-clause-ok : goal.returns-clause-ok
 returns-clause-ok g c =
+    let d = c.catalogue.inside.sections.entries in
+    let same : c.check_images.new.catalogue ≡ d = search rules in
+    let told = subst (λ e. TellsImages g.L.ImageSource.size g.L.ImageSource.gives
+    g.R.Read.remaining c.args.images.now c.check_images.new.images e
+    (g.P.Write.contents c.args.report.now) (g.P.Write.contents c.check_images.new.report)) same
+    c.in_ok-check_images.ensures.ok in
     if_ok c.summarize.result _ _ c.summarize.ensures.ok
-    (λ found h. reported g.L.ImageSource.size g.L.ImageSource.gives g.R.Read.remaining _ _
-    c.check_images.new.catalogue _ _ _ found c.in_ok-check_images.ensures.ok h.0 h.1)
+    (λ found h. reported g.L.ImageSource.size g.L.ImageSource.gives g.R.Read.remaining _ _ d _ _ _
+    found told h.0 h.1)
 
 pub returns-clause-front : goal.returns-clause-front
 returns-clause-front g c =
+    let d = c.catalogue.inside.sections.entries in
+    let same : c.check_images.new.catalogue ≡ d = search rules in
+    let told = subst (λ e. TellsImages g.L.ImageSource.size g.L.ImageSource.gives
+    g.R.Read.remaining c.args.images.now c.check_images.new.images e
+    (g.P.Write.contents c.args.report.now) (g.P.Write.contents c.check_images.new.report)) same
+    c.in_ok-check_images.ensures.ok in
     if_err c.summarize.result _ _ c.summarize.ensures.front
-    (λ h. reported_in_part g.L.ImageSource.size g.L.ImageSource.gives g.R.Read.remaining _ _
-    c.check_images.new.catalogue _ _ _ c.in_ok-check_images.ensures.ok h)
+    (λ h. reported_in_part g.L.ImageSource.size g.L.ImageSource.gives g.R.Read.remaining _ _ d _ _ _
+    told h)

@@ -1,16 +1,40 @@
-use Rattle.std.proofs.Common.{◌≡◌, map, ◌∙◌}
-use Rattle.tape_run.specs.Lacks.{line_of, lacks}
+use Rattle.std.proofs.Common.{map, ap, subst, ◌∙◌}
+use Rattle.std.specs.List.{flat_map}
+use Rattle.std.specs.Io.KnownBytes.{Appends}
+use Rattle.tape_image.specs.Written.{AppendsFront}
 use Rattle.tape_image.proofs.Pieces.{on_err}
-use Rattle.tape_run.proofs.Reporting.{summed_up}
+use Rattle.tape_run.specs.CheckLine.{section_line, lack_line}
+use Rattle.tape_run.specs.Checked.{last_line}
+use Rattle.tape_run.specs.Lacks.{line_of, lacks, set_lacks, found_all}
+use Rattle.tape_run.proofs.Reporting.{in_first, in_second, in_third}
 use Rattle.tape_run.proofs.check.summarize.Goals as goal
 
-pub returns-in_err-write_summary-clause-front : goal.returns-in_err-write_summary-clause-front
-returns-in_err-write_summary-clause-front g c =
-    let lines : c.as_slice-listed.result.now ≡ map line_of c.args.catalogue.now =
-    c.as_slice-listed.ensures ∙ c.in-Ok.ensures.lines in
-    let lacking : c.as_slice-lacking.result.now ≡ lacks c.args.catalogue.now =
-    c.as_slice-lacking.ensures ∙ c.in-Ok.ensures.lacks in
+pub returns-in_err-write_sections-clause-front : goal.returns-in_err-write_sections-clause-front
+returns-in_err-write_sections-clause-front g c =
+    let d = c.args.sections.now.entries in
     on_err c.from_residual.result _
-    (summed_up _ _ c.args.catalogue.now c.as_slice-listed.result.now c.as_slice-lacking.result.now
-    c.is_found-found.result lines lacking (c.is_found-found.ensures c.args.catalogue.now lines
-    lacking) c.in_err-write_summary.ensures.front)
+    (in_first _ _ (flat_map section_line (map line_of d)) (flat_map lack_line (lacks d))
+    (last_line (found_all d)) c.in_err-write_sections.ensures.front)
+
+pub returns-in_err-write_lacks-clause-front : goal.returns-in_err-write_lacks-clause-front
+returns-in_err-write_lacks-clause-front g c =
+    let d = c.args.sections.now.entries in
+    on_err c.from_residual-in_err-write_lacks.result _
+    (in_second _ _ _ (flat_map section_line (map line_of d)) (flat_map lack_line (lacks d))
+    (last_line (found_all d)) c.in_ok-write_sections.ensures.ok
+    (subst (λ s. AppendsFront (g.P.Write.contents c.write_sections.new.report)
+    (g.P.Write.contents c.write_lacks.new.report) (flat_map lack_line (set_lacks d s)))
+    c.in-Ok.ensures c.in_err-write_lacks.ensures.front))
+
+pub returns-in_err-pass_on-clause-front : goal.returns-in_err-pass_on-clause-front
+returns-in_err-pass_on-clause-front g c =
+    let d = c.args.sections.now.entries in
+    on_err c.from_residual-in_err-pass_on.result _
+    (in_third _ _ _ _ (flat_map section_line (map line_of d)) (flat_map lack_line (lacks d))
+    (last_line (found_all d)) c.in_ok-write_sections.ensures.ok
+    (subst (λ s. Appends (g.P.Write.contents c.write_sections.new.report)
+    (g.P.Write.contents c.write_lacks.new.report) (flat_map lack_line (set_lacks d s)))
+    c.in-Ok.ensures c.in_ok-write_lacks.ensures.ok)
+    (subst (AppendsFront (g.P.Write.contents c.write_lacks.new.report)
+    (g.P.Write.contents c.pass_on.new.report))
+    (c.last_line.ensures ∙ ap last_line c.found_all-found.ensures) c.in_err-pass_on.ensures.err))

@@ -1,9 +1,14 @@
-use Rattle.std.proofs.Common.{take}
-use Rattle.std.specs.List.{flat_map}
-use Rattle.std.specs.Io.KnownBytes.{Appends}
+use Rattle.std.proofs.Common.{length}
 use Rattle.tape_run.specs.CheckLine.{lack_line}
+use Rattle.tape_run.specs.Lacks.{set_lacks}
+use Rattle.tape_run.specs.NextLack.{lacks_from}
+use Rattle.tape_run.proofs.Reporting.{TextsSoFar}
 use Rattle.tape_run.proofs.check.write_lacks.Given as goal
 
-abbrev pub invariant-loop-lack : goal.invariant-loop-lack
-invariant-loop-lack g l = Appends (g.P.Write.contents l.fn.report) (g.P.Write.contents l.report)
-    (flat_map lack_line (take l.lack-index l.lacking))
+abbrev pub invariant-search : goal.invariant-search
+invariant-search g l = TextsSoFar lack_line (set_lacks l.sections.entries l.sets.entries)
+    (lacks_from l.sections.entries l.sets.entries l.place l.file)
+    (g.P.Write.contents l.fn.report) (g.P.Write.contents l.report)
+
+abbrev pub decreases-search : goal.decreases-search
+decreases-search g l = length (lacks_from l.sections.entries l.sets.entries l.place l.file)
