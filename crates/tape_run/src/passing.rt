@@ -1,17 +1,17 @@
 //! Reads a reel with every section skipped: what is expected next, and which sections were found.
 
-ghost use Rattle.std.specs.Prelude.{◌≡◌, ◌<◌, Ok};
+ghost use Rattle.std.specs.Prelude.{◌≡◌, ◌<◌};
 ghost use Rattle.tape_image.specs.Reader.{tape_item};
 ghost use Rattle.tape_image.specs.Tape.{block, bad, mark};
 ghost use Rattle.tape_label.specs.Kinds.{kind_at};
 ghost use Rattle.tape_set.specs.Lawful.{most_blocks};
 ghost use Rattle.tape_run.specs.Passing.{under_way, blocks_of, volume_phase, labels_phase};
-ghost use Rattle.tape_run.specs.Passing.{header_phase, second_with, told_with, told_by, step};
+ghost use Rattle.tape_run.specs.Passing.{header_phase, second_with, told_by, step};
 
 use crate::met::{Met, Told};
 use crate::section::SectionKey;
 use tape_image::Item;
-use tape_label::{Field, Kind, Trail1, is_volume_label, kind, read_head1, read_trail1, read_vol1};
+use tape_label::{Field, Kind, is_volume_label, kind, read_head1, read_trail1, read_vol1};
 
 /// The kind of item that is expected next.
 #[derive(Clone, Copy)]
@@ -82,20 +82,8 @@ fn told_by(met: Met, block: &[u8]) -> (Phase, Option<Told>)
     ensures { result ≡ told_by met block.now }
 {
     match read_trail1(block) {
-        Ok(trail) => told_with(met, &trail),
-        Err(_) => (Phase::Over, Some(met.cut())),
-    }
-}
-
-/// Returns what is expected after a trailer label in place of a section's, with the completed
-/// section.
-fn told_with(met: Met, trail: &Trail1) -> (Phase, Option<Told>)
-    ensures { result ≡ told_with met (Ok trail.now) }
-{
-    if met.closes(trail) {
-        (Phase::Trailers(met.volume), Some(met.told(trail)))
-    } else {
-        (Phase::Over, Some(met.cut()))
+        Ok(trail) if met.closes(&trail) => (Phase::Trailers(met.volume), Some(met.told(&trail))),
+        _ => (Phase::Over, Some(met.cut())),
     }
 }
 

@@ -1,8 +1,7 @@
 //! The extent to which the items of an image are in the order of a volume.
 ghost use Rattle.std.specs.Prelude.{◌≡◌};
 ghost use Rattle.tape_image.specs.Reader.{tape_item};
-ghost use Rattle.tape_run.specs.SurveyGlance.{wanted_in, left_by, behind_mark, behind};
-ghost use Rattle.tape_run.specs.SurveyGlance.{behind_blank, course_with};
+ghost use Rattle.tape_run.specs.SurveyGlance.{wanted_in, left_by, behind, course_with};
 
 use crate::passing::Phase;
 use tape_image::Item;
@@ -67,36 +66,15 @@ fn left_by(number: u32, phase: Phase, next: Phase) -> LabelOrder
     }
 }
 
-/// Returns the label order after a tape mark, if all items before it are in order and the volume
-/// continues.
-fn behind_mark(number: u32, phase: Phase, next: Phase) -> LabelOrder
-    ensures { result ≡ behind_mark number phase next }
-{
-    match phase {
-        Phase::Labels(_) => LabelOrder::Blank,
-        Phase::Next(_) => LabelOrder::Ended,
-        _ => left_by(number, phase, next),
-    }
-}
-
 /// Returns the label order after an item, if all items before it are in order and the volume
 /// continues.
 fn behind(number: u32, phase: Phase, item: Item<'_>, next: Phase) -> LabelOrder
     ensures { result ≡ behind number phase (tape_item item.entry) next }
 {
-    match item {
-        Item::Mark => behind_mark(number, phase, next),
-        Item::Block(_) | Item::Bad => left_by(number, phase, next),
-    }
-}
-
-/// Returns the label order after an item in place of the second tape mark.
-fn behind_blank(number: u32, item: Item<'_>) -> LabelOrder
-    ensures { result ≡ behind_blank number (tape_item item.entry) }
-{
-    match item {
-        Item::Mark => LabelOrder::Ended,
-        Item::Block(_) | Item::Bad => LabelOrder::Leaves(number, ExpectedItem::SecondMark),
+    match (phase, item) {
+        (Phase::Labels(_), Item::Mark) => LabelOrder::Blank,
+        (Phase::Next(_), Item::Mark) => LabelOrder::Ended,
+        _ => left_by(number, phase, next),
     }
 }
 
@@ -110,10 +88,11 @@ pub(crate) fn course_with(
 ) -> LabelOrder
     ensures { result ≡ course_with course number phase (tape_item item.entry) next }
 {
-    match course {
-        LabelOrder::Follows => behind(number, phase, item, next),
-        LabelOrder::Blank => behind_blank(number, item),
-        LabelOrder::Ended => LabelOrder::Leaves(number, ExpectedItem::End),
-        LabelOrder::Leaves(_, _) => course,
+    match (course, item) {
+        (LabelOrder::Follows, _) => behind(number, phase, item, next),
+        (LabelOrder::Blank, Item::Mark) => LabelOrder::Ended,
+        (LabelOrder::Blank, _) => LabelOrder::Leaves(number, ExpectedItem::SecondMark),
+        (LabelOrder::Ended, _) => LabelOrder::Leaves(number, ExpectedItem::End),
+        (LabelOrder::Leaves(_, _), _) => course,
     }
 }

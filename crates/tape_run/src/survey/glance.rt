@@ -4,14 +4,10 @@ ghost use Rattle.std.specs.Prelude.{◌≡◌, ◌<◌, ◌≤◌, ◌++◌, OnO
 ghost use Rattle.tape_image.specs.Reader.{tape_item};
 ghost use Rattle.tape_image.specs.Begins.{image_limit};
 ghost use Rattle.tape_run.specs.SurveyGlance.{blank_glance, is_ebcdic, first_of, first_with};
-ghost use Rattle.tape_run.specs.SurveyGlance.{first_other, first_block, is_vol1, is_kind_vol1};
-ghost use Rattle.tape_run.specs.SurveyGlance.{late_with, head_in, head_at, head_of, unread_in};
-ghost use Rattle.tape_run.specs.SurveyGlance.{unread_at, unread_by, unread_with, is_bad, one_if};
-ghost use Rattle.tape_run.specs.SurveyGlance.{one_head, or_else, damages_in, look_to};
+ghost use Rattle.tape_run.specs.SurveyGlance.{is_vol1, late_with, head_in, unread_in, is_bad};
+ghost use Rattle.tape_run.specs.SurveyGlance.{one_if, one_head, or_else, damages_in, look_to};
 ghost use Rattle.tape_run.specs.Passing.{in_list};
 ghost use Rattle.tape_run.specs.declared.fault.RunFault.TheVariants as faults;
-ghost use Rattle.tape_label.specs.Kinds.{kind_at};
-ghost use Rattle.tape_label.specs.Reading.{head2_at};
 
 use super::course::{LabelOrder, course_with};
 use crate::fault::RunFault;
@@ -89,30 +85,14 @@ fn first_of(item: Item<'_>) -> First
     ensures { result ≡ first_of (tape_item item.entry) }
 {
     match item {
-        Item::Block(bytes) => first_block(bytes),
+        Item::Block(bytes) => match read_vol1(bytes) {
+            Ok(label) => First::Volume(label),
+            Err(_) if is_ebcdic(bytes) => First::Ebcdic,
+            Err(_) => First::Block(bytes.len() as u64),
+        },
         Item::Bad => First::Bad,
         Item::Mark => First::Mark,
     }
-}
-
-/// Classifies an image by its first block, `bytes`.
-fn first_block(bytes: &[u8]) -> First
-    ensures { result ≡ first_block bytes.now }
-{
-    match read_vol1(bytes) {
-        Ok(label) => First::Volume(label),
-        Err(_) => first_other(bytes),
-    }
-}
-
-/// Classifies an image by its first block, `bytes`, which is not a supported volume label.
-fn first_other(bytes: &[u8]) -> First
-    ensures { result ≡ first_other bytes.now }
-{
-    if is_ebcdic(bytes) {
-        return First::Ebcdic;
-    }
-    First::Block(bytes.len() as u64)
 }
 
 /// Returns what an image begins with, after its item `number`.
@@ -130,18 +110,8 @@ fn is_vol1(item: Item<'_>) -> bool
     ensures { result ≡ is_vol1 (tape_item item.entry) }
 {
     match item {
-        Item::Block(bytes) => begins_volume(bytes),
+        Item::Block(bytes) => matches!(kind(bytes), Some(Kind::Vol1)),
         Item::Bad | Item::Mark => false,
-    }
-}
-
-/// Returns whether a block is a volume label.
-fn begins_volume(bytes: &[u8]) -> bool
-    ensures { result ≡ is_kind_vol1 (kind_at bytes.now) }
-{
-    match kind(bytes) {
-        Some(Kind::Vol1) => true,
-        _ => false,
     }
 }
 
@@ -149,29 +119,12 @@ fn begins_volume(bytes: &[u8]) -> bool
 pub(crate) fn head_in(phase: &Phase, item: Item<'_>) -> Option<Head1>
     ensures { result ≡ head_in phase.now (tape_item item.entry) }
 {
-    match item {
-        Item::Block(bytes) => head_at(phase, bytes),
-        Item::Bad | Item::Mark => None,
-    }
-}
-
-/// Returns the block as a header label, if it is one and a section may begin there.
-fn head_at(phase: &Phase, bytes: &[u8]) -> Option<Head1>
-    ensures { result ≡ head_at phase.now bytes.now }
-{
-    match phase {
-        Phase::Labels(_) | Phase::Next(_) => head_of(bytes),
+    match (phase, item) {
+        (Phase::Labels(_) | Phase::Next(_), Item::Block(bytes)) => match read_head1(bytes) {
+            Ok(head) => Some(head),
+            Err(_) => None,
+        },
         _ => None,
-    }
-}
-
-/// Returns the header label in a block, if it is one.
-fn head_of(bytes: &[u8]) -> Option<Head1>
-    ensures { result ≡ head_of bytes.now }
-{
-    match read_head1(bytes) {
-        Ok(head) => Some(head),
-        Err(_) => None,
     }
 }
 
@@ -179,39 +132,12 @@ fn head_of(bytes: &[u8]) -> Option<Head1>
 fn unread_in(phase: &Phase, item: Item<'_>) -> Option<u16>
     ensures { result ≡ unread_in phase.now (tape_item item.entry) }
 {
-    match item {
-        Item::Block(bytes) => unread_at(phase, bytes),
-        Item::Bad | Item::Mark => None,
-    }
-}
-
-/// Returns the number of the current file if `bytes` is an `HDR2` that is not supported.
-fn unread_at(phase: &Phase, bytes: &[u8]) -> Option<u16>
-    ensures { result ≡ unread_at phase.now bytes.now }
-{
-    match phase {
-        Phase::Second(met) => unread_by(met.key.file, bytes),
+    let (Phase::Second(met), Item::Block(bytes)) = (phase, item) else {
+        return None;
+    };
+    match (kind(bytes), read_head2(bytes)) {
+        (Some(Kind::Hdr2), Err(_)) => Some(met.key.file),
         _ => None,
-    }
-}
-
-/// Returns `file` if the block is an unsupported `HDR2`; a second label of that file is expected.
-fn unread_by(file: u16, bytes: &[u8]) -> Option<u16>
-    ensures { result ≡ unread_by file (kind_at bytes.now) bytes.now }
-{
-    match kind(bytes) {
-        Some(Kind::Hdr2) => unread_head(file, bytes),
-        _ => None,
-    }
-}
-
-/// Returns `file` if the `HDR2` is unsupported.
-fn unread_head(file: u16, bytes: &[u8]) -> Option<u16>
-    ensures { result ≡ unread_with file (head2_at bytes.now) }
-{
-    match read_head2(bytes) {
-        Ok(_) => None,
-        Err(_) => Some(file),
     }
 }
 

@@ -1,10 +1,7 @@
 //! Reading one image of a survey.
 ghost use Rattle.std.specs.Result.{IsOkUnless};
-ghost use Rattle.std.specs.Prelude.{◌≡◌, ◌<◌, length, IfOk, OnOk, option_map};
-ghost use Rattle.tape_image.specs.Reader.{going, tape_item};
-ghost use Rattle.tape_set.specs.Lawful.{most_blocks};
-ghost use Rattle.tape_run.specs.Noted.{noted_all};
-ghost use Rattle.tape_run.specs.Passing.{step, in_list, under_way, blocks_of};
+ghost use Rattle.std.specs.Prelude.{◌≡◌, length, IfOk, OnOk, option_map};
+ghost use Rattle.tape_image.specs.Reader.{going};
 ghost use Rattle.tape_run.specs.declared.fault.RunFault.TheVariants as faults;
 ghost use Rattle.tape_run.specs.SurveyRead.{ViewsItems, IsViewed, AreViewed, nothing_found};
 ghost use Rattle.tape_run.specs.SurveyTally.{is_whole_sight, is_sound, is_ended, is_none, is_end};
@@ -24,7 +21,7 @@ use crate::sections::{Sections, close, take};
 use std::alloc::Global;
 use std::io::Read;
 use std::marker::Model;
-use tape_image::{ImageReader, Item};
+use tape_image::ImageReader;
 use tape_set::Sequence;
 
 /// The survey of an image: the summary of its items, how they end, and its damaged sections.
@@ -236,7 +233,7 @@ fn view_items<R: Read>(
                 let (_, told) = step(phase, item);
                 copies.note(number, told, digest)?;
                 note_damage(&mut damaged, &told)?;
-                let behind = take_behind(sections, &phase, item)?;
+                let behind = take(sections, phase, item)?;
                 digest = digest_in(digest, &phase, item);
                 glance = look(&glance, &phase, item, &behind);
                 phase = behind;
@@ -245,7 +242,7 @@ fn view_items<R: Read>(
                 let Some(ending) = image.ending() else {
                     unreachable!()
                 };
-                close_behind(sections, &phase)?;
+                close(sections, phase)?;
                 note_damage(&mut damaged, &phase.under_way())?;
                 let stop = stop_at(ending);
                 let damaged = Sequence::of_vec(damaged);
@@ -256,7 +253,7 @@ fn view_items<R: Read>(
                 });
             }
             Err(fault) => {
-                close_behind(sections, &phase)?;
+                close(sections, phase)?;
                 note_damage(&mut damaged, &phase.under_way())?;
                 let stop = ImageStop::Fault(fault);
                 let damaged = Sequence::of_vec(damaged);
@@ -268,24 +265,4 @@ fn view_items<R: Read>(
             }
         }
     }
-}
-
-/// Adds the section that an item completes, and returns what is expected next.
-fn take_behind(sections: &mut Sections, phase: &Phase, item: Item<'_>) -> Result<Phase, RunFault>
-    requires { blocks_of phase.now < most_blocks }
-    ensures fault { IsOkUnless result faults.OutOfMemory }
-    ensures phase { IfOk result (λ next. next ≡ (step phase.now (tape_item item.entry)).0) }
-    ensures ok { OnOk result (sections.new.entries
-        ≡ noted_all sections.old.entries (in_list (step phase.now (tape_item item.entry)).1)) }
-{
-    take(sections, *phase, item)
-}
-
-/// Adds the section that is being read when the items end, if any.
-fn close_behind(sections: &mut Sections, phase: &Phase) -> Result<(), RunFault>
-    ensures fault { IsOkUnless result faults.OutOfMemory }
-    ensures ok { OnOk result (sections.new.entries
-        ≡ noted_all sections.old.entries (in_list (under_way phase.now))) }
-{
-    close(sections, *phase)
 }

@@ -75,7 +75,7 @@ returns-in-Ok-None-clause-ok g c =
     (c.ending.ensures ∙ ap ending_of met.ended) in
     viewed_end _ c.items.image.left next.left c.items.image.place next.place _ met.ending _ _ _
     _ c.items.phase _ _ _ _ _ _ _ _ c.items.invariant.looked met.takes
-    c.in_ok-close_behind-in-Ok-None.ensures.ok (c.stop_at-stop.ensures ∙ ap stop_at ending)
+    c.in_ok-close-in-Ok-None.ensures.ok (c.stop_at-stop.ensures ∙ ap stop_at ending)
     (c.of_vec-damaged.ensures ∙ c.in_ok-note_damage-in-Ok-None.ensures.ok
     ∙ ap (λ (o : Option Told). c.items.damaged.items ++ damages_in (in_list o)) c.under_way.ensures)
 
@@ -86,7 +86,7 @@ returns-in-Err-clause-ok g c =
     c.items.invariant.on c.in-Err.is in
     viewed_fault _ c.items.image.left next.left c.items.image.place _ c.in-Err.fault _ _ _
     _ c.items.phase _ _ _ _ _ _ _ _ c.items.invariant.looked met.takes
-    c.in_ok-close_behind-in-Err.ensures.ok refl
+    c.in_ok-close-in-Err.ensures.ok refl
     (c.of_vec-damaged-in-Err.ensures ∙ c.in_ok-note_damage-in-Err.ensures.ok
     ∙ ap (λ (o : Option Told). c.items.damaged.items ++ damages_in (in_list o))
     c.under_way-in-Err.ensures)
