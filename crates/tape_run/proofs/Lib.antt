@@ -112,6 +112,8 @@ mod SalvageChoice
 mod SalvageImages
 mod SalvageOne
 mod SalvageTaking
+mod SalvageFronts
+mod SalvageBegun
 mod SalvageShelf
 mod SalvageRest
 mod SalvageClosings

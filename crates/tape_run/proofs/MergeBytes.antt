@@ -154,7 +154,15 @@ faults_images images firsts nows old new (faults.Differ n) front d = record {
   count = d.count;
 }
 faults_images images firsts nows old new faults.OutOfMemory front d = tt
-faults_images images firsts nows old new faults.Log front d = tt
+faults_images images firsts nows old new faults.Log front d = record {
+  readings = d.readings;
+  taken = take_images images firsts nows d.readings front d.taken;
+  merged = d.merged;
+  x = d.x;
+  is = d.is;
+  wrote = d.wrote;
+  due = d.due;
+}
 faults_images images firsts nows old new (faults.Write fault) front d = record {
   readings = d.readings;
   taken = take_images images firsts nows d.readings front d.taken;

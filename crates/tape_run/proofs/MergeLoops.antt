@@ -2,7 +2,7 @@
 use Rattle.std.proofs.Common.{◌≡◌, ◌≢◌, ℕ, ◌+◌, ◌≤◌, List, [], ◌∷◌, ◌++◌, length, Option, Some}
 use Rattle.std.proofs.Common.{None, Bool, true, false, Result, Err, refl, sym, ap, subst, ◌∙◌, inl}
 use Rattle.std.proofs.Common.{length-append, append-nil, arith}
-use Rattle.std.specs.Prelude.{◌==◌, is_some, IfSome, IfErr}
+use Rattle.std.specs.Prelude.{◌==◌, ◌||◌, nat_lt, is_some, IfSome, IfErr}
 use Rattle.std.specs.Io.KnownBytes.{Appends}
 use Rattle.std.proofs.KnownBytes.{Appends-nil, Appends-trans}
 use Rattle.tape_image.specs.declared.item.ImageWriteFault.{ImageWriteFault}
@@ -19,7 +19,7 @@ use Rattle.tape_run.specs.Merging.{IsReadFrom, AreReadFrom, IsMerged}
 use Rattle.tape_run.specs.declared.merge.reading.Reading.{Reading}
 use Rattle.tape_run.specs.MergeSteps.{best_items, AskedAll, HaveTaken, AreUpTo, nothing}
 use Rattle.tape_run.specs.MergeSteps.{is_bad_one, one_if, goods_in}
-use Rattle.tape_run.specs.MergeLog.{log_rows, row_now}
+use Rattle.tape_run.specs.MergeLog.{log_rows, row_now, has_bad_verdict}
 use Rattle.tape_run.specs.MergeCalls.{Counts, firsts_in, miscounted_of, Puts}
 use Rattle.tape_run.specs.MergeCalls.{Merges, DiffersAt, FitsFault, RefusesCandidate}
 use Rattle.tape_run.proofs.NotedSoFar.{one_block}
@@ -27,7 +27,7 @@ use Rattle.tape_run.proofs.MergeRefusals.{best_fits, refuses_puts}
 use Rattle.tape_run.proofs.MergeAsking.{HaveCandidate, all_best, all_differ}
 use Rattle.tape_run.proofs.MergeCounts.{put_one_more, put_moves, was_put, was_none, CountsOne}
 use Rattle.tape_run.proofs.MergeCounts.{counts_more, phase_more, alone_kept}
-use Rattle.tape_run.proofs.MergeRows.{goods_seen, rows_kept, rows_more}
+use Rattle.tape_run.proofs.MergeRows.{goods_seen, rows_kept, rows_more, due_seen}
 
 -- ---- the loop
 
@@ -315,22 +315,24 @@ refused_now {T} {R} result firsts olds nows a p old mid new log row (Some x) oth
 
 -- the item was written, but its row was refused
 pub row_refused : {T R : Type 0} (result : Result T MergeFault)
-    (firsts olds nows : List (Reading R)) (a : Merged) (p : Phase) (old mid new : Writer)
-    (log row : Option (List ℕ)) (now other : Option TapeItem) (some : Bool)
+    (firsts olds nows : List (Reading R)) (a : Merged) (p : Phase) (have : ℕ)
+    (old mid new : Writer) (log row : Option (List ℕ)) (now other : Option TapeItem) (some : Bool)
+    → have ≡ firsts_in nows → (nat_lt have 2 || has_bad_verdict nows) ≡ true
     → result ≡ Err faults.Log → SoFar firsts olds a p old mid log row
     → AskedAll olds nows None now None other → is_some other ≡ false → Puts now some mid new
     → some ≡ true → IfErr result (FitsFault firsts nows old new)
-row_refused {T} {R} result firsts olds nows a p old mid new log row now other some is s asked none
-    puts put_it =
+row_refused {T} {R} result firsts olds nows a p have old mid new log row now other some many due is
+    s asked none puts put_it =
     let (x, best, put) =
     was_put now mid new (subst (λ (b : Bool). Puts now b mid new) put_it puts) in
     let h = round firsts olds nows a p old mid log row now other s asked (is_none other none) in
     let P : Result T MergeFault → Type 0 = λ r. IfErr r (FitsFault firsts nows old new) in
     subst P (sym is) (record {
-      mids = nows;
-      fronts = h.readings;
-      had = h.have;
-      merged = s.merged ++ x ∷ [];
+      readings = h.readings;
+      taken = h.have;
+      merged = s.merged;
+      x = x;
       is = is_next firsts nows s.readings s.merged now other x best h;
       wrote = put_one_more s.merged old mid new x s.wrote put;
+      due = due_seen have nows _ h.here many ∙ due;
     })

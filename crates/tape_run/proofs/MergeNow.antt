@@ -9,7 +9,6 @@ use Rattle.std.proofs.KnownBytes.{Appends-nil, Appends-trans}
 use Rattle.tape_image.specs.Tape.{TapeItem}
 use Rattle.tape_image.specs.Written.{written, AppendsFront}
 use Rattle.tape_image.specs.Writer.{Writer, writing, PutItems}
-use Rattle.tape_image.proofs.Pieces.{front_more}
 use Rattle.tape_image.proofs.WrittenItems.{put_item}
 use Rattle.tape_run.specs.declared.merge.Merged.{Merged}
 use Rattle.tape_run.specs.declared.merge.MergeFault.{MergeFault}
@@ -23,7 +22,7 @@ use Rattle.tape_run.specs.declared.merge.MergeFault.TheVariants as faults
 use Rattle.tape_run.specs.declared.merge.reading.Reading.{Reading}
 use Rattle.tape_run.specs.Reeling.{Mounting, AreMounted}
 use Rattle.tape_run.specs.MergeCalls.{AreAtFront, IfImages}
-use Rattle.tape_run.specs.MergedImages.{MergesImages, FaultsImages}
+use Rattle.tape_run.specs.MergedImages.{MergesImages, FaultsImages, DifferImages}
 use Rattle.tape_run.specs.MergeLines.{lines_from, reading_line, has_line, merged_line, differ_line}
 use Rattle.tape_run.specs.MergeNow.{IsOn, MountsAll, IsMissing, EndsAs, end_bytes}
 use Rattle.tape_run.specs.MergeNow.{FitsEnd, HoldsMerged, ComesTo, IfMounted}
@@ -127,31 +126,41 @@ cause_now result missing size gives remaining shelf left devices firsts long mou
     err_misses result (λ _. ⊥) missing (λ n. IfImages firsts (long n)) _ (λ n no. absurd no)
     (λ n k. if_mounted size gives remaining shelf left devices firsts (long n) mounts front k) h
 
-leaves_more : {O : Type 0} (stands : O → Option (List ℕ)) (old new : O) (said P Q : Type 0)
-    (stop : MergeStop) → (P → Q) → LeavesPlace stands old new said P stop
-    → LeavesPlace stands old new said Q stop
-leaves_more stands old new said P Q (stops.NotOpened number) f h = h
-leaves_more stands old new said P Q (stops.TooLong size) f h = h
-leaves_more stands old new said P Q stops.OutOfMemory f h = h
-leaves_more stands old new said P Q stops.LogFailed f h = h
-leaves_more stands old new said P Q stops.WriteFailed f (inl same) = inl same
-leaves_more stands old new said P Q stops.WriteFailed f (inr made) = inr (f made)
+leaves_more : {O : Type 0} (stands : O → Option (List ℕ)) (old new : O) (said says P Q : Type 0)
+    (stop : MergeStop) → (said → says) → (P → Q) → LeavesPlace stands old new said P stop
+    → LeavesPlace stands old new says Q stop
+leaves_more stands old new said says P Q (stops.NotOpened number) e f h = (h.0, e h.1)
+leaves_more stands old new said says P Q (stops.TooLong size) e f h = (h.0, e h.1)
+leaves_more stands old new said says P Q stops.OutOfMemory e f h = (h.0, e h.1)
+leaves_more stands old new said says P Q stops.LogFailed e f h = (h.0, e h.1)
+leaves_more stands old new said says P Q stops.WriteFailed e f (inl same) = inl (same.0, e same.1)
+leaves_more stands old new said says P Q stops.WriteFailed e f (inr made) = inr (f made)
 
 pub left_now : {L R O : Type 0} (result : Result MergeEnd MergeStop) (place : O → Option (List ℕ))
-    (old new : O) (said : Type 0) (size : L → ℕ) (gives : Mounting L R)
+    (old new : O) (same : Type 0) (size : L → ℕ) (gives : Mounting L R)
     (remaining : R → Option (List ℕ)) (shelf left : L) (devices : List R)
-    (firsts : List (Reading R)) (holds : MergeEnd → List (List ℕ) → Type 0)
+    (firsts : List (Reading R)) (says : List (List ℕ) → Type 0)
+    (holds : MergeEnd → List (List ℕ) → Type 0)
     → MountsAll size gives shelf left devices → AreAtFront (map remaining devices) firsts
-    → IfErr result (LeavesPlace place old new said ((end : MergeEnd) × IfImages firsts (holds end)))
-    → IfErr result (LeavesPlace place old new said ((end : MergeEnd)
-    × IfMounted size gives remaining shelf left (holds end)))
-left_now (Ok end) place old new said size gives remaining shelf left devices firsts holds mounts
+    → IfErr result (LeavesPlace place old new (same ⊎ IfImages firsts says)
+    ((end : MergeEnd) × IfImages firsts (holds end)))
+    → IfErr result (LeavesPlace place old new
+    (same ⊎ IfMounted size gives remaining shelf left says)
+    ((end : MergeEnd) × IfMounted size gives remaining shelf left (holds end)))
+left_now (Ok end) place old new same size gives remaining shelf left devices firsts says holds mounts
     front h = tt
-left_now (Err stop) place old new said size gives remaining shelf left devices firsts holds mounts
-    front h = leaves_more place old new said _ _ stop (λ made. (
+left_now (Err stop) place old new same size gives remaining shelf left devices firsts says holds
+    mounts front h =
+    leaves_more place old new (same ⊎ IfImages firsts says) _ _ _ stop mounted (λ made. (
       made.0,
       if_mounted size gives remaining shelf left devices firsts (holds made.0) mounts front made.1,
     )) h
+  where
+    mounted : same ⊎ IfImages firsts says
+        → same ⊎ IfMounted size gives remaining shelf left says
+    mounted (inl is) = inl is
+    mounted (inr said) =
+        inr (if_mounted size gives remaining shelf left devices firsts says mounts front said)
 
 -- the output's name was not touched
 pub stays : {O : Type 0} (stands : O → Option (List ℕ)) (place : O) (said made : Type 0)
@@ -178,50 +187,80 @@ err_write {T} result stands old new said made is h =
 
 -- ---- the report after a fault
 
-pub says_nothing : (R : Type 0) (names : List (List ℕ)) (old : Option (List ℕ))
-    → ReportsNoImage R names old old
-says_nothing R names old = ([], 0, ([], _, Appends-nil old, refl))
+-- lines about readings that were read to their ends, or a prefix of them
+pub says_front : {R : Type 0} (firsts nows : List (Reading R)) (counts : Merged)
+    (first mid : Writer) (log logged : Option (List ℕ)) (names : List (List ℕ)) (same : Type 0)
+    (old new : Option (List ℕ))
+    → IfImages firsts (λ images. MergesImages images nows counts first mid log logged)
+    → AppendsFront old new (lines_from (reading_line names) 0 nows)
+    → same ⊎ IfImages firsts (λ images. ReportsNoImage R images names old new)
+says_front firsts nows counts first mid log logged names same old new merges part =
+    inr (λ images front.
+    let m = merges images front in (nows, inl (m.readings, m.have, part)))
 
--- lines about readings, or a prefix of them
-pub says_front : {R : Type 0} (names : List (List ℕ)) (nows : List (Reading R))
-    (old new : Option (List ℕ)) → AppendsFront old new (lines_from (reading_line names) 0 nows)
-    → ReportsNoImage R names old new
-says_front names nows old new part = (nows, 0, front_more old new _ _ part)
-
-pub says_lines : {R : Type 0} (names : List (List ℕ)) (nows : List (Reading R))
-    (old new : Option (List ℕ)) → Appends old new (lines_from (reading_line names) 0 nows)
-    → ReportsNoImage R names old new
-says_lines names nows old new wrote =
+pub says_lines : {R : Type 0} (firsts nows : List (Reading R)) (counts : Merged)
+    (first mid : Writer) (log logged : Option (List ℕ)) (names : List (List ℕ)) (same : Type 0)
+    (old new : Option (List ℕ))
+    → IfImages firsts (λ images. MergesImages images nows counts first mid log logged)
+    → Appends old new (lines_from (reading_line names) 0 nows)
+    → same ⊎ IfImages firsts (λ images. ReportsNoImage R images names old new)
+says_lines firsts nows counts first mid log logged names same old new merges wrote =
     let lines = lines_from (reading_line names) 0 nows in
-    says_front names nows old new (lines, [], wrote, sym (append-nil lines))
+    says_front firsts nows counts first mid log logged names same old new merges
+    (lines, [], wrote, sym (append-nil lines))
 
--- also about a difference, or a prefix of that line
-pub says_differ : {R : Type 0} (names : List (List ℕ)) (nows : List (Reading R)) (n : ℕ)
-    (old mid new : Option (List ℕ)) → Appends old mid (lines_from (reading_line names) 0 nows)
-    → AppendsFront mid new (differ_line n) → ReportsNoImage R names old new
-says_differ names nows n old mid new wrote part =
-    let lines = lines_from (reading_line names) 0 nows in
-    let items = lines_from (has_line names) 0 nows in (
-      nows,
-      n,
-      front_then old mid new lines (differ_line n) items _ wrote part
-          (sym (append_assoc lines (differ_line n) items)),
-    )
+-- lines about readings that differ
+module _ {R : Type 0} (firsts nows : List (Reading R)) (was now : Writer) (n : ℕ)
+    (fault : MergeFault) (names : List (List ℕ)) (same : Type 0)
+    (faulted : IfImages firsts (λ images. FaultsImages images nows was now fault))
+    (is : fault ≡ faults.Differ n) where
+  differ : (images : List (List ℕ)) → AreAtFront (map Some images) firsts
+      → DifferImages images nows n
+  differ images front =
+      subst (λ (f : MergeFault). FaultsImages images nows was now f) is (faulted images front)
 
--- also items of the readings there, or a prefix of those lines
-pub says_items : {R : Type 0} (names : List (List ℕ)) (nows : List (Reading R)) (n : ℕ)
-    (old mid new : Option (List ℕ))
-    → Appends old mid (lines_from (reading_line names) 0 nows ++ differ_line n)
-    → AppendsFront mid new (lines_from (has_line names) 0 nows) → ReportsNoImage R names old new
-says_items names nows n old mid new wrote part =
-    let lines = lines_from (reading_line names) 0 nows in
-    let items = lines_from (has_line names) 0 nows in (
-      nows,
-      n,
-      front_then old mid new (lines ++ differ_line n) items [] _ wrote part
-          (sym (append_assoc lines (differ_line n) items)
-          ∙ sym (append-nil ((lines ++ differ_line n) ++ items))),
-    )
+  abbrev pub Says : Option (List ℕ) → Option (List ℕ) → Type 0
+  Says old new = same ⊎ IfImages firsts (λ images. ReportsNoImage R images names old new)
+
+  pub says_first : (old new : Option (List ℕ))
+      → AppendsFront old new (lines_from (reading_line names) 0 nows) → Says old new
+  says_first old new part = inr (λ images front.
+      let d = differ images front in (nows, inl (d.readings, d.have, part)))
+
+  -- also the number of the item, or a prefix of that line
+  pub says_differ : (old mid new : Option (List ℕ))
+      → Appends old mid (lines_from (reading_line names) 0 nows)
+      → AppendsFront mid new (differ_line n) → Says old new
+  says_differ old mid new wrote part =
+      let lines = lines_from (reading_line names) 0 nows in
+      let items = lines_from (has_line names) 0 nows in
+      inr (λ images front. (
+        nows,
+        inr (
+          n,
+          differ images front,
+          front_then old mid new lines (differ_line n) items _ wrote part
+              (sym (append_assoc lines (differ_line n) items)),
+        ),
+      ))
+
+  -- also items of the readings there, or a prefix of those lines
+  pub says_items : (old mid new : Option (List ℕ))
+      → Appends old mid (lines_from (reading_line names) 0 nows ++ differ_line n)
+      → AppendsFront mid new (lines_from (has_line names) 0 nows) → Says old new
+  says_items old mid new wrote part =
+      let lines = lines_from (reading_line names) 0 nows in
+      let items = lines_from (has_line names) 0 nows in
+      inr (λ images front. (
+        nows,
+        inr (
+          n,
+          differ images front,
+          front_then old mid new (lines ++ differ_line n) items [] _ wrote part
+              (sym (append_assoc lines (differ_line n) items)
+              ∙ sym (append-nil ((lines ++ differ_line n) ++ items))),
+        ),
+      ))
 
 -- ---- the readings
 

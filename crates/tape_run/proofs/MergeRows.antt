@@ -43,15 +43,21 @@ cells_seen (r ∷ rs) (x ∷ xs) h = cc (h.0.cell, cells_seen rs xs h.1)
 cells_seen [] (x ∷ xs) h = absurd h
 cells_seen (r ∷ rs) [] h = absurd h
 
+-- whether the item has a row
+pub due_seen : {R : Type 0} (have : ℕ) (rs : List (Reading R)) (xs : List (Option TapeItem))
+    → AreSeenAs rs xs → have ≡ firsts_in rs
+    → is_logged xs ≡ (nat_lt have 2 || has_bad_verdict rs)
+due_seen have rs xs h many =
+    let goods : goods_in xs ≡ have = goods_seen rs xs h ∙ sym many in
+    ap (λ k. nat_lt k 2 || has_bad xs) goods
+    ∙ ap (λ b. nat_lt have 2 || b) (bad_seen rs xs h)
+
 -- the row of the item
 row_seen : {R : Type 0} (n have : ℕ) (x : TapeItem) (rs : List (Reading R))
     (xs : List (Option TapeItem)) → AreSeenAs rs xs → have ≡ firsts_in rs
     → log_row n x xs ≡ row_now n (Some x) have rs
 row_seen n have x rs xs h many =
-    let goods : goods_in xs ≡ have = goods_seen rs xs h ∙ sym many in
-    let is : is_logged xs ≡ (nat_lt have 2 || has_bad_verdict rs) =
-    ap (λ k. nat_lt k 2 || has_bad xs) goods
-    ∙ ap (λ b. nat_lt have 2 || b) (bad_seen rs xs h) in
+    let is = due_seen have rs xs h many in
     ap (λ b. if b then row_text n (kind_at x) (flat_map seen_cell xs) else []) is
     ∙ ap (λ cells. if nat_lt have 2 || has_bad_verdict rs then row_text n (kind_at x) cells else [])
     (cells_seen rs xs h)

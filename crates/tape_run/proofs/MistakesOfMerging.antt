@@ -4,17 +4,18 @@ use Rattle.std.proofs.Common.{length, Option, Some, None}
 use Rattle.std.specs.Prelude.{codes}
 use Rattle.std.specs.List.{flat_map}
 use Rattle.tape_image.proofs.WrittenItems.{known_after}
+use Rattle.tape_image.proofs.Pieces.{front_more}
 use Rattle.std.proofs.Common.{refl, sym, ap, ◌∙◌, get_or, arith, false}
 use Rattle.tape_image.specs.Tape.{TapeItem, block, bad, mark}
 use Rattle.tape_image.specs.Begins.{image_limit}
-use Rattle.tape_image.specs.Written.{written}
+use Rattle.tape_image.specs.Written.{written, AppendsFront}
 use Rattle.tape_run.specs.declared.merge.line.MergedEnd.{MergedEnd}
 use Rattle.tape_run.specs.declared.merge.line.MergedEnd.TheVariants.{Marked}
 use Rattle.tape_run.specs.declared.merge.now.MergeEnd.TheVariants.{Whole}
 use Rattle.tape_run.specs.declared.merge.reading.Reading.{Reading}
 use Rattle.tape_run.specs.Merging.{IsReadAs, IsReadFrom, IsMerged, Differ}
 use Rattle.tape_run.specs.MergeSteps.{AllStopped}
-use Rattle.tape_run.specs.MergedImages.{TakeImages}
+use Rattle.tape_run.specs.MergedImages.{TakeImages, DifferImages}
 use Rattle.tape_run.specs.MergeCalls.{alone_in}
 use Rattle.tape_run.specs.MergeNow.{FitsEnd, EndsAs, end_bytes, IsTooLong, ReportsNoImage}
 use Rattle.tape_run.specs.MergeLines.{lines_from, reading_line, has_line, differ_line}
@@ -96,18 +97,35 @@ merge_too_long_at_once R size long = go long.nows long.readings long.have long.m
     go (n ∷ ns) rs have merged comes e over = absurd have
 
 -- merge_reported_without_a_file: the merged image has no name, but its line was reported
-merge_reported_without_a_file : (R : Type 0) (names : List (List ℕ)) (rest : List ℕ)
-    → ReportsNoImage R names (Some []) (Some (codes "MERGED" ++ rest)) → ⊥
-merge_reported_without_a_file R names rest (nows, n, (front, more, wrote, is)) =
-    go nows (cc (known_after (Some []) (Some (codes "MERGED" ++ rest)) [] front refl wrote)) is
+merge_reported_without_a_file : (R : Type 0) (images names : List (List ℕ)) (rest : List ℕ)
+    → ReportsNoImage R images names (Some []) (Some (codes "MERGED" ++ rest)) → ⊥
+merge_reported_without_a_file R images names rest (nows, said) = either said
   where
-    go : (nows : List (Reading R)) → front ≡ codes "MERGED" ++ rest
-        → lines_from (reading_line names) 0 nows ++ (differ_line n
-        ++ lines_from (has_line names) 0 nows) ≡ front ++ more → ⊥
-    go [] starts is = absurd (let e : 68 ≡ 77 =
+    go : (nows : List (Reading R)) (n : ℕ) (front more : List ℕ)
+        → front ≡ codes "MERGED" ++ rest → lines_from (reading_line names) 0 nows
+        ++ (differ_line n ++ lines_from (has_line names) 0 nows) ≡ front ++ more → ⊥
+    go [] n front more starts is = absurd (let e : 68 ≡ 77 =
         ap (λ t. get_or t 0 0) (is ∙ ap (λ t. t ++ more) starts) in omega arith)
-    go (r ∷ rs) starts is = absurd (let e : 73 ≡ 77 =
+    go (r ∷ rs) n front more starts is = absurd (let e : 73 ≡ 77 =
         ap (λ t. get_or t 0 0) (is ∙ ap (λ t. t ++ more) starts) in omega arith)
+
+    says : (n : ℕ) → AppendsFront (Some []) (Some (codes "MERGED" ++ rest))
+        (lines_from (reading_line names) 0 nows
+        ++ (differ_line n ++ lines_from (has_line names) 0 nows)) → ⊥
+    says n (front, more, wrote, is) = go nows n front more
+        (cc (known_after (Some []) (Some (codes "MERGED" ++ rest)) [] front refl wrote)) is
+
+    either : ((readings : List (List TapeItem)) × TakeImages images nows readings
+        × AppendsFront (Some []) (Some (codes "MERGED" ++ rest))
+        (lines_from (reading_line names) 0 nows)) ⊎ ((n : ℕ) × DifferImages images nows n
+        × AppendsFront (Some []) (Some (codes "MERGED" ++ rest))
+        (lines_from (reading_line names) 0 nows
+        ++ (differ_line n ++ lines_from (has_line names) 0 nows))) → ⊥
+    either (inl (readings, have, part)) =
+        says 0 (front_more (Some []) (Some (codes "MERGED" ++ rest))
+        (lines_from (reading_line names) 0 nows)
+        (differ_line 0 ++ lines_from (has_line names) 0 nows) part)
+    either (inr (n, differ, part)) = says n part
 
 -- merge_two_witnesses_counted_as_one: both readings have a mark, but it is counted as that of one
 merge_two_witnesses_counted_as_one : alone_in 1 ((mark ∷ []) ∷ (mark ∷ []) ∷ []) ≡ 1 → ⊥

@@ -1,7 +1,7 @@
 -- The best copy of a section, and what the copies say about the file.
 use Rattle.std.proofs.Common.{◌≡◌, ℕ, ◌+◌, ◌<◌, ◌≤◌, Bool, true, false, max, take, get_or, List}
 use Rattle.std.proofs.Common.{[], ◌∷◌, ◌++◌, length, Option, Some, None, refl, sym, ap, subst}
-use Rattle.std.proofs.Common.{◌∙◌, arith, append_assoc, append-nil}
+use Rattle.std.proofs.Common.{◌∙◌, arith, append_assoc, append-nil, ◌⊎◌, inl, inr}
 use Rattle.std.specs.Prelude.{if◌then◌else◌}
 use Rattle.std.specs.List.{AllByRecursion}
 use Rattle.std.proofs.lemmas.List.{take_more}
@@ -79,6 +79,44 @@ new_best cs b c more_rank (front, rest, is, less, most) = (
       )),
   tt,
 )
+
+-- one more copy before the others
+best_with : (c : SectionCopy) (cs : List SectionCopy)
+    → (best : Option SectionCopy) × IsBest cs best
+    → (best : Option SectionCopy) × IsBest (c ∷ cs) best
+best_with c cs (None, none) = (
+  Some c,
+  ([], cs, refl, tt, subst (AllByRecursion (λ d. rank d ≤ rank c)) (sym none) tt),
+)
+best_with c cs (Some b, (front, rest, is, less, most)) = elim (one_of (rank b) (rank c)) [
+  | inl low ↦ (
+    Some c,
+    (
+      [],
+      cs,
+      refl,
+      tt,
+      subst (AllByRecursion (λ d. rank d ≤ rank c)) (sym is)
+          (all_append (λ d. rank d ≤ rank c) front (b ∷ rest)
+          (all_map (λ d. rank d < rank b) (λ d. rank d ≤ rank c)
+          (λ d h. omega (arith, h, low)) front less) (
+            low,
+            all_map (λ d. rank d ≤ rank b) (λ d. rank d ≤ rank c)
+                (λ d h. omega (arith, h, low)) rest most,
+          )),
+    ),
+  )
+  | inr high ↦
+      (Some b, (c ∷ front, rest, ap (λ (l : List SectionCopy). c ∷ l) is, (high, less), most))
+]
+  where
+    one_of : (m n : ℕ) → (m ≤ n) ⊎ (n < m)
+    one_of m n = grind arith
+
+-- there is a best copy, unless there are none
+pub some_best : (cs : List SectionCopy) → (best : Option SectionCopy) × IsBest cs best
+some_best [] = (None, refl)
+some_best (c ∷ cs) = best_with c cs (some_best cs)
 
 -- one more copy, which may be considered or not
 pub passes_copy : (sect : ℕ) (cs : List SectionCopy) (c : SectionCopy) (best : Option SectionCopy)

@@ -1,7 +1,8 @@
 -- The complete copies of sections that differ from the best one.
 use Rattle.std.proofs.Common.{◌≡◌, ◌<◌, ℕ, suc, ◌+◌, ◌||◌, Bool, true, false, take, get_or, List}
 use Rattle.std.proofs.Common.{[], ◌∷◌, ◌++◌, length, Option, Some, None, refl, sym, ap, subst, ◌∙◌}
-use Rattle.std.proofs.Common.{append_assoc, append-nil, arith}
+use Rattle.std.proofs.Common.{append_assoc, append-nil, arith, zero, drop, ◌-◌}
+use Rattle.std.proofs.lemmas.List.{take-append-drop}
 use Rattle.std.specs.Prelude.{if◌then◌else◌}
 use Rattle.std.specs.Io.KnownBytes.{Appends}
 use Rattle.std.proofs.KnownBytes.{Appends-nil, Appends-trans}
@@ -9,7 +10,9 @@ use Rattle.tape_run.specs.declared.salvage.copies.SectionCopy.{SectionCopy}
 use Rattle.tape_run.specs.SalvageChoice.{firsts, IsBest}
 use Rattle.tape_run.specs.SalvageConflicts.{are_conflicting, has_conflict, conflict_text}
 use Rattle.tape_run.specs.SalvageConflicts.{AreConflicts, text_if}
-use Rattle.tape_run.proofs.SalvageChoice.{taken_more}
+use Rattle.tape_image.specs.Written.{AppendsFront}
+use Rattle.tape_run.proofs.SalvageChoice.{taken_more, some_best}
+use Rattle.tape_run.proofs.Reporting.{front_then}
 
 or_none : (b : Bool) → (b || false) ≡ b
 or_none true = refl
@@ -74,6 +77,32 @@ compared_more best c cs place before any now said w says within is s test wrote 
           (Appends-trans said w says _ _ s.wrote wrote);
     }
 
+text_join : (best : SectionCopy) (cs ds : List SectionCopy)
+    → conflict_text (Some best) (cs ++ ds)
+    ≡ conflict_text (Some best) cs ++ conflict_text (Some best) ds
+text_join best [] ds = refl
+text_join best (c ∷ cs) ds =
+    let line = text_if (are_conflicting best c) best c in
+    ap (λ (t : List ℕ). line ++ t) (text_join best cs ds)
+    ∙ sym (append_assoc line (conflict_text (Some best) cs) (conflict_text (Some best) ds))
+
+-- the line of a copy was not written completely
+pub compared_front : (best c : SectionCopy) (cs : List SectionCopy) (place : ℕ)
+    (before any : Bool) (said w says : Option (List ℕ)) → place < length cs
+    → c ≡ get_or cs place c → ComparedSoFar best (take place cs) before any said w
+    → AppendsFront w says (text_if (are_conflicting best c) best c)
+    → AppendsFront said says (conflict_text (Some best) cs)
+compared_front best c cs place before any said w says within is s part =
+    let rest = drop (place + 1) cs in
+    front_then said w says (conflict_text (Some best) (take place cs))
+    (text_if (are_conflicting best c) best c) (conflict_text (Some best) rest)
+    (conflict_text (Some best) cs) s.wrote part
+    (ap (conflict_text (Some best)) (sym (take-append-drop (place + 1) cs))
+    ∙ text_join best (take (place + 1) cs) rest
+    ∙ ap (λ (t : List ℕ). t ++ conflict_text (Some best) rest)
+    (ap (conflict_text (Some best)) (taken_more cs place c c within is)
+    ∙ text_more best c (take place cs)))
+
 -- ---- all sections
 
 pub record ReportedSoFar (copies : List SectionCopy) (n : ℕ) (any : Bool)
@@ -100,3 +129,31 @@ next_reported copies n any now best said w says s is found wrote =
           (s.text, any, best, s.are, is, refl, found);
       wrote = Appends-trans said w says s.text (conflict_text best copies) s.wrote wrote;
     }
+
+-- the lines of further sections follow these
+more_conflicts : (copies : List SectionCopy) (k n m : ℕ) (text : List ℕ) (any : Bool)
+    → m ≡ k + n → AreConflicts copies n text any
+    → (all rest : List ℕ) × (any : Bool) × AreConflicts copies m all any × (all ≡ text ++ rest)
+more_conflicts copies zero n m text any e are =
+    let same : n ≡ m = omega (arith, e) in
+    (text, [], any, subst (λ z. AreConflicts copies z text any) same are, sym (append-nil text))
+more_conflicts copies (suc k) n m text any e are =
+    let (best, is) = some_best (firsts (n + 1) None copies) in
+    let line = conflict_text best copies in
+    let (all, rest, some, more, joined) = more_conflicts copies k (suc n) m (text ++ line)
+    (has_conflict best copies || any) (omega (arith, e)) (text, any, best, are, is, refl, refl) in
+    (all, line ++ rest, some, more, joined ∙ append_assoc text line rest)
+
+-- the lines of a section were not written completely
+pub reported_front : (copies : List SectionCopy) (n last : ℕ) (any : Bool)
+    (best : Option SectionCopy) (said w says : Option (List ℕ)) → n < last
+    → ReportedSoFar copies n any said w → IsBest (firsts (n + 1) None copies) best
+    → AppendsFront w says (conflict_text best copies)
+    → (text : List ℕ) × (some : Bool) × AreConflicts copies last text some
+    × AppendsFront said says text
+reported_front copies n last any best said w says within s is part =
+    let line = conflict_text best copies in
+    let (all, rest, some, more, joined) = more_conflicts copies (last - suc n) (suc n) last
+    (s.text ++ line) (has_conflict best copies || any) (omega (arith, within))
+    (s.text, any, best, s.are, is, refl, refl) in
+    (all, some, more, front_then said w says s.text line rest all s.wrote part joined)

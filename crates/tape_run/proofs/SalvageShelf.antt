@@ -1,5 +1,5 @@
 -- A file recovered from the images of a shelf.
-use Rattle.std.proofs.Common.{◌≡◌, ℕ, Bool, not, ◌&&◌, List, [], ◌++◌, Option, Some, None, refl}
+use Rattle.std.proofs.Common.{◌≡◌, ℕ, inl, inr, arith, Bool, not, ◌&&◌, List, [], ◌++◌, Option, Some, None, refl}
 use Rattle.std.proofs.Common.{sym, ap, subst, ◌∙◌, append-nil}
 use Rattle.tape_image.specs.Written.{AppendsFront}
 use Rattle.std.specs.Prelude.{option_map}
@@ -11,11 +11,12 @@ use Rattle.tape_run.specs.Reeling.{Mounting}
 use Rattle.tape_run.specs.SalvageLine.{last_line}
 use Rattle.tape_run.specs.declared.salvage.SalvageTask.{SalvageTask}
 use Rattle.tape_run.specs.SalvageRecords.{Start, parts_text}
-use Rattle.tape_run.specs.SalvageBlocks.{HasSalvaged, none_salvaged}
-use Rattle.tape_run.specs.SalvageTaking.{TakesFile, after_file, file_text}
-use Rattle.tape_run.specs.SalvageChoice.{last_section}
+use Rattle.tape_run.specs.SalvageBlocks.{Salvaged, HasSalvaged, ReportsFront, none_salvaged}
+use Rattle.tape_run.specs.SalvageTaking.{TakesFile, StopsTaking, after_file, file_text, all_text}
+use Rattle.tape_run.specs.SalvageChoice.{last_section, form_of_file}
 use Rattle.tape_run.specs.SalvageConflicts.{AreConflicts}
-use Rattle.tape_run.specs.Salvaging.{FindsAll, Salvages}
+use Rattle.tape_run.specs.Salvaging.{FindsAll, Salvages, StopsSalvage}
+use Rattle.tape_run.proofs.SalvageFronts.{in_one, in_two, whole_text}
 use Rattle.tape_run.proofs.SalvageOne.{three_texts}
 
 kept : (a b c : Option (List ℕ)) (t : List ℕ) → Appends a b t → Keeps b c → Appends a c t
@@ -123,3 +124,86 @@ pub wrote_all : (w one says : Option (List ℕ)) (line : List ℕ) → Appends w
     → AppendsFront w says line
 wrote_all w one says line wrote keeps =
     (line, [], kept w one says line wrote keeps, sym (append-nil line))
+
+-- ---- before the output got its name
+
+module _ {L R : Type 0} (size : L → ℕ) (gives : Mounting L R)
+    (remaining : R → Option (List ℕ)) (task : SalvageTask) (shelf middle left : L)
+    (cs ds : List SectionCopy) (said found : Option (List ℕ))
+    (finds : FindsAll size gives remaining task.set_id task.file shelf middle cs said found) where
+  stops_after : (says : Option (List ℕ)) (conflicts : List ℕ) (conflict : Bool)
+      (lines : Salvaged → List ℕ) → AreConflicts cs (last_section cs) conflicts conflict
+      → StopsTaking gives remaining cs task.content middle left lines
+      → AppendsFront found says (conflicts ++ lines none_salvaged)
+      → StopsSalvage size gives remaining task shelf left said says
+  stops_after says conflicts conflict lines differ stops part = record {
+    reels = finds.reels;
+    middle = middle;
+    mounted = finds.mounted;
+    copies = cs;
+    found = finds.text;
+    finds = finds.finds;
+    more = conflicts ++ lines none_salvaged;
+    wrote = in_two said found says finds.text _ finds.wrote part;
+    stops = inr (inr (finds.all, conflicts, conflict, differ, lines, stops, refl));
+  }
+
+  -- among the differing copies
+  pub stops_comparing : (says : Option (List ℕ)) → left ≡ middle → ds ≡ cs
+      → (text : List ℕ) × (any : Bool) × AreConflicts ds (last_section ds) text any
+      × AppendsFront found says text
+      → StopsSalvage size gives remaining task shelf left said says
+  stops_comparing says stays alike (text, any, differ, part) =
+      stops_after says text any (all_text task.content (form_of_file cs) 1 [])
+      (subst (λ l. AreConflicts l (last_section l) text any) alike differ)
+      (record {
+        taken = [];
+        next = [];
+        mid = middle;
+        took = refl;
+        begun = stays;
+        are = inl (
+          tt,
+          omega arith,
+          refl,
+        );
+      }) (in_one found says text [] part)
+
+  -- among the sections
+  pub stops_recovering : {W : Type 0} (contents : W → Option (List ℕ)) (start : Start)
+      (old : Recovery W) (es : List SectionCopy) (noted says : Option (List ℕ)) (conflict : Bool)
+      → (text : List ℕ) × AreConflicts es (last_section es) text conflict
+      × Appends found noted text → es ≡ cs → ds ≡ cs
+      → HasSalvaged contents start old none_salvaged
+      → (lines : Salvaged → List ℕ) × StopsTaking gives remaining ds task.content middle left lines
+      × ReportsFront contents old noted says lines
+      → StopsSalvage size gives remaining task shelf left said says
+  stops_recovering contents start old es noted says conflict (text, differ, wrote) alike same begins
+      (lines, stops, part) =
+      stops_after says text conflict lines
+      (subst (λ l. AreConflicts l (last_section l) text conflict) alike differ)
+      (subst (λ l. StopsTaking gives remaining l task.content middle left lines) same stops)
+      (in_two found noted says text _ wrote (part start none_salvaged begins))
+
+  -- all but the last line was reported
+  pub stops_placing : {W : Type 0} (contents : W → Option (List ℕ)) (start : Start)
+      (old new : Recovery W) (es : List SectionCopy) (noted says : Option (List ℕ))
+      (conflict : Bool)
+      → (text : List ℕ) × AreConflicts es (last_section es) text conflict
+      × Appends found noted text → es ≡ cs → ds ≡ cs
+      → HasSalvaged contents start old none_salvaged
+      → TakesFile contents gives remaining ds task.content middle left old new noted says
+      → StopsSalvage size gives remaining task shelf left said says
+  stops_placing contents start old new es noted says conflict differ alike same begins takes =
+      stops_recovering contents start old es noted says conflict differ alike same begins (
+        file_text task.content ds takes.taken,
+        record {
+          taken = takes.taken;
+          next = [];
+          mid = left;
+          took = takes.took;
+          begun = refl;
+          are = inr (takes.all, refl, refl);
+        },
+        λ start g h. whole_text noted says _ (takes.recovers start g h).1,
+      )

@@ -22,8 +22,11 @@ use Rattle.tape_run.specs.declared.salvage.walk.Expected.{Expected}
 use Rattle.tape_run.specs.declared.salvage.walk.Expected.TheVariants.{Data}
 use Rattle.tape_run.specs.SalvageWalk.{step, expected_after}
 use Rattle.tape_run.specs.SalvageBlocks.{Salvaged, HasSalvaged, Recovers, salvaged_at, text_at}
+use Rattle.tape_run.specs.SalvageBlocks.{ReportsFront}
+use Rattle.tape_image.specs.Written.{AppendsFront}
+use Rattle.tape_run.proofs.SalvageFronts.{in_two}
 use Rattle.tape_run.specs.SalvageImage.{is_in, read_in, number_in, salvaged_from, text_from}
-use Rattle.tape_run.specs.SalvageImage.{RecoversSection, is_mark, closings}
+use Rattle.tape_run.specs.SalvageImage.{RecoversSection, BeginsWith, is_mark, closings}
 
 -- Of the bytes `all` the items up to an offset were read, and `left` is left; the blocks of the
 -- section among these items were processed.
@@ -293,3 +296,30 @@ pub numbered : {W : Type 0} (contents : W → Option (List ℕ)) (key : SectionK
 numbered contents key most form expected n item mid new says now e taken =
     subst (λ (m : Option ℕ). Recovers contents mid new says now (λ g. salvaged_at form g m item)
     (λ g. text_at key.sect form g m item)) e taken
+
+-- the lines of an item were not written completely
+pub stops_at : {W : Type 0} (contents : W → Option (List ℕ)) (all left next : Option (List ℕ))
+    (p q : ℕ) (origin : Expected) (key : SectionKey) (most : ℕ) (form : Option FileForm)
+    (expected : Expected) (n : Option ℕ) (item : TapeItem) (old mid : Recovery W)
+    (said says now : Option (List ℕ))
+    → SoFar contents all left p origin key most form expected old mid said says
+    → IfKnown left next (TakesItem p item q) → q ≤ image_limit → n ≡ number_in key most expected
+    → ReportsFront contents mid says now (λ g. text_at key.sect form g n item)
+    → (items : List TapeItem) × BeginsWith all items
+    × ReportsFront contents old said now (λ g. text_from key most form origin g items)
+stops_at contents all left next p q origin key most form expected n item old mid said says now s
+    takes near number part = (
+      s.items ++ item ∷ [],
+      placed all next q (s.items ++ item ∷ []) near
+          (known_item all left next 0 p q s.items item s.known takes),
+      λ start g h.
+          let one = s.recovers start g h in
+          let z = salvaged_from key most form origin g s.items in
+          let t : Option ℕ → List ℕ = λ m. text_at key.sect form z m item in
+          subst (AppendsFront said now)
+          (ap (λ (l : List ℕ). text_from key most form origin g s.items ++ l)
+          (sym (append-nil (t n))
+          ∙ ap (λ m. t m ++ []) (number ∙ ap (number_in key most) s.expects))
+          ∙ sym (text_from-append key most form origin g s.items (item ∷ [])))
+          (in_two said says now _ _ one.1 (part start z one.0)),
+    )

@@ -23,7 +23,7 @@ use Rattle.tape_run.specs.Passing.{Told, told_from}
 use Rattle.tape_run.specs.Merging.{IsMerged, Differ}
 use Rattle.tape_run.specs.MergeSteps.{bads, one_if, column, goods_in, HaveTaken, AllStopped}
 use Rattle.tape_run.specs.MergeSteps.{AreUpTo, AreJudged}
-use Rattle.tape_run.specs.MergeLog.{log_rows}
+use Rattle.tape_run.specs.MergeLog.{is_logged, log_rows}
 
 -- the item of this kind and content
 abbrev pub candidate_of : Kind → List ℕ → Option TapeItem
@@ -151,12 +151,22 @@ pub record RefusesLast (have : List (List TapeItem) → Type 0) (fault : ImageWr
   pub wrote : PutItems merged old mid
   pub refused : PutsFrom writing (written x) writing mid (Err fault) new
 
+-- The merged tape of what was read was written, and its last item has a row in the log.
+pub record StopsLogging (have : List (List TapeItem) → Type 0) (old new : Writer) : Type 0 where
+  pub readings : List (List TapeItem)
+  pub taken : have readings
+  pub merged : List TapeItem
+  pub x : TapeItem
+  pub is : IsMerged readings (merged ++ x ∷ [])
+  pub wrote : PutItems (merged ++ x ∷ []) old new
+  pub due : is_logged (column (length merged) readings) ≡ true
+
 -- the properties after each fault
 abbrev pub FitsFault : {R : Type 0} → List (Reading R) → List (Reading R) → Writer → Writer
     → MergeFault → Type 0
 FitsFault firsts nows old new (faults.Differ n) = DiffersAt firsts nows n old new
 FitsFault firsts nows old new faults.OutOfMemory = HasWritten firsts old new
-FitsFault firsts nows old new faults.Log = HasWritten firsts old new
+FitsFault firsts nows old new faults.Log = StopsLogging (HaveTaken firsts nows) old new
 FitsFault firsts nows old new (faults.Write fault) =
     RefusesLast (HaveTaken firsts nows) fault old new
 

@@ -147,12 +147,16 @@ Misses missing long stops.OutOfMemory = ⊤
 Misses missing long stops.WriteFailed = ⊤
 Misses missing long stops.LogFailed = ⊤
 
--- Lines about readings were reported, and perhaps about a difference, or a prefix of these: none
--- about a merged image.
-abbrev pub ReportsNoImage : Type 0 → List (List ℕ) → Option (List ℕ) → Option (List ℕ) → Type 0
-ReportsNoImage R names old new = (nows : List (Reading R)) × (n : ℕ) × AppendsFront old new
+-- Lines about readings of these images were reported, or a prefix of them; or also lines about the
+-- item at which they differ: none about a merged image.
+abbrev pub ReportsNoImage : Type 0 → List (List ℕ) → List (List ℕ) → Option (List ℕ)
+    → Option (List ℕ) → Type 0
+ReportsNoImage R images names old new = (nows : List (Reading R))
+    × (((readings : List (List TapeItem)) × TakeImages images nows readings
+    × AppendsFront old new (lines_from (reading_line names) 0 nows))
+    ⊎ ((n : ℕ) × DifferImages images nows n × AppendsFront old new
     (lines_from (reading_line names) 0 nows ++ (differ_line n
-    ++ lines_from (has_line names) 0 nows))
+    ++ lines_from (has_line names) 0 nows))))
 
 -- The output's place and the report after a fault: the place was not touched, and no merged image
 -- is reported; or, if a write failed, what is there did not change, or the merged image is there.

@@ -13,7 +13,7 @@ use Rattle.tape_run.specs.Merging.{IsMerged, Differ}
 use Rattle.tape_run.specs.MergeSteps.{bads, block_length, AllStopped, AreUpTo, AreJudged}
 use Rattle.tape_run.specs.MergeLaws.{TakesAs}
 use Rattle.tape_run.specs.MergeLog.{log_rows}
-use Rattle.tape_run.specs.MergeCalls.{Counts, RefusesLast}
+use Rattle.tape_run.specs.MergeCalls.{Counts, RefusesLast, StopsLogging}
 
 -- The fields record where the last item of the image begins, and its length.
 pub data LastIsAt {R : Type 0} (bytes : List ℕ) (now : Reading R) (items : List TapeItem) : Type 0
@@ -80,11 +80,12 @@ pub record DifferImages {R : Type 0} (images : List (List ℕ)) (nows : List (Re
   pub is : IsMerged (map (take (length merged)) readings) merged
   pub count : length merged + 1 ≡ n
 
--- A write fails because the merged image would be too long, or because the device fails.
+-- A write fails because the merged image would be too long, or because the device fails; the log
+-- only if it gets a row.
 abbrev pub FaultsImages : {R : Type 0} → List (List ℕ) → List (Reading R) → Writer → Writer
     → MergeFault → Type 0
 FaultsImages images nows old new (faults.Differ n) = DifferImages images nows n
 FaultsImages images nows old new faults.OutOfMemory = ⊤
-FaultsImages images nows old new faults.Log = ⊤
+FaultsImages images nows old new faults.Log = StopsLogging (TakeImages images nows) old new
 FaultsImages images nows old new (faults.Write fault) =
     RefusesLast (TakeImages images nows) fault old new

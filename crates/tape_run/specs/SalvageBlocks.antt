@@ -3,6 +3,7 @@ use Rattle.std.specs.Prelude.{◌≡◌, ℕ, ◌-◌, ◌||◌, Bool, true, fal
 use Rattle.std.specs.Prelude.{is_some, Option, Some, None}
 use Rattle.std.specs.Io.KnownBytes.{Appends}
 use Rattle.tape_image.specs.Tape.{TapeItem, block, bad, mark}
+use Rattle.tape_image.specs.Written.{AppendsFront}
 use Rattle.tape_blocks.specs.declared.check.BlockFault.{BlockFault}
 use Rattle.tape_set.specs.Lawful.{FileForm}
 use Rattle.tape_run.specs.SalvageWalk.{first_of}
@@ -84,3 +85,9 @@ abbrev pub Recovers : {W : Type 0} → (W → Option (List ℕ)) → Recovery W 
 Recovers contents old new said says after text = (start : Start) (g : Salvaged)
     → HasSalvaged contents start old g
     → HasSalvaged contents start new (after g) × Appends said says (text g)
+
+-- A prefix of this text was reported before an error.
+abbrev pub ReportsFront : {W : Type 0} → (W → Option (List ℕ)) → Recovery W → Option (List ℕ)
+    → Option (List ℕ) → (Salvaged → List ℕ) → Type 0
+ReportsFront contents old said says text = (start : Start) (g : Salvaged)
+    → HasSalvaged contents start old g → AppendsFront said says (text g)

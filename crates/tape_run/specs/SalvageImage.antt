@@ -62,12 +62,16 @@ abbrev pub EndsData : Expected → SectionKey → List TapeItem → Type 0
 EndsData start key items = (front : List TapeItem) × (items ≡ front ++ mark ∷ [])
     × (is_in key (expected_after start front) ≡ true)
 
+-- the bytes begin with these items
+abbrev pub BeginsWith : Option (List ℕ) → List TapeItem → Type 0
+BeginsWith before items = IfSome before (λ xs. (place : ℕ) × (ys : List ℕ) × (place ≤ image_limit)
+    × Walks 0 xs items place ys)
+
 -- These items of an image were read: up to the first mark that ends the section's data if there is
 -- one, otherwise all items.
 pub record ReadsSection (before after : Option (List ℕ)) (start : Expected) (key : SectionKey)
     (items : List TapeItem) (is_ended : Bool) : Type 0 where
-  pub walked : IfSome before (λ xs. (place : ℕ) × (ys : List ℕ) × (place ≤ image_limit)
-      × Walks 0 xs items place ys)
+  pub walked : BeginsWith before items
   pub at_mark : is_ended ≡ true → EndsData start key items
   pub all : is_ended ≡ false → (stop : ImageStop) × IfKnown before after (StopsBehind items stop)
   pub once : closings key start items ≡ (if is_ended then 1 else 0)

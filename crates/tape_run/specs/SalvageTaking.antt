@@ -17,7 +17,8 @@ use Rattle.tape_run.specs.SalvageCopies.{believed, start_of}
 use Rattle.tape_run.specs.SalvageLine.{section_line}
 use Rattle.tape_run.specs.SalvageBlocks.{Salvaged, Recovers}
 use Rattle.tape_run.specs.SalvageWalk.{expected_after}
-use Rattle.tape_run.specs.SalvageImage.{ReadsSection, read_in, salvaged_from, text_from}
+use Rattle.tape_run.specs.SalvageImage.{ReadsSection, BeginsWith, read_in}
+use Rattle.tape_run.specs.SalvageImage.{salvaged_from, text_from}
 use Rattle.tape_run.specs.SalvageEnds.{without_rest, no_section_text, no_form_text}
 use Rattle.tape_run.specs.SalvageEnds.{read_again, read_again_text}
 use Rattle.tape_run.specs.SalvageChoice.{firsts, IsBest, form_of_file, last_section}
@@ -214,3 +215,39 @@ pub record TakesFile {W L R : Type 0} (contents : W → Option (List ℕ)) (give
   pub all : AreAllSections content (form_of_file copies) copies taken
   pub recovers : Recovers contents old new said says (after_file content copies taken)
       (file_text content copies taken)
+
+-- ---- up to an error
+
+-- no image was opened, or the copy's image begins with these items
+abbrev pub MountsPart : {L R : Type 0} → Mounting L R → (R → Option (List ℕ)) → Content
+    → Option FileForm → Option SectionCopy → L → L → Option (List TapeItem) → Type 0
+MountsPart gives remaining content known copy shelf left None =
+    MountsTaken gives remaining content known copy shelf left None
+MountsPart gives remaining content known None shelf left (Some items) = ⊥
+MountsPart gives remaining content known (Some c) shelf left (Some items) = (device : _)
+    × gives shelf c.image (Some device) left × BeginsWith (remaining device) items
+
+-- none of these was begun, or the one with this number was
+abbrev pub IsBegun : {L R : Type 0} → Mounting L R → (R → Option (List ℕ)) → List SectionCopy
+    → Content → Option FileForm → ℕ → L → L → List Taken → Type 0
+IsBegun gives remaining copies content known sect shelf left [] = left ≡ shelf
+IsBegun gives remaining copies content known sect shelf left (t ∷ ts) = (ts ≡ [])
+    × IsBest (firsts sect None copies) t.copy
+    × MountsPart gives remaining content known t.copy shelf left t.items
+
+-- These are the lines of the first sections, of which the next was perhaps begun, or of all
+-- sections.
+pub record StopsTaking {L R : Type 0} (gives : Mounting L R) (remaining : R → Option (List ℕ))
+    (copies : List SectionCopy) (content : Content) (shelf left : L) (lines : Salvaged → List ℕ)
+    : Type 0 where
+  pub taken : List Taken
+  pub next : List Taken
+  pub mid : L
+  pub took : AreTaken gives remaining copies content (form_of_file copies) 1 shelf taken mid
+  pub begun : IsBegun gives remaining copies content (form_of_file copies) (length taken + 1) mid
+      left next
+  pub are : (GoOn content (form_of_file copies) taken
+      × (length taken + length next ≤ last_section copies)
+      × (lines ≡ all_text content (form_of_file copies) 1 (taken ++ next)))
+      ⊎ (AreAllSections content (form_of_file copies) copies taken × (next ≡ [])
+      × (lines ≡ file_text content copies taken))

@@ -1,7 +1,8 @@
 -- The result of `salvage` for images.
-use Rattle.std.specs.Prelude.{◌≡◌, ℕ, ◌+◌, ◌&&◌, not, Bool, List, [], ◌∷◌, ◌++◌, length, Option}
+use Rattle.std.specs.Prelude.{◌≡◌, ◌⊎◌, ◌<◌, ◌≤◌, ℕ, ◌+◌, ◌&&◌, not, Bool, List, [], ◌∷◌, ◌++◌, length, Option}
 use Rattle.std.specs.Prelude.{Some, None}
 use Rattle.std.specs.Io.KnownBytes.{Appends}
+use Rattle.tape_image.specs.Written.{AppendsFront}
 use Rattle.tape_run.specs.declared.salvage.copies.SectionCopy.{SectionCopy}
 use Rattle.tape_run.specs.Reeling.{Mounting, AreMounted}
 use Rattle.tape_run.specs.Checked.{Reel, IsReel}
@@ -9,10 +10,11 @@ use Rattle.tape_run.specs.declared.salvage.SalvageTask.{SalvageTask}
 use Rattle.tape_run.specs.SalvageCopies.{FindsCopies}
 use Rattle.tape_run.specs.SalvageRecords.{parts_text}
 use Rattle.tape_run.specs.SalvageLine.{not_opened_line, last_line}
-use Rattle.tape_run.specs.SalvageBlocks.{none_salvaged}
+use Rattle.tape_run.specs.SalvageBlocks.{Salvaged, none_salvaged}
 use Rattle.tape_run.specs.SalvageChoice.{form_of_file, last_section}
 use Rattle.tape_run.specs.SalvageConflicts.{AreConflicts}
 use Rattle.tape_run.specs.SalvageTaking.{Taken, AreTaken, AreAllSections, after_file, file_text}
+use Rattle.tape_run.specs.SalvageTaking.{StopsTaking}
 
 -- An image was read, and the file's sections on it were found; or it could not be opened, and its
 -- line was written.
@@ -65,3 +67,24 @@ pub record Salvages {W L R : Type 0} (contents : W → Option (List ℕ)) (size 
   pub reported : Appends found says (conflicts
       ++ (file_text task.content copies taken none_salvaged ++ last_line complete
       (after_file task.content copies taken none_salvaged).piece.records))
+
+-- A prefix of the report on what was read was written. The first images were searched, and of the
+-- others at most one was opened; or all were searched, and sections were recovered.
+pub record StopsSalvage {L R : Type 0} (size : L → ℕ) (gives : Mounting L R)
+    (remaining : R → Option (List ℕ)) (task : SalvageTask) (shelf left : L)
+    (said says : Option (List ℕ)) : Type 0 where
+  pub reels : List Reel
+  pub middle : L
+  pub mounted : AreMounted gives (IsReel remaining) shelf 0 reels middle
+  pub copies : List SectionCopy
+  pub found : List ℕ
+  pub finds : FindsOnAll task.set_id task.file 0 reels [] copies found
+  pub more : List ℕ
+  pub wrote : AppendsFront said says (found ++ more)
+  pub stops : ((more ≡ []) × (left ≡ middle) × (length reels ≤ size shelf))
+      ⊎ (((more ≡ []) × (length reels < size shelf)
+      × ((image : Option R) × gives middle (length reels) image left))
+      ⊎ ((length reels ≡ size shelf) × (conflicts : List ℕ) × (any : Bool)
+      × AreConflicts copies (last_section copies) conflicts any × (lines : Salvaged → List ℕ)
+      × StopsTaking gives remaining copies task.content middle left lines
+      × (more ≡ conflicts ++ lines none_salvaged)))

@@ -5,7 +5,8 @@ ghost use Rattle.std.specs.Prelude.{option_map};
 ghost use Rattle.std.specs.Prelude.{OnErr, IfOk, IfErr};
 ghost use Rattle.std.specs.Io.KnownBytes.{Appends};
 ghost use Rattle.tape_run.specs.Checked.{IsCheckFault};
-ghost use Rattle.tape_run.specs.Salvaging.{FindsOn, FindsAll, Salvages};
+ghost use Rattle.tape_image.specs.Written.{AppendsFront};
+ghost use Rattle.tape_run.specs.Salvaging.{FindsOn, FindsAll, Salvages, StopsSalvage};
 
 mod conflicts;
 mod copies;
@@ -44,7 +45,7 @@ pub enum Content {
 /// The file to be recovered, and the form in which it is written.
 #[derive(Clone, Copy)]
 pub struct SalvageTask {
-    /// Whether records or blocks are recovered.
+    /// The identifier of its set.
     pub set_id: Field<6>,
     /// The file's number in its set.
     pub file: u16,
@@ -66,8 +67,8 @@ pub struct SalvageTask {
 /// # Errors
 ///
 /// `Run(OutOfMemory)`; `WriteFailed` if `out`, its name or the report failed. Then what has the
-/// name is unchanged, or `out` is completely written and has the name, and only the last line could
-/// not be reported.
+/// name is unchanged, and a prefix of the report on what was read was written; or `out` is
+/// completely written and has the name, and only the last line could not be reported.
 pub fn salvage_to<W: Write + Drop, R: Read + Drop, L: ImageSource<R>, O: Place<W>, P: Write>(
     alloc: Global,
     task: &SalvageTask,
@@ -79,9 +80,12 @@ pub fn salvage_to<W: Write + Drop, R: Read + Drop, L: ImageSource<R>, O: Place<W
     ensures ok { IfOk result (λ complete. Salvages W.contents L.size L.gives R.remaining task.now
         out images.old images.new (O.stands place.new) (P.contents report.old)
         (P.contents report.new) complete) }
-    // After an error the file with the name is unchanged, or everything is written and has the
-    // name, and only the rest of the report could not be written.
-    ensures err { OnErr result ((O.stands place.new ≡ O.stands place.old)
+    // After an error the file with the name is unchanged, and the report got a prefix of the lines
+    // about what was read; or everything is written and has the name, and only the rest of the
+    // report could not be written.
+    ensures err { OnErr result (((O.stands place.new ≡ O.stands place.old)
+        × StopsSalvage L.size L.gives R.remaining task.now images.old images.new
+        (P.contents report.old) (P.contents report.new))
         ⊎ ((complete : Bool) × (says : Option (List ℕ)) × Salvages W.contents L.size L.gives
         R.remaining task.now out images.old images.new (O.stands place.new) (P.contents report.old)
         says complete × ((rest : List ℕ) × Appends (P.contents report.new) says rest))) }
@@ -125,6 +129,8 @@ fn find_copies<R: Read + Drop, L: ImageSource<R>, P: Write>(
     ensures ok { IfOk result (λ copies. FindsAll L.size L.gives R.remaining task.now.set_id
         task.now.file images.old images.new copies.items (P.contents report.old)
         (P.contents report.new)) }
+    ensures front { OnErr result (StopsSalvage L.size L.gives R.remaining task.now images.old
+        images.new (P.contents report.old) (P.contents report.new)) }
     ensures fault { IfErr result IsCheckFault }
 {
     let mut copies = Vec::new(alloc);
@@ -150,6 +156,10 @@ fn find_on<R: Read + Drop, P: Write>(
     ensures ok { OnOk result ((text : List ℕ) × FindsOn task.now.set_id task.now.file number
         (option_map R.remaining image) copies.old.items copies.new.items text
         × Appends (P.contents report.old) (P.contents report.new) text) }
+    ensures front { OnErr result ((P.contents report.new ≡ P.contents report.old)
+        ⊎ ((text : List ℕ) × FindsOn task.now.set_id task.now.file number
+        (option_map R.remaining image) copies.old.items copies.old.items text
+        × AppendsFront (P.contents report.old) (P.contents report.new) text)) }
     ensures fault { IfErr result IsCheckFault }
 {
     match image {

@@ -1,7 +1,8 @@
 //! The log of a merge: a row for each item that fewer than two readings have, or that is bad in
 //! one.
 
-ghost use Rattle.std.specs.Prelude.{◌≡◌, ◌++◌, codes, decimal, map, IfOk, OnOk};
+ghost use Rattle.std.specs.Prelude.{◌≡◌, ◌++◌, ◌||◌, nat_lt, true, codes, decimal, map, IfOk};
+ghost use Rattle.std.specs.Prelude.{OnOk, OnErr};
 ghost use Rattle.std.specs.Io.KnownBytes.{Appends};
 ghost use Rattle.tape_run.specs.MergeLines.{kind_text};
 ghost use Rattle.tape_run.specs.MergeLog.{log_head, verdict_cell, verdict_cells, is_bad_verdict};
@@ -39,8 +40,9 @@ pub(crate) fn log_item<R: Read, G: Write>(
     readings: &[Reading<'_, R>],
     log: &mut G,
 ) -> Result<(), WriteFailed>
-    ensures { OnOk result (Appends (G.contents log.old) (G.contents log.new)
+    ensures ok { OnOk result (Appends (G.contents log.old) (G.contents log.new)
         (row_now number best.now witnesses readings.now)) }
+    ensures due { OnErr result ((nat_lt witnesses 2 || has_bad_verdict readings.now) ≡ true) }
 {
     let Some(kind) = best.kind() else {
         return Ok(());

@@ -1,7 +1,7 @@
 //! `merge` and `compare` over images: they are read in parallel, and the merged image gets its
 //! name.
 
-ghost use Rattle.std.specs.Prelude.{◌≡◌, ◌<◌, ◌+◌, map, length, IfOk, OnOk, IfErr, OnErr};
+ghost use Rattle.std.specs.Prelude.{◌≡◌, ◌⊎◌, ◌<◌, ◌+◌, map, length, IfOk, OnOk, IfErr, OnErr};
 ghost use Rattle.std.specs.Io.KnownBytes.{Appends};
 ghost use Rattle.tape_image.specs.declared.item.ImageWriteFault.TheVariants.{TooLong};
 ghost use Rattle.tape_image.specs.Begins.{image_limit};
@@ -124,8 +124,9 @@ pub fn merge_now<
         (λ size. IfMounted L.size L.gives R.remaining images.old images.new
         (λ known. IsTooLong R known size))) }
     ensures left { IfErr result (LeavesPlace O.stands place.old place.new
-        (ReportsNoImage R (map (λ n. n.now) names.now) (P.contents report.old)
-        (P.contents report.new)) ((end : MergeEnd)
+        ((report.new ≡ report.old) ⊎ IfMounted L.size L.gives R.remaining images.old images.new
+        (λ known. ReportsNoImage R known (map (λ n. n.now) names.now) (P.contents report.old)
+        (P.contents report.new))) ((end : MergeEnd)
         × IfMounted L.size L.gives R.remaining images.old images.new
         (λ known. ComesTo R known (map (λ n. n.now) names.now) (W.contents out)
         (O.stands place.new) (Appends (G.contents log.old) (G.contents log.new))
@@ -183,8 +184,9 @@ fn merge_readings<R: Read, W: Write + Drop, O: Place<W>, G: Write, P: Write>(
     ensures cause { IfErr result (Misses (λ _. ⊥) (λ size. IfImages readings.old (λ known.
         IsTooLong R known size))) }
     ensures left { IfErr result (LeavesPlace O.stands place.old place.new
-        (ReportsNoImage R (map (λ n. n.now) names.now) (P.contents report.old)
-        (P.contents report.new)) ((end : MergeEnd) × IfImages readings.old (λ known.
+        ((report.new ≡ report.old) ⊎ IfImages readings.old (λ known. ReportsNoImage R known
+        (map (λ n. n.now) names.now) (P.contents report.old) (P.contents report.new)))
+        ((end : MergeEnd) × IfImages readings.old (λ known.
         ComesTo R known (map (λ n. n.now) names.now) (W.contents out) (O.stands place.new)
         (Appends (G.contents log.old) (G.contents log.new))
         (AppendsFront (P.contents report.old) (P.contents report.new)) end))) }

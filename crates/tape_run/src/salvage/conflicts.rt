@@ -1,13 +1,13 @@
 //! Complete copies of one section with different blocks.
 
-ghost use Rattle.std.specs.Prelude.{◌≡◌, ◌||◌, ℕ, List, IfOk, IfErr, OnOk};
+ghost use Rattle.std.specs.Prelude.{◌≡◌, ◌||◌, ℕ, Bool, List, IfOk, OnOk, OnErr};
 ghost use Rattle.std.specs.Io.KnownBytes.{Appends};
-ghost use Rattle.tape_run.specs.Checked.{IsCheckFault};
+ghost use Rattle.tape_image.specs.Written.{AppendsFront};
 ghost use Rattle.tape_run.specs.SalvageChoice.{last_section};
 ghost use Rattle.tape_run.specs.SalvageConflicts.{AreConflicts, are_conflicting, conflict_text};
 ghost use Rattle.tape_run.specs.SalvageConflicts.{has_conflict, text_if};
 
-use crate::fault::EngineFault;
+use crate::fault::WriteFailed;
 use crate::salvage::copies::{SectionCopy, best_copy, last_section};
 use crate::salvage::line::conflict_line;
 use crate::text::write_text;
@@ -32,11 +32,12 @@ fn report_copy<P: Write>(
     copy: &SectionCopy,
     any: bool,
     report: &mut P,
-) -> Result<bool, EngineFault>
+) -> Result<bool, WriteFailed>
     ensures any { IfOk result (λ now. now ≡ (are_conflicting best.now copy.now || any)) }
     ensures text { OnOk result (Appends (P.contents report.old) (P.contents report.new)
         (text_if (are_conflicting best.now copy.now) best.now copy.now)) }
-    ensures fault { IfErr result IsCheckFault }
+    ensures front { OnErr result (AppendsFront (P.contents report.old) (P.contents report.new)
+        (text_if (are_conflicting best.now copy.now) best.now copy.now)) }
 {
     if !are_conflicting(best, copy) {
         return Ok(any);
@@ -55,11 +56,12 @@ fn report_section<P: Write>(
     best: &Option<SectionCopy>,
     any: bool,
     report: &mut P,
-) -> Result<bool, EngineFault>
+) -> Result<bool, WriteFailed>
     ensures any { IfOk result (λ now. now ≡ (has_conflict best.now copies.now || any)) }
     ensures text { OnOk result (Appends (P.contents report.old) (P.contents report.new)
         (conflict_text best.now copies.now)) }
-    ensures fault { IfErr result IsCheckFault }
+    ensures front { OnErr result (AppendsFront (P.contents report.old) (P.contents report.new)
+        (conflict_text best.now copies.now)) }
 {
     let Some(best) = best else {
         return Ok(any);
@@ -76,15 +78,17 @@ fn report_section<P: Write>(
 ///
 /// # Errors
 ///
-/// `WriteFailed` if the report can't be written.
+/// `WriteFailed` if the report can't be written. Then it got a prefix of these lines.
 pub fn report_conflicts<P: Write>(
     copies: &[SectionCopy],
     report: &mut P,
-) -> Result<bool, EngineFault>
+) -> Result<bool, WriteFailed>
     ensures ok { IfOk result (λ any. (text : List ℕ)
         × AreConflicts copies.now (last_section copies.now) text any
         × Appends (P.contents report.old) (P.contents report.new) text) }
-    ensures fault { IfErr result IsCheckFault }
+    ensures front { OnErr result ((text : List ℕ) × (any : Bool)
+        × AreConflicts copies.now (last_section copies.now) text any
+        × AppendsFront (P.contents report.old) (P.contents report.new) text) }
 {
     let mut any = false;
     for before in 0..last_section(copies) {

@@ -1,16 +1,16 @@
 //! The end of a section, and the report on missing blocks there.
 
-ghost use Rattle.std.specs.Prelude.{◌≡◌, ◌≢◌, ◌&&◌, true, false, Some, None, OnOk, IfOk, IfErr};
+ghost use Rattle.std.specs.Prelude.{◌≡◌, ◌≢◌, ◌&&◌, true, false, Some, None, OnOk, OnErr, IfOk};
 ghost use Rattle.std.specs.Io.KnownBytes.{Appends};
-ghost use Rattle.tape_run.specs.Checked.{IsCheckFault};
-ghost use Rattle.tape_run.specs.SalvageBlocks.{Recovers, torn_text};
+ghost use Rattle.tape_image.specs.Written.{AppendsFront};
+ghost use Rattle.tape_run.specs.SalvageBlocks.{Recovers, ReportsFront, torn_text};
 ghost use Rattle.tape_run.specs.SalvageEnds.{without_rest, no_section_text, no_form_text};
 ghost use Rattle.tape_run.specs.SalvageEnds.{open_text, ended, ended_text, unsure_text, with_end};
 ghost use Rattle.tape_run.specs.SalvageEnds.{end_from, end_text, read_again, read_again_text};
 ghost use Rattle.tape_run.specs.SalvageTaking.{end_by};
 ghost use Rattle.tape_run.specs.declared.salvage.ending.SectionEnd.TheVariants.{FileEnds};
 
-use crate::fault::{EngineFault, WriteFailed};
+use crate::fault::WriteFailed;
 use crate::salvage::copies::SectionCopy;
 use crate::salvage::line::{no_form_line, no_section_line, open_gap_line, unsure_line};
 use crate::salvage::recovery::Recovery;
@@ -63,6 +63,8 @@ fn write_unsure<P: Write>(
 ) -> Result<(), WriteFailed>
     ensures ok { OnOk result (Appends (P.contents report.old) (P.contents report.new)
         (unsure_text sect first blocks)) }
+    ensures front { OnErr result (AppendsFront (P.contents report.old) (P.contents report.new)
+        (unsure_text sect first blocks)) }
 {
     if first < blocks {
         return write_text(report, &unsure_line(sect, first, blocks - 1));
@@ -72,10 +74,11 @@ fn write_unsure<P: Write>(
 
 impl<W: Write> Recovery<W> {
     /// Reports that a section was not found, or could not be read.
-    pub fn miss_section<P: Write>(&mut self, sect: u16, report: &mut P) -> Result<(), EngineFault>
+    pub fn miss_section<P: Write>(&mut self, sect: u16, report: &mut P) -> Result<(), WriteFailed>
         ensures ok { OnOk result (Recovers W.contents self.old self.new (P.contents report.old)
             (P.contents report.new) without_rest (no_section_text sect)) }
-        ensures fault { IfErr result IsCheckFault }
+        ensures front { OnErr result (ReportsFront W.contents self.old (P.contents report.old)
+            (P.contents report.new) (no_section_text sect)) }
     {
         self.tear(sect, 0, report)?;
         write_text(report, &no_section_line(sect, self.mender.records()))?;
@@ -83,10 +86,11 @@ impl<W: Write> Recovery<W> {
     }
 
     /// Reports that no label records how the records of a section are stored in its blocks.
-    pub fn miss_form<P: Write>(&mut self, sect: u16, report: &mut P) -> Result<(), EngineFault>
+    pub fn miss_form<P: Write>(&mut self, sect: u16, report: &mut P) -> Result<(), WriteFailed>
         ensures ok { OnOk result (Recovers W.contents self.old self.new (P.contents report.old)
             (P.contents report.new) without_rest (no_form_text sect)) }
-        ensures fault { IfErr result IsCheckFault }
+        ensures front { OnErr result (ReportsFront W.contents self.old (P.contents report.old)
+            (P.contents report.new) (no_form_text sect)) }
     {
         self.tear(sect, 0, report)?;
         write_text(report, &no_form_line(sect, self.mender.records()))?;
@@ -99,10 +103,11 @@ impl<W: Write> Recovery<W> {
         sect: u16,
         first: u32,
         report: &mut P,
-    ) -> Result<(), EngineFault>
+    ) -> Result<(), WriteFailed>
         ensures ok { OnOk result (Recovers W.contents self.old self.new (P.contents report.old)
             (P.contents report.new) without_rest (open_text sect first)) }
-        ensures fault { IfErr result IsCheckFault }
+        ensures front { OnErr result (ReportsFront W.contents self.old (P.contents report.old)
+            (P.contents report.new) (open_text sect first)) }
     {
         self.tear(sect, first, report)?;
         write_text(report, &open_gap_line(sect, first, self.mender.records()))?;
@@ -110,10 +115,11 @@ impl<W: Write> Recovery<W> {
     }
 
     /// Reports the missing blocks at the end of a section that did not close.
-    fn end_open<P: Write>(&mut self, copy: &SectionCopy, report: &mut P) -> Result<(), EngineFault>
+    fn end_open<P: Write>(&mut self, copy: &SectionCopy, report: &mut P) -> Result<(), WriteFailed>
         ensures ok { OnOk result (Recovers W.contents self.old self.new (P.contents report.old)
             (P.contents report.new) (ended copy.now None) (ended_text copy.now None)) }
-        ensures fault { IfErr result IsCheckFault }
+        ensures front { OnErr result (ReportsFront W.contents self.old (P.contents report.old)
+            (P.contents report.new) (ended_text copy.now None)) }
     {
         let sect = copy.section.key.sect;
         let first = copy.believed();
@@ -129,11 +135,12 @@ impl<W: Write> Recovery<W> {
         sect: u16,
         number: u32,
         report: &mut P,
-    ) -> Result<(), EngineFault>
+    ) -> Result<(), WriteFailed>
         ensures ok { OnOk result (Recovers W.contents self.old self.new (P.contents report.old)
             (P.contents report.new) (with_end eof)
             (λ g. torn_text (eof && g.piece.begun) sect number g.piece.records)) }
-        ensures fault { IfErr result IsCheckFault }
+        ensures front { OnErr result (ReportsFront W.contents self.old (P.contents report.old)
+            (P.contents report.new) (λ g. torn_text (eof && g.piece.begun) sect number g.piece.records)) }
     {
         if eof && self.mender.is_begun() {
             return self.tear(sect, number, report);
@@ -147,11 +154,12 @@ impl<W: Write> Recovery<W> {
         copy: &SectionCopy,
         closed: Closing,
         report: &mut P,
-    ) -> Result<(), EngineFault>
+    ) -> Result<(), WriteFailed>
         ensures ok { OnOk result (Recovers W.contents self.old self.new (P.contents report.old)
             (P.contents report.new) (ended copy.now (Some closed))
             (ended_text copy.now (Some closed))) }
-        ensures fault { IfErr result IsCheckFault }
+        ensures front { OnErr result (ReportsFront W.contents self.old (P.contents report.old)
+            (P.contents report.new) (ended_text copy.now (Some closed))) }
     {
         let sect = copy.section.key.sect;
         let blocks = copy.section.blocks;
@@ -166,10 +174,11 @@ impl<W: Write> Recovery<W> {
         copy: &SectionCopy,
         read: u32,
         report: &mut P,
-    ) -> Result<(), EngineFault>
+    ) -> Result<(), WriteFailed>
         ensures ok { OnOk result (Recovers W.contents self.old self.new (P.contents report.old)
             (P.contents report.new) (end_from read copy.now) (end_text read copy.now)) }
-        ensures fault { IfErr result IsCheckFault }
+        ensures front { OnErr result (ReportsFront W.contents self.old (P.contents report.old)
+            (P.contents report.new) (end_text read copy.now)) }
     {
         if read < copy.believed() {
             return self.miss_rest(copy.section.key.sect, read, report);
@@ -187,11 +196,12 @@ impl<W: Write> Recovery<W> {
         copy: &SectionCopy,
         read: u32,
         report: &mut P,
-    ) -> Result<SectionEnd, EngineFault>
+    ) -> Result<SectionEnd, WriteFailed>
         ensures ok { IfOk result (λ end. (end ≡ end_by copy.now.closed)
             × Recovers W.contents self.old self.new (P.contents report.old) (P.contents report.new)
             (read_again read copy.now) (read_again_text read copy.now)) }
-        ensures fault { IfErr result IsCheckFault }
+        ensures front { OnErr result (ReportsFront W.contents self.old (P.contents report.old)
+            (P.contents report.new) (read_again_text read copy.now)) }
     {
         self.end_gap(copy.section.key.sect, copy.recovered(read), report)?;
         self.end_blocks(copy, read, report)?;

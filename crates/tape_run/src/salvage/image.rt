@@ -1,11 +1,13 @@
 //! A section recovered from one image.
 
-ghost use Rattle.std.specs.Prelude.{◌≡◌, ◌&&◌, IfOk, IfErr};
+ghost use Rattle.std.specs.Prelude.{◌≡◌, ◌&&◌, List, IfOk, IfErr, OnErr};
 ghost use Rattle.tape_image.specs.Reader.{going, tape_item};
+ghost use Rattle.tape_image.specs.Tape.{TapeItem};
 ghost use Rattle.tape_run.specs.Checked.{IsCheckFault};
 ghost use Rattle.tape_run.specs.Noted.{same_key};
 ghost use Rattle.tape_run.specs.SalvageImage.{number_in, is_in, is_mark, read_in};
-ghost use Rattle.tape_run.specs.SalvageImage.{RecoversSection};
+ghost use Rattle.tape_run.specs.SalvageBlocks.{ReportsFront};
+ghost use Rattle.tape_run.specs.SalvageImage.{RecoversSection, BeginsWith, text_from};
 
 use crate::fault::EngineFault;
 use crate::salvage::recovery::Recovery;
@@ -84,6 +86,9 @@ pub fn recover_section<R: Read, W: Write, P: Write>(
     ensures ok { IfOk result (λ read. RecoversSection W.contents image.old.left image.new.left
         start key.now most form.now recovery.old recovery.new (P.contents report.old)
         (P.contents report.new) read) }
+    ensures front { OnErr result ((items : List TapeItem) × BeginsWith image.old.left items
+        × ReportsFront W.contents recovery.old (P.contents report.old) (P.contents report.new)
+        (λ g. text_from key.now most form.now start g items)) }
     ensures fault { IfErr result IsCheckFault }
 {
     let mut expected = start;

@@ -1,12 +1,14 @@
 //! The data items of a section, processed one after another, with a line for each gap.
 
-ghost use Rattle.std.specs.Prelude.{◌≡◌, ◌≤◌, length, OnOk, IfErr};
+ghost use Rattle.std.specs.Prelude.{◌≡◌, ◌≤◌, length, OnOk, OnErr, IfErr};
 ghost use Rattle.std.specs.Io.KnownBytes.{Appends};
 ghost use Rattle.tape_image.specs.Reader.{tape_item};
 ghost use Rattle.tape_image.specs.Tape.{IsTapeItem};
+ghost use Rattle.tape_image.specs.Written.{AppendsFront};
 ghost use Rattle.tape_blocks.specs.Packing.{longest_block};
 ghost use Rattle.tape_run.specs.Checked.{IsCheckFault};
 ghost use Rattle.tape_run.specs.SalvageBlocks.{HasSalvaged, Recovers, none_salvaged, gap_text};
+ghost use Rattle.tape_run.specs.SalvageBlocks.{ReportsFront};
 ghost use Rattle.tape_run.specs.SalvageBlocks.{torn_text, refused_text, without_block};
 ghost use Rattle.tape_run.specs.SalvageBlocks.{without_block_text, with_block, with_block_text};
 ghost use Rattle.tape_run.specs.SalvageBlocks.{salvaged_at, text_at};
@@ -43,6 +45,8 @@ fn write_gap<P: Write>(
 ) -> Result<(), WriteFailed>
     ensures ok { OnOk result (Appends (P.contents report.old) (P.contents report.new)
         (gap_text sect gap next records)) }
+    ensures front { OnErr result (AppendsFront (P.contents report.old) (P.contents report.new)
+        (gap_text sect gap next records)) }
 {
     match gap {
         Some(first) => {
@@ -63,6 +67,8 @@ fn write_torn<P: Write>(
 ) -> Result<(), WriteFailed>
     ensures ok { OnOk result (Appends (P.contents report.old) (P.contents report.new)
         (torn_text is sect number records)) }
+    ensures front { OnErr result (AppendsFront (P.contents report.old) (P.contents report.new)
+        (torn_text is sect number records)) }
 {
     if is {
         let line = torn_line(sect, number, records);
@@ -81,6 +87,8 @@ fn write_refused<P: Write>(
     records: u64,
 ) -> Result<(), WriteFailed>
     ensures ok { OnOk result (Appends (P.contents report.old) (P.contents report.new)
+        (refused_text sect number fault.now begun records)) }
+    ensures front { OnErr result (AppendsFront (P.contents report.old) (P.contents report.new)
         (refused_text sect number fault.now begun records)) }
 {
     match fault {
@@ -119,10 +127,11 @@ impl<W: Write> Recovery<W> {
         sect: u16,
         next: u32,
         report: &mut P,
-    ) -> Result<(), EngineFault>
+    ) -> Result<(), WriteFailed>
         ensures ok { OnOk result (Recovers W.contents self.old self.new (P.contents report.old)
             (P.contents report.new) without_gap (λ g. gap_text sect g.gap next g.piece.records)) }
-        ensures fault { IfErr result IsCheckFault }
+        ensures front { OnErr result (ReportsFront W.contents self.old (P.contents report.old)
+            (P.contents report.new) (λ g. gap_text sect g.gap next g.piece.records)) }
     {
         write_gap(report, sect, self.gap, next, self.mender.records())?;
         self.gap = None;
@@ -136,10 +145,11 @@ impl<W: Write> Recovery<W> {
         sect: u16,
         number: u32,
         report: &mut P,
-    ) -> Result<(), EngineFault>
+    ) -> Result<(), WriteFailed>
         ensures ok { OnOk result (Recovers W.contents self.old self.new (P.contents report.old)
             (P.contents report.new) without_rest (rest_text sect number)) }
-        ensures fault { IfErr result IsCheckFault }
+        ensures front { OnErr result (ReportsFront W.contents self.old (P.contents report.old)
+            (P.contents report.new) (rest_text sect number)) }
     {
         write_torn(
             report,
@@ -160,10 +170,11 @@ impl<W: Write> Recovery<W> {
         label: Option<u32>,
         blocks: u32,
         report: &mut P,
-    ) -> Result<(), EngineFault>
+    ) -> Result<(), WriteFailed>
         ensures ok { OnOk result (Recovers W.contents self.old self.new (P.contents report.old)
             (P.contents report.new) (with_count label) (λ _. count_text sect label blocks)) }
-        ensures fault { IfErr result IsCheckFault }
+        ensures front { OnErr result (AppendsFront (P.contents report.old)
+            (P.contents report.new) (count_text sect label blocks)) }
     {
         if let Some(label) = label {
             write_text(report, &count_line(sect, label, blocks))?;
@@ -178,10 +189,11 @@ impl<W: Write> Recovery<W> {
         sect: u16,
         number: u32,
         report: &mut P,
-    ) -> Result<(), EngineFault>
+    ) -> Result<(), WriteFailed>
         ensures ok { OnOk result (Recovers W.contents self.old self.new (P.contents report.old)
             (P.contents report.new) (without_block number) (without_block_text sect number)) }
-        ensures fault { IfErr result IsCheckFault }
+        ensures front { OnErr result (ReportsFront W.contents self.old (P.contents report.old)
+            (P.contents report.new) (without_block_text sect number)) }
     {
         self.tear(sect, number, report)?;
         if self.gap.is_none() {
@@ -203,6 +215,8 @@ impl<W: Write> Recovery<W> {
         ensures ok { OnOk result (Recovers W.contents self.old self.new (P.contents report.old)
             (P.contents report.new) (with_block form.now block.now)
             (with_block_text sect form.now number block.now)) }
+        ensures front { OnErr result (ReportsFront W.contents self.old (P.contents report.old)
+            (P.contents report.new) (with_block_text sect form.now number block.now)) }
         ensures fault { IfErr result IsCheckFault }
     {
         let records = self.mender.records();
@@ -240,6 +254,8 @@ impl<W: Write> Recovery<W> {
         ensures ok { OnOk result (Recovers W.contents self.old self.new (P.contents report.old)
             (P.contents report.new) (λ g. salvaged_at form.now g number (tape_item item.entry))
             (λ g. text_at sect form.now g number (tape_item item.entry))) }
+        ensures front { OnErr result (ReportsFront W.contents self.old (P.contents report.old)
+            (P.contents report.new) (λ g. text_at sect form.now g number (tape_item item.entry))) }
         ensures fault { IfErr result IsCheckFault }
     {
         let Some(number) = number else {
@@ -247,7 +263,7 @@ impl<W: Write> Recovery<W> {
         };
         match item {
             Item::Block(bytes) => self.take_block(sect, number, form, bytes, report),
-            Item::Bad => self.miss_block(sect, number, report),
+            Item::Bad => Ok(self.miss_block(sect, number, report)?),
             Item::Mark => Ok(()),
         }
     }

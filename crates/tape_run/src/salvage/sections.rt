@@ -1,10 +1,14 @@
 //! The sections of a file, each recovered from its best copy.
 
-ghost use Rattle.std.specs.Prelude.{◌≡◌, true, Some, OnOk, IfOk, IfErr};
+ghost use Rattle.std.specs.Prelude.{◌≡◌, true, Some, ℕ, List, OnOk, OnErr, IfOk, IfErr};
 ghost use Rattle.tape_image.specs.Reader.{going};
+ghost use Rattle.tape_image.specs.Tape.{TapeItem};
 ghost use Rattle.tape_run.specs.Checked.{IsCheckFault};
 ghost use Rattle.tape_run.specs.SalvageTaking.{form_for, has_form, TakesSection, TakesCopy};
-ghost use Rattle.tape_run.specs.SalvageTaking.{TakesFile};
+ghost use Rattle.tape_run.specs.SalvageBlocks.{Salvaged, ReportsFront};
+ghost use Rattle.tape_run.specs.SalvageImage.{BeginsWith};
+ghost use Rattle.tape_run.specs.SalvageTaking.{TakesFile, Taken, IsBegun, StopsTaking, all_text};
+ghost use Rattle.tape_run.specs.SalvageTaking.{copy_text};
 ghost use Rattle.tape_run.specs.declared.salvage.ending.SectionEnd.TheVariants.{FileEnds};
 
 use crate::extract::images::ImageSource;
@@ -36,6 +40,9 @@ pub fn recover_sections<W: Write, R: Read + Drop, L: ImageSource<R>, P: Write>(
 ) -> Result<(), EngineFault>
     ensures ok { OnOk result (TakesFile W.contents L.gives R.remaining copies.now content images.old
         images.new recovery.old recovery.new (P.contents report.old) (P.contents report.new)) }
+    ensures front { OnErr result ((lines : Salvaged → List ℕ) × StopsTaking L.gives R.remaining
+        copies.now content images.old images.new lines × ReportsFront W.contents recovery.old
+        (P.contents report.old) (P.contents report.new) lines) }
     ensures fault { IfErr result IsCheckFault }
 {
     let form = form_of_file(copies);
@@ -51,7 +58,7 @@ pub fn recover_sections<W: Write, R: Read + Drop, L: ImageSource<R>, P: Write>(
         }
     }
     match end {
-        SectionEnd::Continues => recovery.miss_section(last.saturating_add(1), report),
+        SectionEnd::Continues => Ok(recovery.miss_section(last.saturating_add(1), report)?),
         SectionEnd::FileEnds | SectionEnd::Unknown => Ok(()),
     }
 }
@@ -92,6 +99,9 @@ fn recover<W: Write, R: Read + Drop, L: ImageSource<R>, P: Write>(
     ensures ok { IfOk result (TakesSection W.contents L.gives R.remaining copies.now content
         known.now sect images.old images.new recovery.old recovery.new (P.contents report.old)
         (P.contents report.new)) }
+    ensures front { OnErr result ((next : List Taken) × IsBegun L.gives R.remaining copies.now
+        content known.now sect images.old images.new next × ReportsFront W.contents recovery.old
+        (P.contents report.old) (P.contents report.new) (all_text content known.now sect next)) }
     ensures fault { IfErr result IsCheckFault }
 {
     let Some(copy) = best_copy(copies, sect) else {
@@ -130,6 +140,9 @@ fn recover_copy<W: Write, R: Read, P: Write>(
     requires first { image.old.place ≡ 0 }
     ensures ok { IfOk result (TakesCopy W.contents image.old.left copy.now sect form.now
         recovery.old recovery.new (P.contents report.old) (P.contents report.new)) }
+    ensures front { OnErr result ((items : List TapeItem) × BeginsWith image.old.left items
+        × ReportsFront W.contents recovery.old (P.contents report.old) (P.contents report.new)
+        (copy_text sect copy.now form.now (Some items))) }
     ensures fault { IfErr result IsCheckFault }
 {
     let line = section_line(sect, copy.image.saturating_add(1), copy.section.blocks);
@@ -144,5 +157,6 @@ fn recover_copy<W: Write, R: Read, P: Write>(
         recovery,
         report,
     )?;
-    recovery.end_section(copy, read, report)
+    let end = recovery.end_section(copy, read, report)?;
+    Ok(end)
 }

@@ -37,7 +37,7 @@ items-preserved g c =
     c.ask_all.new.best c.ask_all.new.other c.in_ok-put.field-0 c.is_bad.result
     c.items.invariant.so_far c.in_ok-witnesses.ensures.asked c.in_ok-witnesses.ensures.witnesses
     (sym c.is_some.ensures ∙ c.if-is_some.false)
-    c.in_ok-put.ensures.ok c.if-not-branch.false c.in_ok-log_item.ensures c.step-next.ensures
+    c.in_ok-put.ensures.ok c.if-not-branch.false c.in_ok-log_item.ensures.ok c.step-next.ensures
     c.is_bad.ensures
     c.count.ensures.items c.count.ensures.bad c.count.ensures.alone c.count.ensures.miscounted in
     record {
@@ -78,6 +78,7 @@ returns-in_err-put-clause-fault g c = refused_now c.from_residual-in_err-put.res
 
 pub returns-in_err-log_item-clause-fault : goal.returns-in_err-log_item-clause-fault
 returns-in_err-log_item-clause-fault g c = row_refused _ _ _ _ c.items.merged c.items.phase
-    c.args.out.now c.items.out c.put.new.out _ _ c.ask_all.new.best c.ask_all.new.other
-    c.in_ok-put.field-0 (search rules) c.items.invariant.so_far c.in_ok-witnesses.ensures.asked
+    c.in_ok-witnesses.witnesses c.args.out.now c.items.out c.put.new.out _ _ c.ask_all.new.best c.ask_all.new.other
+    c.in_ok-put.field-0 c.in_ok-witnesses.ensures.witnesses c.in_err-log_item.ensures.due
+    (search rules) c.items.invariant.so_far c.in_ok-witnesses.ensures.asked
     (sym c.is_some.ensures ∙ c.if-is_some.false) c.in_ok-put.ensures.ok c.if-not-branch.false

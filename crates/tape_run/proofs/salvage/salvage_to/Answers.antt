@@ -1,27 +1,54 @@
 use Rattle.std.proofs.Common.{◌∙◌, inl, inr, refl}
 use Rattle.tape_image.proofs.Pieces.{on_err}
 use Rattle.tape_run.proofs.SalvageShelf.{file_salvaged, file_placed, wrote_all}
+use Rattle.tape_run.proofs.SalvageShelf.{stops_comparing, stops_recovering, stops_placing}
 use Rattle.tape_run.proofs.salvage.salvage_to.Goals as goal
 
 pub returns-in_err-copies-clause-err : goal.returns-in_err-copies-clause-err
 returns-in_err-copies-clause-err g c =
-    on_err c.from_residual.result _ (inl refl)
+    on_err c.from_residual.result _ (inl (refl, c.in_err-copies.ensures.front))
 
 pub returns-in_err-conflict-clause-err : goal.returns-in_err-conflict-clause-err
 returns-in_err-conflict-clause-err g c =
-    on_err c.from_residual-in_err-conflict.result _ (inl refl)
+    on_err c.from_residual-in_err-conflict.result _ (inl (
+      refl,
+      stops_comparing
+          g.L.ImageSource.size g.L.ImageSource.gives g.R.Read.remaining c.args.task.now _ _ _ _ _ _ _
+          c.in_ok-copies.ensures.ok _ refl c.as_slice.ensures.value c.in_err-conflict.ensures.front,
+    ))
 
 pub returns-in_err-recover_sections-clause-err : goal.returns-in_err-recover_sections-clause-err
 returns-in_err-recover_sections-clause-err g c =
-    on_err c.from_residual-in_err-recover_sections.result _ (inl refl)
+    on_err c.from_residual-in_err-recover_sections.result _ (inl (
+      refl,
+      stops_recovering
+          g.L.ImageSource.size g.L.ImageSource.gives g.R.Read.remaining c.args.task.now _ _ _ _ _ _ _
+          c.in_ok-copies.ensures.ok g.W.Write.contents _ c.new-recovery.result _ _ _ _
+          c.in_ok-conflict.ensures.ok c.as_slice.ensures.value c.as_slice-2.ensures.value
+          c.new-recovery.ensures c.in_err-recover_sections.ensures.front,
+    ))
 
 pub returns-in_err-flush-clause-err : goal.returns-in_err-flush-clause-err
 returns-in_err-flush-clause-err g c =
-    on_err c.from_residual-in_err-flush.result _ (inl refl)
+    on_err c.from_residual-in_err-flush.result _ (inl (
+      refl,
+      stops_placing
+          g.L.ImageSource.size g.L.ImageSource.gives g.R.Read.remaining c.args.task.now _ _ _ _ _ _ _
+          c.in_ok-copies.ensures.ok g.W.Write.contents _ c.new-recovery.result _ _ _ _ _
+          c.in_ok-conflict.ensures.ok c.as_slice.ensures.value c.as_slice-2.ensures.value
+          c.new-recovery.ensures c.in_ok-recover_sections.ensures.ok,
+    ))
 
 pub returns-in_err-place-clause-err : goal.returns-in_err-place-clause-err
 returns-in_err-place-clause-err g c =
-    on_err c.from_residual-in_err-place.result _ (inl c.in_err-place.ensures.err)
+    on_err c.from_residual-in_err-place.result _ (inl (
+      c.in_err-place.ensures.err,
+      stops_placing
+          g.L.ImageSource.size g.L.ImageSource.gives g.R.Read.remaining c.args.task.now _ _ _ _ _ _ _
+          c.in_ok-copies.ensures.ok g.W.Write.contents _ c.new-recovery.result _ _ _ _ _
+          c.in_ok-conflict.ensures.ok c.as_slice.ensures.value c.as_slice-2.ensures.value
+          c.new-recovery.ensures c.in_ok-recover_sections.ensures.ok,
+    ))
 
 pub returns-in_err-write_text-clause-err : goal.returns-in_err-write_text-clause-err
 returns-in_err-write_text-clause-err g c =

@@ -1,7 +1,7 @@
+use Rattle.std.proofs.Common.{inl, refl}
 use Rattle.tape_run.specs.MergeNow.{IsMissing}
 use Rattle.tape_run.proofs.Ended.{told_err}
 use Rattle.tape_run.proofs.MergeNow.{at_front, ok_now, cause_now, left_now, err_misses, err_stays}
-use Rattle.tape_run.proofs.MergeNow.{says_nothing}
 use Rattle.tape_run.proofs.merge.now.merge_now.Goals as goal
 
 pub returns-clause-ok : goal.returns-clause-ok
@@ -22,7 +22,7 @@ returns-clause-cause g c = cause_now c.merge_readings.result _ g.L.ImageSource.s
 pub returns-clause-left : goal.returns-clause-left
 returns-clause-left g c = left_now c.merge_readings.result g.O.Place.stands _ _ _
     g.L.ImageSource.size g.L.ImageSource.gives g.R.Read.remaining _ _
-    c.in_ok-devices.devices.items _ _ c.in_ok-devices.ensures.ok
+    c.in_ok-devices.devices.items _ _ _ c.in_ok-devices.ensures.ok
     (at_front g.R.Read.remaining c.in_ok-devices.devices.items _ _ _
     c.as_mut_slice.ensures.value c.as_mut_slice-2.ensures.value c.in_ok-readings.ensures)
     c.merge_readings.ensures.left
@@ -34,8 +34,8 @@ returns-in_err-devices-clause-cause g c = err_misses c.from_residual.result
 
 pub returns-in_err-devices-clause-left : goal.returns-in_err-devices-clause-left
 returns-in_err-devices-clause-left g c = err_stays c.from_residual.result g.O.Place.stands _ _ _
-    (says_nothing _ _ _)
+    (inl refl)
 
 pub returns-in_err-readings-clause-left : goal.returns-in_err-readings-clause-left
 returns-in_err-readings-clause-left g c = err_stays c.from_residual-in_err-readings.result
-    g.O.Place.stands _ _ _ (says_nothing _ _ _)
+    g.O.Place.stands _ _ _ (inl refl)

@@ -9,7 +9,7 @@ use Rattle.tape_run.specs.MergeNow.{Misses}
 use Rattle.tape_run.proofs.Ended.{told_err}
 use Rattle.tape_run.proofs.Reporting.{front_then}
 use Rattle.tape_run.proofs.MergeNow.{made, made_some, differed, fits_other, err_write}
-use Rattle.tape_run.proofs.MergeNow.{all_logged, stays, err_stays, says_nothing, says_front}
+use Rattle.tape_run.proofs.MergeNow.{all_logged, stays, err_stays, says_front, says_first}
 use Rattle.tape_run.proofs.MergeNow.{says_lines, says_differ, says_items}
 use Rattle.tape_run.proofs.MergeTooLong.{item_cause, end_cause}
 use Rattle.tape_run.proofs.merge.now.merge_readings.Goals as goal
@@ -77,39 +77,40 @@ returns-in_err-written-in-Ok-merge_to-clause-cause g c =
 
 pub returns-in_err-head-clause-left : goal.returns-in_err-head-clause-left
 returns-in_err-head-clause-left g c = err_stays c.from_residual.result g.O.Place.stands _ _ _
-    (says_nothing _ _ _)
+    (inl refl)
 
 pub returns-in_default-clause-left : goal.returns-in_default-clause-left
-returns-in_default-clause-left g c = (refl, says_nothing _ _ _)
+returns-in_default-clause-left g c = (refl, inl refl)
 
 pub returns-in-Err-OutOfMemory-clause-left : goal.returns-in-Err-OutOfMemory-clause-left
-returns-in-Err-OutOfMemory-clause-left g c = (refl, says_nothing _ _ _)
+returns-in-Err-OutOfMemory-clause-left g c = (refl, inl refl)
 
 pub returns-in-Err-Write-clause-left : goal.returns-in-Err-Write-clause-left
 returns-in-Err-Write-clause-left g c =
-    stays g.O.Place.stands _ _ _ c.write_stop.result (says_nothing _ _ _)
+    stays g.O.Place.stands _ _ _ c.write_stop.result (inl refl)
 
 pub returns-clause-left : goal.returns-clause-left
-returns-clause-left g c = (refl, says_nothing _ _ _)
+returns-clause-left g c = (refl, inl refl)
 
 pub returns-in_err-report_readings-in-Ok-merge_to-clause-left :
     goal.returns-in_err-report_readings-in-Ok-merge_to-clause-left
 returns-in_err-report_readings-in-Ok-merge_to-clause-left g c =
     err_stays c.from_residual-in_err-report_readings-in-Ok-merge_to.result g.O.Place.stands _ _ _
-    (says_front _ c.merge_to.new.readings _ _
-    c.in_err-report_readings-in-Ok-merge_to.ensures.front)
+    (says_front c.args.readings.now c.merge_to.new.readings c.in-Ok-merge_to.merged _ _ _ _ _ _ _ _
+    c.in-Ok-merge_to.ensures.ok c.in_err-report_readings-in-Ok-merge_to.ensures.front)
 
 pub returns-in_err-written-in-Ok-merge_to-clause-left :
     goal.returns-in_err-written-in-Ok-merge_to-clause-left
 returns-in_err-written-in-Ok-merge_to-clause-left g c =
     err_stays c.from_residual-in_err-written-in-Ok-merge_to.result g.O.Place.stands _ _ _
-    (says_lines _ c.merge_to.new.readings _ _
-    c.in_ok-report_readings-in-Ok-merge_to.ensures.ok)
+    (says_lines c.args.readings.now c.merge_to.new.readings c.in-Ok-merge_to.merged _ _ _ _ _ _ _ _
+    c.in-Ok-merge_to.ensures.ok c.in_ok-report_readings-in-Ok-merge_to.ensures.ok)
 
 pub returns-in_default-flush-clause-left : goal.returns-in_default-flush-clause-left
 returns-in_default-flush-clause-left g c = (
   refl,
-  says_lines _ c.merge_to.new.readings _ _ c.in_ok-report_readings-in-Ok-merge_to.ensures.ok,
+  says_lines c.args.readings.now c.merge_to.new.readings c.in-Ok-merge_to.merged _ _ _ _ _ _ _ _
+      c.in-Ok-merge_to.ensures.ok c.in_ok-report_readings-in-Ok-merge_to.ensures.ok,
 )
 
 pub returns-in_err-place-in-Ok-merge_to-clause-left :
@@ -117,14 +118,16 @@ pub returns-in_err-place-in-Ok-merge_to-clause-left :
 returns-in_err-place-in-Ok-merge_to-clause-left g c =
     err_write _ g.O.Place.stands _ _ _ _ (search rules) (inl (
       c.in_err-place-in-Ok-merge_to.ensures.err,
-      says_lines _ c.merge_to.new.readings _ _ c.in_ok-report_readings-in-Ok-merge_to.ensures.ok,
+      says_lines c.args.readings.now c.merge_to.new.readings c.in-Ok-merge_to.merged _ _ _ _ _ _ _ _
+          c.in-Ok-merge_to.ensures.ok c.in_ok-report_readings-in-Ok-merge_to.ensures.ok,
     ))
 
 pub returns-in_err-report_readings-in-Err-Differ-clause-left :
     goal.returns-in_err-report_readings-in-Err-Differ-clause-left
 returns-in_err-report_readings-in-Err-Differ-clause-left g c =
     err_stays c.from_residual-in_err-report_readings-in-Err-Differ.result g.O.Place.stands _ _ _
-    (says_front _ c.merge_to.new.readings _ _
+    (says_first c.args.readings.now c.merge_to.new.readings _ _ c.in-Err-Differ.item
+    c.in-Err-Differ.field-0 _ _ c.in-Err-Differ.ensures.fault c.in-Err-Differ.field-0-is _ _
     c.in_err-report_readings-in-Err-Differ.ensures.front)
 
 pub returns-in_err-pass_on-in-Err-Differ-clause-left :
@@ -133,7 +136,8 @@ returns-in_err-pass_on-in-Err-Differ-clause-left g c =
     let text : c.deref-in-Err-Differ.result.now ≡ differ_line c.in-Err-Differ.item =
     search rules in
     err_stays c.from_residual-in_err-pass_on-in-Err-Differ.result g.O.Place.stands _ _ _
-    (says_differ _ c.merge_to.new.readings c.in-Err-Differ.item _ _ _
+    (says_differ c.args.readings.now c.merge_to.new.readings _ _ c.in-Err-Differ.item
+    c.in-Err-Differ.field-0 _ _ c.in-Err-Differ.ensures.fault c.in-Err-Differ.field-0-is _ _ _
     c.in_ok-report_readings-in-Err-Differ.ensures.ok
     (subst (λ t. AppendsFront (g.P.Write.contents c.report_readings-in-Err-Differ.new.report)
     (g.P.Write.contents c.pass_on-in-Err-Differ.new.report) t) text
@@ -149,7 +153,8 @@ returns-in_err-report_items-in-Err-Differ-clause-left g c =
     let text : c.deref-in-Err-Differ.result.now ≡ differ_line c.in-Err-Differ.item =
     search rules in
     err_stays c.from_residual-in_err-report_items-in-Err-Differ.result g.O.Place.stands _ _ _
-    (says_items names c.merge_to.new.readings c.in-Err-Differ.item old second _
+    (says_items c.args.readings.now c.merge_to.new.readings _ _ c.in-Err-Differ.item
+    c.in-Err-Differ.field-0 _ _ c.in-Err-Differ.ensures.fault c.in-Err-Differ.field-0-is old second _
     (Appends-trans old first second (lines_from (reading_line names) 0 c.merge_to.new.readings)
     (differ_line c.in-Err-Differ.item) c.in_ok-report_readings-in-Err-Differ.ensures.ok
     (subst (λ t. Appends first second t) text c.in_ok-pass_on-in-Err-Differ.ensures.ok))

@@ -1,4 +1,7 @@
-use Rattle.tape_run.proofs.SalvageConflicts.{none_reported, next_reported}
+use Rattle.std.proofs.Common.{◌<◌, arith}
+use Rattle.tape_image.proofs.Pieces.{on_err}
+use Rattle.tape_run.specs.SalvageChoice.{last_section}
+use Rattle.tape_run.proofs.SalvageConflicts.{none_reported, next_reported, reported_front}
 use Rattle.tape_run.proofs.salvage.conflicts.report_conflicts.Goals as goal
 
 pub loop-before-init : goal.loop-before-init
@@ -7,3 +10,10 @@ loop-before-init g c = none_reported _ _
 pub loop-before-preserved : goal.loop-before-preserved
 loop-before-preserved g c = next_reported _ c.loop-before.before _ _ _ _ _ _ c.loop-before.invariant
     c.best_copy-best.ensures c.in_ok-any.ensures.any c.in_ok-any.ensures.text
+
+pub returns-in_err-any-clause-front : goal.returns-in_err-any-clause-front
+returns-in_err-any-clause-front g c =
+    let within : c.loop-before.before < last_section c.args.copies.now =
+    omega (arith, c.loop-before-test.true, c.last_section-before-end.ensures) in
+    on_err c.from_residual.result _ (reported_front _ c.loop-before.before _ _ _ _ _ _ within
+    c.loop-before.invariant c.best_copy-best.ensures c.in_err-any.ensures.front)

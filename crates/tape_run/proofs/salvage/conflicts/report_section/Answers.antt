@@ -1,5 +1,9 @@
-use Rattle.std.proofs.Common.{rules}
+use Rattle.std.proofs.Common.{rules, sym, subst}
+use Rattle.tape_image.specs.Written.{AppendsFront}
+use Rattle.tape_run.specs.SalvageConflicts.{conflict_text}
 use Rattle.tape_run.proofs.SalvageConflicts.{none_compared, compared_more}
+use Rattle.tape_run.proofs.SalvageConflicts.{compared_front}
+use Rattle.tape_image.proofs.Pieces.{on_err}
 use Rattle.tape_run.proofs.salvage.conflicts.report_section.Goals as goal
 
 pub loop-copy-init : goal.loop-copy-init
@@ -9,3 +13,11 @@ pub loop-copy-preserved : goal.loop-copy-preserved
 loop-copy-preserved g c = compared_more _ c.copy-item.result c.args.copies.now
     c.loop-copy.copy-index _ _ _ _ _ _ (search rules) c.copy-item.is c.loop-copy.invariant c.in_ok-any.ensures.any
     c.in_ok-any.ensures.text
+
+pub returns-in_err-any-clause-front : goal.returns-in_err-any-clause-front
+returns-in_err-any-clause-front g c = on_err c.from_residual.result _
+    (subst (λ b. AppendsFront (g.P.Write.contents c.args.report.now)
+    (g.P.Write.contents c.report_copy.new.report) (conflict_text b c.args.copies.now))
+    (sym c.in-Some.is) (compared_front c.in-Some.best c.copy-item.result c.args.copies.now
+    c.loop-copy.copy-index _ _ _ _ _ (search rules) c.copy-item.is c.loop-copy.invariant
+    c.in_err-any.ensures.front))

@@ -2,7 +2,8 @@ use Rattle.std.proofs.Common.{Ok, ap, sym, ◌∙◌, arith, refl}
 use Rattle.tape_image.specs.Reader.{tape_item}
 use Rattle.tape_image.proofs.Callers.{gave, met_end, met_fault}
 use Rattle.tape_run.proofs.SalvagedSoFar.{starts, one_more, ends_data, at_end, at_fault, numbered}
-use Rattle.tape_run.proofs.SalvagedSoFar.{still_open, ends_at}
+use Rattle.tape_run.proofs.SalvagedSoFar.{still_open, ends_at, stops_at}
+use Rattle.tape_image.proofs.Pieces.{on_err}
 use Rattle.tape_run.proofs.salvage.image.recover_section.Goals as goal
 
 pub items-init : goal.items-init
@@ -88,3 +89,17 @@ returns-in-Err-clause-ok g c =
     c.items.expected c.args.recovery.now c.items.recovery (g.P.Write.contents c.args.report.now)
     (g.P.Write.contents c.items.report) c.items.invariant.so_far met.takes c.items.invariant.limit c.read_in-in-Err.result
     c.read_in-in-Err.ensures c.items.invariant.unended
+
+pub returns-in_err-take_item-in-Ok-Some-clause-front :
+    goal.returns-in_err-take_item-in-Ok-Some-clause-front
+returns-in_err-take_item-in-Ok-Some-clause-front g c =
+    let next = c.next.follows.lender-at-none in
+    let step = gave c.items.image _ next c.in-Ok-Some.item c.next.follows.holds-at-none
+    c.items.invariant.on (c.in-Ok-Some.is ∙ ap Ok c.in-Ok-Some.field-0-is) in
+    on_err c.from_residual.result _ (stops_at g.W.Write.contents c.args.image.now.left
+    c.items.image.left next.left c.items.image.place next.place c.args.start c.args.key.now
+    c.args.most c.args.form.now c.items.expected c.number_in-number.result
+    (tape_item c.in-Ok-Some.item) c.args.recovery.now c.items.recovery
+    (g.P.Write.contents c.args.report.now) (g.P.Write.contents c.items.report)
+    (g.P.Write.contents c.take_item.new.report) c.items.invariant.so_far step.takes step.within
+    c.number_in-number.ensures c.in_err-take_item-in-Ok-Some.ensures.front)

@@ -1,6 +1,14 @@
-use Rattle.std.proofs.Common.{◌≡◌, None, true, false, refl, sym, ap, subst, ◌∙◌}
+use Rattle.std.proofs.Common.{◌≡◌, None, Some, List, true, false, refl, sym, ap, subst, ◌∙◌}
+use Rattle.std.proofs.Common.{rules}
+use Rattle.tape_image.specs.Tape.{TapeItem}
+use Rattle.tape_run.specs.SalvageBlocks.{ReportsFront}
+use Rattle.tape_run.specs.SalvageImage.{BeginsWith}
 use Rattle.tape_run.specs.SalvageChoice.{IsBest, firsts}
-use Rattle.tape_run.specs.SalvageTaking.{form_for, has_form, TakesCopy}
+use Rattle.tape_run.specs.SalvageTaking.{form_for, has_form, TakesCopy, copy_text}
+use Rattle.tape_image.proofs.Pieces.{on_err}
+use Rattle.tape_run.proofs.Reporting.{if_err}
+use Rattle.tape_run.proofs.SalvageBegun.{none_begun, without_copy, without_form, without_image}
+use Rattle.tape_run.proofs.SalvageBegun.{copy_begun, none_read}
 use Rattle.tape_run.proofs.SalvageOne.{no_copy, no_form, no_image, from_copy, if_ok}
 use Rattle.tape_run.proofs.salvage.sections.recover.Goals as goal
 
@@ -59,3 +67,81 @@ returns-clause-ok g c =
     c.args.recovery.now c.recover_copy.new.recovery (g.P.Write.contents c.args.report.now)
     (g.P.Write.contents c.recover_copy.new.report) end) c.form_for-form.ensures t)))
     c.recover_copy.ensures.ok
+
+pub returns-in_err-miss_section-clause-front : goal.returns-in_err-miss_section-clause-front
+returns-in_err-miss_section-clause-front g c = on_err c.from_residual.result _ (without_copy
+    g.W.Write.contents g.L.ImageSource.gives
+    g.R.Read.remaining c.args.copies.now c.args.content c.args.known.now c.args.sect _ _ _ _ _
+    (subst (IsBest (firsts c.args.sect None c.args.copies.now)) c.in_default.is
+    c.best_copy.ensures) refl c.in_err-miss_section.ensures.front)
+
+pub returns-in_err-miss_form-clause-front : goal.returns-in_err-miss_form-clause-front
+returns-in_err-miss_form-clause-front g c =
+    let k = c.in-Some.copy in
+    let off : has_form c.args.content (form_for c.args.content k.section.form c.args.known.now)
+    ≡ false =
+    sym (c.has_form.ensures ∙ ap (has_form c.args.content) c.form_for-form.ensures)
+    ∙ c.if-not-has_form.true in
+    on_err c.from_residual-in_err-miss_form.result _ (without_form g.W.Write.contents g.L.ImageSource.gives
+    g.R.Read.remaining c.args.copies.now c.args.content c.args.known.now c.args.sect k _ _ _ _ _
+    (subst (IsBest (firsts c.args.sect None c.args.copies.now)) c.in-Some.is
+    c.best_copy.ensures) off refl c.in_err-miss_form.ensures.front)
+
+pub returns-in_default-mount-clause-front : goal.returns-in_default-mount-clause-front
+returns-in_default-mount-clause-front g c =
+    let stays : c.mount.new.self ≡ c.args.images.now = search rules in
+    none_begun g.W.Write.contents g.L.ImageSource.gives
+    g.R.Read.remaining c.args.copies.now c.args.content c.args.known.now c.args.sect _ _ _ _ stays
+
+pub returns-in_err-miss_section-2-clause-front : goal.returns-in_err-miss_section-2-clause-front
+returns-in_err-miss_section-2-clause-front g c =
+    let k = c.in-Some.copy in
+    let on : has_form c.args.content (form_for c.args.content k.section.form c.args.known.now)
+    ≡ true =
+    sym (c.has_form.ensures ∙ ap (has_form c.args.content) c.form_for-form.ensures)
+    ∙ c.if-not-has_form.false in
+    on_err c.from_residual-in_err-miss_section-2.result _ (without_image g.W.Write.contents g.L.ImageSource.gives
+    g.R.Read.remaining c.args.copies.now c.args.content c.args.known.now c.args.sect k _ _ _ _ _
+    (subst (IsBest (firsts c.args.sect None c.args.copies.now)) c.in-Some.is
+    c.best_copy.ensures) on
+    (subst (λ i. g.L.ImageSource.gives c.args.images.now k.image i c.mount.new.self)
+    c.in_default-image.is c.in-Ok.ensures.ok) c.in_err-miss_section-2.ensures.front)
+
+pub returns-in_default-new-clause-front : goal.returns-in_default-new-clause-front
+returns-in_default-new-clause-front g c =
+    let k = c.in-Some.copy in
+    let on : has_form c.args.content (form_for c.args.content k.section.form c.args.known.now)
+    ≡ true =
+    sym (c.has_form.ensures ∙ ap (has_form c.args.content) c.form_for-form.ensures)
+    ∙ c.if-not-has_form.false in
+    none_read g.W.Write.contents g.L.ImageSource.gives
+    g.R.Read.remaining c.args.copies.now c.args.content c.args.known.now c.args.sect k c.in-Some-image.device _ _ _ _
+    (subst (IsBest (firsts c.args.sect None c.args.copies.now)) c.in-Some.is
+    c.best_copy.ensures) on
+    (subst (λ i. g.L.ImageSource.gives c.args.images.now k.image i c.mount.new.self)
+    c.in-Some-image.is c.in-Ok.ensures.ok)
+
+pub returns-clause-front : goal.returns-clause-front
+returns-clause-front g c =
+    let k = c.in-Some.copy in
+    let on : has_form c.args.content (form_for c.args.content k.section.form c.args.known.now)
+    ≡ true =
+    sym (c.has_form.ensures ∙ ap (has_form c.args.content) c.form_for-form.ensures)
+    ∙ c.if-not-has_form.false in
+    if_err c.recover_copy.result _ _ c.recover_copy.ensures.front
+    (λ part. copy_begun g.W.Write.contents g.L.ImageSource.gives
+    g.R.Read.remaining c.args.copies.now c.args.content c.args.known.now c.args.sect k c.in-Some-image.device _ _ _ _ _
+    (subst (IsBest (firsts c.args.sect None c.args.copies.now)) c.in-Some.is
+    c.best_copy.ensures) on
+    (subst (λ i. g.L.ImageSource.gives c.args.images.now k.image i c.mount.new.self)
+    c.in-Some-image.is c.in-Ok.ensures.ok)
+    (subst (λ b. (items : List TapeItem) × BeginsWith b items × ReportsFront g.W.Write.contents
+    c.args.recovery.now (g.P.Write.contents c.args.report.now)
+    (g.P.Write.contents c.recover_copy.new.report) (copy_text c.args.sect k
+    (form_for c.args.content k.section.form c.args.known.now) (Some items)))
+    c.in-Ok-new.ensures.unread
+    (subst (λ f. (items : List TapeItem) × BeginsWith c.in-Ok-new.reader.left items
+    × ReportsFront g.W.Write.contents
+    c.args.recovery.now (g.P.Write.contents c.args.report.now)
+    (g.P.Write.contents c.recover_copy.new.report) (copy_text c.args.sect k f (Some items)))
+    c.form_for-form.ensures part)))

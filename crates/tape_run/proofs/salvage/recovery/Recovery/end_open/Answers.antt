@@ -1,7 +1,10 @@
 use Rattle.std.proofs.Common.{subst}
 use Rattle.std.specs.Io.KnownBytes.{Appends}
 use Rattle.std.proofs.KnownBytes.{Appends-trans}
+use Rattle.tape_image.specs.Written.{AppendsFront}
+use Rattle.tape_image.proofs.Pieces.{on_err}
 use Rattle.tape_run.specs.SalvageEnds.{open_text, unsure_text}
+use Rattle.tape_run.proofs.SalvageFronts.{in_one, in_two}
 use Rattle.tape_run.proofs.salvage.recovery.Recovery.end_open.Goals as goal
 
 pub returns-clause-ok : goal.returns-clause-ok
@@ -19,3 +22,25 @@ returns-clause-ok g c =
           (g.P.Write.contents c.write_unsure.new.report)
           (unsure_text sect n k.section.blocks)) first c.in_ok-write_unsure.ensures.ok),
     )
+
+pub returns-in_err-miss_rest-clause-front : goal.returns-in_err-miss_rest-clause-front
+returns-in_err-miss_rest-clause-front g c =
+    let k = c.args.copy.now in
+    let sect = k.section.key.sect in
+    on_err c.from_residual.result _ (λ start z h. in_one _ _ _ _
+    (subst (λ n. AppendsFront (g.P.Write.contents c.args.report.now)
+    (g.P.Write.contents c.miss_rest.new.report) (open_text sect n z)) c.believed-first.ensures
+    (c.in_err-miss_rest.ensures.front start z h)))
+
+pub returns-in_err-write_unsure-clause-front : goal.returns-in_err-write_unsure-clause-front
+returns-in_err-write_unsure-clause-front g c =
+    let k = c.args.copy.now in
+    let sect = k.section.key.sect in
+    let first = c.believed-first.ensures in
+    on_err c.from_residual-in_err-write_unsure.result _ (λ start z h. in_two _ _ _ _ _
+    (subst (λ n. Appends (g.P.Write.contents c.args.report.now)
+    (g.P.Write.contents c.miss_rest.new.report) (open_text sect n z)) first
+    (c.in_ok-miss_rest.ensures.ok start z h).1)
+    (subst (λ n. AppendsFront (g.P.Write.contents c.miss_rest.new.report)
+    (g.P.Write.contents c.write_unsure.new.report) (unsure_text sect n k.section.blocks)) first
+    c.in_err-write_unsure.ensures.front))
