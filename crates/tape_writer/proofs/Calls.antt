@@ -2,13 +2,13 @@
 use Rattle.std.proofs.Common.{◌≡◌, ℕ, ◌+◌, List, [], ◌∷◌, ◌++◌, length, refl, sym, ap, ◌∙◌, subst}
 use Rattle.std.proofs.Common.{inr, map}
 use Rattle.std.proofs.lemmas.List.{map-append, length-map}
-use Rattle.tape_label.specs.declared.{values.Vol1.Vol1, values.Head1.Head1}
+use Rattle.tape_label.specs.declared.values.{Vol1.Vol1, Head1.Head1}
 use Rattle.tape_blocks.specs.declared.parts.Shape.{Shape}
 use Rattle.tape_blocks.specs.Packing.{Packing}
 use Rattle.tape_set.specs.Layout.{Section}
-use Rattle.tape_writer.specs.declared.{fault.WriteFault.WriteFault, course.Opened.Opened}
-use Rattle.tape_writer.specs.declared.{course.Course.Course, phase.Phase.Phase}
-use Rattle.tape_writer.specs.declared.{phase.OpenFile.OpenFile}
+use Rattle.tape_writer.specs.declared.course.{Opened.Opened, Course.Course}
+use Rattle.tape_writer.specs.declared.phase.{Phase.Phase, OpenFile.OpenFile}
+use Rattle.tape_writer.specs.declared.fault.WriteFault.{WriteFault}
 use Rattle.tape_writer.specs.declared.fault.WriteFault.TheVariants as faults
 use Rattle.tape_writer.specs.declared.phase.Phase.TheVariants.{Between, Filing, Failed}
 use Rattle.tape_writer.specs.{Tapes.Tapes, Faults.IsEnding}

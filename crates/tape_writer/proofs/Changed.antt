@@ -13,7 +13,7 @@ use Rattle.tape_set.specs.Sizes.{items_size}
 use Rattle.tape_set.specs.Lawful.{IsSection, GoesOn, StartsOnFirst, most_blocks}
 use Rattle.tape_set.specs.Tight.{used_before, takes_end, takes_next, IsTightChange, IsTightEnd}
 use Rattle.tape_set.proofs.Measures.{items_size-append}
-use Rattle.tape_writer.specs.declared.{course.Opened.Opened, course.Course.Course}
+use Rattle.tape_writer.specs.declared.course.{Opened.Opened, Course.Course}
 use Rattle.tape_label.specs.Widths.{IsWideVolume}
 use Rattle.tape_writer.specs.Labels.{IsReady, volume_label, header_items, trailer_items}
 use Rattle.tape_writer.specs.Told.{labelled, IsWithin}

@@ -8,8 +8,8 @@ use Rattle.tape_blocks.specs.{Packing.Packing, Run.RunOf, Tight.Filled}
 use Rattle.tape_blocks.proofs.RunLaws.{run_begins}
 use Rattle.tape_set.specs.Layout.{Section, Placed, item_of, group_of}
 use Rattle.tape_set.specs.{Before.blocks_of_all, Sizes.items_size, Tight.least_capacity}
-use Rattle.tape_writer.specs.declared.{fault.WriteFault.WriteFault, course.Opened.Opened}
-use Rattle.tape_writer.specs.declared.{course.Course.Course}
+use Rattle.tape_writer.specs.declared.course.{Opened.Opened, Course.Course}
+use Rattle.tape_writer.specs.declared.fault.WriteFault.{WriteFault}
 use Rattle.tape_writer.specs.Tapes.{Tapes, Ended, UnderWay, all_volumes}
 use Rattle.tape_label.specs.Widths.{IsWideVolume}
 use Rattle.tape_writer.specs.Labels.{IsReady, volume_label, header_items}

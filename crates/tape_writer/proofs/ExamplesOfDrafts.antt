@@ -5,7 +5,7 @@ use Rattle.tape_label.specs.declared.values.Vol1.{Vol1}
 use Rattle.tape_blocks.specs.Packing.{the_packing}
 use Rattle.tape_blocks.proofs.RunLaws.{run_begins}
 use Rattle.tape_set.specs.{Layout.Placed, Layout.Volume, Sizes.items_size}
-use Rattle.tape_writer.specs.declared.{course.Opened.Opened, course.Course.Course}
+use Rattle.tape_writer.specs.declared.course.{Opened.Opened, Course.Course}
 use Rattle.tape_writer.specs.CasesOfDrafts.{CasesOfDrafts, CasesOfInside, nothing_yet, as_placed}
 use Rattle.tape_writer.specs.CasesOfDrafts.{first_course, first_items}
 use Rattle.tape_writer.specs.Draft.{OfLast, IsDone, Steady, IsOpen, IsResting}

@@ -5,12 +5,12 @@ use Rattle.std.specs.Io.KnownBytes.{prepend_known}
 use Rattle.tape_label.specs.declared.values.Head1.{Head1}
 use Rattle.tape_blocks.specs.declared.parts.Shape.{Shape}
 use Rattle.tape_blocks.specs.Packing.{HasRecordLength}
-use Rattle.tape_writer.specs.declared.{fault.SetFault.SetFault, fault.SetFault.TheVariants.Write}
-use Rattle.tape_writer.specs.declared.{inputs.cut.Cut.Cut}
+use Rattle.tape_writer.specs.declared.fault.{SetFault.SetFault, SetFault.TheVariants.Write}
+use Rattle.tape_writer.specs.declared.inputs.cut.Cut.{Cut}
 use Rattle.tape_writer.specs.declared.fault.WriteFault.TheVariants as faults
 use Rattle.tape_writer.specs.{NoVolume.GaveUp, Records.records_of, State.SetState, Tapes.Tapes}
 use Rattle.tape_writer.specs.{Told.with_file, ToldFiles.told_files, ToldFiles.IfAllKnown}
-use Rattle.tape_writer.specs.{CasesOfInputs.CasesOfInputs, CasesOfInputs.CasesOfSetFaults}
+use Rattle.tape_writer.specs.CasesOfInputs.{CasesOfInputs, CasesOfSetFaults}
 use Rattle.tape_writer.proofs.Fitting.{within_longest, has_longest}
 use Rattle.tape_writer.specs.WriteFaults.{OneIsOther, IsFileFault, IsFilesFault, IsWholeFault}
 

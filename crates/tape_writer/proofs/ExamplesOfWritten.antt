@@ -2,7 +2,7 @@
 use Rattle.std.proofs.Common.{◌≡◌, ◌⊎◌, ℕ, List, [], ◌∷◌, length, Option, Some, IfSome, refl, subst}
 use Rattle.std.proofs.Common.{arith}
 use Rattle.tape_label.specs.declared.values.Head1.{Head1}
-use Rattle.tape_writer.specs.declared.{inputs.cut.Cut.Cut, inputs.set.SetPlan.SetPlan}
+use Rattle.tape_writer.specs.declared.inputs.{cut.Cut.Cut, set.SetPlan.SetPlan}
 use Rattle.tape_writer.specs.NoVolume.{HasNoVolume, GaveUpSet}
 use Rattle.tape_writer.specs.{Tapes.Ended, WriteSet.cut_of}
 use Rattle.tape_writer.specs.CasesOfWritten.{CasesOfWritten, CasesOfRecordLaws}

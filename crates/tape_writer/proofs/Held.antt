@@ -3,13 +3,13 @@ use Rattle.std.proofs.Common.{◌≡◌, ◌<◌, ◌≤◌, ℕ, zero, suc, ◌
 use Rattle.std.proofs.Common.{false, Some, refl, sym, ap, ◌∙◌, subst, append_assoc, arith, get_or}
 use Rattle.std.proofs.Common.{map, slice_get, OnOk, Result, Ok, Err, option_map}
 use Rattle.std.proofs.lemmas.List.{append-nil, length-map}
-use Rattle.std.proofs.{lemmas.Option.slice_get-map, lemmas.Grind.flat_map-append}
+use Rattle.std.proofs.lemmas.{Option.slice_get-map, Grind.flat_map-append}
 use Rattle.tape_label.specs.declared.values.Vol1.{Vol1}
 use Rattle.tape_image.specs.Tape.{TapeItem, block, mark}
 use Rattle.tape_blocks.specs.Tight.{Filled}
 use Rattle.tape_set.specs.{Layout.Section, Before.blocks_of_all, Sizes.item_size}
-use Rattle.tape_writer.specs.declared.{fault.WriteFault.WriteFault, course.Opened.Opened}
-use Rattle.tape_writer.specs.declared.{course.Course.Course}
+use Rattle.tape_writer.specs.declared.course.{Opened.Opened, Course.Course}
+use Rattle.tape_writer.specs.declared.fault.WriteFault.{WriteFault}
 use Rattle.tape_writer.specs.{Tapes.Tapes, Tapes.UnderWay, Told.labelled}
 use Rattle.tape_label.specs.Widths.{IsWideVolume}
 use Rattle.tape_writer.specs.Labels.{volume_label, header_items, trailer_items}

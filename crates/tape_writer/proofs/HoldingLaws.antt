@@ -1,6 +1,6 @@
 -- The effect of a write buffer on the bytes accepted.
-use Rattle.std.proofs.Common.{List, ℕ, [], ◌++◌, Option, sym, ap, ◌∙◌, subst}
-use Rattle.std.proofs.Common.{append_assoc, append-nil}
+use Rattle.std.proofs.Common.{List, ℕ, [], ◌++◌, Option, sym, ap, ◌∙◌, subst, append_assoc}
+use Rattle.std.proofs.Common.{append-nil}
 use Rattle.tape_image.specs.Written.{AppendsFront}
 use Rattle.tape_image.proofs.Pieces.{front_behind, front_more}
 use Rattle.tape_writer.specs.Holding.{Holding, MakesRoom}

@@ -1,12 +1,11 @@
 -- The labels that are written are labels with their fields.
 use Rattle.std.proofs.Common.{◌≡◌, ◌≤◌, ℕ, List, Bool, true, false, refl, arith, ◌%◌}
-use Rattle.tape_label.specs.declared.{values.Vol1.Vol1, values.Kind.Kind, values.Format.Format}
-use Rattle.tape_label.specs.declared.{values.Trail1.Trail1}
+use Rattle.tape_label.specs.declared.values.{Vol1.Vol1, Kind.Kind, Format.Format, Trail1.Trail1}
 use Rattle.tape_label.specs.declared.values.Kind.TheVariants as kinds
 use Rattle.tape_label.specs.declared.values.Format.TheVariants.{Fixed, Counted, Spanned}
 use Rattle.tape_label.specs.{Formats.least_record, Positions.positions, Vol1.IsVol1, Head1.IsHead1}
 use Rattle.tape_label.specs.{Head2.IsHead2, Head2.Head2Fits, Trail1.IsTrail1, Reading.begins_as}
-use Rattle.tape_label.specs.{Widths.IsWide, Widths.IsWideVolume}
+use Rattle.tape_label.specs.Widths.{IsWide, IsWideVolume}
 use Rattle.tape_label.specs.Kinds.{identifier, trailer, IsSecond}
 use Rattle.tape_label.proofs.Texts.{vol1_text_is, head1_text_is, head2_text_is, trail1_text_is}
 use Rattle.tape_blocks.specs.declared.parts.Shape.{Shape}

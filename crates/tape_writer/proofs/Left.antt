@@ -3,13 +3,13 @@
 use Rattle.std.proofs.Common.{◌≡◌, ◌≢◌, ◌≤◌, ℕ, ◌+◌, List, [], ◌∷◌, ◌++◌, length, refl, sym, ap}
 use Rattle.std.proofs.Common.{◌∙◌, subst, inl, inr, arith, drop, IfErr, Result, Ok, Err}
 use Rattle.std.proofs.lemmas.List.{length-map}
-use Rattle.tape_label.specs.declared.{values.Vol1.Vol1, values.Head1.Head1}
+use Rattle.tape_label.specs.declared.values.{Vol1.Vol1, Head1.Head1}
 use Rattle.tape_blocks.specs.declared.{parts.Shape.Shape, offer.Offer.TheVariants.BlockReady}
 use Rattle.tape_blocks.specs.Block.{Portion}
 use Rattle.tape_blocks.specs.Packing.{Packing, IsJudged, Offers, emptied}
 use Rattle.tape_set.specs.{Layout.Section, Tight.least_capacity}
-use Rattle.tape_writer.specs.declared.{fault.WriteFault.WriteFault, course.Opened.Opened}
-use Rattle.tape_writer.specs.declared.{course.Course.Course, phase.OpenFile.OpenFile}
+use Rattle.tape_writer.specs.declared.course.{Opened.Opened, Course.Course}
+use Rattle.tape_writer.specs.declared.{fault.WriteFault.WriteFault, phase.OpenFile.OpenFile}
 use Rattle.tape_writer.specs.declared.fault.WriteFault.TheVariants as faults
 use Rattle.tape_writer.specs.declared.phase.Phase.TheVariants.{Between, Filing, Failed}
 use Rattle.tape_writer.specs.{Tapes.Tapes, Tapes.Ended, State.SetState, State.IsWriting}
@@ -21,7 +21,7 @@ use Rattle.tape_writer.specs.Front.{HoldsFront, IsMidRecord, IsPartly, IsInLast,
 use Rattle.tape_writer.specs.Front.{IsLeftInside}
 use Rattle.tape_writer.proofs.{Changed.not_nil, Packed.packing_with, Packed.flat_with}
 use Rattle.tape_writer.proofs.{Ends.between_with, Fronts.front_here, Fronts.is_out, Calls.last_told}
-use Rattle.tape_writer.proofs.{Calls.with_last}
+use Rattle.tape_writer.proofs.Calls.{with_last}
 use Rattle.tape_writer.proofs.Standing.{inside_left, packing_left, flat_left, waits}
 
 -- ---- inside a file

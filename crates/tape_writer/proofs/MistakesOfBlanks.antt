@@ -1,6 +1,6 @@
 -- Results that the contracts of blank volumes exclude: each is the result of a wrong body.
-use Rattle.std.proofs.Common.{◌≡◌, refl, sym, ap, ◌∙◌, subst, arith, codes, inl, inr}
-use Rattle.std.specs.Prelude.{Some, slice_index}
+use Rattle.std.proofs.Common.{◌≡◌, refl, sym, ap, ◌∙◌, subst, arith, codes, inl, inr, Some}
+use Rattle.std.proofs.Common.{slice_index}
 use Rattle.tape_writer.specs.Blank.{IsPrefixByte, IsPrefix, blank_image, blank_volume}
 use Rattle.tape_writer.proofs.blank.blank_volume.Reads as blank_volume_of
 use Rattle.tape_writer.proofs.blank.blank_image.Reads as blank_image_of

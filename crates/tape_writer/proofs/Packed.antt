@@ -12,10 +12,10 @@ use Rattle.tape_blocks.specs.Tight as packing
 use Rattle.tape_blocks.proofs.RunLaws.{filled_of, offers_shape, going_length, going_ends}
 use Rattle.tape_blocks.proofs.RunLaws.{going_block, run_last, run_none}
 use Rattle.tape_set.specs.Layout.{Section}
-use Rattle.tape_writer.specs.declared.{fault.WriteFault.WriteFault, course.Opened.Opened}
-use Rattle.tape_writer.specs.declared.{course.Course.Course, tape.Tape.Tape}
+use Rattle.tape_writer.specs.declared.course.{Opened.Opened, Course.Course}
+use Rattle.tape_writer.specs.declared.{fault.WriteFault.WriteFault, tape.Tape.Tape}
 use Rattle.tape_writer.specs.{Tapes.Tapes, Draft.Draft, Draft.IsOpen, Draft.Grew, Draft.open_blocks}
-use Rattle.tape_writer.specs.{Inside.IsInside, Inside.IsPacking, Inside.Flushed, Inside.IsFlat}
+use Rattle.tape_writer.specs.Inside.{IsInside, IsPacking, Flushed, IsFlat}
 use Rattle.tape_writer.proofs.Lists.{all_push}
 
 -- ---- a block that is returned has bytes

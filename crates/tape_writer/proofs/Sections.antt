@@ -4,7 +4,7 @@ use Rattle.std.proofs.Common.{refl, sym, ap, ◌∙◌, subst, arith, add-one, m
 use Rattle.std.specs.List.{AllByRecursion}
 use Rattle.std.proofs.lemmas.List.{map-append}
 use Rattle.tape_image.specs.Tape.{block, IsTapeItem}
-use Rattle.tape_label.specs.declared.{values.Vol1.Vol1, values.Kind.Kind}
+use Rattle.tape_label.specs.declared.values.{Vol1.Vol1, Kind.Kind}
 use Rattle.tape_label.specs.declared.values.Kind.TheVariants as kinds
 use Rattle.tape_label.specs.{Kinds.IsSecond, Widths.IsWideVolume}
 use Rattle.tape_blocks.specs.Tight.{Filled}
@@ -14,7 +14,7 @@ use Rattle.tape_set.specs.Layout.{up_to_data, ends_file}
 use Rattle.tape_set.specs.Sizes.{item_size, items_size, entries_size}
 use Rattle.tape_set.specs.{Lawful.IsSection, Lawful.most_blocks, Tight.used_before}
 use Rattle.tape_set.proofs.Everywhere.{every-append}
-use Rattle.tape_writer.specs.declared.{course.Opened.Opened, course.Course.Course}
+use Rattle.tape_writer.specs.declared.course.{Opened.Opened, Course.Course}
 use Rattle.tape_writer.specs.Labels.{IsReady, header_items, trailer_items, head_at, trailer_at}
 use Rattle.tape_writer.specs.Labels.{volume_label, first_label, second_label, second_kind}
 use Rattle.tape_writer.specs.Labels.{trailer_label}

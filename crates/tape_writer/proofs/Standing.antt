@@ -3,8 +3,8 @@ use Rattle.std.proofs.Common.{◌≡◌, ℕ, List, inl, inr, subst}
 use Rattle.tape_label.specs.declared.values.Vol1.{Vol1}
 use Rattle.tape_blocks.specs.Packing.{Packing}
 use Rattle.tape_set.specs.Layout.{Section}
-use Rattle.tape_writer.specs.declared.{course.Opened.Opened, course.Course.Course}
-use Rattle.tape_writer.specs.declared.{phase.Phase.Phase}
+use Rattle.tape_writer.specs.declared.course.{Opened.Opened, Course.Course}
+use Rattle.tape_writer.specs.declared.phase.Phase.{Phase}
 use Rattle.tape_writer.specs.declared.phase.Phase.TheVariants.{Between, Filing}
 use Rattle.tape_writer.specs.{Tapes.Tapes, Told.Told, Draft.Draft, Draft.IsOpen, Refusals.IsInFile}
 use Rattle.tape_writer.specs.Inside.{IsInside, IsPacking, IsFlat, IsWaiting}

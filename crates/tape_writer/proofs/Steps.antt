@@ -3,8 +3,7 @@ use Rattle.std.proofs.Common.{◌≡◌, ◌<◌, ◌≤◌, ℕ, ◌+◌, List,
 use Rattle.std.proofs.Common.{Some, refl, sym, ap, ◌∙◌, subst, inl, append_assoc, arith}
 use Rattle.std.proofs.Common.{length-append, map, slice_get, nat_le}
 use Rattle.std.specs.List.{AllByRecursion}
-use Rattle.std.proofs.lemmas.List.{map-append, append-nil}
-use Rattle.std.proofs.lemmas.Bool.Decides.{nat_tests}
+use Rattle.std.proofs.lemmas.{List.map-append, List.append-nil, Bool.Decides.nat_tests}
 use Rattle.tape_label.specs.declared.values.Vol1.{Vol1}
 use Rattle.tape_image.specs.Tape.{block}
 use Rattle.tape_blocks.specs.Tight.{Filled}
@@ -12,7 +11,7 @@ use Rattle.tape_set.specs.Layout.{Placed, Volume, numbered, item_of}
 use Rattle.tape_set.specs.Sizes.{item_size, items_size}
 use Rattle.tape_set.specs.Tight.{used_before, takes_end, takes_next, IsTightChange}
 use Rattle.tape_set.proofs.Measures.{items_size-append}
-use Rattle.tape_writer.specs.declared.{course.Opened.Opened, course.Course.Course}
+use Rattle.tape_writer.specs.declared.course.{Opened.Opened, Course.Course}
 use Rattle.tape_label.specs.Widths.{IsWideVolume}
 use Rattle.tape_writer.specs.Labels.{IsReady, header_items, trailer_items}
 use Rattle.tape_writer.specs.Told.{labelled, IsWithin}

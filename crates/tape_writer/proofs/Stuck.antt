@@ -14,7 +14,7 @@ use Rattle.tape_blocks.proofs.{LongerRuns.order_part, TightLaws.chain_of}
 use Rattle.tape_blocks.proofs.RunLaws.{filled_of, offers_shape, going_block, run_last}
 use Rattle.tape_image.specs.Tape.{block}
 use Rattle.tape_set.specs.{Layout.Section, Sizes.item_size}
-use Rattle.tape_writer.specs.declared.{course.Opened.Opened, course.Course.Course}
+use Rattle.tape_writer.specs.declared.course.{Opened.Opened, Course.Course}
 use Rattle.tape_writer.specs.{Tapes.Tapes, Draft.open_blocks}
 use Rattle.tape_writer.specs.Inside.{IsInside, IsPacking, IsFlat, IsStuck, IsLeftOut, Continues}
 use Rattle.tape_writer.proofs.Steps.{block_due, end_refused}

@@ -3,8 +3,8 @@ use Rattle.std.proofs.Common.{◌≡◌, ◌≢◌, ◌<◌, ℕ, zero, suc, ◌
 use Rattle.std.proofs.Common.{false, cond, refl, sym, ap, ◌∙◌, append_assoc, arith, add-one, map}
 use Rattle.std.proofs.Common.{◌==◌, slice_get}
 use Rattle.std.specs.List.{AllByRecursion}
-use Rattle.std.proofs.{lemmas.List.Elements.filter-append, lemmas.Grind.flat_map-append}
-use Rattle.std.proofs.{lemmas.List.append-nil, lemmas.Bool.Decides.nat_tests}
+use Rattle.std.proofs.lemmas.{List.Elements.filter-append, Grind.flat_map-append, List.append-nil}
+use Rattle.std.proofs.lemmas.Bool.Decides.{nat_tests}
 use Rattle.tape_image.specs.Tape.{block}
 use Rattle.tape_set.specs.Layout.{Placed, Volume, a_data_block, a_mark, on, all_entries}
 use Rattle.tape_set.specs.Layout.{section_entries, item_of, group_of}

@@ -2,8 +2,8 @@
 use Rattle.std.specs.Prelude.{Option, Some, None, Result, Ok, Err, Bool, true, false, ◌||◌, ℤ, pos}
 use Rattle.std.specs.Prelude.{if◌then◌else◌}
 use Rattle.std.specs.{Ordering.int_eq, IoError.error_kind, IoError.raw_os_error}
-use Rattle.std.specs.declared.{io.Error.Error, io.ErrorKind.ErrorKind, fs.attrs.Metadata.Metadata}
-use Rattle.std.specs.declared.{fs.locks.TryLockError.TryLockError}
+use Rattle.std.specs.declared.io.{Error.Error, ErrorKind.ErrorKind}
+use Rattle.std.specs.declared.fs.{attrs.Metadata.Metadata, locks.TryLockError.TryLockError}
 use Rattle.std.specs.declared.io.ErrorKind.TheVariants.{NotFound, Unsupported}
 use Rattle.std.specs.declared.fs.locks.TryLockError.TheVariants as attempts
 use Rattle.tape_writer.specs.declared.system.answers.LockFault.{LockFault}

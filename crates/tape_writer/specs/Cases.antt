@@ -7,8 +7,7 @@ use Rattle.byteorder.specs.Endian.{little_bytes}
 use Rattle.tape_image.specs.Tape.{TapeItem, bad, mark}
 use Rattle.tape_image.specs.{Word.end_word, Written.written, Spelling.Leads, Spelling.Spells}
 use Rattle.tape_image.specs.Writer.{Writer, writing, finished, broken}
-use Rattle.tape_label.specs.declared.{values.Format.TheVariants.Fixed, values.Head1.Head1}
-use Rattle.tape_label.specs.declared.{values.Vol1.Vol1}
+use Rattle.tape_label.specs.declared.values.{Format.TheVariants.Fixed, Head1.Head1, Vol1.Vol1}
 use Rattle.tape_label.specs.declared.values.Kind.TheVariants as kinds
 use Rattle.tape_blocks.specs.declared.parts.Shape.{Shape}
 use Rattle.tape_blocks.specs.{Packing.IsWritable, Spans.join, Run.AreClosed}
@@ -16,7 +15,7 @@ use Rattle.tape_blocks.specs.Tight.{Filled, Chain, IsDue, IsWritten, first_len, 
 use Rattle.tape_set.specs.Layout.{Section, Placed, all_items}
 use Rattle.tape_set.specs.{Lawful.IsLawful, Before.section_parts, Sizes.items_size}
 use Rattle.tape_set.specs.Tight.{IsTight, IsTightFile, least_capacity, takes_next}
-use Rattle.tape_writer.specs.declared.{course.Course.Course, course.Opened.Opened}
+use Rattle.tape_writer.specs.declared.course.{Course.Course, Opened.Opened}
 use Rattle.tape_writer.specs.declared.{fault.WriteFault.WriteFault, out.TapeOut.Ghosts}
 use Rattle.tape_writer.specs.declared.{phase.OpenFile.OpenFile, tape.Tape.Tape}
 use Rattle.tape_writer.specs.declared.fault.OutFault.TheVariants as out

@@ -7,12 +7,12 @@ use Rattle.tape_label.specs.declared.values.Vol1.{Vol1}
 use Rattle.tape_blocks.specs.declared.parts.Shape.{Shape}
 use Rattle.tape_blocks.specs.Packing.{Packing, HasRecordLength, the_packing, longest_block}
 use Rattle.tape_blocks.specs.{Records.AreRecordsOf, Run.RunOf, Run.Going, Spans.InOrder}
-use Rattle.tape_blocks.specs.{Tight.Filled, Tight.parts_of_all}
+use Rattle.tape_blocks.specs.Tight.{Filled, parts_of_all}
 use Rattle.tape_blocks.specs.Tight as packing
 use Rattle.tape_set.specs.Layout.{Section, Placed, Volume, ends_file}
 use Rattle.tape_set.specs.Lawful.{IsSection, GoesOn, StartsOnFirst}
 use Rattle.tape_set.specs.{Sizes.items_size, Tight.IsTightChange, Tight.IsTightEnd}
-use Rattle.tape_writer.specs.declared.{course.Opened.Opened, course.Course.Course}
+use Rattle.tape_writer.specs.declared.course.{Opened.Opened, Course.Course}
 use Rattle.tape_writer.specs.Draft.{Draft, placed, open_blocks, closing, here, IsDone, OfLast}
 use Rattle.tape_writer.specs.Draft.{body_items, open_items, ended_volumes, Between, Within, Steady}
 use Rattle.tape_writer.specs.Draft.{IsOpen, IsResting, IsRoomy}

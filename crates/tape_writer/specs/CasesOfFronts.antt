@@ -2,13 +2,13 @@
 -- contract of the function `laws::cases`.
 use Rattle.std.specs.Prelude.{◌≡◌, ◌≢◌, ◌<◌, ◌⊎◌, ℕ, List, [], ◌∷◌, ◌++◌, Option, Some, length}
 use Rattle.tape_image.specs.Tape.{TapeItem}
-use Rattle.tape_label.specs.declared.{values.Head1.Head1, values.Vol1.Vol1}
+use Rattle.tape_label.specs.declared.values.{Head1.Head1, Vol1.Vol1}
 use Rattle.tape_blocks.specs.declared.parts.Shape.{Shape}
 use Rattle.tape_blocks.specs.Packing.{Packing}
 use Rattle.tape_set.specs.Layout.{Section}
-use Rattle.tape_writer.specs.declared.{course.Course.Course, course.Opened.Opened}
-use Rattle.tape_writer.specs.declared.{fault.SetFault.SetFault, inputs.cut.Cut.Cut}
-use Rattle.tape_writer.specs.declared.{inputs.set.SetPlan.SetPlan}
+use Rattle.tape_writer.specs.declared.course.{Course.Course, Opened.Opened}
+use Rattle.tape_writer.specs.declared.inputs.{cut.Cut.Cut, set.SetPlan.SetPlan}
+use Rattle.tape_writer.specs.declared.fault.SetFault.{SetFault}
 use Rattle.tape_writer.specs.declared.fault.SetFault.TheVariants.{Write, ReadFailed}
 use Rattle.tape_writer.specs.declared.fault.WriteFault.TheVariants.{OutOfMemory, RecordLength}
 use Rattle.tape_writer.specs.Inside.{IsInside, IsPacking, IsFlat, IsWaiting}

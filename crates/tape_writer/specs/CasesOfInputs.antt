@@ -7,9 +7,9 @@ use Rattle.tape_label.specs.declared.values.Head1.{Head1}
 use Rattle.tape_blocks.specs.declared.parts.Form.TheVariants as forms
 use Rattle.tape_blocks.specs.declared.parts.Shape.{Shape}
 use Rattle.tape_blocks.specs.Packing.{HasRecordLength}
-use Rattle.tape_writer.specs.declared.{fault.SetFault.SetFault, fault.WriteFault.WriteFault}
-use Rattle.tape_writer.specs.declared.{inputs.cut.Cut.Cut, inputs.records.Records.Records}
-use Rattle.tape_writer.specs.declared.{inputs.set.SetPlan.SetPlan}
+use Rattle.tape_writer.specs.declared.fault.{SetFault.SetFault, WriteFault.WriteFault}
+use Rattle.tape_writer.specs.declared.inputs.{cut.Cut.Cut, records.Records.Records}
+use Rattle.tape_writer.specs.declared.inputs.set.SetPlan.{SetPlan}
 use Rattle.tape_writer.specs.declared.fault.SetFault.TheVariants.{Write, ReadFailed}
 use Rattle.tape_writer.specs.declared.fault.WriteFault.TheVariants as faults
 use Rattle.tape_writer.specs.declared.inputs.cut.Cut.TheVariants.{Lines, Length, Whole}

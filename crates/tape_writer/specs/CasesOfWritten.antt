@@ -2,18 +2,18 @@
 -- are part of the contract of the function `laws::cases`.
 use Rattle.std.specs.Prelude.{◌≡◌, ◌⊎◌, ◌≤◌, ◌<◌, ℕ, List, [], ◌∷◌, ◌++◌, length, Option, Some, Err}
 use Rattle.std.specs.List.{AllByRecursion, flat_map}
-use Rattle.tape_label.specs.declared.{values.Head1.Head1, values.Vol1.Vol1}
+use Rattle.tape_label.specs.declared.values.{Head1.Head1, Vol1.Vol1}
 use Rattle.tape_blocks.specs.declared.parts.Shape.{Shape}
 use Rattle.tape_set.specs.Layout.{Section, Placed, numbered, all_items}
 use Rattle.tape_set.specs.Lawful.{IsFile}
-use Rattle.tape_writer.specs.declared.{course.Opened.Opened, fault.SetFault.SetFault}
-use Rattle.tape_writer.specs.declared.{fault.SetFault.TheVariants.Write, inputs.cut.Cut.Cut}
-use Rattle.tape_writer.specs.declared.{inputs.set.SetPlan.SetPlan}
+use Rattle.tape_writer.specs.declared.fault.{SetFault.SetFault, SetFault.TheVariants.Write}
+use Rattle.tape_writer.specs.declared.inputs.{cut.Cut.Cut, set.SetPlan.SetPlan}
+use Rattle.tape_writer.specs.declared.course.Opened.{Opened}
 use Rattle.tape_writer.specs.declared.fault.WriteFault.TheVariants as faults
 use Rattle.tape_writer.specs.declared.inputs.cut.Cut.TheVariants.{Lines, Length, Whole}
 use Rattle.tape_writer.specs.{Images.HandedOn, Images.device_failures, NoVolume.HasNoVolume}
 use Rattle.tape_writer.specs.{NoVolume.GaveUpSet, Records.records_of, Records.last_record}
-use Rattle.tape_writer.specs.{WriteSet.IsSetOfImages, WriteSet.cut_of}
+use Rattle.tape_writer.specs.WriteSet.{IsSetOfImages, cut_of}
 use Rattle.tape_writer.specs.RecordLaws.{IsLine, ended_line, LinesAreCut, PiecesAreCut, WholeIsOne}
 use Rattle.tape_writer.specs.Tapes.{Ended, Failures, Rose}
 use Rattle.tape_writer.specs.Told.{Told, IsFiled, IsOfFile, opened_by, with_file}

@@ -12,9 +12,9 @@ use Rattle.tape_set.specs.Before.{blocks_of_all}
 use Rattle.tape_set.specs.Sizes.{items_size, headers_size, volume_end_size}
 use Rattle.tape_set.specs.Lawful.{IsSection, GoesOn, StartsOnFirst}
 use Rattle.tape_set.specs.Tight.{IsTightChange, IsTightEnd, EachBehind, ChainBehind}
-use Rattle.tape_writer.specs.declared.{course.Opened.Opened, course.Course.Course}
+use Rattle.tape_writer.specs.declared.course.{Opened.Opened, Course.Course}
 use Rattle.tape_writer.specs.{Tapes.Tapes, Tapes.UnderWay, Labels.IsReady, Labels.first_label}
-use Rattle.tape_writer.specs.{Labels.second_label, Labels.trailer_label, Labels.second_kind}
+use Rattle.tape_writer.specs.Labels.{second_label, trailer_label, second_kind}
 use Rattle.tape_writer.specs.{Labels.header_items, Told.labelled, Told.IsOfFile, Told.IsWithin}
 
 -- The files that are finished; the finished sections of the current file, and the blocks of its

@@ -1,6 +1,6 @@
 -- A write buffer: bytes that are buffered before they are written to a device.
-use Rattle.std.specs.Prelude.{◌≡◌, ◌⊎◌, ℕ, ◌+◌, ◌-◌, ◌^◌, ◌≤◌, min, Bool, true, false, List}
-use Rattle.std.specs.Prelude.{[], ◌++◌, length, Option, None, Some}
+use Rattle.std.specs.Prelude.{◌≡◌, ◌⊎◌, ℕ, ◌+◌, ◌-◌, ◌^◌, ◌≤◌, min, Bool, true, false, List, []}
+use Rattle.std.specs.Prelude.{◌++◌, length, Option, None, Some}
 use Rattle.std.specs.Io.KnownBytes.{Appends, append_known}
 use Rattle.tape_image.specs.Written.{AppendsFront}
 

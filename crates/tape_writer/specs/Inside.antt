@@ -6,10 +6,10 @@ use Rattle.tape_label.specs.declared.values.Vol1.{Vol1}
 use Rattle.tape_blocks.specs.declared.parts.Shape.{Shape}
 use Rattle.tape_blocks.specs.{Packing.Packing, Packing.Given, Block.Portion, Records.AreRecordsOf}
 use Rattle.tape_blocks.specs.{Spans.InOrder, Spans.join, Run.RunOf, Run.Going, Run.AreClosed}
-use Rattle.tape_blocks.specs.{Tight.Filled, Tight.first_len, Tight.parts_of_all}
+use Rattle.tape_blocks.specs.Tight.{Filled, first_len, parts_of_all}
 use Rattle.tape_blocks.specs.Tight as packing
 use Rattle.tape_set.specs.{Layout.Section, Tight.takes_next}
-use Rattle.tape_writer.specs.declared.{course.Opened.Opened, course.Course.Course}
+use Rattle.tape_writer.specs.declared.course.{Opened.Opened, Course.Course}
 use Rattle.tape_writer.specs.declared.{out.TapeOut.Ghosts, tape.Tape.Tape}
 use Rattle.tape_writer.specs.{Tapes.Tapes, Tapes.Ended, Told.Told, Told.AreFiled}
 use Rattle.tape_writer.specs.Draft.{Draft, IsOpen, IsResting, open_blocks}

@@ -1,10 +1,9 @@
 -- The labels that are written: each is the text that `tape_label` writes for its fields.
 use Rattle.std.specs.Prelude.{◌≤◌, ℕ, List, [], ◌∷◌, Bool, if◌then◌else◌}
 use Rattle.tape_image.specs.Tape.{TapeItem, block, mark}
-use Rattle.tape_label.specs.declared.{values.Vol1.Vol1, values.Head1.Head1, values.Trail1.Trail1}
-use Rattle.tape_label.specs.declared.{values.Kind.Kind}
+use Rattle.tape_label.specs.declared.values.{Vol1.Vol1, Head1.Head1, Trail1.Trail1, Kind.Kind}
 use Rattle.tape_label.specs.declared.values.Kind.TheVariants as kinds
-use Rattle.tape_label.specs.{Written.text_of, Written.vol1_pieces, Written.head1_pieces}
+use Rattle.tape_label.specs.Written.{text_of, vol1_pieces, head1_pieces}
 use Rattle.tape_label.specs.{Written.head2_pieces, Written.trail1_pieces, Widths.IsWide}
 use Rattle.tape_blocks.specs.Packing.{IsWritable}
 use Rattle.tape_set.specs.{Lawful.label_count, Tight.second_of}

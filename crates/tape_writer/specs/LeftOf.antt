@@ -6,9 +6,9 @@ use Rattle.tape_blocks.specs.declared.parts.Shape.{Shape}
 use Rattle.tape_writer.specs.{Tapes.Tapes, Told.Told, Told.with_file, State.SetState}
 use Rattle.tape_writer.specs.{Records.records_of, Records.IsFirstLong, WriteFaults.IsOfInput}
 use Rattle.tape_writer.specs.Front.{IsInLast, IsLeftInside, IsLeftBehind, IsLeftWhole}
-use Rattle.tape_writer.specs.declared.{inputs.cut.Cut.Cut, inputs.set.SetPlan.SetPlan}
-use Rattle.tape_writer.specs.declared.{fault.SetFault.SetFault, fault.SetFault.TheVariants.Write}
-use Rattle.tape_writer.specs.declared.{fault.WriteFault.TheVariants.OutOfMemory}
+use Rattle.tape_writer.specs.declared.inputs.{cut.Cut.Cut, set.SetPlan.SetPlan}
+use Rattle.tape_writer.specs.declared.fault.{SetFault.SetFault, SetFault.TheVariants.Write}
+use Rattle.tape_writer.specs.declared.fault.WriteFault.TheVariants.{OutOfMemory}
 use Rattle.tape_writer.specs.ToldFiles.{with_records, told_files, IfAllKnown}
 
 -- A prefix of the given records was passed after the files `told`, and the tapes contain a prefix

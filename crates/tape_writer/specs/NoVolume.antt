@@ -4,7 +4,7 @@ use Rattle.tape_label.specs.declared.values.Head1.{Head1}
 use Rattle.tape_blocks.specs.declared.parts.Shape.{Shape}
 use Rattle.tape_writer.specs.{Tapes.Tapes, Told.Told, Told.with_file, State.SetState}
 use Rattle.tape_writer.specs.{State.IsOutOfVolumes, Records.records_of, WriteSet.cut_of}
-use Rattle.tape_writer.specs.declared.{inputs.cut.Cut.Cut, inputs.set.SetPlan.SetPlan}
+use Rattle.tape_writer.specs.declared.inputs.{cut.Cut.Cut, set.SetPlan.SetPlan}
 use Rattle.tape_writer.specs.ToldFiles.{with_records, told_files, IfAllKnown}
 
 -- The writer has no volume left, after a prefix of the given records was passed after the files

@@ -2,13 +2,13 @@
 -- definitions rule out is not returned.
 use Rattle.std.specs.Prelude.{◌≡◌, ◌<◌, ◌≤◌, ℕ, List, length}
 use Rattle.std.specs.List.{AllByRecursion}
-use Rattle.tape_label.specs.declared.{values.Vol1.Vol1, values.Head1.Head1}
+use Rattle.tape_label.specs.declared.values.{Vol1.Vol1, Head1.Head1}
 use Rattle.tape_blocks.specs.declared.parts.Shape.{Shape}
 use Rattle.tape_blocks.specs.Packing.{IsWritable}
 use Rattle.tape_set.specs.Tight.{least_capacity}
-use Rattle.tape_writer.specs.declared.{course.Opened.Opened, phase.Phase.Phase}
-use Rattle.tape_writer.specs.declared.{phase.Phase.TheVariants.Filing, phase.OpenFile.OpenFile}
-use Rattle.tape_writer.specs.declared.{fault.WriteFault.WriteFault}
+use Rattle.tape_writer.specs.declared.phase.{Phase.Phase, OpenFile.OpenFile}
+use Rattle.tape_writer.specs.declared.phase.Phase.TheVariants.{Filing}
+use Rattle.tape_writer.specs.declared.{course.Opened.Opened, fault.WriteFault.WriteFault}
 use Rattle.tape_writer.specs.declared.fault.WriteFault.TheVariants.{BadField, BadShape, NoFile}
 use Rattle.tape_writer.specs.declared.fault.WriteFault.TheVariants.{CapacityTooSmall, TooMany}
 use Rattle.tape_writer.specs.declared.fault.WriteFault.TheVariants.{RecordLength, OutOfVolumes}

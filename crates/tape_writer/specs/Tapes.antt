@@ -1,6 +1,6 @@
 -- The output: volumes of items, and the effect of the calls of a `TapeOut`.
-use Rattle.std.specs.Prelude.{◌≡◌, ◌≤◌, ℕ, List, [], ◌∷◌, ◌++◌, Result, OnOk, OnErr}
-use Rattle.std.specs.Prelude.{IfErr, slice_get, unwrap_or, ◌+◌, Some}
+use Rattle.std.specs.Prelude.{◌≡◌, ◌≤◌, ℕ, List, [], ◌∷◌, ◌++◌, Result, OnOk, OnErr, IfErr}
+use Rattle.std.specs.Prelude.{slice_get, unwrap_or, ◌+◌, Some}
 use Rattle.tape_image.specs.Tape.{TapeItem}
 use Rattle.tape_label.specs.declared.values.Vol1.{Vol1}
 pub use Rattle.tape_set.specs.Counts.{Rose}

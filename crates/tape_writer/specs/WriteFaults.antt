@@ -4,9 +4,9 @@ use Rattle.std.specs.Prelude.{IfErr, Result}
 use Rattle.tape_label.specs.declared.values.Head1.{Head1}
 use Rattle.tape_blocks.specs.declared.parts.Shape.{Shape}
 use Rattle.tape_blocks.specs.Packing.{HasRecordLength}
-use Rattle.tape_writer.specs.declared.{fault.WriteFault.WriteFault, fault.SetFault.SetFault}
-use Rattle.tape_writer.specs.declared.{inputs.cut.Cut.Cut, inputs.records.InputFault.InputFault}
-use Rattle.tape_writer.specs.declared.{inputs.set.SetPlan.SetPlan}
+use Rattle.tape_writer.specs.declared.fault.{WriteFault.WriteFault, SetFault.SetFault}
+use Rattle.tape_writer.specs.declared.inputs.{cut.Cut.Cut, records.InputFault.InputFault}
+use Rattle.tape_writer.specs.declared.inputs.set.SetPlan.{SetPlan}
 use Rattle.tape_writer.specs.declared.fault.WriteFault.TheVariants.{BadShape, RecordLength}
 use Rattle.tape_writer.specs.declared.fault.WriteFault.TheVariants.{OutOfVolumes, Device}
 use Rattle.tape_writer.specs.declared.fault.WriteFault.TheVariants.{OutOfMemory}

@@ -1,8 +1,8 @@
 -- The result of `write_set`.
 use Rattle.std.specs.Prelude.{ℕ, List, Bool, Option, Some, None}
-use Rattle.tape_label.specs.declared.{values.Format.Format, values.Vol1.Vol1}
+use Rattle.tape_label.specs.declared.values.{Format.Format, Vol1.Vol1}
 use Rattle.tape_label.specs.declared.values.Format.TheVariants.{Fixed, Counted, Spanned}
-use Rattle.tape_blocks.specs.declared.{parts.Shape.Shape, parts.Form.Form}
+use Rattle.tape_blocks.specs.declared.parts.{Shape.Shape, Form.Form}
 use Rattle.tape_writer.specs.{Images.AreImages, Told.Told, Told.IsWrittenSet}
 use Rattle.tape_blocks.specs.declared.parts.Form.TheVariants as forms
 use Rattle.tape_writer.specs.declared.inputs.cut.Cut.{Cut}

@@ -6,7 +6,7 @@ use Rattle.std.proofs.lemmas.List.{drop_more, drop-set-lt, map-append}
 use Rattle.tape_label.specs.declared.values.Head1.{Head1}
 use Rattle.tape_blocks.specs.declared.parts.Shape.{Shape}
 use Rattle.tape_writer.specs.{Told.Told, Told.opened_by, Records.records_of, ToldFiles.told_files}
-use Rattle.tape_writer.specs.{ToldFiles.IfAllKnown}
+use Rattle.tape_writer.specs.ToldFiles.{IfAllKnown}
 use Rattle.tape_writer.specs.declared.inputs.cut.Cut.{Cut}
 use Rattle.tape_writer.proofs.inputs.Finished.{if_known}
 

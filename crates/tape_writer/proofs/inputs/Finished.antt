@@ -1,7 +1,7 @@
 -- A finished writer of images.
 use Rattle.std.proofs.Common.{◌≡◌, ℕ, List, [], ◌∷◌, Bool, Option, Some, None, refl, sym, subst}
 use Rattle.std.proofs.Common.{◌∙◌, IfSome}
-use Rattle.tape_label.specs.declared.{values.Vol1.Vol1, values.Head1.Head1}
+use Rattle.tape_label.specs.declared.values.{Vol1.Vol1, Head1.Head1}
 use Rattle.tape_image.specs.Writer.{Writer}
 use Rattle.tape_writer.specs.declared.{phase.Phase.TheVariants.Finished, inputs.cut.Cut.Cut}
 use Rattle.tape_writer.specs.{Tapes.Tapes, Images.Images, Images.AreImages, Images.Holds, Told.Told}

@@ -5,7 +5,7 @@ use Rattle.std.specs.List.{AllByRecursion}
 use Rattle.tape_label.specs.declared.values.Head1.{Head1}
 use Rattle.tape_label.specs.Characters.{first_other}
 use Rattle.tape_blocks.specs.declared.parts.Shape.{Shape}
-use Rattle.tape_writer.specs.declared.{fault.WriteFault.TheVariants.BadField}
+use Rattle.tape_writer.specs.declared.fault.WriteFault.TheVariants.{BadField}
 use Rattle.tape_writer.specs.declared.{fault.SetFault.TheVariants.Write, inputs.cut.Cut.Cut}
 use Rattle.tape_writer.specs.{Fields.IsText, Fields.IsTextHead, WriteFaults.IsFilesFault}
 

@@ -6,10 +6,10 @@ use Rattle.std.proofs.lemmas.List.{drop_more, map-append}
 use Rattle.tape_image.specs.Reader.{IfKnown}
 use Rattle.tape_label.specs.declared.values.Head1.{Head1}
 use Rattle.tape_blocks.specs.declared.parts.Shape.{Shape}
+use Rattle.tape_writer.specs.declared.fault.{WriteFault.WriteFault, SetFault.SetFault}
+use Rattle.tape_writer.specs.declared.fault.SetFault.TheVariants.{Write}
+use Rattle.tape_writer.specs.declared.inputs.{records.InputFault.InputFault, cut.Cut.Cut}
 use Rattle.tape_writer.specs.declared.{course.Opened.Opened, phase.Phase.Phase}
-use Rattle.tape_writer.specs.declared.{fault.WriteFault.WriteFault, fault.SetFault.SetFault}
-use Rattle.tape_writer.specs.declared.{fault.SetFault.TheVariants.Write}
-use Rattle.tape_writer.specs.declared.{inputs.records.InputFault.InputFault, inputs.cut.Cut.Cut}
 use Rattle.tape_writer.specs.declared.phase.Phase.TheVariants.{Between, Filing}
 use Rattle.tape_writer.specs.declared.fault.WriteFault.TheVariants as faults
 use Rattle.tape_writer.specs.declared.inputs.records.InputFault.TheVariants as inputs

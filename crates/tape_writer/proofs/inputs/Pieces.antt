@@ -2,7 +2,7 @@
 use Rattle.std.proofs.Common.{◌≡◌, ◌≢◌, ◌<◌, ◌≤◌, ℕ, zero, suc, ◌+◌, ◌∙◌, List, [], ◌∷◌, ◌++◌, Bool}
 use Rattle.std.proofs.Common.{true, false, length, take, get_or, sym, ap, subst, arith}
 use Rattle.std.proofs.Common.{append_assoc, append-nil, length-append, ◌==◌, if◌then◌else◌}
-use Rattle.std.proofs.{lemmas.Bool.Decides.nat_tests, lemmas.List.take_all}
+use Rattle.std.proofs.lemmas.{Bool.Decides.nat_tests, List.take_all}
 use Rattle.tape_writer.specs.declared.inputs.cut.Cut.{Cut}
 use Rattle.tape_writer.specs.declared.inputs.cut.Cut.TheVariants.{Lines, Length, Whole}
 use Rattle.tape_writer.specs.{Records.records_from, Records.Adds, RecordLaws.IsLine}

@@ -15,7 +15,7 @@ use Rattle.tape_writer.specs.declared.{fault.WriteFault.WriteFault, fault.SetFau
 use Rattle.tape_writer.specs.declared.{inputs.records.InputFault.InputFault, inputs.cut.Cut.Cut}
 use Rattle.tape_writer.specs.declared.fault.WriteFault.TheVariants as faults
 use Rattle.tape_writer.specs.{Told.Told, Faults.IsEnding, State.IfFiling, State.HasLength}
-use Rattle.tape_writer.specs.{Refusals.IsInFile, Refusals.IsPutFault}
+use Rattle.tape_writer.specs.Refusals.{IsInFile, IsPutFault}
 use Rattle.tape_writer.specs.declared.fault.SetFault.TheVariants.{Write, ReadFailed}
 use Rattle.tape_writer.specs.declared.inputs.records.InputFault.TheVariants as inputs
 use Rattle.tape_writer.specs.declared.inputs.cut.Cut.TheVariants.{Lines, Length, Whole}

@@ -6,9 +6,9 @@ use Rattle.std.proofs.lemmas.List.{drop_more, map-append}
 use Rattle.tape_image.specs.Reader.{IfKnown}
 use Rattle.tape_label.specs.declared.values.Head1.{Head1}
 use Rattle.tape_blocks.specs.declared.parts.Shape.{Shape}
-use Rattle.tape_writer.specs.declared.{fault.WriteFault.WriteFault}
-use Rattle.tape_writer.specs.declared.{fault.WriteFault.TheVariants.Device, fault.SetFault.SetFault}
-use Rattle.tape_writer.specs.declared.{fault.SetFault.TheVariants.Write, inputs.cut.Cut.Cut}
+use Rattle.tape_writer.specs.declared.fault.{WriteFault.WriteFault, WriteFault.TheVariants.Device}
+use Rattle.tape_writer.specs.declared.fault.{SetFault.SetFault, SetFault.TheVariants.Write}
+use Rattle.tape_writer.specs.declared.inputs.cut.Cut.{Cut}
 use Rattle.tape_writer.specs.Tapes.{Tapes, Failures, Grows, Rose}
 use Rattle.tape_writer.specs.Told.{Told, with_record, with_file}
 use Rattle.tape_writer.specs.{State.SetState, State.IsOutOfVolumes, ToldFiles.with_records}

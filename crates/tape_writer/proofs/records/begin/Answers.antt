@@ -6,8 +6,8 @@ use Rattle.tape_writer.specs.{Draft.begun_course, Front.HoldsFront, Inside.IsBet
 use Rattle.tape_writer.specs.{Inside.IsWaiting, Labels.header_items, Tapes.Ended, Told.Told}
 use Rattle.tape_writer.proofs.{Ends.between_first, Ends.filing_begun, Fronts.front_items}
 use Rattle.tape_writer.proofs.{Fronts.err_any, Held.got, Left.unbegun, Left.is_begun}
-use Rattle.tape_writer.proofs.{records.begin.Goals.then-tape-eq0+in_ok-begin_volume}
-use Rattle.tape_writer.proofs.{records.begin.Goals.else-tape-eq0}
+use Rattle.tape_writer.proofs.records.begin.Goals.{then-tape-eq0+in_ok-begin_volume}
+use Rattle.tape_writer.proofs.records.begin.Goals.{else-tape-eq0}
 use Rattle.tape_writer.proofs.records.begin.Goals as goal
 
 pub returns-in_err-begin_volume-clause-front : goal.returns-in_err-begin_volume-clause-front
@@ -64,11 +64,9 @@ under_way g c set_id told k =
     ]
 
 pub returns-clause-filing : goal.returns-clause-filing
-returns-clause-filing g c = λ set_id told p s f e k.
-    filing_begun (g.T.TapeOut.holds c.if-tape-eq0.tape.out)
-    (g.T.TapeOut.holds c.begin_section.new.self.out) c.args.volumes.now c.args.capacity set_id
-    c.args.file.now c.if-tape-eq0.tape.course c.begin_section.new.self.course p told
-    c.begin_section.result c.requires.ready s f e (under_way g c set_id told k)
+returns-clause-filing g c = λ set_id told p s f e k. filing_begun
+    (g.T.TapeOut.holds c.if-tape-eq0.tape.out) (g.T.TapeOut.holds c.begin_section.new.self.out) _ _
+    set_id _ _ _ p told _ c.requires.ready s f e (under_way g c set_id told k)
     c.begin_section.ensures.ok c.begin_section.ensures.course
 
 pub returns-clause-front : goal.returns-clause-front
@@ -77,7 +75,7 @@ returns-clause-front g c = λ set_id told p s f e k.
     err_any c.begin_section.result _ (λ _. (
       new,
       filing_begun (g.T.TapeOut.holds c.if-tape-eq0.tape.out)
-          (HoldsFront (g.T.TapeOut.holds c.begin_section.new.self.out)) c.args.volumes.now
-          c.args.capacity set_id c.args.file.now c.if-tape-eq0.tape.course new p told (Ok tt)
-          c.requires.ready s f e (under_way g c set_id told k) c.begin_section.ensures.front refl,
+          (HoldsFront (g.T.TapeOut.holds c.begin_section.new.self.out)) _ _ set_id _ _ _ p told
+          (Ok tt) c.requires.ready s f e (under_way g c set_id told k) c.begin_section.ensures.front
+          refl,
     ))

@@ -10,18 +10,16 @@ use Rattle.tape_writer.specs.{Draft.added_course, Draft.changed_course, Front.Ho
 use Rattle.tape_writer.proofs.{Fronts.took, Fronts.front_items, Fronts.err_any, Held.got}
 use Rattle.tape_writer.proofs.{Held.write_here, Held.write_next, Last.lasting_self}
 use Rattle.tape_writer.proofs.{Packed.given_sized, Packed.flushed_by, Stuck.left_out}
-use Rattle.tape_writer.proofs.{Room.flushed_here, Room.flushed_next, Room.none_room}
+use Rattle.tape_writer.proofs.Room.{flushed_here, flushed_next, none_room}
 use Rattle.tape_writer.proofs.records.flush.Goals as goal
 
 pub add_block-requires-clause-sized : goal.add_block-requires-clause-sized
 add_block-requires-clause-sized g c =
-    given_sized c.args.packer.now _ c.in-Some.block.now c.requires.shape
-    c.requires.ready.writable c.in-Some.ensures.found
+    given_sized _ _ _ c.requires.shape c.requires.ready.writable c.in-Some.ensures.found
 
 pub add_block-requires-2-clause-sized : goal.add_block-requires-2-clause-sized
 add_block-requires-2-clause-sized g c =
-    given_sized c.args.packer.now _ c.in-Some.block.now c.requires.shape
-    c.requires.ready.writable c.in-Some.ensures.found
+    given_sized _ _ _ c.requires.shape c.requires.ready.writable c.in-Some.ensures.found
 
 pub returns-in_default-clause-lasting : goal.returns-in_default-clause-lasting
 returns-in_default-clause-lasting g c = lasting_self _ _ _
@@ -32,9 +30,8 @@ returns-in_default-get-clause-lasting g c = lasting_self _ _ _
 pub returns-in_default-get-clause-stuck : goal.returns-in_default-get-clause-stuck
 returns-in_default-get-clause-stuck g c = λ e. (
   refl,
-  left_out (length c.args.volumes.now) c.args.capacity c.args.tape.now.course c.args.packer.now
-      c.in-Some.block.now c.in-Some.ensures.found (search rules)
-      (let due = c.has_room.ensures.no (search rules) in omega (arith, due)),
+  left_out _ _ _ _ _ c.in-Some.ensures.found (search rules) (let due = c.has_room.ensures.no
+      (search rules) in omega (arith, due)),
 )
 
 -- ---- the room that is left
@@ -45,11 +42,9 @@ returns-in_default-clause-room g c = none_room (length c.args.volumes.now) c.arg
     c.take_block.follows.holds-at-none
 
 pub returns-then-has_room-clause-room : goal.returns-then-has_room-clause-room
-returns-then-has_room-clause-room g c = flushed_here (length c.args.volumes.now) c.args.capacity
-    c.args.tape.now.course c.add_block.new.self.course c.args.packer.now _ c.in-Some.block.now
-    c.add_block.result c.in-Some.ensures.found c.take_block.follows.holds-at-none
-    (let fits = c.has_room.ensures.yes (search rules) in omega (arith, fits))
-    c.add_block.ensures.course
+returns-then-has_room-clause-room g c = flushed_here _ _ _ _ _ _ _ _ c.in-Some.ensures.found
+    c.take_block.follows.holds-at-none (let fits = c.has_room.ensures.yes (search rules) in omega
+    (arith, fits)) c.add_block.ensures.course
 
 pub returns-clause-room : goal.returns-clause-room
 returns-clause-room g c = flushed_next (length c.args.volumes.now) c.args.capacity
@@ -62,40 +57,24 @@ returns-clause-room g c = flushed_next (length c.args.volumes.now) c.args.capaci
 
 pub returns-then-has_room-clause-flushed : goal.returns-then-has_room-clause-flushed
 returns-then-has_room-clause-flushed g c = λ some set_id d o.
-    let text = c.in-Some.block.now in
-    let b : Filled = record { bytes = text; parts = c.args.packer.now.parts } in
     let H = g.T.TapeOut.holds c.add_block.new.self.out in
-    flushed_by H c.args.volumes.now c.args.capacity set_id c.args.file.now
-    c.add_block.new.self.course d c.args.packer.now text c.add_block.result
-    c.in-Some.ensures.found
-    (write_here (g.T.TapeOut.holds c.args.tape.now.out) H c.args.volumes.now c.args.capacity set_id
-    c.args.file.now c.args.tape.now.course c.add_block.new.self.course d b text
-    c.add_block.result refl
-    (given_sized c.args.packer.now _ text c.requires.shape c.requires.ready.writable
-    c.in-Some.ensures.found) o
-    (let fits = c.has_room.ensures.yes (search rules) in omega (arith, fits))
-    c.add_block.ensures.ok c.add_block.ensures.course)
+    flushed_by H _ _ set_id _ _ d _ _ _ c.in-Some.ensures.found (write_here
+    (g.T.TapeOut.holds c.args.tape.now.out) H _ _ set_id _ _ _ d _ _ _ refl (given_sized _ _ _
+    c.requires.shape c.requires.ready.writable c.in-Some.ensures.found) o (let fits =
+    c.has_room.ensures.yes (search rules) in omega (arith, fits)) c.add_block.ensures.ok
+    c.add_block.ensures.course)
 
 pub returns-clause-flushed : goal.returns-clause-flushed
 returns-clause-flushed g c = λ some set_id d o.
-    let vs = c.args.volumes.now in
-    let text = c.in-Some.block.now in
-    let b : Filled = record { bytes = text; parts = c.args.packer.now.parts } in
     let H = g.T.TapeOut.holds c.add_block-2.new.self.out in
-    let there = got vs c.from.result c.args.tape.now.course.volume c.in-Some-get.volume.now
-    (search rules) c.in-Some-get.ensures.lookup.3.0 c.in-Some-get.ensures.lookup.1 in
-    flushed_by H vs c.args.capacity set_id c.args.file.now c.add_block-2.new.self.course d
-    c.args.packer.now text c.add_block-2.result c.in-Some.ensures.found
-    (write_next (g.T.TapeOut.holds c.args.tape.now.out) (g.T.TapeOut.holds c.change_to.new.self.out)
-    H vs c.args.capacity set_id c.args.file.now c.args.tape.now.course
-    c.change_to.new.self.course c.add_block-2.new.self.course d b c.in-Some-get.volume.now text
-    c.add_block-2.result refl
-    (given_sized c.args.packer.now _ text c.requires.shape c.requires.ready.writable
-    c.in-Some.ensures.found) o
-    (let due = c.has_room.ensures.no (search rules) in omega (arith, due)) there
-    (every_at IsWideVolume vs c.args.tape.now.course.volume c.in-Some-get.volume.now
-    c.requires.wide there) c.requires.volumes
-    (let same = ap (λ s. s.block_len) c.requires.shape in
+    let there = got _ _ _ _ (search rules) c.in-Some-get.ensures.lookup.3.0
+    c.in-Some-get.ensures.lookup.1 in
+    flushed_by H _ _ set_id _ _ d _ _ _ c.in-Some.ensures.found (write_next
+    (g.T.TapeOut.holds c.args.tape.now.out) (g.T.TapeOut.holds c.change_to.new.self.out) H _ _
+    set_id _ _ _ _ d _ _ _ _ refl (given_sized _ _ _ c.requires.shape c.requires.ready.writable
+    c.in-Some.ensures.found) o (let due = c.has_room.ensures.no (search rules) in omega
+    (arith, due)) there (every_at IsWideVolume _ _ _ c.requires.wide there) c.requires.volumes (let
+    same = ap (λ s. s.block_len) c.requires.shape in
     omega (arith, same, c.requires.capacity, c.in-Some.ensures.found.within)) (omega arith)
     c.in_ok-change_to.ensures.ok c.in_ok-change_to.ensures.course c.add_block-2.ensures.ok
     c.add_block-2.ensures.course)
@@ -103,23 +82,17 @@ returns-clause-flushed g c = λ some set_id d o.
 -- ---- or a prefix of its items
 
 pub returns-then-has_room-clause-front : goal.returns-then-has_room-clause-front
-returns-then-has_room-clause-front g c = λ some set_id d o.
-    err_any c.add_block.result _ (λ f not.
+returns-then-has_room-clause-front g c = λ some set_id d o. err_any c.add_block.result _ (λ f not.
     let text = c.in-Some.block.now in
-    let b : Filled = record { bytes = text; parts = c.args.packer.now.parts } in
     let old = g.T.TapeOut.holds c.args.tape.now.out in
     let K = g.T.TapeOut.holds c.add_block.new.self.out in
     let new = added_course c.args.tape.now.course (item_size (block text)) in (
       new,
-      flushed_by (HoldsFront K) c.args.volumes.now c.args.capacity set_id c.args.file.now new d
-          c.args.packer.now text (Ok tt) c.in-Some.ensures.found
-          (write_here old (HoldsFront K) c.args.volumes.now c.args.capacity set_id c.args.file.now
-          c.args.tape.now.course new d b text (Ok tt) refl
-          (given_sized c.args.packer.now _ text c.requires.shape c.requires.ready.writable
-          c.in-Some.ensures.found) o
-          (let fits = c.has_room.ensures.yes (search rules) in omega (arith, fits))
-          (took old K (block text ∷ []) c.add_block.result c.add_block.ensures.ok
-          c.add_block.ensures.err) refl),
+      flushed_by (HoldsFront K) _ _ set_id _ _ d _ _ (Ok tt) c.in-Some.ensures.found (write_here old
+          (HoldsFront K) _ _ set_id _ _ _ d _ _ (Ok tt) refl (given_sized _ _ _ c.requires.shape
+          c.requires.ready.writable c.in-Some.ensures.found) o (let fits = c.has_room.ensures.yes
+          (search rules) in omega (arith, fits)) (took old K (block text ∷ []) _
+          c.add_block.ensures.ok c.add_block.ensures.err) refl),
     ))
 
 pub returns-in_err-change_to-clause-front : goal.returns-in_err-change_to-clause-front
@@ -152,31 +125,22 @@ returns-in_err-change_to-clause-front g c =
     ))
 
 pub returns-clause-front : goal.returns-clause-front
-returns-clause-front g c = λ some set_id d o.
-    err_any c.add_block-2.result _ (λ f not.
-    let vs = c.args.volumes.now in
+returns-clause-front g c = λ some set_id d o. err_any c.add_block-2.result _ (λ f not.
     let text = c.in-Some.block.now in
-    let b : Filled = record { bytes = text; parts = c.args.packer.now.parts } in
-    let there = got vs c.from.result c.args.tape.now.course.volume c.in-Some-get.volume.now
-    (search rules) c.in-Some-get.ensures.lookup.3.0 c.in-Some-get.ensures.lookup.1 in
+    let there = got _ _ _ _ (search rules) c.in-Some-get.ensures.lookup.3.0
+    c.in-Some-get.ensures.lookup.1 in
     let H = g.T.TapeOut.holds c.change_to.new.self.out in
     let K = g.T.TapeOut.holds c.add_block-2.new.self.out in
     let one = c.change_to.new.self.course in
     let two = added_course one (item_size (block text)) in (
       two,
-      flushed_by (HoldsFront K) vs c.args.capacity set_id c.args.file.now two d
-          c.args.packer.now text (Ok tt) c.in-Some.ensures.found
-          (write_next (g.T.TapeOut.holds c.args.tape.now.out) H (HoldsFront K) vs c.args.capacity
-          set_id c.args.file.now c.args.tape.now.course one two d b c.in-Some-get.volume.now text
-          (Ok tt) refl
-          (given_sized c.args.packer.now _ text c.requires.shape c.requires.ready.writable
-          c.in-Some.ensures.found) o
-          (let due = c.has_room.ensures.no (search rules) in omega (arith, due)) there
-          (every_at IsWideVolume vs c.args.tape.now.course.volume c.in-Some-get.volume.now
-          c.requires.wide there) c.requires.volumes
+      flushed_by (HoldsFront K) _ _ set_id _ two d _ _ (Ok tt) c.in-Some.ensures.found (write_next
+          (g.T.TapeOut.holds c.args.tape.now.out) H (HoldsFront K) _ _ set_id _ _ _ two d _ _ _
+          (Ok tt) refl (given_sized _ _ _ c.requires.shape c.requires.ready.writable
+          c.in-Some.ensures.found) o (let due = c.has_room.ensures.no (search rules) in omega
+          (arith, due)) there (every_at IsWideVolume _ _ _ c.requires.wide there) c.requires.volumes
           (let same = ap (λ s. s.block_len) c.requires.shape in
           omega (arith, same, c.requires.capacity, c.in-Some.ensures.found.within)) (omega arith)
-          c.in_ok-change_to.ensures.ok c.in_ok-change_to.ensures.course
-          (took H K (block text ∷ []) c.add_block-2.result c.add_block-2.ensures.ok
-          c.add_block-2.ensures.err) refl),
+          c.in_ok-change_to.ensures.ok c.in_ok-change_to.ensures.course (took H K (block text ∷ [])
+          _ c.add_block-2.ensures.ok c.add_block-2.ensures.err) refl),
     ))

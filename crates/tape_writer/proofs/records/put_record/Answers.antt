@@ -1,7 +1,7 @@
 -- The record's end, and one more block.
 use Rattle.std.proofs.Common.{rules, arith, length, ◌≡◌, refl, ◌∙◌, ◌++◌, ◌∷◌, [], sym, subst, ap}
 use Rattle.std.proofs.Common.{inl, inr}
-use Rattle.std.proofs.{lemmas.List.take_rest, lemmas.Result.err_from_is_err_and}
+use Rattle.std.proofs.lemmas.{List.take_rest, Result.err_from_is_err_and}
 use Rattle.tape_writer.specs.Inside.{IsStuck}
 use Rattle.tape_blocks.specs.Packing.{Packing, IsWritable}
 use Rattle.tape_blocks.specs.declared.offer.Offer.TheVariants.{BlockReady}

@@ -5,9 +5,8 @@ use Rattle.tape_writer.proofs.images.ImageTapesTapeOut.block.Goals as goal
 
 pub returns-in-Ok-clause-ok : goal.returns-in-Ok-clause-ok
 returns-in-Ok-clause-ok g c =
-    rw (← c.self.view_is) (λ volumes items held.
-    block_at c.args.bytes.now (g.S.ImageStore.holds c.self.inside.store) c.self.inside.image
-    (Some c.block.new.self) c.in-Some.image c.block.new.self volumes items (search rules) refl
+    rw (← c.self.view_is) (λ volumes items held. block_at _
+    (g.S.ImageStore.holds c.self.inside.store) _ _ _ _ volumes items (search rules) refl
     c.in-Ok.ensures held)
 
 pub returns-in-Err-clause-err : goal.returns-in-Err-clause-err

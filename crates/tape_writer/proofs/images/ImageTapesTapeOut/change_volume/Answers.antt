@@ -4,9 +4,8 @@ use Rattle.tape_writer.proofs.Written.{begun_at}
 use Rattle.tape_writer.proofs.images.ImageTapesTapeOut.change_volume.Goals as goal
 
 pub returns-clause-ok : goal.returns-clause-ok
-returns-clause-ok g c = λ tapes held.
-    begun_at (g.S.ImageStore.holds c.self.inside.store) (g.S.ImageStore.holds c.next.new.self)
-    c.self.inside.image c.new.result _ (all_volumes tapes) c.new.ensures
-    (λ images h. c.in-Some.ensures.lent images h)
-    (subst (λ z. AreImages (g.S.ImageStore.holds z.store) z.image (Ended (all_volumes tapes)))
-    (sym c.self.view_is) (c.in_ok-end_image.ensures.ok tapes held))
+returns-clause-ok g c = λ tapes held. begun_at (g.S.ImageStore.holds c.self.inside.store)
+    (g.S.ImageStore.holds c.next.new.self) _ _ _ (all_volumes tapes) c.new.ensures
+    (λ images h. c.in-Some.ensures.lent images h) (subst (λ z. AreImages
+    (g.S.ImageStore.holds z.store) z.image (Ended (all_volumes tapes))) (sym c.self.view_is)
+    (c.in_ok-end_image.ensures.ok tapes held))

@@ -6,10 +6,8 @@ use Rattle.tape_writer.proofs.images.ImageTapesTapeOut.mark.Goals as goal
 
 pub returns-in-Ok-clause-ok : goal.returns-in-Ok-clause-ok
 returns-in-Ok-clause-ok g c =
-    rw (← c.self.view_is) (λ volumes items held.
-    mark_at (g.S.ImageStore.holds c.self.inside.store) c.self.inside.image
-    (Some c.mark.new.self) c.in-Some.image c.mark.new.self volumes items (search rules) refl
-    c.in-Ok.ensures held)
+    rw (← c.self.view_is) (λ volumes items held. mark_at (g.S.ImageStore.holds c.self.inside.store)
+    _ _ _ _ volumes items (search rules) refl c.in-Ok.ensures held)
 
 pub returns-in-Err-clause-err : goal.returns-in-Err-clause-err
 returns-in-Err-clause-err g c =

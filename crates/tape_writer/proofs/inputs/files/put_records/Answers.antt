@@ -38,11 +38,9 @@ returns-in-Err-put-clause-due g c = λ file is _.
     c.in-Ok-true.field-0-test c.in-Ok-true.ensures.given))
 
 pub returns-in-Err-clause-due : goal.returns-in-Err-clause-due
-returns-in-Err-clause-due g c = λ file is most.
-    next_fault _ c.in-Err.fault c.fault_of.result c.fault_of.ensures (λ e.
-    next_long file.shape _ _ _ _ _ _ _ _ _ c.records.invariant.so_far.put c.records.invariant.cut
-    (c.records.invariant.limit ∙ most)
-    (c.in-Err.ensures.long e))
+returns-in-Err-clause-due g c = λ file is most. next_fault _ _ _ c.fault_of.ensures (λ e. next_long
+    file.shape _ _ _ _ _ _ _ _ _ c.records.invariant.so_far.put c.records.invariant.cut
+    (c.records.invariant.limit ∙ most) (c.in-Err.ensures.long e))
 
 pub records-init : goal.records-init
 records-init g c = record {
@@ -69,7 +67,7 @@ returns-in-Err-put-clause-stuck g c = λ e told held.
     (with_record t z)) c.record.ensures (c.in-Err-put.ensures.stuck t h f)) told held
 
 pub returns-in-Err-clause-stuck : goal.returns-in-Err-clause-stuck
-returns-in-Err-clause-stuck g c = λ e. absurd (not_told c.in-Err.fault (sym c.fault_of.ensures ∙ e))
+returns-in-Err-clause-stuck g c = λ e. absurd (not_told _ (sym c.fault_of.ensures ∙ e))
 
 pub returns-in-Err-put-clause-cause : goal.returns-in-Err-put-clause-cause
 returns-in-Err-put-clause-cause g c =
@@ -93,8 +91,7 @@ returns-in-Err-put-clause-front g c = λ file is told held.
     (with_record t z)) c.record.ensures (c.in-Err-put.ensures.front t h e)) told held
 
 pub returns-in-Err-clause-front : goal.returns-in-Err-clause-front
-returns-in-Err-clause-front g c = λ file is told held.
-    read_left (g.T.TapeOut.holds c.records.writer.out) c.records.writer _ c.in-Err.fault
-    c.fault_of.result _ file _ _ _ _ _ _ _ c.records.invariant.so_far
+returns-in-Err-clause-front g c = λ file is told held. read_left
+    (g.T.TapeOut.holds c.records.writer.out) _ _ _ _ _ file _ _ _ _ _ _ _ c.records.invariant.so_far
     (c.records.invariant.stays file is) c.fault_of.ensures c.records.invariant.cut
     c.in-Err.ensures.memory told held

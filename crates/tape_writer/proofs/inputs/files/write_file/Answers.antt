@@ -2,7 +2,7 @@ use Rattle.std.proofs.Common.{◌≡◌, ◌+◌, ◌∙◌, length, inr, arith}
 use Rattle.tape_writer.specs.declared.fault.WriteFault.TheVariants.{OutOfVolumes, OutOfMemory}
 use Rattle.std.proofs.lemmas.Result.{err_from_is_err_and}
 use Rattle.tape_writer.specs.{State.IsWriting, Told.opened_by}
-use Rattle.tape_writer.proofs.{Last.rose_from, inputs.Putting.file_told, Standing.inside_writing}
+use Rattle.tape_writer.proofs.{Last.rose_from, Standing.inside_writing, inputs.Putting.file_told}
 use Rattle.tape_writer.proofs.inputs.Refusing.{input_fault, end_fault}
 use Rattle.tape_writer.proofs.inputs.Stopping.{file_out, end_out}
 use Rattle.tape_writer.proofs.inputs.Leaving.{begin_left, none_left, if_any, file_left, end_left}
@@ -11,14 +11,12 @@ use Rattle.tape_writer.proofs.inputs.files.write_file.Goals as goal
 
 pub returns-in-Ok-end_file-clause-told : goal.returns-in-Ok-end_file-clause-told
 returns-in-Ok-end_file-clause-told g c told held =
-    let file = opened_by c.args.writer.now.set_id (length told + 1) c.args.head c.args.shape in
     let made = c.in-Ok.ensures in
     let begun = c.in_default.ensures.told told held in
     let put = c.in_ok-put_records.ensures.told _ begun in
-    file_told told file c.args.cut _ _ _ _ _
-    (IsWriting (g.T.TapeOut.holds c.put_records.new.writer.out) c.put_records.new.writer)
-    (IsWriting (g.T.TapeOut.holds c.end_file.new.self.out) c.end_file.new.self)
-    made.left made.cut made.begun put c.in-Ok-end_file.ensures.told
+    file_told told _ _ _ _ _ _ _ (IsWriting (g.T.TapeOut.holds c.put_records.new.writer.out)
+    c.put_records.new.writer) (IsWriting (g.T.TapeOut.holds c.end_file.new.self.out)
+    c.end_file.new.self) made.left made.cut made.begun put c.in-Ok-end_file.ensures.told
 
 pub returns-in_err-put_records-clause-due : goal.returns-in_err-put_records-clause-due
 returns-in_err-put_records-clause-due g c = λ _.
@@ -29,10 +27,8 @@ returns-in_err-put_records-clause-due g c = λ _.
     (made.limit ∙ c.longest.ensures))))
 
 pub returns-clause-due : goal.returns-clause-due
-returns-clause-due g c = λ _.
-    inr (end_fault _ c.put_records.new.writer.phase _ c.in-Err-end_file.fault
-    (c.in_ok-put_records.ensures.stays _ c.in_default.ensures.opened)
-    c.in-Err-end_file.ensures.due)
+returns-clause-due g c = λ _. inr (end_fault _ _ _ _ (c.in_ok-put_records.ensures.stays _
+    c.in_default.ensures.opened) c.in-Err-end_file.ensures.due)
 
 pub returns-in_err-put_records-clause-stuck : goal.returns-in_err-put_records-clause-stuck
 returns-in_err-put_records-clause-stuck g c =
@@ -47,11 +43,9 @@ pub returns-clause-stuck : goal.returns-clause-stuck
 returns-clause-stuck g c = λ e told held.
     let f : c.in-Err-end_file.fault ≡ OutOfVolumes = cc in
     let made = c.in-Ok.ensures in
-    end_out (g.T.TapeOut.holds c.end_file.new.self.out) c.end_file.new.self
-    _ c.args.cut _ _ _ _ _
-    (IsWriting (g.T.TapeOut.holds c.put_records.new.writer.out) c.put_records.new.writer)
-    made.left made.cut made.begun
-    (c.in_ok-put_records.ensures.told _ (c.in_default.ensures.told told held))
+    end_out (g.T.TapeOut.holds c.end_file.new.self.out) _ _ _ _ _ _ _ _ (IsWriting
+    (g.T.TapeOut.holds c.put_records.new.writer.out) c.put_records.new.writer) made.left made.cut
+    made.begun (c.in_ok-put_records.ensures.told _ (c.in_default.ensures.told told held))
     (λ t h. c.in-Err-end_file.ensures.stuck t h f)
 
 pub returns-in_err-put_records-clause-cause : goal.returns-in_err-put_records-clause-cause
@@ -61,18 +55,15 @@ returns-in_err-put_records-clause-cause g c =
     (c.in_err-put_records.ensures.cause e))
 
 pub returns-in-Err-clause-front : goal.returns-in-Err-clause-front
-returns-in-Err-clause-front g c = λ between told held.
-    if_any (g.R.Read.remaining c.args.input.now) _ (λ bytes.
-    begin_left (λ out. g.T.TapeOut.holds out) c.args.writer.now c.begin_file.new.self _
-    c.in-Err.fault told _ _ _ _ _ _ (c.in-Err.ensures.due between) c.in-Err.ensures.leaves held
-    between (c.in-Err.ensures.front told held))
+returns-in-Err-clause-front g c = λ between told held. if_any _ _ (λ bytes. begin_left
+    (λ out. g.T.TapeOut.holds out) _ _ _ _ told _ _ _ _ _ _ (c.in-Err.ensures.due between)
+    c.in-Err.ensures.leaves held between (c.in-Err.ensures.front told held))
 
 pub returns-in_default-new-clause-front : goal.returns-in_default-new-clause-front
-returns-in_default-new-clause-front g c = λ between told held.
-    if_any (g.R.Read.remaining c.args.input.now) _ (λ bytes.
-    inr (none_left (g.T.TapeOut.holds c.begin_file.new.self.out) c.begin_file.new.self _ _
-    _ _ (inside_writing (g.T.TapeOut.holds c.begin_file.new.self.out) c.begin_file.new.self _ _
-    c.in_default.ensures.opened (c.in_default.ensures.told told held)) (λ i. i)))
+returns-in_default-new-clause-front g c = λ between told held. if_any _ _ (λ bytes. inr (none_left
+    (g.T.TapeOut.holds c.begin_file.new.self.out) _ _ _ _ _ (inside_writing
+    (g.T.TapeOut.holds c.begin_file.new.self.out) _ _ _ c.in_default.ensures.opened
+    (c.in_default.ensures.told told held)) (λ i. i)))
 
 pub returns-in_err-put_records-clause-front : goal.returns-in_err-put_records-clause-front
 returns-in_err-put_records-clause-front g c =
@@ -90,20 +81,18 @@ pub returns-clause-front : goal.returns-clause-front
 returns-clause-front g c = λ between told held.
     let made = c.in-Ok.ensures in
     let H = g.T.TapeOut.holds c.end_file.new.self.out in
-    end_left H c.end_file.new.self _ _ told
-    _ c.args.cut _ _ _ _ _
-    (IsWriting (g.T.TapeOut.holds c.put_records.new.writer.out) c.put_records.new.writer)
-    made.left made.cut made.begun
-    (c.in_ok-put_records.ensures.told _ (c.in_default.ensures.told told held))
-    (ending_other c.in-Err-end_file.fault (end_ends _ c.put_records.new.writer.phase _
+    end_left H _ _ _ told _ _ _ _ _ _ _ (IsWriting (g.T.TapeOut.holds c.put_records.new.writer.out)
+    c.put_records.new.writer) made.left made.cut made.begun (c.in_ok-put_records.ensures.told _
+    (c.in_default.ensures.told told held)) (ending_other _ (end_ends _ _ _
     (c.in_ok-put_records.ensures.stays _ c.in_default.ensures.opened)
-    c.in-Err-end_file.ensures.due))
-    (λ e. rose_from _ _ _
-    (omega (arith, c.begin_file.ensures.lasting.count.1, c.put_records.ensures.count.1))
-    (c.in-Err-end_file.ensures.cause.1 (of_writer c.in-Err-end_file.fault OutOfMemory e)))
-    (ended_left (λ out. g.T.TapeOut.holds out) c.put_records.new.writer c.end_file.new.self _ _
-    (c.in_ok-put_records.ensures.stays _ c.in_default.ensures.opened)
-    c.in-Err-end_file.ensures.leaves c.in-Err-end_file.ensures.front)
+    c.in-Err-end_file.ensures.due)) (λ e. rose_from _ _ _ (omega (
+      arith,
+      c.begin_file.ensures.lasting.count.1,
+      c.put_records.ensures.count.1,
+    ))
+    (c.in-Err-end_file.ensures.cause.1 (of_writer _ OutOfMemory e))) (ended_left
+    (λ out. g.T.TapeOut.holds out) _ _ _ _ (c.in_ok-put_records.ensures.stays _
+    c.in_default.ensures.opened) c.in-Err-end_file.ensures.leaves c.in-Err-end_file.ensures.front)
 
 pub returns-in-Err-clause-unfit : goal.returns-in-Err-clause-unfit
 returns-in-Err-clause-unfit g c = λ between unfit.

@@ -17,7 +17,7 @@ files-init g c = record {
   grew = grows_self _;
   begun = λ l. absurd (omega (arith, l));
   unfit = λ between unfit. (refl, refl);
-  wrote = wrote_none _ _ _ _ _ c.args.files.now _;
+  wrote = wrote_none _ _ _ _ _ _ _;
 }
 
 pub files-preserved : goal.files-preserved
@@ -36,19 +36,16 @@ files-preserved g c =
       begun = λ l. next.1;
       unfit = λ between unfit.
           let now = c.files.invariant.stands between in
-          absurd (c.in_ok-write_file.ensures.unfit now.0 (λ writable room. unfit writable
-          (subst (λ d. least_capacity c.args.shape ≤ d) c.files.invariant.capacity room))).1;
-      wrote = wrote_one _ (λ f. (f.head, g.R.Read.remaining f.reader)) c.args.writer.now.set_id
-          c.args.shape c.args.cut c.args.files.now c.files.files c.files.at
-          (IsWriting (g.T.TapeOut.holds c.args.writer.now.out) c.args.writer.now)
-          (IsWriting (g.T.TapeOut.holds c.files.writer.out) c.files.writer) new x _
-          c.index-files-at.result (search rules) refl c.files.invariant.wrote
-          (λ t h. subst (λ s. IfSome (g.R.Read.remaining x.reader)
-          (λ b. new (t ++ record {
+          absurd (c.in_ok-write_file.ensures.unfit now.0 (λ writable room. unfit writable (subst
+          (λ d. least_capacity c.args.shape ≤ d) c.files.invariant.capacity room))).1;
+      wrote = wrote_one _ (λ f. (f.head, g.R.Read.remaining f.reader)) _ _ _ _ _ _ (IsWriting
+          (g.T.TapeOut.holds c.args.writer.now.out) c.args.writer.now) (IsWriting
+          (g.T.TapeOut.holds c.files.writer.out) c.files.writer) new _ _ _ (search rules) refl
+          c.files.invariant.wrote (λ t h. subst (λ s. IfSome (g.R.Read.remaining x.reader) (λ b. new
+          (t ++ record {
             file = opened_by s (length t + 1) x.head c.args.shape;
             records = records_of c.args.cut b;
-          } ∷ [])))
-          c.files.invariant.set_id (c.in_ok-write_file.ensures.told t h));
+          } ∷ []))) c.files.invariant.set_id (c.in_ok-write_file.ensures.told t h));
     }
 
 pub returns-in_err-write_file-clause-due : goal.returns-in_err-write_file-clause-due
@@ -66,29 +63,23 @@ returns-in_err-write_file-clause-due g c = λ between.
 pub returns-in_err-write_file-clause-stuck : goal.returns-in_err-write_file-clause-stuck
 returns-in_err-write_file-clause-stuck g c =
     let p = err_from_is_err_and c.from_residual.result c.from_residual.ensures.1 in
-    let x = get_or c.files.files c.files.at c.index-files-at.result in
-    rw (p.1, p.2) (λ e told held.
-    wrote_out (g.T.TapeOut.holds c.write_file.new.writer.out) c.write_file.new.writer _
-    (λ f. (f.head, g.R.Read.remaining f.reader)) c.args.writer.now.set_id c.args.shape c.args.cut
-    c.args.files.now c.files.files c.files.at
-    (IsWriting (g.T.TapeOut.holds c.args.writer.now.out) c.args.writer.now)
-    (IsWriting (g.T.TapeOut.holds c.files.writer.out) c.files.writer) c.files.writer.set_id x
-    c.index-files-at.result (search rules) refl c.files.invariant.wrote c.files.invariant.set_id
-    (c.in_err-write_file.ensures.stuck e) told held)
+    rw (p.1, p.2) (λ e told held. wrote_out (g.T.TapeOut.holds c.write_file.new.writer.out) _ _
+    (λ f. (f.head, g.R.Read.remaining f.reader)) _ _ _ _ _ _ (IsWriting
+    (g.T.TapeOut.holds c.args.writer.now.out) c.args.writer.now) (IsWriting
+    (g.T.TapeOut.holds c.files.writer.out) c.files.writer) _ _ _ (search rules) refl
+    c.files.invariant.wrote c.files.invariant.set_id (c.in_err-write_file.ensures.stuck e) told
+    held)
 
 pub returns-in_err-write_file-clause-front : goal.returns-in_err-write_file-clause-front
 returns-in_err-write_file-clause-front g c =
     let p = err_from_is_err_and c.from_residual.result c.from_residual.ensures.1 in
-    let x = get_or c.files.files c.files.at c.index-files-at.result in
-    rw (p.1, p.2) (λ between told held.
-    wrote_left (g.T.TapeOut.holds c.write_file.new.writer.out) c.write_file.new.writer _ _ _ _
-    (λ f. (f.head, g.R.Read.remaining f.reader)) c.args.writer.now.set_id c.args.shape c.args.cut
-    c.args.files.now c.files.files c.files.at
-    (IsWriting (g.T.TapeOut.holds c.args.writer.now.out) c.args.writer.now)
-    (IsWriting (g.T.TapeOut.holds c.files.writer.out) c.files.writer) c.files.writer.set_id x
-    c.index-files-at.result (search rules) refl c.files.invariant.wrote c.files.invariant.set_id
-    (λ grew. rose_from _ _ _ c.files.invariant.grew.1 grew)
-    (c.in_err-write_file.ensures.front (c.files.invariant.stands between).0) told held)
+    rw (p.1, p.2) (λ between told held. wrote_left (g.T.TapeOut.holds c.write_file.new.writer.out) _
+    _ _ _ _ (λ f. (f.head, g.R.Read.remaining f.reader)) _ _ _ _ _ _ (IsWriting
+    (g.T.TapeOut.holds c.args.writer.now.out) c.args.writer.now) (IsWriting
+    (g.T.TapeOut.holds c.files.writer.out) c.files.writer) _ _ _ (search rules) refl
+    c.files.invariant.wrote c.files.invariant.set_id
+    (λ grew. rose_from _ _ _ c.files.invariant.grew.1 grew) (c.in_err-write_file.ensures.front
+    (c.files.invariant.stands between).0) told held)
 
 pub returns-in_err-write_file-clause-unfit : goal.returns-in_err-write_file-clause-unfit
 returns-in_err-write_file-clause-unfit g c =

@@ -78,8 +78,7 @@ returns-in-Err-write_files-clause-front g c fresh =
     let back = c.into_out-in-Err-write_files in
     let H = g.S.ImageStore.holds in
     let out = c.in-Err-write_files.ensures.front (ap (λ w. w.phase) made) [] begun in
-    inr (if_cut (λ cut.
-    IsLeftSet (Holds H) (λ t. (t.store ≡ left.result.images)
+    inr (if_cut (λ cut. IsLeftSet (Holds H) (λ t. (t.store ≡ left.result.images)
     × (t.image ≡ left.result.under_way)) left.result.fault plan cut inputs) _ _ c.in-Some.cut
     c.in-Some.is c.cut_of.ensures record {
       writer = whole;
@@ -90,11 +89,10 @@ returns-in-Err-write_files-clause-front g c fresh =
       on_volumes = c.write_files.ensures.same.0 ∙ ap (λ w. w.volumes) made;
       capacity = c.write_files.ensures.same.1 ∙ ap (λ w. w.capacity) made;
       set_id = c.write_files.ensures.same.2 ∙ ap (λ w. w.set_id) made;
-      left = subst (λ s. IsLeftOfAll (Holds H whole.out) whole ⊥ left.result.fault s []
-          plan.shape c.in-Some.cut inputs) (ap (λ w. w.set_id) made)
-          (subst (λ f. IsLeftOfAll (Holds H whole.out) whole ⊥ f c.in-Ok.writer.set_id []
-          plan.shape c.in-Some.cut inputs) (sym left.ensures.fault)
-          (left_without (Holds H whole.out) whole _ _ _ [] plan.shape c.in-Some.cut inputs
+      left = subst (λ s. IsLeftOfAll (Holds H whole.out) whole ⊥ left.result.fault s [] plan.shape
+          c.in-Some.cut inputs) (ap (λ w. w.set_id) made) (subst (λ f. IsLeftOfAll
+          (Holds H whole.out) whole ⊥ f c.in-Ok.writer.set_id [] plan.shape c.in-Some.cut inputs)
+          (sym left.ensures.fault) (left_without (Holds H whole.out) _ _ _ _ [] plan.shape _ _
           rose_none (inl out)));
     })
 
@@ -179,8 +177,7 @@ returns-then-not-are_text_heads-clause-due g c =
     let inputs = map (λ f. (f.head, g.R.Read.remaining f.reader)) c.args.files.now in
     let left = c.left-then-not-are_text_heads in
     subst (λ k. IsFaultOfCut plan inputs k left.result.fault)
-    (sym (sym c.cut_of.ensures ∙ c.in-Some.is))
-    (inr (inl (subst (IsFilesFault plan.capacity plan.shape c.in-Some.cut 0 inputs)
-    (sym left.ensures.fault)
-    (head_fault _ (λ f. (f.head, g.R.Read.remaining f.reader)) plan.capacity plan.shape
-    c.in-Some.cut 0 c.args.files.now (λ all. cc (c.if-not-are_text_heads.ensures.1 all))))))
+    (sym (sym c.cut_of.ensures ∙ c.in-Some.is)) (inr (inl (subst
+    (IsFilesFault plan.capacity plan.shape c.in-Some.cut 0 inputs) (sym left.ensures.fault)
+    (head_fault _ (λ f. (f.head, g.R.Read.remaining f.reader)) plan.capacity plan.shape _ 0 _
+    (λ all. cc (c.if-not-are_text_heads.ensures.1 all))))))

@@ -62,11 +62,7 @@ returns-in-Ok-begin-clause-told g c =
 
 pub returns-in-Ok-begin-clause-asked : goal.returns-in-Ok-begin-clause-asked
 returns-in-Ok-begin-clause-asked g c =
-    rw (← c.self.view_is) (λ w.
-    asked_of (g.T.TapeOut.asked c.self.inside.tape.out)
-    (g.T.TapeOut.asked c.begin.new.tape.out) c.deref.result.now c.self.inside.volumes.items
-    c.self.inside.tape.course.volume c.begin.new.tape.course.volume (search rules)
-    c.in-Ok-begin.ensures.asked w)
+    rw (← c.self.view_is) (λ w. asked_of _ _ _ _ _ _ (search rules) c.in-Ok-begin.ensures.asked w)
 
 pub returns-then-is_err-clause-front : goal.returns-then-is_err-clause-front
 returns-then-is_err-clause-front g c =

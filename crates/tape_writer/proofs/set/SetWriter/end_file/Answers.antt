@@ -14,38 +14,25 @@ returns-in-Finished-clause-lasting g c = rw (← c.self.view_is) (lasting_self _
 
 pub returns-in-Ok-clause-told : goal.returns-in-Ok-clause-told
 returns-in-Ok-clause-told g c =
-    rw (← c.self.view_is) (λ told k.
-    end_told (g.T.TapeOut.holds c.self.inside.tape.out)
-    (g.T.TapeOut.holds c.end_file.new.self.out) _
-    c.end_file.new.self.out c.deref.result.now c.end_file.new.self.course c.in-Filing.file told
-    c.in-Filing.is (search rules)
-    (λ past records x. c.in-Ok.ensures.filed c.self.inside.set_id past records x) k)
+    rw (← c.self.view_is) (λ told k. end_told (g.T.TapeOut.holds c.self.inside.tape.out)
+    (g.T.TapeOut.holds c.end_file.new.self.out) _ _ _ _ _ told c.in-Filing.is (search rules) (λ past
+    records x. c.in-Ok.ensures.filed c.self.inside.set_id past records x) k)
 
 pub returns-in-Err-clause-stuck : goal.returns-in-Err-clause-stuck
 returns-in-Err-clause-stuck g c =
-    rw (← c.self.view_is) (λ told k e.
-    stuck_told (g.T.TapeOut.holds c.self.inside.tape.out)
-    (g.T.TapeOut.holds c.end_file.new.self.out) _
-    c.end_file.new.self.out c.deref.result.now c.end_file.new.self.course c.in-Filing.file told
-    c.in-Filing.is
-    (search rules)
-    (λ fs records x. c.in-Err.ensures.stuck e c.self.inside.set_id fs records x) k)
+    rw (← c.self.view_is) (λ told k e. stuck_told (g.T.TapeOut.holds c.self.inside.tape.out)
+    (g.T.TapeOut.holds c.end_file.new.self.out) _ _ _ _ _ told c.in-Filing.is (search rules) (λ fs
+    records x. c.in-Err.ensures.stuck e c.self.inside.set_id fs records x) k)
 
 pub returns-in-Ok-clause-asked : goal.returns-in-Ok-clause-asked
 returns-in-Ok-clause-asked g c =
-    rw (← c.self.view_is) (λ w.
-    asked_of (g.T.TapeOut.asked c.self.inside.tape.out)
-    (g.T.TapeOut.asked c.end_file.new.self.out) c.deref.result.now c.self.inside.volumes.items
-    c.self.inside.tape.course.volume c.end_file.new.self.course.volume (search rules)
-    c.in-Ok.ensures.asked w)
+    rw (← c.self.view_is) (λ w. asked_of _ _ _ _ _ _ (search rules) c.in-Ok.ensures.asked w)
 
 pub returns-in-Err-clause-front : goal.returns-in-Err-clause-front
 returns-in-Err-clause-front g c =
-    rw (← c.self.view_is) (λ told k ends.
-    left_end (g.T.TapeOut.holds c.self.inside.tape.out)
-    (g.T.TapeOut.holds c.end_file.new.self.out) _ c.deref.result.now c.in-Filing.file told
-    c.in-Filing.is (search rules)
-    (λ past records x. c.in-Err.ensures.front c.self.inside.set_id past records x) k)
+    rw (← c.self.view_is) (λ told k ends. left_end (g.T.TapeOut.holds c.self.inside.tape.out)
+    (g.T.TapeOut.holds c.end_file.new.self.out) _ _ _ told c.in-Filing.is (search rules) (λ past
+    records x. c.in-Err.ensures.front c.self.inside.set_id past records x) k)
 
 pub returns-in-Between-clause-front : goal.returns-in-Between-clause-front
 returns-in-Between-clause-front g c = λ told k ends. absurd ends

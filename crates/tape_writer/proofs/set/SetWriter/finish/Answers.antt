@@ -16,18 +16,12 @@ returns-then-self-eq0-clause-lasting g c = lasting_self _ _ _
 
 pub returns-in-Ok-clause-asked : goal.returns-in-Ok-clause-asked
 returns-in-Ok-clause-asked g c =
-    rw (← c.self.view_is) (λ w.
-    asked_of (g.T.TapeOut.asked c.self.inside.tape.out)
-    (g.T.TapeOut.asked c.end_set.new.tape.out) c.deref.result.now c.self.inside.volumes.items
-    c.self.inside.tape.course.volume c.end_set.new.tape.course.volume (search rules)
-    c.in-Ok.ensures.asked w)
+    rw (← c.self.view_is) (λ w. asked_of _ _ _ _ _ _ (search rules) c.in-Ok.ensures.asked w)
 
 pub returns-in-Err-clause-front : goal.returns-in-Err-clause-front
 returns-in-Err-clause-front g c =
-    rw (← c.self.view_is) (λ told k ends.
-    left_finish (g.T.TapeOut.holds c.self.inside.tape.out)
-    (g.T.TapeOut.holds c.end_set.new.tape.out) _ c.deref.result.now told
-    (search rules) (search rules) (search rules)
+    rw (← c.self.view_is) (λ told k ends. left_finish (g.T.TapeOut.holds c.self.inside.tape.out)
+    (g.T.TapeOut.holds c.end_set.new.tape.out) _ _ told (search rules) (search rules) (search rules)
     (λ some x. c.end_set.ensures.front c.self.inside.set_id told some x) k)
 
 pub returns-in-Filing-clause-front : goal.returns-in-Filing-clause-front

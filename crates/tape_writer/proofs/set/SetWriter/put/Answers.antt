@@ -14,38 +14,23 @@ returns-in-Finished-clause-lasting g c = rw (← c.self.view_is) (lasting_self _
 
 pub returns-in-Ok-clause-told : goal.returns-in-Ok-clause-told
 returns-in-Ok-clause-told g c =
-    rw (← c.self.view_is) (λ told k.
-    put_told (g.T.TapeOut.holds c.self.inside.tape.out)
-    (g.T.TapeOut.holds c.put_record.new.tape.out) _
-    c.put_record.new.tape.out c.deref.result.now c.put_record.new.tape.course c.in-Filing.file
-    c.put_record.new.packer told c.args.bytes.now c.in-Filing.is (search rules)
+    rw (← c.self.view_is) (λ told k. put_told (g.T.TapeOut.holds c.self.inside.tape.out)
+    (g.T.TapeOut.holds c.put_record.new.tape.out) _ _ _ _ _ _ told _ c.in-Filing.is (search rules)
     (λ fs records x. c.in-Ok.ensures.packed c.self.inside.set_id fs records x) k)
 
 pub returns-in-Err-2-clause-stuck : goal.returns-in-Err-2-clause-stuck
 returns-in-Err-2-clause-stuck g c =
-    rw (← c.self.view_is) (λ told k e.
-    stuck_put_told (g.T.TapeOut.holds c.self.inside.tape.out)
-    (g.T.TapeOut.holds c.put_record.new.tape.out) _
-    c.put_record.new.tape.out c.deref.result.now c.put_record.new.tape.course c.in-Filing.file told
-    c.args.bytes.now
-    c.in-Filing.is
-    (search rules)
-    (λ fs records x. c.in-Err.ensures.stuck e c.self.inside.set_id fs records x) k)
+    rw (← c.self.view_is) (λ told k e. stuck_put_told (g.T.TapeOut.holds c.self.inside.tape.out)
+    (g.T.TapeOut.holds c.put_record.new.tape.out) _ _ _ _ _ told _ c.in-Filing.is (search rules) (λ
+    fs records x. c.in-Err.ensures.stuck e c.self.inside.set_id fs records x) k)
 
 pub returns-in-Err-2-clause-length : goal.returns-in-Err-2-clause-length
 returns-in-Err-2-clause-length g c =
-    rw (← c.self.view_is) (if_filing c.self.inside.phase c.in-Filing.file _ c.in-Filing.is (λ n.
-    let same = c.in-Err.ensures.always n in
-    let no = c.if-eq.ensures in
-    search rules))
+    rw (← c.self.view_is) (if_filing _ _ _ c.in-Filing.is (λ n. search rules))
 
 pub returns-in-Ok-clause-asked : goal.returns-in-Ok-clause-asked
 returns-in-Ok-clause-asked g c =
-    rw (← c.self.view_is) (λ w.
-    asked_of (g.T.TapeOut.asked c.self.inside.tape.out)
-    (g.T.TapeOut.asked c.put_record.new.tape.out) c.deref.result.now c.self.inside.volumes.items
-    c.self.inside.tape.course.volume c.put_record.new.tape.course.volume (search rules)
-    c.in-Ok.ensures.asked w)
+    rw (← c.self.view_is) (λ w. asked_of _ _ _ _ _ _ (search rules) c.in-Ok.ensures.asked w)
 
 pub returns-in-Err-2-clause-front : goal.returns-in-Err-2-clause-front
 returns-in-Err-2-clause-front g c =

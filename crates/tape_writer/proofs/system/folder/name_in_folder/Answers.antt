@@ -7,12 +7,11 @@ use Rattle.tape_writer.proofs.system.folder.name_in_folder.Goals as goal
 pub returns-in-Some : goal.returns-in-Some
 returns-in-Some c =
     let path = c.args.path.now in
-    let found = rfind_char 47 path c.rfind.result c.rfind.ensures.cases (omega arith) in
+    let found = rfind_char 47 _ _ c.rfind.ensures.cases (omega arith) in
     subst (λ name. (folder : List ℕ) × IsPathOf path folder name) (sym c.range_from.ensures.value)
-    (in_some path c.in-Some.end (last_of path c.rfind.result c.in-Some.end found c.in-Some.is))
+    (in_some _ _ (last_of _ _ _ found c.in-Some.is))
 
 pub returns-in-None : goal.returns-in-None
 returns-in-None c =
-    let path = c.args.path.now in
-    let found = rfind_char 47 path c.rfind.result c.rfind.ensures.cases (omega arith) in
-    (codes ".", in_current path (none_of path c.rfind.result found c.in-None.is))
+    let found = rfind_char 47 _ _ c.rfind.ensures.cases (omega arith) in
+    (codes ".", in_current _ (none_of _ _ found c.in-None.is))

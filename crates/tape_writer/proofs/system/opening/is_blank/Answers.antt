@@ -1,7 +1,7 @@
 use Rattle.std.proofs.Common.{◌≡◌, ◌<◌, ℕ, Bool, List, ◌++◌, length, take, Option, None, Some, sym}
 use Rattle.std.proofs.Common.{ap, ◌∙◌, arith, rules, append-nil, length-append, ◌↔◌, IfSome, IsTrue}
-use Rattle.std.proofs.{lemmas.Bool.Decides.Decides-eqb, lemmas.List.length-take-le}
-use Rattle.std.proofs.{lemmas.Slice.Eq.slice_eq-Decides}
+use Rattle.std.proofs.lemmas.{Bool.Decides.Decides-eqb, List.length-take-le}
+use Rattle.std.proofs.lemmas.Slice.Eq.{slice_eq-Decides}
 use Rattle.tape_image.specs.Device.{Fills}
 use Rattle.tape_writer.proofs.system.opening.is_blank.Goals as goal
 
@@ -38,9 +38,8 @@ is_image told (Some xs) (Some ys) buffer n slice image test is fills less = (
 
 pub returns-in-Ok-clause-found : goal.returns-in-Ok-clause-found
 returns-in-Ok-clause-found g c =
-    let test = slice_eq-Decides Decides-eqb (take c.in-Ok.count c.fill.new.buffer)
-    c.as_slice.result.now c.eq.result c.eq.ensures in
+    let test = slice_eq-Decides Decides-eqb _ _ _ c.eq.ensures in
     let rem = g.R.Read.remaining in
-    is_image c.eq.result (rem c.args.reader.now) (rem c.fill.new.device)
-    c.fill.new.buffer c.in-Ok.count c.as_slice.result.now _ test
-    (c.as_slice.ensures.value ∙ c.image_of.ensures) c.in-Ok.ensures.taken (search rules)
+    is_image c.eq.result (rem c.args.reader.now) (rem c.fill.new.device) c.fill.new.buffer
+    c.in-Ok.count c.as_slice.result.now _ test (c.as_slice.ensures.value ∙ c.image_of.ensures)
+    c.in-Ok.ensures.taken (search rules)

@@ -8,10 +8,9 @@ use Rattle.tape_writer.proofs.Fronts.{front_here, front_items, front_behind, fro
 use Rattle.tape_writer.proofs.tape.Tape.begin_section.Goals as goal
 
 pub returns-in_err-label-clause-front : goal.returns-in_err-label-clause-front
-returns-in_err-label-clause-front g c = λ vs items h.
-    front_items (g.T.TapeOut.holds c.label.new.self.out) vs items
-    (header_items c.args.file.now c.args.sect)
-    (front_here _ (UnderWay vs items) (c.in_err-label.ensures.err (UnderWay vs items) h))
+returns-in_err-label-clause-front g c = λ vs items h. front_items
+    (g.T.TapeOut.holds c.label.new.self.out) vs items _ (front_here _ (UnderWay vs items)
+    (c.in_err-label.ensures.err (UnderWay vs items) h))
 
 pub returns-in_err-label-2-clause-front : goal.returns-in_err-label-2-clause-front
 returns-in_err-label-2-clause-front g c = λ vs items h.

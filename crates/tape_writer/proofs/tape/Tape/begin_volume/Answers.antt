@@ -19,6 +19,5 @@ pub returns-clause-front : goal.returns-clause-front
 returns-clause-front g c = λ tapes h.
     let H = g.T.TapeOut.holds c.label.new.self.out in
     subst (λ z. HoldsFront H (UnderWay (all_volumes tapes) (block z ∷ []))) c.volume_label.ensures
-    (took (g.T.TapeOut.holds c.change_volume.new.self) H (block c.volume_label.result ∷ [])
-    c.label.result c.label.ensures.ok c.label.ensures.err (all_volumes tapes) []
-    (c.in_default.ensures.ok tapes h))
+    (took (g.T.TapeOut.holds c.change_volume.new.self) H (block c.volume_label.result ∷ []) _
+    c.label.ensures.ok c.label.ensures.err (all_volumes tapes) [] (c.in_default.ensures.ok tapes h))

@@ -9,61 +9,45 @@ use Rattle.tape_writer.specs.{Labels.trailer_items, Front.HoldsFront, Inside.IsS
 use Rattle.tape_writer.proofs.{Ends.between_closed, Fronts.front_items, Fronts.err_any, Held.got}
 use Rattle.tape_writer.proofs.{Held.close_here, Held.close_next, Last.lasting_then, Left.last_left}
 use Rattle.tape_writer.proofs.{Left.end_left, Packed.flat_flushed, Packed.err_map, Stuck.stuck_last}
-use Rattle.tape_writer.proofs.{Stuck.stuck_end}
+use Rattle.tape_writer.proofs.Stuck.{stuck_end}
 use Rattle.tape_writer.proofs.tape.Tape.end_file.Goals as goal
 
 pub returns-then-has_room-clause-filed : goal.returns-then-has_room-clause-filed
 returns-then-has_room-clause-filed g c = λ set_id past records k.
-    let flat = flat_flushed g.T.TapeOut.holds c.args.volumes.now c.args.capacity set_id
-    c.args.file.now c.args.self.now c.flush.new.tape c.args.packer.now k.files records
+    let flat = flat_flushed g.T.TapeOut.holds _ _ set_id _ _ _ _ k.files records
     (λ e. (c.flush.ensures.none e).1) (λ some d o. c.in_ok-flush.ensures.flushed some set_id d o)
     k.inside in
     between_closed (g.T.TapeOut.holds c.flush.new.tape.out) (g.T.TapeOut.holds
-    c.end_section.new.self.out)
-    c.args.volumes.now c.args.capacity set_id c.args.file.now c.flush.new.tape.course
-    c.end_section.new.self.course past k.files records c.end_section.result c.requires.capacity
-    k.filed flat
-    (λ d o. close_here (g.T.TapeOut.holds c.flush.new.tape.out)
-    (g.T.TapeOut.holds c.end_section.new.self.out) c.args.volumes.now c.args.capacity set_id
-    c.args.file.now c.flush.new.tape.course c.end_section.new.self.course d c.end_section.result
-    o c.requires.volumes (omega arith) (let fits = c.has_room.ensures.yes (search rules) in omega
-    (arith, fits))
+    c.end_section.new.self.out) _ _ set_id _ _ _ past k.files records _ c.requires.capacity k.filed
+    flat (λ d o. close_here (g.T.TapeOut.holds c.flush.new.tape.out)
+    (g.T.TapeOut.holds c.end_section.new.self.out) _ _ set_id _ _ _ d _ o c.requires.volumes
+    (omega arith) (let fits = c.has_room.ensures.yes (search rules) in omega (arith, fits))
     c.end_section.ensures.ok c.end_section.ensures.course)
 
 pub returns-clause-filed : goal.returns-clause-filed
 returns-clause-filed g c = λ set_id past records k.
-    let flat = flat_flushed g.T.TapeOut.holds c.args.volumes.now c.args.capacity set_id
-    c.args.file.now c.args.self.now c.flush.new.tape c.args.packer.now k.files records
+    let flat = flat_flushed g.T.TapeOut.holds _ _ set_id _ _ _ _ k.files records
     (λ e. (c.flush.ensures.none e).1) (λ some d o. c.in_ok-flush.ensures.flushed some set_id d o)
     k.inside in
-    let there = got c.args.volumes.now c.from.result c.flush.new.tape.course.volume
-    c.in-Some.volume.now (search rules) c.in-Some.ensures.lookup.3.0 c.in-Some.ensures.lookup.1 in
+    let there = got _ _ _ _ (search rules) c.in-Some.ensures.lookup.3.0 c.in-Some.ensures.lookup.1
+    in
     between_closed (g.T.TapeOut.holds c.flush.new.tape.out) (g.T.TapeOut.holds
-    c.end_section-2.new.self.out)
-    c.args.volumes.now c.args.capacity set_id c.args.file.now c.flush.new.tape.course
-    c.end_section-2.new.self.course past k.files records c.end_section-2.result
-    c.requires.capacity k.filed flat
-    (λ d o. close_next (g.T.TapeOut.holds c.flush.new.tape.out) (g.T.TapeOut.holds
-    c.change_to.new.self.out)
-    (g.T.TapeOut.holds c.end_section-2.new.self.out) c.args.volumes.now c.args.capacity set_id
-    c.args.file.now c.flush.new.tape.course c.change_to.new.self.course
-    c.end_section-2.new.self.course d c.in-Some.volume.now c.end_section-2.result
-    o (let due = c.has_room.ensures.no (search rules) in omega (arith, due)) there
-    (every_at IsWideVolume c.args.volumes.now c.flush.new.tape.course.volume c.in-Some.volume.now
-    c.requires.wide there) c.requires.volumes (omega (arith, c.requires.capacity))
-    (omega arith) c.in_ok-change_to.ensures.ok c.in_ok-change_to.ensures.course
-    c.end_section-2.ensures.ok c.end_section-2.ensures.course)
+    c.end_section-2.new.self.out) _ _ set_id _ _ _ past k.files records _ c.requires.capacity
+    k.filed flat (λ d o. close_next (g.T.TapeOut.holds c.flush.new.tape.out) (g.T.TapeOut.holds
+    c.change_to.new.self.out) (g.T.TapeOut.holds c.end_section-2.new.self.out) _ _ set_id _ _ _ _ d
+    _ _ o (let due = c.has_room.ensures.no (search rules) in omega (arith, due)) there (every_at
+    IsWideVolume _ _ _ c.requires.wide there) c.requires.volumes
+    (omega (arith, c.requires.capacity)) (omega arith) c.in_ok-change_to.ensures.ok
+    c.in_ok-change_to.ensures.course c.end_section-2.ensures.ok c.end_section-2.ensures.course)
 
 pub returns-in_err-flush-clause-stuck : goal.returns-in_err-flush-clause-stuck
 returns-in_err-flush-clause-stuck g c =
-    let p = err_from_is_err_and c.from_residual.result
-    c.from_residual.ensures.1 in
+    let p = err_from_is_err_and c.from_residual.result c.from_residual.ensures.1 in
     rw (p.1, p.2) (λ e set_id fs records k.
     let q = c.in_err-flush.ensures.stuck e in
     subst (λ t. IsStuck (g.T.TapeOut.holds t.out) c.args.volumes.now c.args.capacity set_id
-    c.args.file.now t.course fs records) (sym q.0)
-    (stuck_last (g.T.TapeOut.holds c.args.self.now.out) c.args.volumes.now c.args.capacity set_id
-    c.args.file.now c.args.self.now.course c.args.packer.now fs records k q.1))
+    c.args.file.now t.course fs records) (sym q.0) (stuck_last
+    (g.T.TapeOut.holds c.args.self.now.out) _ _ set_id _ _ _ fs records k q.1))
 
 pub returns-then-has_room-clause-stuck : goal.returns-then-has_room-clause-stuck
 returns-then-has_room-clause-stuck g c =
@@ -71,12 +55,10 @@ returns-then-has_room-clause-stuck g c =
 
 pub returns-in_default-clause-stuck : goal.returns-in_default-clause-stuck
 returns-in_default-clause-stuck g c = λ e set_id fs records k.
-    let flat = flat_flushed g.T.TapeOut.holds c.args.volumes.now c.args.capacity set_id
-    c.args.file.now c.args.self.now c.flush.new.tape c.args.packer.now fs records
-    (λ e. (c.flush.ensures.none e).1) (λ some d o. c.in_ok-flush.ensures.flushed some set_id d o)
-    k in
-    stuck_end (g.T.TapeOut.holds c.flush.new.tape.out) c.args.volumes.now c.args.capacity set_id
-    c.args.file.now c.flush.new.tape.course fs records flat (search rules)
+    let flat = flat_flushed g.T.TapeOut.holds _ _ set_id _ _ _ _ fs records
+    (λ e. (c.flush.ensures.none e).1) (λ some d o. c.in_ok-flush.ensures.flushed some set_id d o) k
+    in
+    stuck_end (g.T.TapeOut.holds c.flush.new.tape.out) _ _ set_id _ _ fs records flat (search rules)
     (let due = c.has_room.ensures.no (search rules) in omega (arith, due))
 
 pub returns-in_err-change_to-clause-stuck : goal.returns-in_err-change_to-clause-stuck
@@ -103,14 +85,12 @@ returns-clause-lasting g c = lasting_then _ _ _ _ _ _ _ _ _ c.flush.ensures.last
 
 pub returns-in_err-flush-clause-front : goal.returns-in_err-flush-clause-front
 returns-in_err-flush-clause-front g c =
-    let p = err_from_is_err_and c.from_residual.result
-    c.from_residual.ensures.1 in
+    let p = err_from_is_err_and c.from_residual.result c.from_residual.ensures.1 in
     rw p.1 (λ set_id past records k.
     let q = last_left (g.T.TapeOut.holds c.args.self.now.out)
-    (g.T.TapeOut.holds c.flush.new.tape.out) c.args.volumes.now c.args.capacity set_id
-    c.args.file.now c.args.self.now.course c.args.packer.now k.files records _
-    c.args.packer.now.parts refl (λ e. (c.in_err-flush.ensures.none e).0)
-    (λ e t h. subst (λ z. g.T.TapeOut.holds z.out t) (sym (c.in_err-flush.ensures.stuck e).0) h)
+    (g.T.TapeOut.holds c.flush.new.tape.out) _ _ set_id _ _ _ k.files records _ _ refl
+    (λ e. (c.in_err-flush.ensures.none e).0) (λ e t h. subst (λ z. g.T.TapeOut.holds z.out t)
+    (sym (c.in_err-flush.ensures.stuck e).0) h)
     (λ some d o. c.in_err-flush.ensures.front some set_id d o) k.inside in
     inl record {
       past = past;
@@ -124,33 +104,28 @@ returns-in_err-flush-clause-front g c =
 
 pub returns-then-has_room-clause-front : goal.returns-then-has_room-clause-front
 returns-then-has_room-clause-front g c = λ set_id past records k.
-    let flat = flat_flushed g.T.TapeOut.holds c.args.volumes.now c.args.capacity set_id
-    c.args.file.now c.args.self.now c.flush.new.tape c.args.packer.now k.files records
+    let flat = flat_flushed g.T.TapeOut.holds _ _ set_id _ _ _ _ k.files records
     (λ e. (c.flush.ensures.none e).1) (λ some d o. c.in_ok-flush.ensures.flushed some set_id d o)
     k.inside in
     end_left (g.T.TapeOut.holds c.flush.new.tape.out) (g.T.TapeOut.holds c.end_section.new.self.out)
-    c.args.volumes.now c.args.capacity set_id c.args.file.now c.flush.new.tape.course past k.files
-    records c.end_section.result c.requires.capacity
-    (err_map c.end_section.result _ _ (λ f p e. absurd (p.1 e)) c.end_section.ensures.out)
-    (λ d o. err_any c.end_section.result _ (λ f not.
+    _ _ set_id _ _ past k.files
+    records _ c.requires.capacity (err_map c.end_section.result _ _ (λ f p e. absurd (p.1 e))
+    c.end_section.ensures.out) (λ d o. err_any c.end_section.result _ (λ f not.
     let new = ended_course c.flush.new.tape.course in (
       new,
       close_here (g.T.TapeOut.holds c.flush.new.tape.out)
-          (HoldsFront (g.T.TapeOut.holds c.end_section.new.self.out)) c.args.volumes.now
-          c.args.capacity set_id c.args.file.now c.flush.new.tape.course new d (Ok tt)
-          o c.requires.volumes (omega arith) (let fits = c.has_room.ensures.yes (search rules) in
-          omega (arith, fits))
-          c.end_section.ensures.front refl,
+          (HoldsFront (g.T.TapeOut.holds c.end_section.new.self.out)) _ _ set_id _ _ _ d (Ok tt) o
+          c.requires.volumes (omega arith) (let fits = c.has_room.ensures.yes (search rules) in
+          omega (arith, fits)) c.end_section.ensures.front refl,
     ))) k.filed flat
 
 pub returns-in_default-clause-front : goal.returns-in_default-clause-front
 returns-in_default-clause-front g c = λ set_id past records k.
-    let flat = flat_flushed g.T.TapeOut.holds c.args.volumes.now c.args.capacity set_id
-    c.args.file.now c.args.self.now c.flush.new.tape c.args.packer.now k.files records
+    let flat = flat_flushed g.T.TapeOut.holds _ _ set_id _ _ _ _ k.files records
     (λ e. (c.flush.ensures.none e).1) (λ some d o. c.in_ok-flush.ensures.flushed some set_id d o)
     k.inside in
-    end_left (g.T.TapeOut.holds c.flush.new.tape.out) (g.T.TapeOut.holds c.flush.new.tape.out)
-    c.args.volumes.now c.args.capacity set_id c.args.file.now c.flush.new.tape.course past k.files
+    end_left (g.T.TapeOut.holds c.flush.new.tape.out) (g.T.TapeOut.holds c.flush.new.tape.out) _ _
+    set_id _ _ past k.files
     records (Err OutOfVolumes) c.requires.capacity (λ e t h. h) (λ d o not. absurd (not refl))
     k.filed flat
 

@@ -8,11 +8,9 @@ use Rattle.tape_writer.proofs.Fronts.{front_assoc, took}
 use Rattle.tape_writer.proofs.tape.Tape.end_section.Goals as goal
 
 pub returns-in_err-mark-clause-front : goal.returns-in_err-mark-clause-front
-returns-in_err-mark-clause-front g c = λ vs items h.
-    front_items (g.T.TapeOut.holds c.mark.new.self.out) vs items
-    (trailer_items c.args.file.now c.args.self.now.course.sect c.args.self.now.course.count
-    c.args.eof)
-    (front_here _ (UnderWay vs items) (c.in_err-mark.ensures.err (UnderWay vs items) h))
+returns-in_err-mark-clause-front g c = λ vs items h. front_items
+    (g.T.TapeOut.holds c.mark.new.self.out) vs items _ (front_here _ (UnderWay vs items)
+    (c.in_err-mark.ensures.err (UnderWay vs items) h))
 
 pub returns-in_err-label-clause-front : goal.returns-in_err-label-clause-front
 returns-in_err-label-clause-front g c = λ vs items h.
@@ -46,8 +44,8 @@ pub returns-clause-front : goal.returns-clause-front
 returns-clause-front g c = λ vs items h.
     let file = c.args.file.now in
     let course = c.args.self.now.course in
-    let text = c.trailer_label.ensures
-    ∙ ap (λ k. trailer_label file k.sect k.count c.args.eof) c.in_ok-mark.ensures.course in
+    let text = c.trailer_label.ensures ∙ ap (λ k. trailer_label file k.sect k.count c.args.eof)
+    c.in_ok-mark.ensures.course in
     let text2 = c.second_label.ensures ∙ ap (second_label file) c.second_kind.ensures.is in
     let trailer : List TapeItem =
     block (trailer_label file course.sect course.count c.args.eof) ∷ [] in
@@ -56,12 +54,11 @@ returns-clause-front g c = λ vs items h.
     let two = subst (λ z. g.T.TapeOut.holds c.label.new.self.out
     (UnderWay vs ((items ++ mark ∷ []) ++ block z ∷ []))) text
     (c.in_ok-label.ensures.ok vs (items ++ mark ∷ []) one) in
-    let three = subst (λ z. g.T.TapeOut.holds c.label-2.new.self.out
-    (UnderWay vs (((items ++ mark ∷ []) ++ trailer) ++ block z ∷ []))) text2
-    (c.in_ok-label-2.ensures.ok vs ((items ++ mark ∷ []) ++ trailer) two) in
+    let three = subst (λ z. g.T.TapeOut.holds c.label-2.new.self.out (UnderWay vs
+    (((items ++ mark ∷ []) ++ trailer) ++ block z ∷ []))) text2 (c.in_ok-label-2.ensures.ok vs
+    ((items ++ mark ∷ []) ++ trailer) two) in
     let H = g.T.TapeOut.holds c.mark-2.new.self.out in
-    front_thrice H vs items (mark ∷ []) trailer (second ++ mark ∷ [])
-    (front_assoc H vs ((items ++ mark ∷ []) ++ trailer) second (mark ∷ [])
-    (took (g.T.TapeOut.holds c.label-2.new.self.out) H (mark ∷ []) c.mark-2.result
-    c.mark-2.ensures.ok c.mark-2.ensures.err vs (((items ++ mark ∷ []) ++ trailer) ++ second)
-    three))
+    front_thrice H vs items (mark ∷ []) trailer (second ++ mark ∷ []) (front_assoc H vs
+    ((items ++ mark ∷ []) ++ trailer) second (mark ∷ []) (took
+    (g.T.TapeOut.holds c.label-2.new.self.out) H (mark ∷ []) _ c.mark-2.ensures.ok
+    c.mark-2.ensures.err vs (((items ++ mark ∷ []) ++ trailer) ++ second) three))

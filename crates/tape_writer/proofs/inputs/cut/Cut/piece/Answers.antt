@@ -1,6 +1,6 @@
 use Rattle.std.proofs.Common.{◌≡◌, ◌≤◌, ◌+◌, ◌-◌, ◌++◌, length, take, false, true, refl, sym, subst}
 use Rattle.std.proofs.Common.{arith, eq-eqb}
-use Rattle.std.proofs.{lemmas.Bool.eqb-true, lemmas.List.length-take-le}
+use Rattle.std.proofs.lemmas.{Bool.eqb-true, List.length-take-le}
 use Rattle.tape_writer.specs.declared.inputs.cut.Cut.TheVariants.{Lines, Length, Whole}
 use Rattle.tape_writer.specs.Records.{Adds}
 use Rattle.tape_writer.proofs.inputs.Pieces.{line_ended, line_inside, length_passed, length_inside}
@@ -12,18 +12,16 @@ returns-in-Some-clause-adds c r is =
     let bytes = c.args.bytes.now in
     let place = c.in-Some.place in
     let found = c.in-Some.ensures in
-    subst (λ s. Adds s r (take (place + 1) bytes) (r ++ take place bytes) true)
-    (sym c.in-Lines.is)
-    (line_ended bytes place r found.0.high
-    (λ k below is. found.0.before k (omega arith) below (eq-eqb _ 10 is)) (eqb-true _ 10 found.1))
+    subst (λ s. Adds s r (take (place + 1) bytes) (r ++ take place bytes) true) (sym c.in-Lines.is)
+    (line_ended _ _ r found.0.high (λ k below is. found.0.before k (omega arith) below
+    (eq-eqb _ 10 is)) (eqb-true _ 10 found.1))
 
 pub returns-in-None-clause-adds : goal.returns-in-None-clause-adds
 returns-in-None-clause-adds c r is =
     let bytes = c.args.bytes.now in
     subst (λ s. Adds s r (take (length bytes) bytes) (r ++ take (length bytes) bytes) false)
-    (sym c.in-Lines.is)
-    (adds_all Lines _ bytes r false refl
-    (line_inside bytes r (λ k below is. c.in-None.ensures k (omega arith) below (eq-eqb _ 10 is))))
+    (sym c.in-Lines.is) (adds_all Lines _ _ r false refl (line_inside _ r (λ k below is.
+    c.in-None.ensures k (omega arith) below (eq-eqb _ 10 is))))
 
 pub returns-then-held-length-clause-adds : goal.returns-then-held-length-clause-adds
 returns-then-held-length-clause-adds c r is =
@@ -47,12 +45,12 @@ returns-else-bytes-wanted-clause-adds c r is =
     let most = c.in-Length.length in
     let wanted = most - c.args.held in
     let fits : wanted ≤ length bytes = omega arith in
-    let long : length (take wanted bytes) ≡ wanted = length-take-le wanted bytes fits in
+    let long : length (take wanted bytes) ≡ wanted = length-take-le wanted _ fits in
     subst (λ s. Adds s r (take wanted bytes) (r ++ take wanted bytes) true) (sym c.in-Length.is)
-    (length_ended most (take wanted bytes) r (omega (arith, long)) (omega (arith, long, is)))
+    (length_ended _ (take wanted bytes) r (omega (arith, long)) (omega (arith, long, is)))
 
 pub returns-in-Whole-clause-adds : goal.returns-in-Whole-clause-adds
 returns-in-Whole-clause-adds c r is =
     let bytes = c.args.bytes.now in
     subst (λ s. Adds s r (take (length bytes) bytes) (r ++ take (length bytes) bytes) false)
-    (sym c.in-Whole.is) (adds_all Whole _ bytes r false refl (whole_inside bytes r))
+    (sym c.in-Whole.is) (adds_all Whole _ _ r false refl (whole_inside _ r))

@@ -1,5 +1,5 @@
 use Rattle.std.proofs.Common.{arith, rules, refl, subst, vec_capacity}
-use Rattle.std.proofs.{lemmas.Grind.common_steps, lemmas.Result.err_from_is_err_and}
+use Rattle.std.proofs.lemmas.{Grind.common_steps, Result.err_from_is_err_and}
 use Rattle.tape_writer.specs.Records.{Adds, GrowsLong}
 use Rattle.tape_writer.proofs.inputs.Cutting.{read_ahead, used, piece_taken, piece_more, next_given}
 use Rattle.tape_writer.proofs.inputs.Cutting.{taken}
@@ -10,8 +10,7 @@ pub pieces-preserved : goal.pieces-preserved
 pieces-preserved g c =
     let old = c.pieces.self.content.items in
     let piece = c.piece-piece in
-    let moved = piece_taken c.pieces.self.cut old c.extend_from_slice.new.self.items
-    c.as_slice-bytes.result.now _ _ piece.result.content piece.result.taken piece.result.ended
+    let moved = piece_taken _ _ _ _ _ _ piece.result.content piece.result.taken piece.result.ended
     c.as_slice-bytes.ensures c.skip.ensures (search (rules, c.in-Ok.ensures.items))
     piece.ensures.all (piece.ensures.adds old (search rules)) in
     record {
@@ -22,10 +21,9 @@ pieces-preserved g c =
       within = grind (arith, common_steps);
       room = grind (arith, common_steps);
       fits = grind (arith, common_steps);
-      so_far = piece_more _ c.pieces.self.cut _ _ _ _ c.extend_from_slice.new.self.items moved.0
-          piece.result.ended
-          (read_ahead _ _ _ _ _ c.pieces.invariant.so_far c.fill.ensures.bytes)
-          (used _ _ _ moved.0 moved.1) c.pieces.invariant.cut c.if-piece.false (moved.2, moved.3);
+      so_far = piece_more _ _ _ _ _ _ _ moved.0 piece.result.ended (read_ahead _ _ _ _ _
+          c.pieces.invariant.so_far c.fill.ensures.bytes) (used _ _ _ moved.0 moved.1)
+          c.pieces.invariant.cut c.if-piece.false (moved.2, moved.3);
     }
 
 -- the record ends with the piece
@@ -34,15 +32,13 @@ returns-then-piece-clause-given g c =
     let old = c.pieces.self.content.items in
     let piece = c.piece-piece in
     let new = c.extend_from_slice.new.self.items in
-    let moved = piece_taken c.pieces.self.cut old new c.as_slice-bytes.result.now _ _
-    piece.result.content piece.result.taken piece.result.ended c.as_slice-bytes.ensures
-    c.skip.ensures (search (rules, c.in-Ok.ensures.items)) piece.ensures.all
-    (piece.ensures.adds old (search rules)) in
-    next_given _ c.pieces.self.cut _ c.pieces.self.over _ _ _ old new moved.0
-    (read_ahead _ _ _ _ _ c.pieces.invariant.so_far c.fill.ensures.bytes)
-    (used _ _ _ moved.0 moved.1) c.pieces.invariant.cut c.pieces.invariant.fresh
-    c.pieces.invariant.over
-    (subst (Adds c.pieces.self.cut old moved.0 new) c.if-piece.true moved.2)
+    let moved = piece_taken _ _ _ _ _ _ piece.result.content piece.result.taken piece.result.ended
+    c.as_slice-bytes.ensures c.skip.ensures (search (rules, c.in-Ok.ensures.items))
+    piece.ensures.all (piece.ensures.adds old (search rules)) in
+    next_given _ _ _ _ _ _ _ _ _ moved.0 (read_ahead _ _ _ _ _ c.pieces.invariant.so_far
+    c.fill.ensures.bytes) (used _ _ _ moved.0 moved.1) c.pieces.invariant.cut
+    c.pieces.invariant.fresh c.pieces.invariant.over (subst (Adds c.pieces.self.cut old moved.0 new)
+    c.if-piece.true moved.2)
 
 pub returns-in_err-fill-clause-taken : goal.returns-in_err-fill-clause-taken
 returns-in_err-fill-clause-taken g c =
@@ -54,12 +50,10 @@ pub returns-then-piece-self-clause-long : goal.returns-then-piece-self-clause-lo
 returns-then-piece-self-clause-long g c = λ _.
     let old = c.pieces.self.content.items in
     let piece = c.piece-piece in
-    no_room _ c.pieces.self.limit _ c.pieces.self.cut _ old _ _ _ _ c.pieces.invariant.so_far
-    c.fill.ensures.bytes (omega (arith, c.pieces.invariant.limit)) c.pieces.invariant.cut
-    c.pieces.invariant.fresh
-    (subst (GrowsLong c.pieces.self.limit c.pieces.self.cut old) c.as_slice-bytes.ensures
-    (grows_long c.pieces.self.limit c.pieces.self.cut old c.as_slice-bytes.result.now
-    piece.result.content piece.result.taken piece.result.ended piece.ensures.within.0
+    no_room _ _ _ _ _ _ _ _ _ _ c.pieces.invariant.so_far c.fill.ensures.bytes
+    (omega (arith, c.pieces.invariant.limit)) c.pieces.invariant.cut c.pieces.invariant.fresh (subst
+    (GrowsLong c.pieces.self.limit c.pieces.self.cut old) c.as_slice-bytes.ensures (grows_long _ _ _
+    _ piece.result.content piece.result.taken piece.result.ended piece.ensures.within.0
     piece.ensures.within.1 (grind (arith, common_steps)) (piece.ensures.adds old (search rules))))
 
 pub returns-in-Err-clause-memory : goal.returns-in-Err-clause-memory
@@ -67,9 +61,8 @@ returns-in-Err-clause-memory g c = λ _.
     let old = c.pieces.self.content.items in
     let most = vec_capacity c.pieces.self.content in
     let piece = c.piece-piece in
-    no_room _ most _ c.pieces.self.cut _ old _ _ _ _ c.pieces.invariant.so_far
-    c.fill.ensures.bytes c.pieces.invariant.room c.pieces.invariant.cut c.pieces.invariant.fresh
-    (subst (GrowsLong most c.pieces.self.cut old) c.as_slice-bytes.ensures
-    (grows_long most c.pieces.self.cut old c.as_slice-bytes.result.now piece.result.content
-    piece.result.taken piece.result.ended piece.ensures.within.0 piece.ensures.within.1
-    (search rules) (piece.ensures.adds old (search rules))))
+    no_room _ _ _ _ _ _ _ _ _ _ c.pieces.invariant.so_far c.fill.ensures.bytes
+    c.pieces.invariant.room c.pieces.invariant.cut c.pieces.invariant.fresh (subst
+    (GrowsLong most c.pieces.self.cut old) c.as_slice-bytes.ensures (grows_long _ _ _ _
+    piece.result.content piece.result.taken piece.result.ended piece.ensures.within.0
+    piece.ensures.within.1 (search rules) (piece.ensures.adds old (search rules))))

@@ -7,7 +7,7 @@ pub returns-in_err-make_room-clause-err : goal.returns-in_err-make_room-clause-e
 returns-in_err-make_room-clause-err g c =
     let stops = c.in_err-make_room.ensures.err in
     on_err c.from_residual.result _ (record {
-      front = no_room_stops _ _ _ c.args.bytes.now stops.front;
+      front = no_room_stops _ _ _ _ stops.front;
       size = stops.size;
       failed = stops.failed;
     })
