@@ -90,6 +90,7 @@ broken_bad bytes g point place parts remains =
       point = point;
       slot = remains.slot;
       inside = omega (arith, framed.breaks.low, framed.holds.long);
+      high = framed.breaks.high;
       walked = record {
         low = framed.breaks.low;
         parts = parts;

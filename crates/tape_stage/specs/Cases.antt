@@ -3,7 +3,7 @@
 -- `laws::cases`.
 use Rattle.std.specs.Prelude.{◌≡◌, ◌⊎◌, ◌≤◌, ◌+◌, ◌-◌, ◌==◌, ℕ, List, [], ◌∷◌, ◌++◌, take, drop}
 use Rattle.std.specs.Prelude.{length, min, replicate, codes, Some, None, Bool, true, false, not}
-use Rattle.std.specs.Prelude.{Option, Result, Ok, Err}
+use Rattle.std.specs.Prelude.{Option, Result, Ok, Err, ◌<◌}
 use Rattle.tape_blocks.specs.declared.parts.Span.{Span}
 use Rattle.tape_blocks.specs.declared.parts.Span.TheVariants.{Whole}
 use Rattle.tape_blocks.specs.declared.parts.Part.{Part}
@@ -206,7 +206,7 @@ pub record CasesOfFiles : Type 0 where
   -- if a frame is bad, the current slot counts parts, the frames before the bad one are intact, and
   -- it is not
   pub bad_place : (bytes : List ℕ) (place : ℕ) (b : IsBadPlace bytes place)
-      → (place ≤ length bytes) × WalkedTo place bytes
+      → (place ≤ length bytes) × (place < 256 + b.point.staged) × WalkedTo place bytes
       × NoFrameAt place (min (256 + b.point.staged) (length bytes)) bytes
       × (best (slot_at false bytes) (slot_at true bytes) ≡ Some (b.generation, b.point))
   pub walked : (bytes : List ℕ) (place : ℕ) (w : WalkedTo place bytes) → (256 ≤ place)

@@ -1,5 +1,6 @@
 -- The contents of the slots of a stage file.
-use Rattle.std.specs.Prelude.{◌≡◌, ℕ, ◌+◌, ◌≤◌, min, length, true, false, not, List, Some, ◌==◌}
+use Rattle.std.specs.Prelude.{◌≡◌, ℕ, ◌+◌, ◌≤◌, ◌<◌, min, length, true, false, not, List, Some}
+use Rattle.std.specs.Prelude.{◌==◌}
 use Rattle.tape_stage.specs.Staged.{best, WalkedTo}
 use Rattle.tape_stage.specs.Frames.{NoFrameAt}
 use Rattle.tape_core.specs.Point.{Point}
@@ -15,13 +16,14 @@ pub record IsFound (found : Found) (bytes : List ℕ) : Type 0 where
   pub other : Loses found.in_second found.generation (slot_at (not found.in_second) bytes)
   pub gate : found.other_open ≡ (gate_at (not found.in_second) bytes == 79)
 
--- The frames that the current slot counts are intact up to the offset `place`; at that offset there
--- is no frame that ends within the staged weight and the file.
+-- The frames that the current slot counts are intact up to the offset `place`, which is before their
+-- end; at that offset there is no frame that ends within the staged weight and the file.
 pub record IsBadPlace (bytes : List ℕ) (place : ℕ) : Type 0 where
   pub generation : ℕ
   pub point : Point
   pub slot : best (slot_at false bytes) (slot_at true bytes) ≡ Some (generation, point)
   pub inside : place ≤ length bytes
+  pub high : place < 256 + point.staged
   pub walked : WalkedTo place bytes
   pub none : NoFrameAt place (min (256 + point.staged) (length bytes)) bytes
 

@@ -242,7 +242,9 @@ pub fn buffered_file<F: Read + Write + Seek + OpenFile + Drop>(
     ensures long { IfSome (F.stream_position file) (λ _. IfSome (F.stream_bytes file)
         (λ bytes. IfOk result (λ held. held.disk.disk.len ≡ length bytes))) }
     ensures alive { IfOk result (λ held. held.disk.disk.lost ≡ false) }
-    ensures held { IfOk result (λ held. held.disk.bytes.items ≡ []) }
+    // Nothing is buffered or was read ahead, and no failure was counted.
+    ensures held { IfOk result (λ held. (held.disk.bytes.items ≡ []) × (held.held ≡ 0)) }
+    ensures calm { IfOk result (λ held. (held.failed ≡ 0) × (held.disk.disk.failed ≡ 0)) }
 {
     let behind = Vec::with_capacity(alloc, ROOM)?;
     let ahead = read_room(alloc)?;

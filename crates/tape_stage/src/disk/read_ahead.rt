@@ -53,6 +53,7 @@ impl<D: Disk> ReadAhead<D> {
         ensures disk { result.disk ≡ disk }
         ensures none { result.held ≡ 0 }
         ensures room { result.bytes ≡ room }
+        ensures calm { result.failed ≡ 0 }
     {
         ReadAhead {
             disk,

@@ -217,6 +217,11 @@ impl<D: Disk> Stage<D> {
             self.old.generation self.old.acknowledged point.now acked front) }
         ensures weight { OnOk result (self.new.weight ≡ point.now.staged) }
         ensures full { IsErrOf result StageFault.Full → most_generation ≤ self.old.generation }
+        ensures stays { (self.new.acknowledged ≡ self.old.acknowledged)
+            ⊎ (self.new.acknowledged ≡ point.now) }
+        ensures pending { IsErrOf result StageFault.Device
+            → (self.new.pending ≡ self.old.pending)
+            ⊎ (self.new.pending ≡ Some point.now) ⊎ (self.new.acknowledged ≡ point.now) }
         ensures ends { EndsCall self.old result self.new }
     {
         if self.failed {

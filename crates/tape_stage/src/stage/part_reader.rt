@@ -34,12 +34,16 @@ impl<D: Disk> Stage<D> {
     /// Returns a reader of the parts, starting with the first.
     pub fn parts(&mut self) -> PartReader<'_, D>
         ensures same_stage { result.stage.ghost_name ≡ self.entry.ghost_name }
+        ensures unchanged { let now = result.stage.now in let old = self.old in
+            (now.disk ≡ old.disk) × (now.weight ≡ old.weight) × (now.failed ≡ old.failed)
+            × (now.refused ≡ old.refused) × (now.acknowledged ≡ old.acknowledged)
+            × (now.pending ≡ old.pending) × (now.generation ≡ old.generation) }
         ensures keeps { (parts : List Portion) → Holds self.old parts
             → Holds result.stage.now parts }
         ensures all { (parts : List Portion) → Holds self.old parts
             → IsAhead result.stage.now parts }
     {
-        self.rewind();
+        self.walked = 0;
         PartReader { stage: self }
     }
 }

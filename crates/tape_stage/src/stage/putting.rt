@@ -1,7 +1,7 @@
 //! A stage as a sink: appending parts, saving and walking.
 
 ghost use Rattle.std.specs.Prelude.{◌≡◌, ◌+◌, ◌≤◌, ◌<◌, ◌^◌, ◌∷◌, ◌++◌, [], List, length};
-ghost use Rattle.std.specs.Prelude.{OnOk, OnErr, IsErrOf, ◌-◌, Err, true, false};
+ghost use Rattle.std.specs.Prelude.{OnOk, OnErr, IsErrOf, ◌-◌, ◌⊎◌, Err, Some, true, false};
 ghost use Rattle.std.specs.Int.{to_be_bytes};
 ghost use Rattle.std.proofs.Common.{w32, inr};
 ghost use Rattle.tape_blocks.specs.Block.{Portion, indicator};
@@ -171,6 +171,8 @@ impl<D: Disk> PartSink for Stage<D> {
             → AddsNothing (crashes_of self.old) (crashes_of self.new) }
         ensures why { IfErr result (λ fault. RefusesChange self.old fault self.new) }
         ensures rewinds { OnOk result (self.new.walked ≡ 0) }
+        ensures acknowledged { (self.new.acknowledged ≡ self.old.acknowledged)
+            × (self.new.pending ≡ self.old.pending) }
     {
         match self.put_part(part) {
             Ok(()) => {
@@ -197,6 +199,9 @@ impl<D: Disk> PartSink for Stage<D> {
             → ThisAlone point.now parts (crashes_of self.new)) }
         ensures why { IfErr result (λ fault. RefusesChange self.old fault self.new) }
         ensures full { result ≡ Err SinkFault.Full → most_generation ≤ self.old.generation }
+        ensures acknowledged { OnOk result (self.new.acknowledged ≡ point.now) }
+        ensures stays { OnErr result (self.new.acknowledged ≡ self.old.acknowledged) }
+        ensures pending { result ≡ Err SinkFault.Device → self.new.pending ≡ Some point.now }
     {
         match self.save(point) {
             Ok(()) => Ok(()),
@@ -224,6 +229,10 @@ impl<D: Disk> PartSink for Stage<D> {
         ensures why { IfErr result (λ fault. RefusesChange self.old fault self.new) }
         ensures full { result ≡ Err SinkFault.Full → most_generation ≤ self.old.generation }
         ensures rewinds { OnOk result (self.new.walked ≡ 0) }
+        ensures stays { (self.new.acknowledged ≡ self.old.acknowledged)
+            ⊎ (self.new.acknowledged ≡ point.now) }
+        ensures pending { result ≡ Err SinkFault.Device → (self.new.pending ≡ self.old.pending)
+            ⊎ (self.new.pending ≡ Some point.now) ⊎ (self.new.acknowledged ≡ point.now) }
     {
         match self.cut_back(point) {
             Ok(()) => {
