@@ -1,15 +1,13 @@
 use Rattle.tape_stage.proofs.Caused.{caused_on}
 use Rattle.tape_stage.proofs.disk.read_ahead.ReadAheadDisk.sync.Goals as goal
 
-pub invariant_of-self : goal.invariant_of-self
-invariant_of-self g c =
+pub invariant_of-self-clause-caused : goal.invariant_of-self-clause-caused
+invariant_of-self-clause-caused g c =
     let h = c.args.self.now in
     let done = c.sync.ensures in
-    record {
-      caused = caused_on c.sync.result h.failed _ _ h.small h.caused done.cause done.calm;
-      small = h.small;
-      fits = h.fits;
-      within = rw done.same_length h.within;
-      low = h.low;
-      right = λ now. rw (done.same (done.back now)) (h.right (done.back now));
-    }
+    caused_on c.sync.result h.failed _ _ h.small h.caused done.cause done.calm
+
+pub invariant_of-self-clause-right : goal.invariant_of-self-clause-right
+invariant_of-self-clause-right g c now =
+    let done = c.sync.ensures in
+    rw (done.same (done.back now)) (c.args.self.now.right (done.back now))

@@ -1,16 +1,8 @@
-use Rattle.std.proofs.Common.{refl, arith}
 use Rattle.tape_stage.proofs.Caused.{caused_on}
 use Rattle.tape_stage.proofs.disk.read_ahead.ReadAheadDisk.write_at.Goals as goal
 
-pub invariant_of-self : goal.invariant_of-self
-invariant_of-self g c =
+pub invariant_of-self-clause-caused : goal.invariant_of-self-clause-caused
+invariant_of-self-clause-caused g c =
     let h = c.args.self.now in
     let done = c.write_at.ensures in
-    record {
-      caused = caused_on c.write_at.result h.failed _ _ h.small h.caused done.cause done.calm;
-      small = h.small;
-      fits = omega arith;
-      within = omega arith;
-      low = omega arith;
-      right = λ now. refl;
-    }
+    caused_on c.write_at.result h.failed _ _ h.small h.caused done.cause done.calm
