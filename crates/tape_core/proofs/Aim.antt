@@ -2,10 +2,8 @@
 use Rattle.std.proofs.Common.{◌≡◌, ◌<◌, ◌≤◌, ◌⊎◌, ℕ, List, length, Bool, Some}
 use Rattle.tape_set.specs.declared.position.Position.TheVariants.{Awaits}
 use Rattle.tape_set.specs.Layout.{FileSet, Section, Volume, nth, section_of}
-use Rattle.tape_set.specs.Before.{parts_at}
-use Rattle.tape_set.specs.Lawful.{IsLawful}
-use Rattle.tape_core.specs.State.{State}
-use Rattle.tape_core.specs.Follows.{IsAt, IsReading}
+use Rattle.tape_set.specs.{Before.parts_at, Lawful.IsLawful}
+use Rattle.tape_core.specs.{State.State, Follows.IsAt, Follows.IsReading}
 
 -- `w` is section number `sect`, `v` is volume number `k`, and `good` says which of the items so far
 -- were readable.

@@ -1,18 +1,15 @@
 -- Facts about the section needed, and about the rest of the volume.
 use Rattle.std.proofs.Common.{◌≡◌, ◌<◌, ◌⊎◌, List, [], ◌∷◌, ◌++◌, length, drop, Bool, true, false}
-use Rattle.std.proofs.Common.{Some, None, refl, sym, ap, ◌∙◌, subst, inl, inr, append_assoc}
-use Rattle.std.specs.Prelude.{◌||◌, MatchBool}
+use Rattle.std.proofs.Common.{Some, None, refl, sym, ap, ◌∙◌, subst, inl, inr, append_assoc, ◌||◌}
+use Rattle.std.proofs.Common.{MatchBool}
 use Rattle.std.proofs.lemmas.List.{drop-append-le}
 use Rattle.tape_set.specs.declared.position.Position.{Position}
-use Rattle.tape_set.specs.Position.{is_start}
+use Rattle.tape_set.specs.{Position.is_start, Lawful.FileForm, Lawful.TellsForm}
 use Rattle.tape_set.specs.Layout.{Section, Placed, Entry, a_mark, is_data, data_group}
 use Rattle.tape_set.specs.Layout.{trailer_group, sections, on}
-use Rattle.tape_set.specs.Lawful.{FileForm, TellsForm}
 use Rattle.tape_set.specs.Reach.{passes, far, before_data, moved}
-use Rattle.tape_set.proofs.Everywhere.{every-append}
-use Rattle.tape_set.proofs.Numbering.{FileOf, section_found}
-use Rattle.tape_set.proofs.Reaching.{passes_longer, passes_length}
-use Rattle.tape_set.proofs.Volumes.{IsOn}
+use Rattle.tape_set.proofs.{Everywhere.every-append, Numbering.FileOf, Numbering.section_found}
+use Rattle.tape_set.proofs.{Reaching.passes_longer, Reaching.passes_length, Volumes.IsOn}
 use Rattle.tape_set.proofs.Forms.{one_form, forms_alike, form_told}
 use Rattle.tape_core.specs.declared.event.Heading.{Heading}
 use Rattle.tape_core.specs.Follows.{FileTells, KnownAt, reading, to_come, Among, Inside, Reached}
@@ -53,8 +50,7 @@ module _ (aim : Aim) where
     where
       go : (b : Bool)
           → MatchBool b (core.known ≡ None) ((form : FileForm) × (core.known ≡ Some form)
-          × FileTells set core.file form)
-          → (core.known ≡ None) ⊎ (core.known ≡ Some told.0)
+          × FileTells set core.file form) → (core.known ≡ None) ⊎ (core.known ≡ Some told.0)
       go true h = inl h
       go false h = inr (h.1 ∙ ap Some (one_form w h.0 told.0 (h.2 sect w found) told.1))
 

@@ -1,7 +1,6 @@
 -- In every phase, a bad item preserves the relation between the state and the reading.
 use Rattle.std.proofs.Common.{◌≡◌, ◌<◌, ℕ, ◌+◌, List, [], ◌∷◌, ◌++◌, length, false, Some, refl, inl}
-use Rattle.std.proofs.Common.{inr, arith}
-use Rattle.std.specs.Prelude.{slice_get, map, is_some, nat_lt}
+use Rattle.std.proofs.Common.{inr, arith, slice_get, map, is_some, nat_lt}
 use Rattle.std.proofs.lemmas.Bool.Decides.{nat_tests}
 use Rattle.tape_blocks.specs.Tight.{Filled}
 use Rattle.tape_set.specs.Position.{block_of}
@@ -15,13 +14,11 @@ use Rattle.tape_core.specs.declared.event.Phase.TheVariants.{TrailerWanted, Trai
 use Rattle.tape_core.specs.Table.{useless, passed, at_bad}
 use Rattle.tape_core.specs.Follows.{to_come, Left, BarrenNext, BarrenTrailers, BarrenTrailer}
 use Rattle.tape_core.specs.Follows.{BarrenData, Follows}
-use Rattle.tape_core.proofs.Aim.{Aim}
-use Rattle.tape_core.proofs.Fronts.{ahead_later}
+use Rattle.tape_core.proofs.{Aim.Aim, Fronts.ahead_later, TrailerSteps.trailer_bad}
 use Rattle.tape_core.proofs.AwaitedSection.{all_among, on_with, ahead_inside, ahead_passed}
 use Rattle.tape_core.proofs.HeaderSteps.{Next, passed_next, either, bad_here, over_next}
 use Rattle.tape_core.proofs.HeaderSteps.{bad_between}
 use Rattle.tape_core.proofs.DataSteps.{data_below, data_bad, count_cases, all_counted}
-use Rattle.tape_core.proofs.TrailerSteps.{trailer_bad}
 use Rattle.tape_core.proofs.StraySteps.{stray_over, stray_first, stray_bad, at_start, data_astray}
 
 module _ (aim : Aim) where

@@ -1,44 +1,35 @@
 -- A reader of a later file skips the items that a reader of an earlier file reads.
-use Rattle.std.proofs.Common.{◌≡◌, ℕ, ◌+◌, ◌<◌, List, Bool, true, false}
-use Rattle.std.proofs.Common.{Option, Some, None, Result, Ok, Err, refl, sym, ap, subst, ◌∙◌, arith}
-use Rattle.std.specs.Prelude.{not, nat_lt, if◌then◌else◌, ◌==◌}
+use Rattle.std.proofs.Common.{◌≡◌, ℕ, ◌+◌, ◌<◌, List, Bool, true, false, Option, Some, None, Result}
+use Rattle.std.proofs.Common.{Ok, Err, refl, sym, ap, subst, ◌∙◌, arith, not, nat_lt, if◌then◌else◌}
+use Rattle.std.proofs.Common.{◌==◌}
 use Rattle.std.specs.Str.{bytes_eq}
 use Rattle.tape_image.specs.Tape.{TapeItem, block, bad, mark}
+use Rattle.tape_label.specs.declared.values.{Kind.Kind, Head1.Head1, Head2.Head2, Trail1.Trail1}
 use Rattle.tape_label.specs.declared.label.LabelFault.{LabelFault}
-use Rattle.tape_label.specs.declared.values.Kind.{Kind}
 use Rattle.tape_label.specs.declared.values.Kind.TheVariants as kinds
-use Rattle.tape_label.specs.declared.values.Head1.{Head1}
-use Rattle.tape_label.specs.declared.values.Head2.{Head2}
-use Rattle.tape_label.specs.declared.values.Trail1.{Trail1}
-use Rattle.tape_label.specs.Kinds.{kind_at}
+use Rattle.tape_label.specs.{Kinds.kind_at, VolumeLabels.is_volume_label}
 use Rattle.tape_label.specs.Reading.{head1_at, head2_at, trail1_at}
-use Rattle.tape_label.specs.VolumeLabels.{is_volume_label}
 use Rattle.tape_blocks.specs.declared.check.BlockFault.{BlockFault}
 use Rattle.tape_blocks.specs.Judged.{judged}
 use Rattle.tape_set.specs.declared.position.Position.{Position}
 use Rattle.tape_set.specs.declared.position.Position.TheVariants.{Awaits, Finished}
 use Rattle.tape_set.specs.Position.{sect_of, block_of, part_of, next_section}
 use Rattle.tape_set.specs.Lawful.{FileForm, label_count, most_blocks}
-use Rattle.tape_core.specs.declared.event.Answer.TheVariants.{SectionDone}
-use Rattle.tape_core.specs.declared.event.Answer.TheVariants.{Complete}
+use Rattle.tape_core.specs.declared.event.Answer.TheVariants.{SectionDone, Complete}
 use Rattle.tape_core.specs.declared.event.Reason.TheVariants.{OtherSet, NotOnReel, BlockCount}
 use Rattle.tape_core.specs.declared.event.Reason.TheVariants.{LaterSection, EarlierSection}
 use Rattle.tape_core.specs.declared.event.Reason.TheVariants.{SectionDiffers, BadItem, SpanLeft}
-use Rattle.tape_core.specs.declared.event.Heading.{Heading}
-use Rattle.tape_core.specs.declared.event.Phase.{Phase}
+use Rattle.tape_core.specs.declared.event.{Heading.Heading, Phase.Phase}
 use Rattle.tape_core.specs.declared.event.Phase.TheVariants.{Over, Broken, Volume, VolumeLabels}
 use Rattle.tape_core.specs.declared.event.Phase.TheVariants.{Header2, Headers, DataPassed}
 use Rattle.tape_core.specs.declared.event.Phase.TheVariants.{DataWanted, TrailerPassed}
 use Rattle.tape_core.specs.declared.event.Phase.TheVariants.{TrailerWanted, Trailers, NextFile}
 use Rattle.tape_core.specs.Labels.{heading_of, form_at, other_file_id, other_shape}
-use Rattle.tape_core.specs.Parts.{begun_before, other_front}
-use Rattle.tape_core.specs.Known.{is_finished}
-use Rattle.tape_core.specs.State.{State}
-use Rattle.tape_core.specs.Table.{passed, useless, broken, moved_to, delivered}
-use Rattle.tape_core.specs.Table.{first_label, first_labels, at_head1, at_head2, second_label}
-use Rattle.tape_core.specs.Table.{at_judged, at_awaited}
-use Rattle.tape_core.specs.Table.{other_numbers, at_passed_trailer, at_end, at_wanted_trailer}
-use Rattle.tape_core.specs.Table.{at_block, at_mark, at_bad, at_item, step_of}
+use Rattle.tape_core.specs.{Parts.begun_before, Parts.other_front, Known.is_finished, State.State}
+use Rattle.tape_core.specs.Table.{passed, useless, broken, moved_to, delivered, first_label}
+use Rattle.tape_core.specs.Table.{first_labels, at_head1, at_head2, second_label, at_judged}
+use Rattle.tape_core.specs.Table.{at_awaited, other_numbers, at_passed_trailer, at_end}
+use Rattle.tape_core.specs.Table.{at_wanted_trailer, at_block, at_mark, at_bad, at_item, step_of}
 use Rattle.tape_core.specs.Table.{unless_complete}
 use Rattle.tape_core.specs.Behind.{passed_over, expected_over, PassesTo, AreInOrder}
 
@@ -66,8 +57,7 @@ head1_by first later h false e l r q d s' e' l' r' q' d' same is_earlier neither
 head1_by first later h true true l r q d true true l' r' q' d' same is_earlier neither = refl
 head1_by first later h true true l r q d true false l' r' q' d' same is_earlier neither =
     absurd (let n = is_earlier refl in cc)
-head1_by first later h true true l r q d false e' l' r' q' d' same is_earlier neither =
-    absurd (cc)
+head1_by first later h true true l r q d false e' l' r' q' d' same is_earlier neither = absurd (cc)
 head1_by first later h true false true r q d s' e' l' r' q' d' same is_earlier neither = tt
 head1_by first later h true false false true q d s' e' l' r' q' d' same is_earlier neither = tt
 head1_by first later h true false false false true d s' e' l' r' q' d' same is_earlier neither = tt
@@ -106,13 +96,8 @@ head1_law first later (Ok h) o = head1_by first later h (bytes_eq h.set_id first
 first_labels_law : (first later : State) (bytes : List ℕ) (k : Option Kind) → AreInOrder first later
     → PassesTo (expected_over (first_labels first bytes k)) later (first_labels later bytes k)
 first_labels_law first later bytes None o = tt
-first_labels_law first later bytes (Some kinds.Vol1) o = tt
 first_labels_law first later bytes (Some kinds.Hdr1) o = head1_law first later (head1_at bytes) o
-first_labels_law first later bytes (Some kinds.Hdr2) o = tt
-first_labels_law first later bytes (Some kinds.Eof1) o = tt
-first_labels_law first later bytes (Some kinds.Eof2) o = tt
-first_labels_law first later bytes (Some kinds.Eov1) o = tt
-first_labels_law first later bytes (Some kinds.Eov2) o = tt
+first_labels_law first later bytes _ o = tt
 
 volume_labels_by : (first later : State) (bytes : List ℕ) (v : Bool) → AreInOrder first later
     → PassesTo (expected_over (if v then passed first VolumeLabels
@@ -125,12 +110,7 @@ first_label_law : (first later : State) (k : Option Kind)
     → PassesTo (expected_over (first_label first k)) later (first_label later k)
 first_label_law first later None = tt
 first_label_law first later (Some kinds.Vol1) = refl
-first_label_law first later (Some kinds.Hdr1) = tt
-first_label_law first later (Some kinds.Hdr2) = tt
-first_label_law first later (Some kinds.Eof1) = tt
-first_label_law first later (Some kinds.Eof2) = tt
-first_label_law first later (Some kinds.Eov1) = tt
-first_label_law first later (Some kinds.Eov2) = tt
+first_label_law first later _ = tt
 
 shape_by : (first later : State) (heading : Heading) (form : FileForm) (t : Bool)
     → PassesTo (expected_over (if t then useless first SectionDiffers
@@ -149,22 +129,10 @@ second_law : (first later : State) (heading : Heading) (wanted : Bool) (bytes : 
     (k : Option Kind) → PassesTo (expected_over (second_label first heading wanted bytes k)) later
     (second_label later heading false bytes k)
 second_law first later heading false bytes None = tt
-second_law first later heading false bytes (Some kinds.Vol1) = tt
-second_law first later heading false bytes (Some kinds.Hdr1) = tt
 second_law first later heading false bytes (Some kinds.Hdr2) = refl
-second_law first later heading false bytes (Some kinds.Eof1) = tt
-second_law first later heading false bytes (Some kinds.Eof2) = tt
-second_law first later heading false bytes (Some kinds.Eov1) = tt
-second_law first later heading false bytes (Some kinds.Eov2) = tt
-second_law first later heading true bytes None = tt
-second_law first later heading true bytes (Some kinds.Vol1) = tt
-second_law first later heading true bytes (Some kinds.Hdr1) = tt
 second_law first later heading true bytes (Some kinds.Hdr2) =
     head2_law first later heading (head2_at bytes)
-second_law first later heading true bytes (Some kinds.Eof1) = tt
-second_law first later heading true bytes (Some kinds.Eof2) = tt
-second_law first later heading true bytes (Some kinds.Eov1) = tt
-second_law first later heading true bytes (Some kinds.Eov2) = tt
+second_law first later heading _ bytes _ = tt
 
 -- ---- data
 
@@ -227,8 +195,7 @@ next_by first later form false = tt
 end_law : (first later : State) (form : FileForm) (eof : Bool)
     → PassesTo (expected_over (at_end first form eof)) later (passed later Trailers)
 end_law first later form true = span_by first later form first.begun
-end_law first later form false =
-    next_by first later form (nat_lt (sect_of first.position) 9999)
+end_law first later form false = next_by first later form (nat_lt (sect_of first.position) 9999)
 
 wanted_by : (first later : State) (form : FileForm) (t : Trail1) (a b : Bool)
     → PassesTo (expected_over (if a then useless first SectionDiffers
@@ -284,35 +251,21 @@ block_law first later NextFile bytes o = head1_law first later (head1_at bytes) 
 mark_law : (first later : State) (p : Phase)
     → PassesTo (expected_over (at_mark first p)) later (at_mark later (passed_over p))
 mark_law first later Over = tt
-mark_law first later Broken = tt
-mark_law first later Volume = tt
-mark_law first later VolumeLabels = tt
-mark_law first later (Header2 heading wanted) = tt
 mark_law first later (Headers heading None) = refl
 mark_law first later (Headers heading (Some form)) = refl
 mark_law first later (DataPassed heading) = refl
 mark_law first later (DataWanted heading form seen) =
     data_end_by first later heading form (nat_lt seen (block_of first.position))
-mark_law first later (TrailerPassed heading) = tt
-mark_law first later (TrailerWanted heading form) = tt
 mark_law first later Trailers = refl
-mark_law first later NextFile = tt
+mark_law first later _ = tt
 
 bad_law : (first later : State) (p : Phase)
     → PassesTo (expected_over (at_bad first p)) later (at_bad later (passed_over p))
 bad_law first later Over = tt
-bad_law first later Broken = tt
-bad_law first later Volume = tt
-bad_law first later VolumeLabels = tt
-bad_law first later (Header2 heading wanted) = tt
-bad_law first later (Headers heading form) = tt
 bad_law first later (DataPassed heading) = refl
 bad_law first later (DataWanted heading form seen) =
     bad_by first later heading form seen (nat_lt seen (block_of first.position))
-bad_law first later (TrailerPassed heading) = tt
-bad_law first later (TrailerWanted heading form) = tt
-bad_law first later Trailers = tt
-bad_law first later NextFile = tt
+bad_law first later _ = tt
 
 pub item_law : (first later : State) (p : Phase) (x : TapeItem) → AreInOrder first later
     → PassesTo (expected_over (at_item first p x)) later (at_item later (passed_over p) x)

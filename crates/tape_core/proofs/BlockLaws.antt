@@ -1,19 +1,16 @@
 -- The results of the check, and of the comparison with the block whose first parts were delivered,
 -- for a block that contains its parts.
 use Rattle.std.proofs.Common.{◌≡◌, ◌⊎◌, inl, inr, ◌<◌, ℕ, zero, suc, List, [], ◌∷◌, length, take}
-use Rattle.std.proofs.Common.{drop, Bool, false, Ok, refl, sym, ap, ◌∙◌, arith}
-use Rattle.std.specs.Prelude.{nat_le}
+use Rattle.std.proofs.Common.{drop, Bool, false, Ok, refl, sym, ap, ◌∙◌, arith, nat_le}
 use Rattle.std.proofs.lemmas.Bool.Decides.{nat_tests}
 use Rattle.tape_label.specs.declared.values.Format.{Format}
 use Rattle.tape_label.specs.declared.values.Format.TheVariants.{Fixed, Counted, Spanned}
 use Rattle.tape_blocks.specs.declared.parts.Span.{Span}
 use Rattle.tape_blocks.specs.declared.parts.Span.TheVariants.{Whole, First, Middle, Last}
 use Rattle.tape_blocks.specs.Block.{Portion, Holds, indicator, span_by}
-use Rattle.tape_blocks.specs.Spans.{InOrder, continues}
-use Rattle.tape_blocks.specs.Judged.{judged, begun_behind}
+use Rattle.tape_blocks.specs.{Spans.InOrder, Spans.continues, Judged.judged, Judged.begun_behind}
 use Rattle.tape_blocks.proofs.FrontLaws.{spellings_first, bool_eq-same}
-use Rattle.tape_blocks.proofs.JudgedLaws.{judged_only}
-use Rattle.tape_blocks.proofs.PartsLaws.{parts_are}
+use Rattle.tape_blocks.proofs.{JudgedLaws.judged_only, PartsLaws.parts_are}
 use Rattle.tape_set.specs.Lawful.{FileForm}
 use Rattle.tape_core.specs.Parts.{goes_on_by, first_goes_on, goes_on_at, parts_in, begun_before}
 use Rattle.tape_core.specs.Parts.{other_front}
@@ -26,9 +23,7 @@ parts_in_it form block parts h =
 
 by_indicator : (span : Span) → goes_on_by (span_by (indicator span)) ≡ continues span
 by_indicator Whole = refl
-by_indicator First = refl
-by_indicator Middle = refl
-by_indicator Last = refl
+by_indicator _ = refl
 
 -- the first unit continues a record if the first part does
 pub first_part : (format : Format) (rec_len offset : ℕ) (block : List ℕ)

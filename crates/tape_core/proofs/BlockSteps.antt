@@ -1,37 +1,27 @@
 -- The expected block preserves the relation between the state and the reading.
 use Rattle.std.proofs.Common.{◌≡◌, ◌<◌, ◌⊎◌, ℕ, ◌+◌, List, [], ◌∷◌, ◌++◌, length, take, drop, Bool}
 use Rattle.std.proofs.Common.{true, false, Some, refl, sym, ap, ◌∙◌, subst, inl, inr, append_assoc}
-use Rattle.std.proofs.Common.{arith, length-append}
-use Rattle.std.specs.Prelude.{slice_get, ◌==◌, nat_lt}
+use Rattle.std.proofs.Common.{arith, length-append, slice_get, ◌==◌, nat_lt}
 use Rattle.std.specs.List.{AllByRecursion}
-use Rattle.std.proofs.lemmas.Bool.Decides.{nat_tests}
-use Rattle.std.proofs.lemmas.List.{take-append-drop}
+use Rattle.std.proofs.lemmas.{Bool.Decides.nat_tests, List.take-append-drop}
 use Rattle.tape_blocks.specs.Block.{Portion, Holds}
-use Rattle.tape_blocks.specs.Judged.{begun_behind}
-use Rattle.tape_blocks.specs.Spans.{InOrder}
-use Rattle.tape_blocks.specs.Tight.{Filled}
+use Rattle.tape_blocks.specs.{Judged.begun_behind, Spans.InOrder, Tight.Filled}
 use Rattle.tape_set.specs.declared.position.Position.TheVariants.{Awaits}
 use Rattle.tape_set.specs.Position.{awaiting, next_block, block_of, part_of, is_start}
 use Rattle.tape_set.specs.Layout.{Placed, a_data_block, item_of, data_group, trailer_group}
-use Rattle.tape_set.specs.Before.{before, parts_of, parts_at}
-use Rattle.tape_set.specs.Lawful.{FileForm, TellsForm, most_blocks}
-use Rattle.tape_set.specs.Reach.{stopped, good_run}
-use Rattle.tape_set.proofs.Everywhere.{every_rest}
+use Rattle.tape_set.specs.{Before.before, Before.parts_of, Before.parts_at, Lawful.FileForm}
+use Rattle.tape_set.specs.{Lawful.TellsForm, Lawful.most_blocks, Reach.stopped, Reach.good_run}
+use Rattle.tape_set.proofs.{Everywhere.every_rest, Forms.one_form, Forms.blocks_held}
 use Rattle.tape_set.proofs.FileParts.{before_taken, before_more, block_in_order}
 use Rattle.tape_set.proofs.FileParts.{begun_behind-append, order_rest}
-use Rattle.tape_set.proofs.Forms.{one_form, blocks_held}
 use Rattle.tape_core.specs.declared.event.Heading.{Heading}
-use Rattle.tape_core.specs.Table.{at_awaited}
-use Rattle.tape_core.specs.Follows.{FileTells, Inside, InData}
+use Rattle.tape_core.specs.{Table.at_awaited, Follows.FileTells, Follows.Inside, Follows.InData}
 use Rattle.tape_core.proofs.BlockLaws.{checked, same_front}
-use Rattle.tape_core.proofs.Files.{get_behind}
-use Rattle.tape_core.proofs.StateLaws.{later_start}
+use Rattle.tape_core.proofs.{Files.get_behind, StateLaws.later_start, Aim.Aim, HeaderSteps.Next}
 use Rattle.tape_core.proofs.Lists.{full_next, stopped_later, stopped_here}
 use Rattle.tape_core.proofs.Fronts.{first_left, here}
-use Rattle.tape_core.proofs.Aim.{Aim}
 use Rattle.tape_core.proofs.AwaitedSection.{wanted_at, its_file, told, file_tells, known_after}
 use Rattle.tape_core.proofs.AwaitedSection.{on_it, on_with, reached_more}
-use Rattle.tape_core.proofs.HeaderSteps.{Next}
 
 module _ (aim : Aim) where
   open aim use {set, l, core, at, sect, block, part, k, w, found, inside, within, good}

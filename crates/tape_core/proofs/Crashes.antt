@@ -2,8 +2,7 @@
 -- crash.
 use Rattle.std.proofs.Common.{◌⊎◌, List, inl, inr, arith}
 use Rattle.tape_blocks.specs.Block.{Portion}
-use Rattle.tape_core.specs.Crash.{AddsOnly, Crashes, Returns}
-use Rattle.tape_core.specs.Point.{Point}
+use Rattle.tape_core.specs.{Crash.AddsOnly, Crash.Crashes, Crash.Returns, Point.Point}
 
 pub only_same : (these : Returns) (c : Crashes) → AddsOnly these c c
 only_same these c = record {

@@ -1,23 +1,16 @@
 -- Proofs of the examples for readers and sinks.
-use Rattle.std.proofs.Common.{◌≡◌, ◌≤◌, ℕ, List, [], ◌∷◌, length, true, false, refl}
-use Rattle.std.proofs.Common.{Option, Some, None, Ok, ap, sym, subst, inl, inr, arith}
-use Rattle.tape_label.specs.Kinds.{kind_at}
+use Rattle.std.proofs.Common.{◌≡◌, ◌≤◌, ℕ, List, [], ◌∷◌, length, true, false, refl, Option, Some}
+use Rattle.std.proofs.Common.{None, Ok, ap, sym, subst, inl, inr, arith}
+use Rattle.tape_label.specs.{Kinds.kind_at, VolumeLabels.is_volume_label}
 use Rattle.tape_label.specs.Reading.{head_at, head1_at}
-use Rattle.tape_label.specs.VolumeLabels.{is_volume_label}
 use Rattle.tape_blocks.specs.declared.parts.Part.{Part}
-use Rattle.tape_blocks.specs.Block.{Portion}
-use Rattle.tape_blocks.specs.Parts.{view}
-use Rattle.tape_set.specs.Layout.{FileSet}
-use Rattle.tape_set.specs.Lawful.{FileForm}
+use Rattle.tape_blocks.specs.{Block.Portion, Parts.view}
+use Rattle.tape_set.specs.{Layout.FileSet, Lawful.FileForm, Position.start, Position.awaiting}
 use Rattle.tape_set.specs.declared.position.Position.TheVariants.{Awaits}
-use Rattle.tape_set.specs.Position.{start, awaiting}
 use Rattle.tape_core.specs.declared.event.Phase.TheVariants.{Broken}
 use Rattle.tape_core.specs.Follows.{IsAt, KnownAt, FileTells}
-use Rattle.tape_core.specs.Point.{Point}
-use Rattle.tape_core.specs.Stands.{inside_block}
-use Rattle.tape_core.specs.State.{State, is_broken}
-use Rattle.tape_core.specs.Walks.{GivesPart}
-use Rattle.tape_core.specs.Weight.{IsFront, Rose}
+use Rattle.tape_core.specs.{Point.Point, Stands.inside_block, State.State, State.is_broken}
+use Rattle.tape_core.specs.{Walks.GivesPart, Weight.IsFront, Weight.Rose}
 use Rattle.tape_core.specs.Cases.{CasesOfForeign, CasesOfPlaces, CasesOfSteps, CasesOfSinks}
 use Rattle.tape_core.specs.Cases.{five_bytes, no_bytes}
 use Rattle.tape_core.proofs.Crashes.{or_nothing}
@@ -44,8 +37,7 @@ cases_of_foreign = record {
 }
 
 behind_known : (set : FileSet) (file : ℕ) (form : FileForm)
-    → KnownAt set file (awaiting 1 1) (Some form)
-    → FileTells set file form
+    → KnownAt set file (awaiting 1 1) (Some form) → FileTells set file form
 behind_known set file form (known, e, tells) = subst (FileTells set file) (sym (ap inner e)) tells
   where
     inner : Option FileForm → FileForm
@@ -132,8 +124,7 @@ not_rose n low (inl more) = absurd (omega (arith, low, more))
 not_rose n low (inr most) = absurd (omega (arith, low, most))
 
 given_is_next : (part : Part) (p : Portion) (parts : List Portion)
-    → GivesPart (Ok (Some part)) (p ∷ []) (λ ps. ps ≡ parts)
-    → (p ≡ view part) × (parts ≡ [])
+    → GivesPart (Ok (Some part)) (p ∷ []) (λ ps. ps ≡ parts) → (p ≡ view part) × (parts ≡ [])
 given_is_next part p parts (rest, e, is) = (cc e, cc (e, is))
 
 some_point : Point

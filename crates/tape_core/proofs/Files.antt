@@ -1,21 +1,16 @@
 -- Further facts about a file's sections, blocks and parts.
 use Rattle.std.proofs.Common.{◌≡◌, ◌≤◌, ℕ, zero, suc, List, [], ◌∷◌, ◌++◌, length, Bool, true}
-use Rattle.std.proofs.Common.{false, Some, None, refl, ap, ◌∙◌, arith}
-use Rattle.std.specs.Prelude.{slice_get, unwrap_or}
+use Rattle.std.proofs.Common.{false, Some, None, refl, ap, ◌∙◌, arith, slice_get, unwrap_or}
 use Rattle.tape_label.specs.declared.values.Trail1.{Trail1}
-use Rattle.tape_label.specs.Kinds.{identifier, trailer}
-use Rattle.tape_label.specs.Positions.{positions}
-use Rattle.tape_label.specs.Trail1.{IsTrail1}
-use Rattle.tape_blocks.specs.Judged.{begun_behind}
-use Rattle.tape_blocks.specs.Tight.{Filled}
+use Rattle.tape_label.specs.{Kinds.identifier, Kinds.trailer, Positions.positions, Trail1.IsTrail1}
+use Rattle.tape_blocks.specs.{Judged.begun_behind, Tight.Filled}
 use Rattle.tape_set.specs.declared.position.Position.TheVariants.{Finished}
 use Rattle.tape_set.specs.Layout.{FileSet, Section, section_of, sections, ends_file}
 use Rattle.tape_set.specs.Before.{section_parts, parts_of, parts_at, parts_before, before}
 use Rattle.tape_set.specs.Lawful.{IsLawful}
-use Rattle.tape_set.proofs.Everywhere.{every_stands}
+use Rattle.tape_set.proofs.{Everywhere.every_stands, Forms.all_four_digits}
 use Rattle.tape_set.proofs.Numbering.{FileOf, placed, section_stands}
 use Rattle.tape_set.proofs.FileParts.{file_is, file_lawful, order_end}
-use Rattle.tape_set.proofs.Forms.{all_four_digits}
 
 pub get_behind : {A : Type 0} (past rest : List A) (d : A) (n : ℕ) → length past ≡ n
     → slice_get (past ++ d ∷ rest) n ≡ Some d

@@ -1,24 +1,20 @@
 -- The beginning of the section needed, compared with the items read.
 use Rattle.std.proofs.Common.{◌≡◌, ◌<◌, ◌≤◌, ◌⊎◌, ℕ, ◌+◌, List, [], ◌∷◌, ◌++◌, length, drop, Bool}
 use Rattle.std.proofs.Common.{true, false, cond, Some, refl, sym, ap, ◌∙◌, subst, inl, inr}
-use Rattle.std.proofs.Common.{append_assoc, arith, length-append, eq-eqb, zero, suc}
-use Rattle.std.specs.Prelude.{◌==◌, ◌&&◌, ◌||◌, slice_get}
+use Rattle.std.proofs.Common.{append_assoc, arith, length-append, eq-eqb, zero, suc, ◌==◌, ◌&&◌}
+use Rattle.std.proofs.Common.{◌||◌, slice_get}
 use Rattle.std.specs.List.{AllByRecursion}
 use Rattle.std.proofs.lemmas.Bool.Decides.{nat_tests}
-use Rattle.tape_set.specs.declared.position.Position.{Position}
-use Rattle.tape_set.specs.declared.position.Position.TheVariants.{Awaits}
+use Rattle.tape_set.specs.declared.position.{Position.Position, Position.TheVariants.Awaits}
 use Rattle.tape_set.specs.Layout.{FileSet, Placed, Entry, a_mark, is_data, nth, all_entries}
 use Rattle.tape_set.specs.Layout.{data_group, trailer_group, entries, section_of, sections, on}
 use Rattle.tape_set.specs.Reach.{passes, far, far_in, before_data, moved}
-use Rattle.tape_set.proofs.Everywhere.{every_rest}
-use Rattle.tape_set.proofs.Numbering.{placed}
-use Rattle.tape_set.proofs.Reaching.{passes_length}
+use Rattle.tape_set.proofs.{Everywhere.every_rest, Numbering.placed, Reaching.passes_length}
 use Rattle.tape_set.proofs.Volumes.{Rising, rising_behind, sections_on_rise, IsOn, sections_on_are}
 use Rattle.tape_set.proofs.Volumes.{Lies, wanted_lies}
 use Rattle.tape_set.proofs.Standing.{wanted_among, all_entries-append}
 use Rattle.tape_core.specs.Follows.{reading, to_come, Left, Among}
-use Rattle.tape_core.proofs.Aim.{Aim}
-use Rattle.tape_core.proofs.Lists.{passes_push, passes_bad, split_longer}
+use Rattle.tape_core.proofs.{Aim.Aim, Lists.passes_push, Lists.passes_bad, Lists.split_longer}
 
 -- one more item was read, which is readable or a data block
 pub left_more : (set : FileSet) (k : ℕ) (good : List Bool)

@@ -1,20 +1,16 @@
 -- In every phase, a readable item preserves the relation between the state and the reading.
 use Rattle.std.proofs.Common.{◌≡◌, ◌<◌, ℕ, List, [], ◌∷◌, ◌++◌, length, true, false, Some, refl}
-use Rattle.std.proofs.Common.{subst, inl, inr, arith}
-use Rattle.std.specs.Prelude.{slice_get, is_some, nat_lt}
+use Rattle.std.proofs.Common.{subst, inl, inr, arith, slice_get, is_some, nat_lt}
 use Rattle.std.proofs.lemmas.Bool.Decides.{nat_tests}
 use Rattle.tape_label.specs.declared.values.Kind.TheVariants as kinds
 use Rattle.tape_label.proofs.Apart.{kind_again}
 use Rattle.tape_blocks.specs.Tight.{Filled}
-use Rattle.tape_set.specs.Position.{block_of}
+use Rattle.tape_set.specs.{Position.block_of, Lawful.FileForm, Lawful.IsVolume}
 use Rattle.tape_set.specs.Layout.{Placed, Entry, a_label, a_data_block, a_mark, item_of, data_group}
 use Rattle.tape_set.specs.Layout.{trailer_group, entries, sections, on}
-use Rattle.tape_set.specs.Lawful.{FileForm, IsVolume}
 use Rattle.tape_set.proofs.Everywhere.{every_at, nth_found}
-use Rattle.tape_core.specs.declared.event.Reason.{Reason}
+use Rattle.tape_core.specs.declared.event.{Reason.Reason, Heading.Heading, Phase.Phase}
 use Rattle.tape_core.specs.declared.event.Reason.TheVariants.{NotLabelled, NotOnReel, ReelEnded}
-use Rattle.tape_core.specs.declared.event.Heading.{Heading}
-use Rattle.tape_core.specs.declared.event.Phase.{Phase}
 use Rattle.tape_core.specs.declared.event.Phase.TheVariants.{Over, Broken, Volume as AtVolume}
 use Rattle.tape_core.specs.declared.event.Phase.TheVariants.{VolumeLabels, Header2, Headers}
 use Rattle.tape_core.specs.declared.event.Phase.TheVariants.{DataPassed, DataWanted, TrailerPassed}
@@ -24,12 +20,11 @@ use Rattle.tape_core.specs.Follows.{to_come, Left, Among, BarrenNext, BarrenTrai
 use Rattle.tape_core.specs.Follows.{BarrenData, InData, Follows}
 use Rattle.tape_core.proofs.LabelLaws.{header_no_label, label_taken}
 use Rattle.tape_core.proofs.Fronts.{left_more, none_to_come, first_left, here}
-use Rattle.tape_core.proofs.Aim.{Aim}
+use Rattle.tape_core.proofs.{Aim.Aim, BlockSteps.data_awaited}
 use Rattle.tape_core.proofs.AwaitedSection.{all_among, next_among, on_it, on_with}
 use Rattle.tape_core.proofs.HeaderSteps.{Next, passed_next, either, nothing_here, over_next}
 use Rattle.tape_core.proofs.HeaderSteps.{head1_next, head2_next, headers_end}
 use Rattle.tape_core.proofs.DataSteps.{data_below, count_cases, all_counted, data_end}
-use Rattle.tape_core.proofs.BlockSteps.{data_awaited}
 use Rattle.tape_core.proofs.TrailerSteps.{trailer_next, passed_trailer_next}
 use Rattle.tape_core.proofs.StraySteps.{stray_first, stray_data, stray_trailer, stray_trailers}
 use Rattle.tape_core.proofs.StraySteps.{stray_next, at_start}

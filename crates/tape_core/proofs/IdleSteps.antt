@@ -1,22 +1,18 @@
 -- Items that change nothing, after a complete reading.
 use Rattle.std.proofs.Common.{◌≡◌, ℕ, List, length, Bool, true, Option, Some, None, refl, sym, ap}
-use Rattle.std.proofs.Common.{◌∙◌, subst}
-use Rattle.std.specs.Prelude.{IsSome}
+use Rattle.std.proofs.Common.{◌∙◌, subst, IsSome}
 use Rattle.std.proofs.lemmas.List.{length-map}
 use Rattle.tape_image.specs.Tape.{TapeItem, block as a_block, bad, mark}
 use Rattle.tape_set.specs.declared.position.Position.{Position}
 use Rattle.tape_set.specs.declared.position.Position.TheVariants.{Awaits, Finished}
 use Rattle.tape_set.specs.Layout.{FileSet, Volume, item_of, nth, entries, items}
-use Rattle.tape_set.specs.Lawful.{IsLawful}
-use Rattle.tape_set.specs.Reach.{passes}
-use Rattle.tape_core.specs.declared.event.Reason.{Reason}
-use Rattle.tape_core.specs.declared.event.Reason.TheVariants.{ReelEnded}
+use Rattle.tape_set.specs.{Lawful.IsLawful, Reach.passes}
+use Rattle.tape_core.specs.declared.event.{Reason.Reason, Reason.TheVariants.ReelEnded}
 use Rattle.tape_core.specs.declared.event.Phase.TheVariants.{Over}
 use Rattle.tape_core.specs.State.{State}
 use Rattle.tape_core.specs.Table.{Outcome, useless, at_item, unless_complete, step_of}
 use Rattle.tape_core.specs.Follows.{IsAt, Follows, IsReading, Idle}
-use Rattle.tape_core.proofs.Aim.{aim_of}
-use Rattle.tape_core.proofs.PositionSteps.{whole_over}
+use Rattle.tape_core.proofs.{Aim.aim_of, PositionSteps.whole_over}
 
 pub idle_whole : (core : State) (set : FileSet) (p : Position) (k : ℕ) (good : List Bool)
     (x : TapeItem)
@@ -69,9 +65,8 @@ idle_whole core set (Awaits sect block part) k good x l vol r n q = go core.posi
         (sym over) (at_over x)
 
 pub idle_reads : (core : State) (out : Outcome) (arrived : Option TapeItem)
-    → out ≡ step_of core arrived
-    → (set : FileSet) (p : Position) (k : ℕ) (good : List Bool) (item : TapeItem) → IsLawful set
-    → IsSome (nth set.volumes k)
+    → out ≡ step_of core arrived → (set : FileSet) (p : Position) (k : ℕ) (good : List Bool)
+    (item : TapeItem) → IsLawful set → IsSome (nth set.volumes k)
     → length good ≡ length (items set k) → passes good (entries set k) ≡ true → arrived ≡ Some item
     → IsReading set p k good core → Idle set p k good core out
 idle_reads core out arrived is set p k good item l vol n h came r =

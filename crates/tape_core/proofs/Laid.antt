@@ -1,7 +1,7 @@
 -- Parts whose bytes are consecutive: adding, removing, borrowing and weighing them.
 use Rattle.std.proofs.Common.{◌≡◌, ◌≤◌, ℕ, zero, suc, ◌+◌, ◌-◌, ◌*◌, List, [], ◌∷◌, ◌++◌, length}
-use Rattle.std.proofs.Common.{take, drop, Some, refl, sym, ap, ◌∙◌, subst, arith}
-use Rattle.std.specs.Prelude.{slice_get, slice_range}
+use Rattle.std.proofs.Common.{take, drop, Some, refl, sym, ap, ◌∙◌, subst, arith, slice_get}
+use Rattle.std.proofs.Common.{slice_range}
 use Rattle.std.proofs.lemmas.List.{drop-take, take-take, take-append-le, drop_at, take_all}
 use Rattle.std.proofs.lemmas.List.{length-take-le, length-drop}
 use Rattle.tape_blocks.specs.Block.{Portion}
@@ -9,8 +9,7 @@ use Rattle.tape_core.specs.declared.event.Entry.{Entry}
 use Rattle.tape_core.specs.Entries.{part_at, parts_from, end_from, AreLaid, IsLaid}
 use Rattle.tape_core.specs.Stands.{weight_of}
 
-range_is : (xs : List ℕ) (from to : ℕ) → from ≤ to
-    → slice_range xs from to ≡ drop from (take to xs)
+range_is : (xs : List ℕ) (from to : ℕ) → from ≤ to → slice_range xs from to ≡ drop from (take to xs)
 range_is xs from to le =
     let whole : from + (to - from) ≡ to = omega (arith, le) in
     sym (drop-take from (to - from) xs) ∙ ap (λ k. drop from (take k xs)) whole
@@ -39,17 +38,15 @@ laid_end start [] finish l = l
 laid_end start (e ∷ es) finish l = laid_end e.end es finish l.2
 
 -- one more entry
-pub laid_more : (start : ℕ) (es : List Entry) (finish : ℕ) (last : Entry)
-    → AreLaid start es finish → finish ≤ last.end → last.end ≤ finish + 99999
-    → AreLaid start (es ++ last ∷ []) last.end
+pub laid_more : (start : ℕ) (es : List Entry) (finish : ℕ) (last : Entry) → AreLaid start es finish
+    → finish ≤ last.end → last.end ≤ finish + 99999 → AreLaid start (es ++ last ∷ []) last.end
 laid_more start [] finish last l low high = (omega (arith, l, low), omega (arith, l, high), refl)
 laid_more start (e ∷ es) finish last l low high =
     (l.0, l.1, laid_more e.end es finish last l.2 low high)
 
 -- bytes that agree up to the end of the parts contain the same parts
-parts_same : (start : ℕ) (es : List Entry) (finish : ℕ) (xs ys : List ℕ)
-    → AreLaid start es finish → take finish xs ≡ take finish ys
-    → parts_from start es xs ≡ parts_from start es ys
+parts_same : (start : ℕ) (es : List Entry) (finish : ℕ) (xs ys : List ℕ) → AreLaid start es finish
+    → take finish xs ≡ take finish ys → parts_from start es xs ≡ parts_from start es ys
 parts_same start [] finish xs ys l same = refl
 parts_same start (e ∷ es) finish xs ys l same =
     let below = laid_below e.end es finish l.2 in
@@ -151,9 +148,8 @@ pub record LiesBetween (start : ℕ) (e : Entry) (finish : ℕ) : Type 0 where
   pub short : e.end ≤ start + 99999
   pub within : e.end ≤ finish
 
-pub laid_get : (start : ℕ) (es : List Entry) (finish n : ℕ) (e : Entry)
-    → AreLaid start es finish → slice_get es n ≡ Some e
-    → LiesBetween (end_from start (take n es)) e finish
+pub laid_get : (start : ℕ) (es : List Entry) (finish n : ℕ) (e : Entry) → AreLaid start es finish
+    → slice_get es n ≡ Some e → LiesBetween (end_from start (take n es)) e finish
 laid_get start [] finish n e l h = absurd (cc)
 laid_get start (x ∷ xs) finish zero e l h =
     let same : x ≡ e = cc in
@@ -168,9 +164,8 @@ end_get start [] n e h = absurd (cc)
 end_get start (x ∷ xs) zero e h = let same : x ≡ e = cc in ap (λ (z : Entry). z.end) same
 end_get start (x ∷ xs) (suc n) e h = end_get x.end xs n e h
 
-weight_laid : (start : ℕ) (es : List Entry) (finish : ℕ) (bytes : List ℕ)
-    → AreLaid start es finish → finish ≤ length bytes
-    → start + weight_of (parts_from start es bytes) ≡ 5 * length es + finish
+weight_laid : (start : ℕ) (es : List Entry) (finish : ℕ) (bytes : List ℕ) → AreLaid start es finish
+    → finish ≤ length bytes → start + weight_of (parts_from start es bytes) ≡ 5 * length es + finish
 weight_laid start [] finish bytes l fits = omega (arith, l)
 weight_laid start (e ∷ es) finish bytes l fits =
     let rest = weight_laid e.end es finish bytes l.2 fits in
@@ -179,8 +174,7 @@ weight_laid start (e ∷ es) finish bytes l fits =
     omega (arith, rest, long)
 
 -- the weight of the first parts
-pub weight_front : (n : ℕ) (es : List Entry) (bytes : List ℕ) → IsLaid es bytes
-    → n ≤ length es
+pub weight_front : (n : ℕ) (es : List Entry) (bytes : List ℕ) → IsLaid es bytes → n ≤ length es
     → weight_of (take n (parts_from 0 es bytes)) ≡ 5 * n + end_from 0 (take n es)
 weight_front n es bytes laid within =
     let first = laid_front n 0 es (length bytes) laid in

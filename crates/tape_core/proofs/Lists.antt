@@ -1,8 +1,7 @@
 -- Lists of items read, compared with the contents of a volume.
 use Rattle.std.proofs.Common.{◌≡◌, ◌<◌, ◌≤◌, ℕ, zero, suc, ◌+◌, ◌-◌, List, [], ◌∷◌, ◌++◌, length}
 use Rattle.std.proofs.Common.{take, drop, Bool, true, false, cond, ltb, refl, sym, ap, ◌∙◌, arith}
-use Rattle.std.proofs.Common.{length-append, eq-eqb}
-use Rattle.std.specs.Prelude.{◌==◌, ◌&&◌, ◌||◌}
+use Rattle.std.proofs.Common.{length-append, eq-eqb, ◌==◌, ◌&&◌, ◌||◌}
 use Rattle.std.proofs.lemmas.Bool.Decides.{nat_tests}
 use Rattle.tape_set.specs.Layout.{Section, Entry, is_data}
 use Rattle.tape_set.specs.Reach.{passes, good_run, both_good, moved, stopped, behind}
@@ -133,8 +132,7 @@ moved_bad p sect block s seen more h lt =
 
 -- all blocks were read, and further items after them
 pub moved_all : (p : Position) (sect block : ℕ) (s : Section) (seen rest : List Bool)
-    → Full block seen → length seen ≡ length s.blocks
-    → moved p sect block s (seen ++ rest)
+    → Full block seen → length seen ≡ length s.blocks → moved p sect block s (seen ++ rest)
     ≡ cond (both_good rest) (behind sect s) (stopped p sect block (length s.blocks))
 moved_all p sect block s seen rest h e =
     let t : ltb (length s.blocks) (length s.blocks) ≡ false = grind (arith, nat_tests) in

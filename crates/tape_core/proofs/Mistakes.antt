@@ -1,7 +1,6 @@
 -- Answers that the contract of `ReaderCore::step` excludes: each is the answer of a wrong body.
 -- `Cases` proves that the readers and labels used here can exist.
-use Rattle.std.proofs.Common.{◌≡◌, sym, ap, ◌∙◌}
-use Rattle.std.specs.Prelude.{Ok}
+use Rattle.std.proofs.Common.{◌≡◌, sym, ap, ◌∙◌, Ok}
 use denote.MutBor.{MutBor}
 use Rattle.tape_label.specs.Reading.{head1_at}
 use Rattle.tape_set.specs.declared.position.Position.TheVariants.{Awaits}
@@ -10,8 +9,7 @@ use Rattle.tape_core.specs.declared.event.Reason.TheVariants as reasons
 use Rattle.tape_core.specs.declared.event.Event.{Event}
 use Rattle.tape_core.specs.declared.event.Event.TheVariants as events
 use Rattle.tape_core.specs.declared.event.Phase.TheVariants as phases
-use Rattle.tape_core.specs.State.{State}
-use Rattle.tape_core.specs.Table.{at_head1}
+use Rattle.tape_core.specs.{State.State, Table.at_head1}
 use Rattle.tape_core.proofs.Cases.{fixed, at_start, inside, headed, head}
 use Rattle.tape_core.proofs.reader.ReaderCore.step.Reads as step
 

@@ -1,32 +1,23 @@
 -- The checkpoint inside a block, some of whose parts were kept.
 use Rattle.std.proofs.Common.{◌≡◌, ◌<◌, ◌≤◌, ℕ, zero, suc, ◌-◌, List, [], ◌∷◌, ◌++◌, length, take}
 use Rattle.std.proofs.Common.{drop, Bool, true, false, Some, None, refl, sym, ap, ◌∙◌, subst, inr}
-use Rattle.std.proofs.Common.{append_assoc, arith}
-use Rattle.std.specs.Prelude.{◌==◌, ◌&&◌, MatchBool}
+use Rattle.std.proofs.Common.{append_assoc, arith, ◌==◌, ◌&&◌, MatchBool}
 use Rattle.std.specs.List.{AllByRecursion}
-use Rattle.std.proofs.lemmas.Bool.Decides.{nat_tests}
+use Rattle.std.proofs.lemmas.{Bool.Decides.nat_tests, Option.slice_get_within}
 use Rattle.std.proofs.Math.Seq.{take-nil}
-use Rattle.std.proofs.lemmas.Option.{slice_get_within}
 use Rattle.tape_image.specs.Tape.{TapeItem}
 use Rattle.tape_label.specs.declared.values.Format.{Format}
 use Rattle.tape_label.specs.declared.values.Format.TheVariants.{Fixed, Counted, Spanned}
-use Rattle.tape_blocks.specs.Block.{Portion, IsUnit}
+use Rattle.tape_blocks.specs.{Block.Portion, Block.IsUnit, Judged.begun_behind}
 use Rattle.tape_blocks.specs.Spans.{InOrder, continues, leaves}
-use Rattle.tape_blocks.specs.Judged.{begun_behind}
-use Rattle.tape_set.specs.declared.position.Position.{Position}
-use Rattle.tape_set.specs.declared.position.Position.TheVariants.{Awaits}
-use Rattle.tape_set.specs.Position.{at_part, is_start}
-use Rattle.tape_set.specs.Layout.{FileSet}
-use Rattle.tape_set.specs.Lawful.{FileForm}
+use Rattle.tape_set.specs.declared.position.{Position.Position, Position.TheVariants.Awaits}
+use Rattle.tape_set.specs.{Position.at_part, Position.is_start, Layout.FileSet, Lawful.FileForm}
 use Rattle.tape_set.specs.Before.{before, parts_of, IsIn}
 use Rattle.tape_set.proofs.Numbering.{FileOf, section_found}
 use Rattle.tape_set.proofs.FileParts.{before_taken, begun_behind-append}
-use Rattle.tape_core.specs.Known.{is_spanned, may_span}
-use Rattle.tape_core.specs.State.{State}
-use Rattle.tape_core.specs.Point.{Point}
+use Rattle.tape_core.specs.{Known.is_spanned, Known.may_span, State.State, Point.Point, Table.saved}
 use Rattle.tape_core.specs.Follows.{IsAt, FileTells, Delivers}
 use Rattle.tape_core.specs.Stands.{weight_of, Stands, inside_block}
-use Rattle.tape_core.specs.Table.{saved}
 
 take_split : (k n : ℕ) (xs : List Portion) → k ≤ n
     → take n xs ≡ take k xs ++ take (n - k) (drop k xs)

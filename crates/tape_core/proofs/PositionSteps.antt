@@ -1,8 +1,7 @@
 -- The phase determines the position that the reading reaches, and the state after a complete
 -- volume.
 use Rattle.std.proofs.Common.{◌≡◌, ◌+◌, List, [], ◌∷◌, ◌++◌, length, true, refl, sym, ap, ◌∙◌}
-use Rattle.std.proofs.Common.{subst, inl, inr, arith, length-append}
-use Rattle.std.specs.Prelude.{map, is_some}
+use Rattle.std.proofs.Common.{subst, inl, inr, arith, length-append, map, is_some}
 use Rattle.std.proofs.lemmas.List.{append-nil, nil_from_length}
 use Rattle.tape_blocks.specs.Tight.{Filled}
 use Rattle.tape_set.specs.Layout.{Placed, Entry, a_label, data_group, trailer_group, entries}
@@ -17,15 +16,13 @@ use Rattle.tape_core.specs.Follows.{reading, to_come, Left, BarrenNext, BarrenTr
 use Rattle.tape_core.specs.Follows.{BarrenTrailer, BarrenData, Reached, Follows}
 use Rattle.tape_core.proofs.Lists.{Full, moved_all, moved_short}
 use Rattle.tape_core.proofs.Fronts.{Ahead, far_ahead, far_on, here, ahead_later}
-use Rattle.tape_core.proofs.Aim.{Aim}
+use Rattle.tape_core.proofs.{Aim.Aim, StraySteps.Strays, StraySteps.at_start}
 use Rattle.tape_core.proofs.AwaitedSection.{wanted_at, all_among, ahead_inside, ahead_passed}
-use Rattle.tape_core.proofs.StraySteps.{Strays, at_start}
 
 module _ (aim : Aim) where
   open aim use {set, core, sect, block, part, k, w, inside, v, good}
 
-  ahead_pos : (todo : List Entry) → core.position ≡ here aim → Left set k good todo
-      → Ahead aim todo
+  ahead_pos : (todo : List Entry) → core.position ≡ here aim → Left set k good todo → Ahead aim todo
       → core.position ≡ far set core.file (here aim) (reading k good)
   ahead_pos todo wait left ahead = wait ∙ sym (far_ahead aim good todo left ahead)
 

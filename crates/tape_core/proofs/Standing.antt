@@ -1,25 +1,18 @@
 -- The states after the end of a reel, after a mount, and after a restart, whatever was read.
 use Rattle.std.proofs.Common.{◌≡◌, ℕ, List, Bool, true, false, cond, Option, None, Result, Ok, Err}
-use Rattle.std.proofs.Common.{refl, sym, ap, ◌∙◌, subst, eq-eqb, arith}
-use Rattle.std.specs.Prelude.{◌==◌, OnOk, OnErr}
+use Rattle.std.proofs.Common.{refl, sym, ap, ◌∙◌, subst, eq-eqb, arith, ◌==◌, OnOk, OnErr}
 use Rattle.std.specs.Str.{bytes_eq}
-use Rattle.std.proofs.lemmas.Bool.{and_parts}
-use Rattle.std.proofs.lemmas.Bool.Decides.{nat_tests}
-use Rattle.std.proofs.lemmas.Slice.Eq.{bytes_eq-Decides}
+use Rattle.std.proofs.lemmas.{Bool.and_parts, Bool.Decides.nat_tests, Slice.Eq.bytes_eq-Decides}
 use Rattle.tape_image.specs.Tape.{TapeItem}
 use Rattle.tape_set.specs.declared.position.Position.{Position}
 use Rattle.tape_set.specs.declared.position.Position.TheVariants.{Awaits, Finished}
-use Rattle.tape_core.specs.declared.event.Phase.{Phase}
-use Rattle.tape_core.specs.declared.event.Phase.TheVariants.{Over, Broken}
-use Rattle.tape_core.specs.declared.event.CoreFault.{CoreFault}
+use Rattle.tape_core.specs.declared.event.{Phase.Phase, CoreFault.CoreFault}
 use Rattle.tape_core.specs.declared.event.CoreFault.TheVariants.{OtherFile}
-use Rattle.tape_core.specs.Point.{Point}
-use Rattle.tape_core.specs.State.{State, is_broken}
+use Rattle.tape_core.specs.declared.event.Phase.TheVariants.{Over, Broken}
+use Rattle.tape_core.specs.{Point.Point, State.State, State.is_broken, Follows.IsFinal}
+use Rattle.tape_core.specs.{Follows.IsAt, Follows.StandsAt, Stands.Stands, Stands.weight_of}
 use Rattle.tape_core.specs.Place.{resting, rest_of, place_of, IsPlaced}
-use Rattle.tape_core.specs.Follows.{IsFinal, IsAt, StandsAt}
-use Rattle.tape_core.specs.Stands.{Stands, weight_of}
-use Rattle.tape_set.specs.Layout.{FileSet}
-use Rattle.tape_set.specs.Before.{before}
+use Rattle.tape_set.specs.{Layout.FileSet, Before.before}
 use Rattle.tape_blocks.specs.Block.{Portion}
 use Rattle.tape_core.specs.Table.{Outcome, in_phase, at_reel_end, unless_complete, step_of, mounted}
 use Rattle.tape_core.specs.Table.{mount_of, restarted, is_of_file, restart_of, saved}

@@ -1,28 +1,20 @@
 -- Steps preserve the invariant of readers.
 use Rattle.std.proofs.Common.{◌≡◌, ◌<◌, ◌≤◌, ◌⊎◌, inl, inr, ℕ, zero, suc, ◌+◌, List, [], ◌∷◌, ◌++◌}
 use Rattle.std.proofs.Common.{length, take, Bool, true, false, Some, refl, sym, ap, ◌∙◌, arith}
-use Rattle.std.proofs.Common.{length-append}
-use Rattle.std.specs.Prelude.{◌==◌, ◌&&◌, ◌||◌, not, nat_le}
+use Rattle.std.proofs.Common.{length-append, ◌==◌, ◌&&◌, ◌||◌, not, nat_le}
 use Rattle.std.proofs.lemmas.Bool.Decides.{nat_tests}
 use Rattle.std.specs.List.{AllByRecursion}
 use Rattle.tape_label.specs.declared.values.Format.{Format}
 use Rattle.tape_label.specs.declared.values.Format.TheVariants.{Fixed, Counted, Spanned}
 use Rattle.tape_blocks.specs.declared.parts.Span.TheVariants.{Whole}
-use Rattle.tape_blocks.specs.Block.{Portion, IsUnit}
-use Rattle.tape_blocks.specs.Spans.{InOrder, leaves}
-use Rattle.tape_blocks.specs.Faults.{bool_eq}
-use Rattle.tape_blocks.specs.Judged.{begun_behind}
+use Rattle.tape_blocks.specs.{Block.Portion, Block.IsUnit, Spans.InOrder, Spans.leaves}
+use Rattle.tape_blocks.specs.{Faults.bool_eq, Judged.begun_behind}
 use Rattle.tape_set.specs.declared.position.Position.{Position}
-use Rattle.tape_set.specs.Position.{is_start, awaiting}
-use Rattle.tape_set.specs.Lawful.{FileForm}
+use Rattle.tape_set.specs.{Position.is_start, Position.awaiting, Lawful.FileForm, Layout.FileSet}
 use Rattle.tape_set.proofs.FileParts.{begun_behind-append}
-use Rattle.tape_core.specs.declared.event.Phase.{Phase}
-use Rattle.tape_core.specs.declared.event.Phase.TheVariants.{Broken}
-use Rattle.tape_core.specs.Known.{is_spanned}
+use Rattle.tape_core.specs.declared.event.{Phase.Phase, Phase.TheVariants.Broken}
+use Rattle.tape_core.specs.{Known.is_spanned, State.ToldFits, State.is_broken, Follows.Follows}
 use Rattle.tape_core.specs.Parts.{parts_in, goes_on_at, begun_before, other_front}
-use Rattle.tape_core.specs.State.{ToldFits, is_broken}
-use Rattle.tape_core.specs.Follows.{Follows}
-use Rattle.tape_set.specs.Layout.{FileSet}
 
 pub later_start : (sect place : ℕ) → is_start (awaiting sect (place + 1)) ≡ false
 later_start sect place =

@@ -1,26 +1,20 @@
 -- Each step preserves the relation between the state and the reading.
 use Rattle.std.proofs.Common.{◌≡◌, ℕ, zero, suc, List, [], ◌∷◌, ◌++◌, length, Bool, true, false}
 use Rattle.std.proofs.Common.{cond, Option, Some, None, refl, sym, ap, ◌∙◌, subst, append_assoc}
-use Rattle.std.specs.Prelude.{slice_get, map, IsSome}
+use Rattle.std.proofs.Common.{slice_get, map, IsSome}
 use Rattle.tape_image.specs.Tape.{TapeItem, bad}
 use Rattle.tape_set.specs.declared.position.Position.{Position}
 use Rattle.tape_set.specs.declared.position.Position.TheVariants.{Awaits, Finished}
 use Rattle.tape_set.specs.Layout.{FileSet, Volume, Entry, item_of, nth, entries, items}
-use Rattle.tape_set.specs.Before.{IsIn}
-use Rattle.tape_set.specs.Lawful.{IsLawful}
-use Rattle.tape_set.specs.Reach.{far}
+use Rattle.tape_set.specs.{Before.IsIn, Lawful.IsLawful, Reach.far}
 use Rattle.tape_core.specs.declared.event.Phase.{Phase}
 use Rattle.tape_core.specs.declared.event.Phase.TheVariants.{Over, Broken, DataWanted}
 use Rattle.tape_core.specs.declared.event.Phase.TheVariants.{TrailerWanted}
 use Rattle.tape_core.specs.State.{State, is_broken}
 use Rattle.tape_core.specs.Table.{Outcome, at_item, unless_complete, step_of, mount_of, mounted}
 use Rattle.tape_core.specs.Follows.{IsAt, reading, Follows, FollowsFrom, IsReading, Kept}
-use Rattle.tape_core.proofs.Lists.{stopped_waits}
-use Rattle.tape_core.proofs.Aim.{aim_of}
-use Rattle.tape_core.proofs.HeaderSteps.{Next}
-use Rattle.tape_core.proofs.BadSteps.{bad_next}
-use Rattle.tape_core.proofs.GoodSteps.{good_next}
-use Rattle.tape_core.proofs.PositionSteps.{position_is}
+use Rattle.tape_core.proofs.{Lists.stopped_waits, Aim.aim_of, HeaderSteps.Next, BadSteps.bad_next}
+use Rattle.tape_core.proofs.{GoodSteps.good_next, PositionSteps.position_is}
 
 -- at the end of the file no reading is in progress
 complete_over : (set : FileSet) (file sect block part k : ℕ) (good : List Bool)
@@ -172,11 +166,10 @@ item_at (x ∷ xs) (suc n) item h = item_at xs n item h
 
 -- the same for an outcome and an item given by equations
 pub step_reads : (core : State) (out : Outcome) (arrived : Option TapeItem)
-    → out ≡ step_of core arrived
-    → (set : FileSet) (p : Position) (k : ℕ) (good : List Bool) (g : Bool) (item : TapeItem)
-    → IsLawful set → IsSome (nth set.volumes k) → slice_get (items set k) (length good) ≡ Some item
-    → arrived ≡ Some (cond g item bad) → IsReading set p k good core
-    → Kept set p k (good ++ g ∷ []) (cond g item bad) core out
+    → out ≡ step_of core arrived → (set : FileSet) (p : Position) (k : ℕ) (good : List Bool)
+    (g : Bool) (item : TapeItem) → IsLawful set → IsSome (nth set.volumes k)
+    → slice_get (items set k) (length good) ≡ Some item → arrived ≡ Some (cond g item bad)
+    → IsReading set p k good core → Kept set p k (good ++ g ∷ []) (cond g item bad) core out
 step_reads core out arrived is set p k good g item l vol s a r = go (nth set.volumes k) refl vol
   where
     go : (o : Option Volume) → nth set.volumes k ≡ o → IsSome o

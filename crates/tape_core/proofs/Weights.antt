@@ -2,8 +2,7 @@
 use Rattle.std.proofs.Common.{◌≡◌, ◌≤◌, ◌+◌, ◌<◌, ℕ, zero, suc, List, [], ◌∷◌, ◌++◌, length, take}
 use Rattle.std.proofs.Common.{refl, ap, ◌∙◌, arith, append-nil}
 use Rattle.tape_blocks.specs.Block.{Portion}
-use Rattle.tape_core.specs.Stands.{weight_of}
-use Rattle.tape_core.specs.Weight.{IsFront}
+use Rattle.tape_core.specs.{Stands.weight_of, Weight.IsFront}
 
 weight_more : (x : Portion) (xs : List Portion)
     → weight_of (x ∷ xs) ≡ (5 + length x.bytes) + weight_of xs

@@ -7,11 +7,9 @@ use Rattle.tape_core.specs.declared.event.Answer.TheVariants.{Passed, Deliver, S
 use Rattle.tape_core.specs.declared.event.Answer.TheVariants.{Complete, Useless}
 use Rattle.tape_core.specs.declared.event.Phase.{Phase}
 use Rattle.tape_core.specs.declared.event.Phase.TheVariants.{Over, Broken, Header2, Headers}
-use Rattle.tape_core.specs.declared.event.Phase.TheVariants.{DataPassed, DataWanted}
-use Rattle.tape_core.specs.declared.event.Phase.TheVariants.{TrailerPassed, TrailerWanted}
-use Rattle.tape_core.specs.declared.event.Phase.TheVariants.{Trailers}
-use Rattle.tape_core.specs.Known.{is_finished}
-use Rattle.tape_core.specs.State.{State}
+use Rattle.tape_core.specs.declared.event.Phase.TheVariants.{DataPassed, DataWanted, TrailerPassed}
+use Rattle.tape_core.specs.declared.event.Phase.TheVariants.{TrailerWanted, Trailers}
+use Rattle.tape_core.specs.{Known.is_finished, State.State}
 use Rattle.tape_core.specs.Table.{Outcome, in_phase, passed}
 
 -- the items expected if the section is skipped

@@ -1,42 +1,33 @@
 -- Examples for the definitions of readers and sinks, which ensure that no definition says less, or
 -- requires more, than it should. They are the contract of the call `laws::cases`.
-use Rattle.std.specs.Prelude.{◌≡◌, ◌≢◌, ◌<◌, ◌≤◌, ◌+◌, ◌⊎◌, ℕ, Bool, true, false, List, []}
-use Rattle.std.specs.Prelude.{◌∷◌, ◌++◌, length, drop, replicate, codes, slice_get, Option, Some}
-use Rattle.std.specs.Prelude.{None, Result, Ok, Err}
+use Rattle.std.specs.Prelude.{◌≡◌, ◌≢◌, ◌<◌, ◌≤◌, ◌+◌, ◌⊎◌, ℕ, Bool, true, false, List, [], ◌∷◌}
+use Rattle.std.specs.Prelude.{◌++◌, length, drop, replicate, codes, slice_get, Option, Some, None}
+use Rattle.std.specs.Prelude.{Result, Ok, Err}
 use Rattle.tape_image.specs.Tape.{TapeItem, block, bad, mark}
-use Rattle.tape_blocks.specs.declared.parts.Shape.{Shape}
-use Rattle.tape_blocks.specs.declared.parts.Part.{Part}
+use Rattle.tape_blocks.specs.declared.parts.{Shape.Shape, Part.Part}
 use Rattle.tape_blocks.specs.declared.parts.Span.TheVariants.{Whole, First}
 use Rattle.tape_blocks.specs.Block.{Portion, Holds}
-use Rattle.tape_blocks.specs.Parts.{view}
-use Rattle.tape_blocks.specs.Spans.{InOrder}
+use Rattle.tape_blocks.specs.{Parts.view, Spans.InOrder, Judged.begun_behind, Packing.longest_block}
 use Rattle.tape_set.specs.declared.position.Position.{Position}
 use Rattle.tape_set.specs.declared.position.Position.TheVariants.{Awaits, Finished}
 use Rattle.tape_set.specs.Position.{start, awaiting, next_block, part_of}
 use Rattle.tape_set.specs.Layout.{FileSet, Section, section_of}
-use Rattle.tape_set.specs.Lawful.{FileForm, TellsForm}
-use Rattle.tape_set.specs.Before.{before, IsIn}
-use Rattle.tape_set.specs.Reach.{far}
-use Rattle.tape_blocks.specs.Judged.{begun_behind}
-use Rattle.tape_blocks.specs.Packing.{longest_block}
+use Rattle.tape_set.specs.{Lawful.FileForm, Lawful.TellsForm, Before.before, Before.IsIn, Reach.far}
 use Rattle.tape_core.specs.declared.event.Answer.TheVariants.{Passed, Deliver, Complete}
 use Rattle.tape_core.specs.declared.event.Phase.TheVariants.{Over, Broken, Volume, VolumeLabels}
 use Rattle.tape_core.specs.declared.event.Phase.TheVariants.{NextFile}
 use Rattle.tape_core.specs.declared.sink.SinkFault.{SinkFault}
-use Rattle.tape_core.specs.Crash.{Returns, Crashes, IsThis, OnlyThis, ThisAlone}
-use Rattle.tape_core.specs.Crash.{AddsNothing, AddsOnly, lost}
-use Rattle.tape_core.specs.Entries.{parts_from}
+use Rattle.tape_core.specs.Crash.{Returns, Crashes, IsThis, OnlyThis, ThisAlone, AddsNothing}
+use Rattle.tape_core.specs.Crash.{AddsOnly, lost}
+use Rattle.tape_core.specs.{Entries.parts_from, Place.rest_of, Place.place_of, Place.IsPlaced}
+use Rattle.tape_core.specs.{Point.Point, Point.IsPoint, Stands.Stands, Stands.weight_of}
+use Rattle.tape_core.specs.{Stands.inside_block, State.State, State.is_broken, Table.Outcome}
+use Rattle.tape_core.specs.{Table.Shows, Weight.IsFront, Weight.Rose}
 use Rattle.tape_core.specs.Foreign.{starts_set, labels_of_set, IsForeignAt, Unmoved}
-use Rattle.tape_core.specs.Follows.{IsAt, StandsAt, KnownAt, FileTells, IsFinal, Delivers}
-use Rattle.tape_core.specs.Follows.{Gives, Checked, Idle, Kept, IsReading, reading}
+use Rattle.tape_core.specs.Follows.{IsAt, StandsAt, KnownAt, FileTells, IsFinal, Delivers, Gives}
+use Rattle.tape_core.specs.Follows.{Checked, Idle, Kept, IsReading, reading}
 use Rattle.tape_core.specs.Known.{is_finished, IsFileNumber, StandFits, most_staged}
-use Rattle.tape_core.specs.Place.{rest_of, place_of, IsPlaced}
-use Rattle.tape_core.specs.Point.{Point, IsPoint}
-use Rattle.tape_core.specs.Stands.{Stands, weight_of, inside_block}
-use Rattle.tape_core.specs.State.{State, is_broken}
-use Rattle.tape_core.specs.Table.{Outcome, Shows}
 use Rattle.tape_core.specs.Walks.{GivesPart, Counts, Lends, HasGiven}
-use Rattle.tape_core.specs.Weight.{IsFront, Rose}
 
 -- ---- foreign reels
 
@@ -135,8 +126,7 @@ pub record CasesOfPlaces : Type 0 where
   pub broken_is_nowhere : (set : FileSet) (core : State) → core.phase ≡ Broken → IsAt set core → ⊥
   -- the same for a checkpoint with parts
   pub stands : (set : FileSet) (file : ℕ) (point : Point) (parts : List Portion)
-      → Stands set file point parts
-      → (point.set_id ≡ set.set_id) × (point.file ≡ file)
+      → Stands set file point parts → (point.set_id ≡ set.set_id) × (point.file ≡ file)
       × StandsAt set file point.position point.begun point.known
       × (parts ≡ before set file point.position) × (point.staged ≡ weight_of parts)
   pub stands_by : (set : FileSet) (file : ℕ) (point : Point) (parts : List Portion)
@@ -158,8 +148,7 @@ pub record CasesOfPlaces : Type 0 where
       × ((inside_block point (awaiting 2 1) 3 true 20).staged ≡ 20)
   pub told_rests : (point : Point) → rest_of (place_of point) ≡ place_of point
   pub told_stands : (set : FileSet) (point : Point) → point.set_id ≡ set.set_id
-      → StandsAt set point.file point.position point.begun point.known
-      → IsAt set (place_of point)
+      → StandsAt set point.file point.position point.begun point.known → IsAt set (place_of point)
   pub broken_stays : (core : State) → core.phase ≡ Broken → (rest_of core).phase ≡ Broken
   pub read_is_over : (core : State) → core.phase ≡ Volume → (rest_of core).phase ≡ Over
   pub all_stays : (core : State) → ((rest_of core).set_id ≡ core.set_id)
@@ -192,8 +181,7 @@ pub record CasesOfSteps : Type 0 where
       × (slice_get d.section.blocks d.place ≡ Some d.filled) × (item ≡ block d.filled.bytes)
   pub delivered_parts : (set : FileSet) (item : TapeItem) (old new : State)
       (d : Delivers set item old new)
-      → (new.position ≡ awaiting d.sect (d.place + 1))
-      × (before set new.file new.position
+      → (new.position ≡ awaiting d.sect (d.place + 1)) × (before set new.file new.position
       ≡ before set old.file old.position ++ drop d.part d.filled.parts)
   pub delivered_form : (set : FileSet) (item : TapeItem) (old new : State)
       (d : Delivers set item old new)
@@ -295,11 +283,9 @@ pub record CasesOfSinks : Type 0 where
   pub this : (point other : Point) (parts more : List Portion) → IsThis point parts other more
       → (other ≡ point) × (more ≡ parts)
   pub only_this : (point other : Point) (parts more : List Portion)
-      → OnlyThis point parts (λ c ps. (c ≡ other) × (ps ≡ more))
-      → (other ≡ point) × (more ≡ parts)
+      → OnlyThis point parts (λ c ps. (c ≡ other) × (ps ≡ more)) → (other ≡ point) × (more ≡ parts)
   pub this_alone : (point : Point) (parts : List Portion) (s : Comes)
-      → ThisAlone point parts (coming s)
-      → (s.back ≡ parts) × (s.back_since s.moment ≡ parts)
+      → ThisAlone point parts (coming s) → (s.back ≡ parts) × (s.back_since s.moment ≡ parts)
   -- for a call that adds nothing, and for a call that adds the given contents: now, and at each
   -- moment since
   pub adds_nothing : (old new : Comes) → AddsNothing (coming old) (coming new)

@@ -3,9 +3,7 @@ use Rattle.std.specs.Prelude.{◌≡◌, ◌≤◌, ℕ, ◌+◌, List, [], ◌�
 use Rattle.std.specs.Prelude.{None}
 use Rattle.std.proofs.Props.{props}
 use Rattle.tape_blocks.specs.declared.parts.Part.{Part}
-use Rattle.tape_blocks.specs.Parts.{view}
-use Rattle.tape_blocks.specs.Block.{Portion}
-use Rattle.tape_blocks.specs.Packing.{longest_block}
+use Rattle.tape_blocks.specs.{Parts.view, Block.Portion, Packing.longest_block}
 use Rattle.tape_core.specs.declared.event.Entry.{Entry}
 
 -- the part of an entry whose bytes begin at the offset `start`

@@ -1,8 +1,7 @@
 -- The fixed numbers of the faults.
 use Rattle.std.specs.Prelude.{ℕ}
-use Rattle.tape_core.specs.declared.event.CoreFault.{CoreFault}
+use Rattle.tape_core.specs.declared.{event.CoreFault.CoreFault, sink.SinkFault.SinkFault}
 use Rattle.tape_core.specs.declared.event.CoreFault.TheVariants.{FileNumber, OtherFile}
-use Rattle.tape_core.specs.declared.sink.SinkFault.{SinkFault}
 use Rattle.tape_core.specs.declared.sink.SinkFault.TheVariants.{OutOfMemory, Device, Full, Failed}
 
 abbrev pub number : CoreFault → ℕ

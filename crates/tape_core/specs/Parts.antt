@@ -6,10 +6,7 @@ use Rattle.tape_label.specs.declared.values.Format.{Format}
 use Rattle.tape_label.specs.declared.values.Format.TheVariants.{Fixed, Counted, Spanned}
 use Rattle.tape_blocks.specs.declared.parts.Span.{Span}
 use Rattle.tape_blocks.specs.Block.{Portion, span_by}
-use Rattle.tape_blocks.specs.Spans.{continues}
-use Rattle.tape_blocks.specs.Faults.{bool_eq}
-use Rattle.tape_blocks.specs.Judged.{begun_behind}
-use Rattle.tape_blocks.specs.Parts.{parts_of}
+use Rattle.tape_blocks.specs.{Spans.continues, Faults.bool_eq, Judged.begun_behind, Parts.parts_of}
 use Rattle.tape_set.specs.Lawful.{FileForm}
 
 -- whether a unit with the given indicator continues a record

@@ -1,13 +1,10 @@
 -- The state of a reader between two reels, and the parts before its position.
 use Rattle.std.specs.Prelude.{◌≡◌, List}
 use Rattle.tape_blocks.specs.Block.{Portion}
-use Rattle.tape_set.specs.Layout.{FileSet}
-use Rattle.tape_set.specs.Before.{before}
+use Rattle.tape_set.specs.{Layout.FileSet, Before.before}
 use Rattle.tape_core.specs.declared.event.Phase.{Phase}
 use Rattle.tape_core.specs.declared.event.Phase.TheVariants.{Over, Broken}
-use Rattle.tape_core.specs.State.{State}
-use Rattle.tape_core.specs.Point.{Point}
-use Rattle.tape_core.specs.Follows.{IsAt}
+use Rattle.tape_core.specs.{State.State, Point.Point, Follows.IsAt}
 
 -- the phase between two reels, which says only whether the reader is broken
 abbrev pub resting : Phase → Phase
@@ -26,8 +23,7 @@ place_of c =
       file = c.file;
       position = c.position;
       begun = c.begun;
-      known =
-          c.known;
+      known = c.known;
       phase = Over;
     }
 

@@ -5,10 +5,8 @@ use Rattle.tape_label.specs.declared.values.Format.TheVariants.{Fixed, Counted, 
 use Rattle.tape_blocks.specs.Packing.{longest_block}
 use Rattle.tape_set.specs.declared.position.Position.{Position}
 use Rattle.tape_set.specs.declared.position.Position.TheVariants.{Awaits, Finished}
-use Rattle.tape_set.specs.Position.{is_start}
-use Rattle.tape_set.specs.Lawful.{FileForm, most_blocks}
-use Rattle.tape_core.specs.Known.{may_span, is_finished, most_staged}
-use Rattle.tape_core.specs.Point.{Point}
+use Rattle.tape_set.specs.{Position.is_start, Lawful.FileForm, Lawful.most_blocks}
+use Rattle.tape_core.specs.{Known.may_span, Known.is_finished, Known.most_staged, Point.Point}
 
 -- records of format F have a length from 1 to 99,999; in the other formats the length is 0
 abbrev pub length_in_range : Format → ℕ → Bool

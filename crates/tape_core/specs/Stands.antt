@@ -2,12 +2,8 @@
 use Rattle.std.specs.Prelude.{◌≡◌, ℕ, ◌+◌, ◌&&◌, Bool, List, [], ◌∷◌, length}
 use Rattle.tape_blocks.specs.Block.{Portion}
 use Rattle.tape_set.specs.declared.position.Position.{Position}
-use Rattle.tape_set.specs.Position.{at_part}
-use Rattle.tape_set.specs.Layout.{FileSet}
-use Rattle.tape_set.specs.Before.{before}
-use Rattle.tape_core.specs.Known.{may_span}
-use Rattle.tape_core.specs.Point.{Point}
-use Rattle.tape_core.specs.Follows.{StandsAt}
+use Rattle.tape_set.specs.{Position.at_part, Layout.FileSet, Before.before}
+use Rattle.tape_core.specs.{Known.may_span, Point.Point, Follows.StandsAt}
 
 -- the weight of parts: 5 for each part and 1 for each of its bytes
 abbrev pub weight_of : List Portion → ℕ
@@ -29,6 +25,5 @@ inside_block point p part begun staged =
     record point {
       position = at_part part p;
       begun = begun && may_span point.known;
-      staged =
-          staged;
+      staged = staged;
     }

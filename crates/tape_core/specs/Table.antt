@@ -3,45 +3,34 @@ use Rattle.std.specs.Prelude.{◌≡◌, ℕ, ◌+◌, ◌==◌, nat_lt, ◌&&�
 use Rattle.std.specs.Prelude.{if◌then◌else◌, List, Option, Some, None, Result, Ok, Err}
 use Rattle.std.specs.Str.{bytes_eq}
 use Rattle.tape_image.specs.Tape.{TapeItem, block, bad, mark}
+use Rattle.tape_label.specs.declared.values.{Kind.Kind, Head1.Head1, Head2.Head2, Trail1.Trail1}
 use Rattle.tape_label.specs.declared.label.LabelFault.{LabelFault}
 use Rattle.tape_label.specs.declared.label.LabelFault.TheVariants as faults
-use Rattle.tape_label.specs.declared.values.Kind.{Kind}
 use Rattle.tape_label.specs.declared.values.Kind.TheVariants as kinds
-use Rattle.tape_label.specs.declared.values.Head1.{Head1}
-use Rattle.tape_label.specs.declared.values.Head2.{Head2}
-use Rattle.tape_label.specs.declared.values.Trail1.{Trail1}
-use Rattle.tape_label.specs.Kinds.{kind_at}
+use Rattle.tape_label.specs.{Kinds.kind_at, VolumeLabels.is_volume_label}
 use Rattle.tape_label.specs.Reading.{head1_at, head2_at, trail1_at}
-use Rattle.tape_blocks.specs.declared.check.BlockFault.{BlockFault}
-use Rattle.tape_blocks.specs.declared.parts.Shape.{Shape}
+use Rattle.tape_blocks.specs.declared.{check.BlockFault.BlockFault, parts.Shape.Shape}
 use Rattle.tape_blocks.specs.Judged.{judged}
 use Rattle.tape_set.specs.declared.position.Position.{Position}
 use Rattle.tape_set.specs.declared.position.Position.TheVariants.{Awaits, Finished}
 use Rattle.tape_set.specs.Position.{start, next_block, next_section, sect_of, block_of, part_of}
 use Rattle.tape_set.specs.Lawful.{FileForm, label_count, most_blocks}
-use Rattle.tape_core.specs.declared.event.Answer.{Answer}
+use Rattle.tape_core.specs.declared.event.{Answer.Answer, Reason.Reason, Heading.Heading}
+use Rattle.tape_core.specs.declared.event.{Phase.Phase, CoreFault.CoreFault}
+use Rattle.tape_core.specs.declared.event.CoreFault.TheVariants.{OtherFile}
 use Rattle.tape_core.specs.declared.event.Answer.TheVariants.{Passed, Deliver, SectionDone}
 use Rattle.tape_core.specs.declared.event.Answer.TheVariants.{Complete, Useless}
-use Rattle.tape_core.specs.declared.event.Reason.{Reason}
 use Rattle.tape_core.specs.declared.event.Reason.TheVariants as reasons
 use Rattle.tape_core.specs.declared.event.Reason.TheVariants.{NotLabelled, OtherSet, NotOnReel}
-use Rattle.tape_core.specs.declared.event.Reason.TheVariants.{LaterSection, EarlierSection}
-use Rattle.tape_core.specs.declared.event.Reason.TheVariants.{BadItem, ReelEnded, BadBlock}
-use Rattle.tape_core.specs.declared.event.Reason.TheVariants.{BlockCount, SpanLeft, SectionDiffers}
-use Rattle.tape_core.specs.declared.event.Reason.TheVariants.{BadLabel}
-use Rattle.tape_core.specs.declared.event.Heading.{Heading}
-use Rattle.tape_core.specs.declared.event.Phase.{Phase}
+use Rattle.tape_core.specs.declared.event.Reason.TheVariants.{LaterSection, EarlierSection, BadItem}
+use Rattle.tape_core.specs.declared.event.Reason.TheVariants.{ReelEnded, BadBlock, BlockCount}
+use Rattle.tape_core.specs.declared.event.Reason.TheVariants.{SpanLeft, SectionDiffers, BadLabel}
 use Rattle.tape_core.specs.declared.event.Phase.TheVariants.{Over, Broken, Volume, VolumeLabels}
 use Rattle.tape_core.specs.declared.event.Phase.TheVariants.{Header2, Headers, DataPassed}
 use Rattle.tape_core.specs.declared.event.Phase.TheVariants.{DataWanted, TrailerPassed}
 use Rattle.tape_core.specs.declared.event.Phase.TheVariants.{TrailerWanted, Trailers, NextFile}
-use Rattle.tape_label.specs.VolumeLabels.{is_volume_label}
 use Rattle.tape_core.specs.Labels.{not_of_kind, heading_of, form_at, other_file_id, other_shape}
-use Rattle.tape_core.specs.declared.event.CoreFault.{CoreFault}
-use Rattle.tape_core.specs.declared.event.CoreFault.TheVariants.{OtherFile}
-use Rattle.tape_core.specs.Parts.{begun_before, other_front}
-use Rattle.tape_core.specs.Point.{Point}
-use Rattle.tape_core.specs.State.{State}
+use Rattle.tape_core.specs.{Parts.begun_before, Parts.other_front, Point.Point, State.State}
 
 -- ---- answers
 

@@ -2,11 +2,8 @@
 use Rattle.std.specs.Prelude.{◌≡◌, ℕ, ◌<◌, ◌≤◌, length, List, [], ◌∷◌, Option, Some, None, Result}
 use Rattle.std.specs.Prelude.{Ok, Err, IfErr}
 use Rattle.tape_blocks.specs.declared.parts.Part.{Part}
-use Rattle.tape_blocks.specs.Block.{Portion}
-use Rattle.tape_blocks.specs.Parts.{view}
-use Rattle.tape_blocks.specs.Packing.{longest_block}
-use Rattle.tape_core.specs.Crash.{AddsNothing, Crashes}
-use Rattle.tape_core.specs.Weight.{Rose}
+use Rattle.tape_blocks.specs.{Block.Portion, Parts.view, Packing.longest_block}
+use Rattle.tape_core.specs.{Crash.AddsNothing, Crash.Crashes, Weight.Rose}
 use Rattle.tape_core.specs.declared.sink.SinkFault.{SinkFault}
 
 -- the parts that were to come, by the answer: no parts; the part returned, followed by those still

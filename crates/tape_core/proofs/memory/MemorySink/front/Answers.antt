@@ -1,7 +1,5 @@
 use Rattle.std.proofs.Common.{◌≡◌, ◌<◌, ◌-◌, suc, take, subst, arith}
-use Rattle.tape_core.specs.Stands.{weight_of}
-use Rattle.tape_core.specs.Weight.{IsFront}
-use Rattle.tape_core.specs.Memory.{portions}
+use Rattle.tape_core.specs.{Stands.weight_of, Weight.IsFront, Memory.portions}
 use Rattle.tape_core.proofs.Weights.{front_of_less, front_of_all, front_has_parts}
 use Rattle.tape_core.proofs.memory.MemorySink.front.Goals as goal
 

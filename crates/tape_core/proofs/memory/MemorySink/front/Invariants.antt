@@ -1,8 +1,6 @@
 use Rattle.std.proofs.Common.{◌≡◌, ◌≤◌, List, length, take}
 use Rattle.tape_blocks.specs.Block.{Portion}
-use Rattle.tape_core.specs.Stands.{weight_of}
-use Rattle.tape_core.specs.Weight.{IsFront}
-use Rattle.tape_core.specs.Memory.{portions}
+use Rattle.tape_core.specs.{Stands.weight_of, Weight.IsFront, Memory.portions}
 use Rattle.tape_core.proofs.memory.MemorySink.front.Given as goal
 
 -- any prefix with the requested weight is a prefix of the parts up to here

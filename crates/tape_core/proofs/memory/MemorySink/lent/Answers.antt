@@ -1,18 +1,14 @@
 use Rattle.std.proofs.Common.{◌≡◌, ◌<◌, ◌≤◌, ℕ, Some, length, take, slice_index_or, refl, sym, ap}
-use Rattle.std.proofs.Common.{◌∙◌, arith}
-use Rattle.std.specs.Prelude.{slice_get, slice_range}
+use Rattle.std.proofs.Common.{◌∙◌, arith, slice_get, slice_range}
 use Rattle.std.proofs.lemmas.Option.{slice_get_read}
 use Rattle.tape_core.proofs.Laid.{parts_length, parts_get, laid_get, LiesBetween, range_length}
-use Rattle.tape_core.specs.declared.memory.MemorySink.{MemorySink}
-use Rattle.tape_core.specs.declared.event.Entry.{Entry}
-use Rattle.tape_core.specs.Entries.{end_from}
-use Rattle.tape_core.specs.Memory.{portions}
+use Rattle.tape_core.specs.declared.{memory.MemorySink.MemorySink, event.Entry.Entry}
+use Rattle.tape_core.specs.{Entries.end_from, Memory.portions}
 use Rattle.tape_core.proofs.memory.MemorySink.lent.Goals as goal
 
 -- the range of the part's bytes, from the entry that was read
 lies : (sink : MemorySink) (n : ℕ) (e : Entry) → n < length (portions sink)
-    → e ≡ slice_index_or sink.entries.items n e
-    → (slice_get sink.entries.items n ≡ Some e)
+    → e ≡ slice_index_or sink.entries.items n e → (slice_get sink.entries.items n ≡ Some e)
     × LiesBetween (end_from 0 (take n sink.entries.items)) e (length sink.bytes.items)
 lies sink n e within is =
     let es = sink.entries.items in

@@ -1,8 +1,6 @@
 use Rattle.std.proofs.Common.{◌≡◌, ◌≤◌, ◌+◌, ◌*◌, ℕ, length, take, arith}
 use Rattle.tape_core.specs.declared.memory.MemorySink.{MemorySink}
-use Rattle.tape_core.specs.Entries.{end_from}
-use Rattle.tape_core.specs.Known.{most_staged}
-use Rattle.tape_core.specs.Memory.{portions}
+use Rattle.tape_core.specs.{Entries.end_from, Known.most_staged, Memory.portions}
 use Rattle.tape_core.proofs.Laid.{parts_length, weight_front, end_front}
 use Rattle.tape_core.proofs.memory.MemorySink.weight_to.Goals as goal
 

@@ -1,8 +1,7 @@
 use Rattle.std.proofs.Common.{◌+◌, drop, refl, ◌∙◌, arith}
 use Rattle.tape_blocks.specs.Parts.{view}
 use Rattle.tape_core.specs.Memory.{portions}
-use Rattle.tape_core.proofs.Crashes.{only_same}
-use Rattle.tape_core.proofs.Laid.{drop_get}
+use Rattle.tape_core.proofs.{Crashes.only_same, Laid.drop_get}
 use Rattle.tape_core.proofs.memory.MemorySinkPartWalk.next_part.Goals as goal
 
 pub returns : goal.returns

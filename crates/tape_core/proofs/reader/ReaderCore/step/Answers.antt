@@ -1,10 +1,7 @@
 -- The table preserves the relation between the state and the reading.
 use Rattle.tape_core.specs.Arrive.{arrival}
-use Rattle.tape_core.proofs.Steps.{step_reads}
-use Rattle.tape_core.proofs.IdleSteps.{idle_reads}
-use Rattle.tape_core.proofs.ForeignLaws.{foreign_step}
-use Rattle.tape_core.proofs.OneFile.{step_set_id, step_file}
-use Rattle.tape_core.proofs.Standing.{reel_left}
+use Rattle.tape_core.proofs.{Steps.step_reads, IdleSteps.idle_reads, ForeignLaws.foreign_step}
+use Rattle.tape_core.proofs.{OneFile.step_set_id, OneFile.step_file, Standing.reel_left}
 use Rattle.tape_core.proofs.reader.ReaderCore.step.Goals as goal
 
 pub returns-clause-item : goal.returns-clause-item

@@ -2,17 +2,12 @@ use Rattle.std.proofs.Common.{◌≡◌, ◌≤◌, ◌++◌, ◌∷◌, [], ℕ
 use Rattle.std.proofs.Common.{subst, Ok, arith, length-append}
 use Rattle.std.proofs.lemmas.List.{append-nil, length-map, map-append}
 use Rattle.std.specs.Iterator.{YieldsFirstBy, Yields}
-use Rattle.tape_label.specs.declared.values.Format.{Format}
-use Rattle.tape_label.specs.declared.values.Format.TheVariants.{Fixed}
+use Rattle.tape_label.specs.declared.values.{Format.Format, Format.TheVariants.Fixed}
 use Rattle.tape_set.specs.Lawful.{FileForm}
-use Rattle.tape_blocks.specs.declared.parts.Part.{Part}
-use Rattle.tape_blocks.specs.declared.parts.Parts.{Parts}
-use Rattle.tape_blocks.specs.Block.{Portion, Holds}
-use Rattle.tape_blocks.specs.Judged.{judged, begun_behind}
-use Rattle.tape_blocks.specs.Parts.{view}
-use Rattle.tape_blocks.specs.PartsLeft.{parts_left}
-use Rattle.tape_blocks.proofs.JudgedLaws.{judged_found}
-use Rattle.tape_blocks.proofs.YieldLaws.{yielded_parts}
+use Rattle.tape_blocks.specs.declared.parts.{Part.Part, Parts.Parts}
+use Rattle.tape_blocks.specs.{Block.Portion, Block.Holds, Judged.judged, Judged.begun_behind}
+use Rattle.tape_blocks.specs.{Parts.view, PartsLeft.parts_left}
+use Rattle.tape_blocks.proofs.{JudgedLaws.judged_found, YieldLaws.yielded_parts}
 use Rattle.tape_core.specs.Parts.{parts_in, goes_on_at}
 use Rattle.tape_core.proofs.BlockLaws.{parts_in_it}
 use Rattle.tape_core.proofs.StateLaws.{one_more, front_at, front_short}

@@ -1,7 +1,5 @@
-use Rattle.std.proofs.Common.{◌≡◌, ◌+◌, length}
-use Rattle.std.specs.Prelude.{map}
-use Rattle.tape_blocks.specs.Parts.{view}
-use Rattle.tape_blocks.specs.Judged.{begun_behind}
+use Rattle.std.proofs.Common.{◌≡◌, ◌+◌, length, map}
+use Rattle.tape_blocks.specs.{Parts.view, Judged.begun_behind}
 use Rattle.tape_core.specs.Parts.{goes_on_at}
 use Rattle.tape_core.proofs.reader.arrivals.other_front.Given as goal
 
