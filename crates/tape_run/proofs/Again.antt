@@ -18,7 +18,7 @@ use Rattle.tape_run.specs.Rounds.{FollowsRounds, TakesRounds, StopsInRound}
 use Rattle.tape_run.specs.Extracting.{EndsFile, StopsAtEnd}
 use Rattle.tape_run.specs.ExtractingAgain.{ExtractsAgain, StopsAgain}
 use Rattle.tape_image.proofs.Pieces.{front_more, front_behind}
-use Rattle.tape_run.proofs.Extracted.{ended, tells_then}
+use Rattle.tape_run.proofs.Extracted.{ended, told_then, tells_then}
 use Rattle.tape_run.proofs.Lasting.{last_then, stood_walked}
 use Rattle.tape_run.proofs.Left.{left_walked, left_behind}
 use Rattle.tape_run.proofs.StoppedThere.{stopped_walked}
@@ -98,8 +98,8 @@ stops_in_round {S} {L} {R} {W} gs size gives remaining old new
     shelf left form contents out said says back fault same stopped =
     let s = subst (λ b. StopsInRound gs (size shelf) gives remaining b
     old new shelf left said says fault) same stopped in
-    let lines = front_of_all said s.told says (turns_of s.rounds) s.last.turns s.last.more
-    s.gone.lines s.last.lines in
+    let lines = front_of_all said s.told says (turns_of s.rounds) s.last.turns s.gone.lines
+    s.last.lines in
     record {
       rounds = s.rounds;
       between = s.between;
@@ -108,13 +108,12 @@ stops_in_round {S} {L} {R} {W} gs size gives remaining old new
       turns = s.last.turns;
       image = s.last.image;
       are_turns = s.last.are_turns;
-      more = s.last.more;
-      few = s.last.few;
-      silent = s.last.silent;
-      most = omega (arith, s.last.fewer, s.last.few);
+      most = s.last.most;
       want = None;
       records = 0;
       lines = front_more said says _ (last_line None 0) lines;
+      told = λ other. lines_of_all said s.told says (turns_of s.rounds) s.last.turns s.gone.lines
+          (s.last.told other);
       follows = λ held was kept.
           let (mid, has, (still, f, before)) = s.gone.follows held was kept in
           let (core, now, one, leaves, stopped) = s.last.follows mid has still in (
@@ -141,7 +140,7 @@ pub stops_at_end_again : {S L R W : Type 0} (gs : Ghosts S)
     → TakesRounds gs (size shelf) gives remaining back old new shelf
     left said between
     → IsWalked gs new end
-    → StopsAtEnd gs new form contents out written between says
+    → StopsAtEnd gs new form contents out written between says fault
     → StopsAgain gs size gives remaining old end shelf left form
     contents out written said says fault
 stops_at_end_again {S} {L} {R} {W} gs size gives remaining old new
@@ -149,10 +148,8 @@ stops_at_end_again {S} {L} {R} {W} gs size gives remaining old new
     let t = subst (λ b. TakesRounds gs (size shelf) gives remaining b
     old new shelf left
     said between) same took in
-    let lines = subst (λ l. Appends said between (reel_lines 1 l))
-    (sym (append-nil (map answer_of (turns_of t.rounds ++ t.last.turns))))
-    (lines_of_all said t.told between (turns_of t.rounds) t.last.turns t.gone.lines
-    t.last.lines) in
+    let lines = lines_of_all said t.told between (turns_of t.rounds) t.last.turns t.gone.lines
+    t.last.lines in
     record {
       rounds = t.rounds;
       between = t.between;
@@ -161,13 +158,11 @@ stops_at_end_again {S} {L} {R} {W} gs size gives remaining old new
       turns = t.last.turns;
       image = None;
       are_turns = (left, t.last.are_turns, inl (refl, refl));
-      more = [];
-      few = omega arith;
-      silent = λ other. refl;
-      most = omega (arith, t.last.most);
+      most = t.last.most;
       want = e.want;
       records = e.records;
       lines = front_behind said between says _ (last_line e.want e.records) lines e.line;
+      told = λ other. told_then said between says _ lines (e.told other);
       follows = λ held was kept.
           let (mid, has, (still, f, before)) = t.gone.follows held was kept in
           let (now, has_now, (then, one, last)) = t.last.follows mid has still in (
@@ -183,8 +178,7 @@ stops_at_end_again {S} {L} {R} {W} gs size gives remaining old new
               left_walked gs back old new end held now
                   (last_then gs old t.mid new held mid now before last) walked
                   has_now,
-              stopped_walked gs remaining (goes_back old.notes) true new end now fault has_now
-                  walked,
+              stopped_walked gs remaining (goes_back old.notes) new end now fault has_now walked,
             ),
             tells_then said between says _ e.want e.records (seen gs new now) lines
                 (e.tells now has_now),

@@ -83,22 +83,16 @@ first_turn a b c t left (mid, (i, x, (at, then), first, same), inr (is, last)) =
   inr (last ∙ ap (λ l. set l 1 None) (same ∙ then)),
 )
 
-stopped_in_reel : (bytes : List ℕ) (core next : State) (old new : Seen)
-    → StopsAt (λ (r : Known). r) false false core old (Some (Some bytes)) (Run OutOfMemory) next new
+stopped_in_reel : (bytes : List ℕ) (old new : Seen)
+    → StopsAt (λ (r : Known). r) false old (Some (Some bytes)) (Run OutOfMemory) new
     → new.notes ≡ old.notes
-stopped_in_reel bytes core next old new (inl same) = ap (λ (s : Seen). s.notes) same
-stopped_in_reel bytes core next old new (inr (left, answer, mid, r, n)) =
+stopped_in_reel bytes old new (inl same) = ap (λ (s : Seen). s.notes) same
+stopped_in_reel bytes old new (inr (left, answer, mid, r, n)) =
     ap (λ (s : Seen). s.notes) (by (counts_differ answer.answer) n) ∙ r.notes
   where
     by : (doubtful : Bool) → NotNoted false doubtful OutOfMemory mid new → new ≡ mid
     by false same = same
     by true none = absurd none
-
-stopped_behind : (bytes : List ℕ) (core next : State) (old new : Seen)
-    → StopsAt (λ (r : Known). r) false false core old (Some (Some bytes)) WriteFailed next new
-    → (o : Opened) × (o.had ≡ Some bytes) × Follows false false core old (Some o ∷ []) next new
-stopped_behind bytes core next old new (None, is, follows) = absurd is
-stopped_behind bytes core next old new (Some o, is, follows) = (o, is.0, follows)
 
 pub cases_of_turns : CasesOfTurns
 cases_of_turns = record {
@@ -128,7 +122,7 @@ cases_of_turns = record {
   no_point = λ old new c one n. omega (arith, n.0, ap length one);
   not_asked = λ fault old new n. n;
   stopped_in_reel = stopped_in_reel;
-  stopped_behind = stopped_behind;
+  stopped_behind = λ bytes old new none. none;
   steps_behind = (refl, refl, refl, refl, refl);
   counted = (refl, refl, refl);
   steps = λ o p. refl;
@@ -187,7 +181,7 @@ last_line_of : (session behind : Listed) (shelf left : Readers) (form : Form)
     (out now said says : Known) → session.notes ≡ []
     → (s : StopsListed session behind shelf left form out now said says)
     → (p : Seen) × TellsEnd (AppendsFront said says
-    (reel_lines 1 (map answer_of s.turns ++ s.more))) s.want s.records p
+    (reel_lines 1 (map answer_of s.turns))) s.want s.records p
     × ((now ≡ out) ⊎ (p.place.position ≡ Finished))
 last_line_of session behind shelf left form out now said says none s =
     let (last, seen, follows, stood, tells, wrote) =
@@ -197,7 +191,7 @@ last_line_of session behind shelf left form out now said says none s =
 last_line_of_now : (session : Listed) (shelf left : Readers) (form : Form)
     (out now said says : Known) (s : StopsListedNow session shelf left form out now said says)
     → (p : Seen) × TellsEnd (AppendsFront said says
-    (reel_lines 1 (map answer_of s.turns ++ s.more))) s.want s.records p
+    (reel_lines 1 (map answer_of s.turns))) s.want s.records p
     × ((now ≡ out) ⊎ (p.place.position ≡ Finished))
 last_line_of_now session shelf left form out now said says s =
     let (last, seen, follows, stood, tells, wrote) = s.follows session.sink refl in
@@ -206,7 +200,7 @@ last_line_of_now session shelf left form out now said says s =
 complete_is_named : (session : Listed) (shelf left : Readers) (form : Form)
     (out now said says : Known) (s : StopsListedNow session shelf left form out now said says)
     → s.want ≡ None → (AppendsFront said says
-    (reel_lines 1 (map answer_of s.turns ++ s.more)) → ⊥)
+    (reel_lines 1 (map answer_of s.turns)) → ⊥)
     → (p : Seen) × (now ≡ Some (output_of form p.parts))
 complete_is_named session shelf left form out now said says s none more =
     let (last, seen, follows, stood, tells, wrote) = s.follows session.sink refl in elim wrote [
@@ -252,8 +246,8 @@ cases_of_outputs = record {
   lines_now = λ session shelf left form stands said says want e. (e.lines, e.are_turns);
   ends_as_told = λ session shelf left form stands said says want e.
       let (ends, stood) = e.ends session.sink refl in ends;
-  one_line_more = λ session behind shelf left form out now said says s. (s.few, s.lines);
-  one_line_more_now = λ session shelf left form out now said says s. (s.few, s.lines);
+  only_turns_told = λ session behind shelf left form out now said says s. s.lines;
+  only_turns_told_now = λ session shelf left form out now said says s. s.lines;
   stopped_there = λ s behind now fault stopped.
       stopped.1 (λ lost. let e = lost.0 in absurd (cc e)) ∙ stopped.2.parts;
   stopped_turns = λ session behind shelf left form out now said says s. (s.most, s.are_turns);

@@ -58,7 +58,7 @@ cases_of_rounds = record {
       (e.lines, e.are_rounds, e.are_turns, e.brought);
   again_left = λ session behind shelf left form out now said says want e. (e.most, e.all, e.enough);
   again_stopped = λ session behind shelf left form out now said says s.
-      (s.few, s.most, s.are_rounds, s.are_turns, s.brought, s.lines);
+      (s.most, s.are_rounds, s.are_turns, s.brought, s.lines);
   again_output = λ session behind shelf left form out now said says s kept.
       let (last, now, goes, stood, tells, wrote) = s.follows session.sink refl kept in
       (last, now, goes, tells, wrote);

@@ -1,5 +1,5 @@
 -- The result if all images were read, or if a fault ended the run.
-use Rattle.std.proofs.Common.{◌≡◌, Bool, ℕ, ◌⊎◌, List, [], map, Option, arith, append-nil}
+use Rattle.std.proofs.Common.{◌≡◌, ◌≢◌, Bool, ℕ, ◌⊎◌, List, [], map, Option, append-nil}
 use Rattle.std.proofs.Common.{None, refl, sym, ap, subst, ◌∙◌, inl, inr, false}
 use Rattle.std.specs.Io.KnownBytes.{Appends}
 use Rattle.std.proofs.KnownBytes.{Appends-trans, Appends-nil}
@@ -21,6 +21,7 @@ use Rattle.tape_run.specs.ReelLine.{reel_lines, last_line}
 use Rattle.tape_run.specs.Reeling.{Turn, answer_of, TakesAll, Follows, goes_back}
 use Rattle.tape_run.specs.Stopping.{StopsReading}
 use Rattle.tape_run.specs.declared.fault.EngineFault.{EngineFault}
+use Rattle.tape_run.specs.declared.fault.EngineFault.TheVariants.{WriteFailed}
 use Rattle.tape_run.specs.Reeling.{Mounting}
 use Rattle.tape_run.specs.Extracting.{Ends, Extracts, Stops, EndsFile, StopsAtEnd, TellsEnd}
 use Rattle.tape_image.proofs.Pieces.{front_more, front_behind}
@@ -96,13 +97,11 @@ stops_reading {S} {L} {R} {W} gs size gives remaining old new shelf
       turns = s.turns;
       image = s.image;
       are_turns = s.are_turns;
-      more = s.more;
-      few = s.few;
-      silent = s.silent;
-      most = omega (arith, s.fewer, s.few);
+      most = s.most;
       want = None;
       records = 0;
       lines = front_more said says _ (last_line None 0) s.lines;
+      told = s.told;
       follows = λ held was kept.
           let (core, now, f, leaves, stopped) = s.follows held was kept in
           (core, now, f, (leaves, stopped), inl s.lines, inl refl);
@@ -113,6 +112,12 @@ pub less_then : (said between says : Option (List ℕ)) (lines : List ℕ) → A
     → AppendsFront between says [] → AppendsFront said says lines
 less_then said between says lines before none = subst (AppendsFront said says) (append-nil lines)
     (front_behind said between says lines [] before none)
+
+-- after the lines of all images, nothing more
+pub told_then : (said between says : Option (List ℕ)) (lines : List ℕ) → Appends said between lines
+    → says ≡ between → Appends said says lines
+told_then said between says lines before same =
+    subst (λ z. Appends said z lines) (sym same) before
 
 -- after the lines of all images
 pub tells_then : (said between says : Option (List ℕ)) (lines : List ℕ) (want : Option Want)
@@ -132,26 +137,22 @@ pub stops_at_end : {S L R W : Type 0} (gs : Ghosts S)
     → TakesAll gs (size shelf) 0 gives remaining back false old mid shelf
     left said between
     → IsWalked gs mid new
-    → StopsAtEnd gs mid form contents out written between says
+    → StopsAtEnd gs mid form contents out written between says fault
     → Stops gs size gives remaining old new shelf left form contents
     out written said says fault
 stops_at_end {S} {L} {R} {W} gs size gives remaining old mid new
     shelf left form contents out written said between says back fault same took walked e =
     let t = subst (λ b. TakesAll gs (size shelf) 0 gives remaining b false
     old mid shelf left said between) same took in
-    let lines = subst (λ l. Appends said between (reel_lines 1 l))
-    (sym (append-nil (map answer_of t.turns))) t.lines in
     record {
       turns = t.turns;
       image = None;
       are_turns = (left, t.are_turns, inl (refl, refl));
-      more = [];
-      few = omega arith;
-      silent = λ other. refl;
-      most = omega (arith, t.most);
+      most = t.most;
       want = e.want;
       records = e.records;
-      lines = front_behind said between says _ (last_line e.want e.records) lines e.line;
+      lines = front_behind said between says _ (last_line e.want e.records) t.lines e.line;
+      told = λ other. told_then said between says _ t.lines (e.told other);
       follows = λ held was kept.
           let (now, has, (still, f, last)) = t.follows held was kept in (
             mid.core,
@@ -159,9 +160,9 @@ stops_at_end {S} {L} {R} {W} gs size gives remaining old mid new
             f,
             (
               left_walked gs back old mid new held now last walked has,
-              stopped_walked gs remaining (goes_back old.notes) false mid new now fault has walked,
+              stopped_walked gs remaining (goes_back old.notes) mid new now fault has walked,
             ),
-            tells_then said between says _ e.want e.records (seen gs mid now) lines
+            tells_then said between says _ e.want e.records (seen gs mid now) t.lines
                 (e.tells now has),
             e.is_written now has,
           );
@@ -170,14 +171,22 @@ stops_at_end {S} {L} {R} {W} gs size gives remaining old mid new
 -- the last line, or the output, was only partly written
 pub ends_in_part : {S W : Type 0} (g : Ghosts S) (session : SessionState S)
     (form : Form) (contents : W → Option (List ℕ)) (out written : W)
-    (said says : Option (List ℕ)) (want : Option Want) (records : ℕ)
+    (said says : Option (List ℕ)) (want : Option Want) (records : ℕ) (fault : EngineFault)
     → AppendsFront said says (last_line want records)
+    → (fault ≢ WriteFailed → says ≡ said)
     → IfSeen g session (TellsEnd (AppendsFront said says []) want records)
     → IfSeen g session (λ is. (written ≡ out) ⊎ ((session.core.position ≡ Finished)
     × AppendsFront (contents out) (contents written) (output_of form is.parts)))
-    → StopsAtEnd g session form contents out written said says
-ends_in_part g session form contents out written said says want records line tells wrote =
-    record { want = want; records = records; line = line; tells = tells; is_written = wrote }
+    → StopsAtEnd g session form contents out written said says fault
+ends_in_part g session form contents out written said says want records fault line told tells wrote =
+    record {
+      want = want;
+      records = records;
+      line = line;
+      told = told;
+      tells = tells;
+      is_written = wrote;
+    }
 
 -- no more was written
 pub nothing_more : (old : Option (List ℕ)) (text : List ℕ) → AppendsFront old old text

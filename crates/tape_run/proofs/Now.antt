@@ -1,6 +1,6 @@
 -- The result of a run that writes the records while it reads the images.
-use Rattle.std.proofs.Common.{◌≡◌, ℕ, ◌⊎◌, List, [], map, Option, Some}
-use Rattle.std.proofs.Common.{None, refl, sym, ap, subst, ◌∙◌, inl, inr, arith, append-nil, false}
+use Rattle.std.proofs.Common.{◌≡◌, ◌≢◌, ℕ, ◌⊎◌, List, [], Option, Some, None, refl, sym, ap}
+use Rattle.std.proofs.Common.{subst, ◌∙◌, inl, inr, false}
 use Rattle.std.specs.Io.KnownBytes.{Appends}
 use Rattle.std.proofs.KnownBytes.{Appends-trans}
 use Rattle.tape_blocks.specs.Block.{Portion}
@@ -17,8 +17,9 @@ use Rattle.tape_run.specs.Crash.{IsWalked}
 use Rattle.tape_run.specs.Reeling.{answer_of, TakesAll, Mounting}
 use Rattle.tape_run.specs.Stopping.{StopsReading}
 use Rattle.tape_run.specs.declared.fault.EngineFault.{EngineFault}
+use Rattle.tape_run.specs.declared.fault.EngineFault.TheVariants.{WriteFailed}
 use Rattle.tape_run.specs.ExtractingNow.{IsPut, ExtractsNow, LeavesName, StopsNow}
-use Rattle.tape_run.proofs.Extracted.{tells_then, less_then}
+use Rattle.tape_run.proofs.Extracted.{told_then, tells_then, less_then}
 use Rattle.tape_image.proofs.Pieces.{front_more, front_behind}
 use Rattle.tape_run.proofs.Lasting.{walked_seen}
 use Rattle.tape_run.proofs.StoppedThere.{stopped_walked}
@@ -75,13 +76,11 @@ stops_reading_now {S} {L} {R} {O} gs size gives remaining old new
       turns = s.turns;
       image = s.image;
       are_turns = s.are_turns;
-      more = s.more;
-      few = s.few;
-      silent = s.silent;
-      most = omega (arith, s.fewer, s.few);
+      most = s.most;
       want = None;
       records = 0;
       lines = front_more said says _ (last_line None 0) s.lines;
+      told = s.told;
       follows = λ held was.
           let (core, now, f, leaves, stopped) = s.follows held was tt in
           (core, now, f, stopped, inl s.lines, inl (refl, inl s.lines));
@@ -111,34 +110,31 @@ pub stops_at_end_now : {S L R O : Type 0} (gs : Ghosts S)
     → TakesAll gs (size shelf) 0 gives remaining false false old mid shelf
     left said between
     → AppendsFront between says (last_line want records)
+    → (fault ≢ WriteFailed → says ≡ between)
     → IfSeen gs mid (TellsEnd (AppendsFront between says []) want records)
     → IfSeen gs mid (LeavesName (AppendsFront between says []) want form tells stands out put)
     → StopsNow gs size gives remaining old new shelf left form tells stands out put
     said says fault
 stops_at_end_now {S} {L} {R} {O} gs size gives remaining old mid new
     shelf left form tells stands out put
-    said between says want records fault walked t last told wrote =
-    let lines = subst (λ l. Appends said between (reel_lines 1 l))
-    (sym (append-nil (map answer_of t.turns))) t.lines in
+    said between says want records fault walked t last same told wrote =
     record {
       turns = t.turns;
       image = None;
       are_turns = (left, t.are_turns, inl (refl, refl));
-      more = [];
-      few = omega arith;
-      silent = λ other. refl;
-      most = omega (arith, t.most);
+      most = t.most;
       want = want;
       records = records;
-      lines = front_behind said between says _ (last_line want records) lines last;
+      lines = front_behind said between says _ (last_line want records) t.lines last;
+      told = λ other. told_then said between says _ t.lines (same other);
       follows = λ held was.
           let (now, has, (still, f, last)) = t.follows held was tt in (
             mid.core,
             seen gs mid now,
             f,
-            stopped_walked gs remaining false false mid new now fault has walked,
-            tells_then said between says _ want records (seen gs mid now) lines (told now has),
+            stopped_walked gs remaining false mid new now fault has walked,
+            tells_then said between says _ want records (seen gs mid now) t.lines (told now has),
             leaves_then said between says _ want form tells stands out put (seen gs mid now)
-                lines (wrote now has),
+                t.lines (wrote now has),
           );
     }

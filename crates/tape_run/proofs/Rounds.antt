@@ -4,7 +4,6 @@ use Rattle.std.proofs.Common.{length, map, Option, None, refl, sym, ap, subst, �
 use Rattle.std.proofs.Common.{append_assoc, append-nil, length-append}
 use Rattle.std.specs.Prelude.{◌≢◌}
 use Rattle.std.proofs.lemmas.Bool.{cases_lt}
-use Rattle.std.proofs.lemmas.List.{map-append}
 use Rattle.std.specs.Io.KnownBytes.{Appends}
 use Rattle.std.proofs.KnownBytes.{Appends-trans, Appends-nil}
 use Rattle.tape_set.specs.declared.position.Position.TheVariants.{Finished}
@@ -16,7 +15,6 @@ use Rattle.tape_run.specs.Seen.{Seen, seen}
 use Rattle.tape_run.specs.SessionState.{SessionState}
 use Rattle.tape_run.specs.ReelLine.{reel_lines}
 use Rattle.tape_image.specs.Written.{AppendsFront}
-use Rattle.tape_run.specs.declared.reel_reader.ReelAnswer.{ReelAnswer}
 use Rattle.tape_run.specs.Reeling.{Turn, answer_of, AreTurns, Follows, Mounting, TakesAll}
 use Rattle.tape_run.specs.Stopping.{StopsReading}
 use Rattle.tape_run.specs.declared.fault.EngineFault.{EngineFault}
@@ -78,37 +76,27 @@ all_turns back core old (r ∷ rounds) mid (z, first, rest) =
     (core_behind r.behind rounds) mid first (all_turns back r.behind z rounds mid rest)
 
 -- the lines of passes, followed by these
-pub lines_then : (turns : List Turn) (others : List Turn) (more : List (Option ReelAnswer))
-    → reel_lines 1 (map answer_of (turns ++ others) ++ more)
-    ≡ reel_lines 1 (map answer_of turns)
-    ++ reel_lines (length turns + 1) (map answer_of others ++ more)
-lines_then turns others more =
+lines_then : (turns others : List Turn) → reel_lines 1 (map answer_of (turns ++ others))
+    ≡ reel_lines 1 (map answer_of turns) ++ reel_lines (length turns + 1) (map answer_of others)
+lines_then turns others =
     let number : 1 + length turns ≡ length turns + 1 = omega arith in
-    ap (λ l. reel_lines 1 (l ++ more)) (map-append answer_of turns others)
-    ∙ ap (reel_lines 1) (append_assoc (map answer_of turns) (map answer_of others) more)
-    ∙ lines_more 1 turns (map answer_of others ++ more)
-    ∙ ap (λ n. reel_lines 1 (map answer_of turns)
-    ++ reel_lines n (map answer_of others ++ more)) number
+    lines_more 1 turns others
+    ∙ ap (λ n. reel_lines 1 (map answer_of turns) ++ reel_lines n (map answer_of others)) number
 
 pub lines_of_all : (old mid new : Option (List ℕ)) (turns others : List Turn)
     → Appends old mid (reel_lines 1 (map answer_of turns))
     → Appends mid new (reel_lines (length turns + 1) (map answer_of others))
     → Appends old new (reel_lines 1 (map answer_of (turns ++ others)))
 lines_of_all old mid new turns others first then =
-    let text : reel_lines 1 (map answer_of (turns ++ others)) ≡ reel_lines 1 (map answer_of turns)
-    ++ reel_lines (length turns + 1) (map answer_of others) =
-    ap (reel_lines 1) (sym (append-nil (map answer_of (turns ++ others))))
-    ∙ lines_then turns others []
-    ∙ ap (λ l. reel_lines 1 (map answer_of turns) ++ reel_lines (length turns + 1) l)
-    (append-nil (map answer_of others)) in
-    subst (Appends old new) (sym text) (Appends-trans old mid new _ _ first then)
+    subst (Appends old new) (sym (lines_then turns others))
+    (Appends-trans old mid new _ _ first then)
 
 pub front_of_all : (old mid new : Option (List ℕ)) (turns others : List Turn)
-    (more : List (Option ReelAnswer)) → Appends old mid (reel_lines 1 (map answer_of turns))
-    → AppendsFront mid new (reel_lines (length turns + 1) (map answer_of others ++ more))
-    → AppendsFront old new (reel_lines 1 (map answer_of (turns ++ others) ++ more))
-front_of_all old mid new turns others more first then =
-    subst (AppendsFront old new) (sym (lines_then turns others more))
+    → Appends old mid (reel_lines 1 (map answer_of turns))
+    → AppendsFront mid new (reel_lines (length turns + 1) (map answer_of others))
+    → AppendsFront old new (reel_lines 1 (map answer_of (turns ++ others)))
+front_of_all old mid new turns others first then =
+    subst (AppendsFront old new) (sym (lines_then turns others))
     (front_behind old mid new _ _ first then)
 
 -- ---- calls

@@ -1,6 +1,6 @@
 -- Where a session is after a fault.
 use Rattle.std.proofs.Common.{◌≡◌, ◌≢◌, ℕ, Bool, true, false, List, [], ◌∷◌, Option, Some, None}
-use Rattle.std.proofs.Common.{IfSome, Result, Ok, Err, OnErr, IfErr, refl, sym, ap, subst, ◌∙◌}
+use Rattle.std.proofs.Common.{IfSome, Result, Ok, Err, IfErr, refl, sym, ap, subst, ◌∙◌}
 use Rattle.std.proofs.Common.{inl, inr}
 use Rattle.tape_blocks.specs.Block.{Portion}
 use Rattle.tape_image.specs.Reader.{IfKnown}
@@ -13,14 +13,13 @@ use Rattle.tape_core.specs.Weight.{IsFront}
 use Rattle.tape_core.specs.declared.sink.PartSink.{Ghosts}
 use Rattle.tape_run.specs.Crash.{IsWalked}
 use Rattle.tape_run.specs.Given.{is_device}
-use Rattle.tape_run.specs.Reeling.{Turn, Opened, IsTurn, Follows, IsNoted, counts_differ}
+use Rattle.tape_run.specs.Reeling.{Opened, Follows, IsNoted, counts_differ}
 use Rattle.tape_run.specs.Reels.{Reads}
 use Rattle.tape_run.specs.Seen.{Seen, seen, IsKept, KeepsNotes}
 use Rattle.tape_run.specs.SessionState.{SessionState}
-use Rattle.tape_run.specs.Steps.{Reeled, ReelFails, Unmoved}
-use Rattle.tape_run.specs.Stopping.{IsStopped, NotNoted, ReadsOnly, StopsAt, StopsInReel}
+use Rattle.tape_run.specs.Steps.{Reeled, ReelFails}
+use Rattle.tape_run.specs.Stopping.{IsStopped, NotNoted, ReadsOnly, StopsInReel}
 use Rattle.tape_run.specs.declared.fault.EngineFault.{EngineFault}
-use Rattle.tape_run.specs.declared.fault.EngineFault.TheVariants.{WriteFailed}
 use Rattle.tape_run.specs.declared.fault.RunFault.{RunFault}
 use Rattle.tape_run.specs.declared.reel_reader.ReelAnswer.{ReelAnswer}
 use Rattle.tape_run.proofs.Notes.{front_self, front_trans}
@@ -28,10 +27,10 @@ use Rattle.tape_run.proofs.Turns.{noted}
 
 -- a walk over its sink leaves a session unmoved
 pub stopped_walked : {S R : Type 0} (g : Ghosts S) (remaining : R → Option (List ℕ))
-    (back spares : Bool) (a b : SessionState S) (held : List Portion) (fault : EngineFault)
+    (back : Bool) (a b : SessionState S) (held : List Portion) (fault : EngineFault)
     → g.holds a.sink held → IsWalked g a b
-    → IsStopped g remaining back spares a.core (seen g a held) None fault b
-stopped_walked g remaining back spares a b held fault has walked = (
+    → IsStopped g remaining back (seen g a held) None fault b
+stopped_walked g remaining back a b held fault has walked = (
   held,
   (λ live. walked.kept held has),
   record {
@@ -54,22 +53,10 @@ session_walked g a = record {
 
 -- nothing was done
 pub stopped_there : {S R : Type 0} (g : Ghosts S) (remaining : R → Option (List ℕ))
-    (back spares : Bool) (a : SessionState S) (held : List Portion) (fault : EngineFault)
-    → g.holds a.sink held → IsStopped g remaining back spares a.core (seen g a held) None fault a
-stopped_there g remaining back spares a held fault has =
+    (back : Bool) (a : SessionState S) (held : List Portion) (fault : EngineFault)
+    → g.holds a.sink held → IsStopped g remaining back (seen g a held) None fault a
+stopped_there g remaining back a held fault has =
     (held, (λ live. has), record { place = refl; parts = refl; notes = refl; count = refl })
-
--- only the line of an image was not reported
-pub line_stops : {R : Type 0} (remaining : R → Option (List ℕ)) (back spares : Bool) (core : State)
-    (old : Seen) (image : Option R) (turn : Turn) (next : State) (new : Seen)
-    → IsTurn remaining image turn → Follows back spares core old (turn ∷ []) next new
-    → StopsAt remaining back spares core old image WriteFailed next new
-line_stops remaining back spares core old None None next new is (waits, (at, same)) =
-    subst (Unmoved old) (sym same)
-    (record { place = refl; parts = refl; notes = refl; count = refl })
-line_stops remaining back spares core old None (Some o) next new is follows = absurd is
-line_stops remaining back spares core old (Some image) turn next new is follows =
-    (turn, is, follows)
 
 -- a reel was not read to its end
 pub reel_stops : (back : Bool) (had : Option (List ℕ)) (fault : RunFault) (old new : Seen)
@@ -106,12 +93,6 @@ one_turn g back spares a b c o held now last waits answers reeled saved = (
   },
   (refl, refl),
 )
-
--- what is true after any fault is true after the one that was returned
-pub with_fault : {A B : Type 0} (r : Result A B) (P : Type 0) (Q : B → Type 0)
-    → ((e : B) → P → Q e) → OnErr r P → IfErr r Q
-with_fault (Ok x) P Q f h = tt
-with_fault (Err e) P Q f h = f e h
 
 pub fault_then : {A B : Type 0} (r : Result A B) (P Q : B → Type 0) → ((e : B) → P e → Q e)
     → IfErr r P → IfErr r Q

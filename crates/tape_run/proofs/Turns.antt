@@ -6,7 +6,6 @@ use Rattle.std.specs.Io.KnownBytes.{Appends}
 use Rattle.std.proofs.KnownBytes.{Appends-trans}
 use Rattle.tape_image.specs.Written.{AppendsFront}
 use Rattle.tape_core.specs.State.{State}
-use Rattle.tape_run.specs.declared.reel_reader.ReelAnswer.{ReelAnswer}
 use Rattle.tape_run.specs.Given.{is_device}
 use Rattle.tape_run.specs.Seen.{Seen, IsKept}
 use Rattle.tape_run.proofs.Sessions.{kept_save, kept_restart}
@@ -17,21 +16,17 @@ use Rattle.tape_run.specs.Reeling.{Turn, Opened, answer_of, Follows, Mounting, A
 
 -- ---- lines
 
-pub lines_more : (n : ℕ) (turns : List Turn) (more : List (Option ReelAnswer))
-    → reel_lines n (map answer_of turns ++ more)
-    ≡ reel_lines n (map answer_of turns) ++ reel_lines (n + length turns) more
-lines_more n [] more = ap (λ m. reel_lines m more) (let same : n ≡ n + 0 = omega arith in same)
+pub lines_more : (n : ℕ) (turns more : List Turn)
+    → reel_lines n (map answer_of (turns ++ more))
+    ≡ reel_lines n (map answer_of turns) ++ reel_lines (n + length turns) (map answer_of more)
+lines_more n [] more =
+    ap (λ m. reel_lines m (map answer_of more)) (let same : n ≡ n + 0 = omega arith in same)
 lines_more n (t ∷ turns) more =
     let same : n + 1 + length turns ≡ n + length (t ∷ turns) = omega arith in
     ap (λ l. reel_line n (answer_of t) ++ l) (lines_more (n + 1) turns more
-    ∙ ap (λ m. reel_lines (n + 1) (map answer_of turns) ++ reel_lines m more) same)
+    ∙ ap (λ m. reel_lines (n + 1) (map answer_of turns) ++ reel_lines m (map answer_of more)) same)
     ∙ sym (append_assoc (reel_line n (answer_of t)) (reel_lines (n + 1) (map answer_of turns))
-    (reel_lines (n + length (t ∷ turns)) more))
-
-map_push : (turns : List Turn) (t : Turn)
-    → map answer_of (turns ++ t ∷ []) ≡ map answer_of turns ++ answer_of t ∷ []
-map_push [] t = refl
-map_push (u ∷ turns) t = ap (λ l. answer_of u ∷ l) (map_push turns t)
+    (reel_lines (n + length (t ∷ turns)) (map answer_of more)))
 
 -- the line of one more image after those before it
 pub line_behind : (from : ℕ) (old mid new : Option (List ℕ)) (turns : List Turn) (t : Turn)
@@ -42,25 +37,27 @@ pub line_behind : (from : ℕ) (old mid new : Option (List ℕ)) (turns : List T
 line_behind from old mid new turns t number e first then =
     let text : reel_lines from (map answer_of (turns ++ t ∷ []))
     ≡ reel_lines from (map answer_of turns) ++ reel_line number (answer_of t) =
-    ap (reel_lines from) (map_push turns t) ∙ lines_more from turns (answer_of t ∷ [])
+    lines_more from turns (t ∷ [])
     ∙ ap (λ l. reel_lines from (map answer_of turns) ++ l)
     (append-nil (reel_line (from + length turns) (answer_of t))
     ∙ ap (λ m. reel_line m (answer_of t)) (sym e)) in
     subst (Appends old new) (sym text) (Appends-trans old mid new _ _ first then)
 
 -- a prefix of the line of one more image after those before it
-pub front_behind : (from : ℕ) (old mid new : Option (List ℕ)) (turns : List Turn)
-    (more : List (Option ReelAnswer)) (number : ℕ) → number ≡ from + length turns
+pub front_behind : (from : ℕ) (old mid new : Option (List ℕ)) (turns : List Turn) (t : Turn)
+    (number : ℕ) → number ≡ from + length turns
     → Appends old mid (reel_lines from (map answer_of turns))
-    → AppendsFront mid new (reel_lines number more)
-    → AppendsFront old new (reel_lines from (map answer_of turns ++ more))
-front_behind from old mid new turns more number e first (front, rest, wrote, all) = (
+    → AppendsFront mid new (reel_line number (answer_of t))
+    → AppendsFront old new (reel_lines from (map answer_of (turns ++ t ∷ [])))
+front_behind from old mid new turns t number e first (front, rest, wrote, all) = (
   reel_lines from (map answer_of turns) ++ front,
   rest,
   Appends-trans old mid new _ front first wrote,
-  lines_more from turns more
-      ∙ ap (λ l. reel_lines from (map answer_of turns) ++ l) (ap (λ m. reel_lines m more) (sym e)
-      ∙ all) ∙ sym (append_assoc (reel_lines from (map answer_of turns)) front rest),
+  lines_more from turns (t ∷ [])
+      ∙ ap (λ l. reel_lines from (map answer_of turns) ++ l)
+      (append-nil (reel_line (from + length turns) (answer_of t))
+      ∙ ap (λ m. reel_line m (answer_of t)) (sym e) ∙ all)
+      ∙ sym (append_assoc (reel_lines from (map answer_of turns)) front rest),
 )
 
 -- ---- images

@@ -106,15 +106,12 @@ pub record CasesOfTurns : Type 0 where
   pub no_point : (old new : Seen) (c : Point) → old.notes ≡ c ∷ []
       → NotNoted true true NoSuchPoint old new → ⊥
   pub not_asked : (fault : RunFault) (old new : Seen) → NotNoted false true fault old new → ⊥
-  -- so without memory no reel changes the checkpoints; if only its line was not reported, the
-  -- session is where the reel leads
-  pub stopped_in_reel : (bytes : List ℕ) (core next : State) (old new : Seen)
-      → StopsAt (λ (r : Option (List ℕ)). r) false false core old (Some (Some bytes))
-      (Run OutOfMemory) next new → new.notes ≡ old.notes
-  pub stopped_behind : (bytes : List ℕ) (core next : State) (old new : Seen)
-      → StopsAt (λ (r : Option (List ℕ)). r) false false core old (Some (Some bytes)) WriteFailed
-      next new
-      → (o : Opened) × (o.had ≡ Some bytes) × Follows false false core old (Some o ∷ []) next new
+  -- so without memory no reel changes the checkpoints; a write fails only after a reel
+  pub stopped_in_reel : (bytes : List ℕ) (old new : Seen)
+      → StopsAt (λ (r : Option (List ℕ)). r) false old (Some (Some bytes)) (Run OutOfMemory) new
+      → new.notes ≡ old.notes
+  pub stopped_behind : (bytes : List ℕ) (old new : Seen)
+      → StopsAt (λ (r : Option (List ℕ)). r) false old (Some (Some bytes)) WriteFailed new → ⊥
   -- as steps: each reel is followed by a save if a checkpoint was made, by nothing if the reel is
   -- suspect, or by the rollback
   pub steps_behind : (step_behind true false true 2 ≡ Save ∷ [])
@@ -241,12 +238,12 @@ pub record CasesOfOutputs : Type 0 where
       (e : ExtractsListedNow session shelf left form stands said says want)
       → EndsNow session.core (seen as_sink session session.sink) e.turns want e.records form ⊤
       stands
-  -- at a fault the report ends after the line of at most one more image than were read
-  pub one_line_more : (session behind : Listed) (shelf left : Readers) (form : Form)
+  -- at a fault only the images that were read and saved are reported
+  pub only_turns_told : (session behind : Listed) (shelf left : Readers) (form : Form)
       (out now said says : Known)
-      (s : StopsListed session behind shelf left form out now said says) → (length s.more ≤ 1)
-      × AppendsFront said says
-      (reel_lines 1 (map answer_of s.turns ++ s.more) ++ last_line s.want s.records)
+      (s : StopsListed session behind shelf left form out now said says)
+      → AppendsFront said says
+      (reel_lines 1 (map answer_of s.turns) ++ last_line s.want s.records)
   -- the last line, if any of it was reported, describes the session
   pub last_line_tells : (p : Seen) (want : Option Want) (records : ℕ)
       → p.place.position ≡ Finished → TellsEnd ⊥ want records p
@@ -256,31 +253,31 @@ pub record CasesOfOutputs : Type 0 where
       (out now said says : Known) → session.notes ≡ []
       → (s : StopsListed session behind shelf left form out now said says)
       → (p : Seen) × TellsEnd (AppendsFront said says
-      (reel_lines 1 (map answer_of s.turns ++ s.more))) s.want s.records p
+      (reel_lines 1 (map answer_of s.turns))) s.want s.records p
       × ((now ≡ out) ⊎ (p.place.position ≡ Finished))
   pub last_line_of_now : (session : Listed) (shelf left : Readers) (form : Form)
       (out now said says : Known)
       (s : StopsListedNow session shelf left form out now said says)
       → (p : Seen) × TellsEnd (AppendsFront said says
-      (reel_lines 1 (map answer_of s.turns ++ s.more))) s.want s.records p
+      (reel_lines 1 (map answer_of s.turns))) s.want s.records p
       × ((now ≡ out) ⊎ (p.place.position ≡ Finished))
-  pub one_line_more_now : (session : Listed) (shelf left : Readers) (form : Form)
+  pub only_turns_told_now : (session : Listed) (shelf left : Readers) (form : Form)
       (out now said says : Known)
-      (s : StopsListedNow session shelf left form out now said says) → (length s.more ≤ 1)
-      × AppendsFront said says
-      (reel_lines 1 (map answer_of s.turns ++ s.more) ++ last_line s.want s.records)
+      (s : StopsListedNow session shelf left form out now said says)
+      → AppendsFront said says
+      (reel_lines 1 (map answer_of s.turns) ++ last_line s.want s.records)
   -- if no image was open, the sink contains the same parts
   pub stopped_there : (s behind : Listed) (now : Seen) (fault : EngineFault)
-      → IsStopped as_sink (λ (r : Known). r) false false s.core now None fault behind
+      → IsStopped as_sink (λ (r : Known). r) false now None fault behind
       → behind.sink ≡ now.parts
   -- these are turns of the first images
   pub stopped_turns : (session behind : Listed) (shelf left : Readers) (form : Form)
       (out now said says : Known) (s : StopsListed session behind shelf left form out now said says)
-      → (length s.turns + length s.more ≤ length shelf)
+      → (length s.turns ≤ length shelf)
       × AreFirstTurns Took (λ r. r) shelf s.turns s.image left
   pub stopped_turns_now : (session : Listed) (shelf left : Readers) (form : Form)
       (out now said says : Known) (s : StopsListedNow session shelf left form out now said says)
-      → (length s.turns + length s.more ≤ length shelf)
+      → (length s.turns ≤ length shelf)
       × AreFirstTurns Took (λ r. r) shelf s.turns s.image left
   -- and the output was not touched, or the file is complete and a prefix of its records was written
   pub output_stopped : (session behind : Listed) (shelf left : Readers) (form : Form)
@@ -297,7 +294,7 @@ pub record CasesOfOutputs : Type 0 where
   pub complete_is_named : (session : Listed) (shelf left : Readers) (form : Form)
       (out now said says : Known) (s : StopsListedNow session shelf left form out now said says)
       → s.want ≡ None → (AppendsFront said says
-      (reel_lines 1 (map answer_of s.turns ++ s.more)) → ⊥)
+      (reel_lines 1 (map answer_of s.turns)) → ⊥)
       → (p : Seen) × (now ≡ Some (output_of form p.parts))
   -- the parts that a sink that writes them has received
   pub taken : (form : Form) (out : Option Known) (weight records : ℕ) (begun : Bool)

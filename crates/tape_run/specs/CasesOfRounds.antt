@@ -76,7 +76,7 @@ pub record CasesOfRounds : Type 0 where
       → (want ≡ wanted session.core) × Appends said says (last_line want e.records)
       × IsWritten want e.records form out now session.sink
   pub file_stopped : (session : Listed) (form : Form) (out now said says : Known)
-      (s : StopsAtEnd as_sink session form (λ w. w) out now said says)
+      (s : StopsAtEnd as_sink session form (λ w. w) out now said says WriteFailed)
       → AppendsFront said says (last_line s.want s.records)
       × TellsEnd (AppendsFront said says []) s.want s.records (seen as_sink session session.sink)
       × ((now ≡ out)
@@ -109,13 +109,13 @@ pub record CasesOfRounds : Type 0 where
       × (x.now ≡ seen as_sink behind behind.sink)
   pub again_stopped : (session behind : Listed) (shelf left : Readers) (form : Form)
       (out now said says : Known)
-      (s : StopsAgainListed session behind shelf left form out now said says) → (length s.more ≤ 1)
-      × (length s.turns + length s.more ≤ length shelf)
+      (s : StopsAgainListed session behind shelf left form out now said says)
+      → (length s.turns ≤ length shelf)
       × AreRounds Took (λ r. r) shelf s.rounds s.between
       × AreFirstTurns Took (λ r. r) s.between s.turns s.image left
       × MadeProgress (length shelf) session.core s.rounds
       × AppendsFront said says
-      (reel_lines 1 (map answer_of (turns_of s.rounds ++ s.turns) ++ s.more)
+      (reel_lines 1 (map answer_of (turns_of s.rounds ++ s.turns))
       ++ last_line s.want s.records)
   -- and the output was not touched, or the file is complete and a prefix of its records was written
   pub again_output : (session behind : Listed) (shelf left : Readers) (form : Form)
@@ -126,6 +126,6 @@ pub record CasesOfRounds : Type 0 where
       → (last : State) × (x : Seen) × GoesRound (goes_back session.notes) session.core
       (seen as_sink session session.sink) s.rounds s.turns last x
       × TellsEnd (AppendsFront said says (reel_lines 1
-      (map answer_of (turns_of s.rounds ++ s.turns) ++ s.more))) s.want s.records x
+      (map answer_of (turns_of s.rounds ++ s.turns)))) s.want s.records x
       × ((now ≡ out) ⊎ ((x.place.position ≡ Finished)
       × AppendsFront out now (output_of form x.parts)))

@@ -13,7 +13,6 @@ use Rattle.tape_run.specs.Crash.{LeavesSaved}
 use Rattle.tape_run.specs.Stopping.{IsStopped}
 use Rattle.tape_run.specs.declared.fault.EngineFault.{EngineFault}
 use Rattle.tape_run.specs.declared.fault.EngineFault.TheVariants.{WriteFailed}
-use Rattle.tape_run.specs.declared.reel_reader.ReelAnswer.{ReelAnswer}
 use Rattle.tape_run.specs.Seen.{Seen, IfSeen}
 use Rattle.tape_run.specs.SessionState.{SessionState}
 use Rattle.tape_blocks.specs.declared.parts.Form.{Form}
@@ -60,13 +59,15 @@ TellsEnd less want records now = less ⊎ ((want ≡ want_at now.place.file now.
     × (want ≡ None → records ≡ length (join now.parts).records))
 
 -- The end of a run with a fault: a prefix of the line was reported, and the output was not touched,
--- or the file is complete and a prefix of its records was written.
+-- or the file is complete and a prefix of its records was written. Nothing of the line was reported
+-- unless a write failed.
 pub record StopsAtEnd {S W : Type 0} (g : Ghosts S) (session : SessionState S) (form : Form)
     (contents : W → Option (List ℕ)) (out written : W) (said says : Option (List ℕ))
-    : Type 0 where
+    (fault : EngineFault) : Type 0 where
   pub want : Option Want
   pub records : ℕ
   pub line : AppendsFront said says (last_line want records)
+  pub told : fault ≢ WriteFailed → says ≡ said
   pub tells : IfSeen g session (TellsEnd (AppendsFront said says []) want records)
   pub is_written : IfSeen g session (λ is. (written ≡ out)
       ⊎ ((session.core.position ≡ Finished)
@@ -88,8 +89,8 @@ pub record Extracts {S L R : Type 0} (g : Ghosts S) (size : L → ℕ) (gives : 
       → (e : Ends false old.core was turns want records form out written)
       × StoodSaved g old was.parts new e.now)
 
--- A fault ended the run: the report is a prefix of such a report, with the line of at most one more
--- image than those that were read, which are the first of the images; and the output was not
+-- A fault ended the run: the report is a prefix of such a report on the images that were read, which
+-- are the first of the images, and exactly their lines unless a write failed; and the output was not
 -- touched, or the file is complete and a prefix of its records was written.
 pub record Stops {S L R W : Type 0} (g : Ghosts S) (size : L → ℕ) (gives : Mounting L R)
     (remaining : R → Option (List ℕ)) (old new : SessionState S) (shelf left : L) (form : Form)
@@ -98,19 +99,16 @@ pub record Stops {S L R W : Type 0} (g : Ghosts S) (size : L → ℕ) (gives : M
   pub turns : List Turn
   pub image : Option R
   pub are_turns : AreFirstTurns gives remaining shelf turns image left
-  pub more : List (Option ReelAnswer)
-  pub few : length more ≤ 1
-  pub silent : fault ≢ WriteFailed → more ≡ []
-  pub most : length turns + length more ≤ size shelf
+  pub most : length turns ≤ size shelf
   pub want : Option Want
   pub records : ℕ
   pub lines : AppendsFront said says
-      (reel_lines 1 (map answer_of turns ++ more) ++ last_line want records)
+      (reel_lines 1 (map answer_of turns) ++ last_line want records)
+  pub told : fault ≢ WriteFailed → Appends said says (reel_lines 1 (map answer_of turns))
   pub follows : IfSeen g old (λ was. IsKeptFor (goes_back old.notes) was → (last : State)
       × (now : Seen) × Follows (goes_back old.notes) false old.core was turns last now
       × (LeavesSaved g old was.parts now new
-      × IsStopped g remaining (goes_back old.notes) false last now image fault new)
-      × TellsEnd (AppendsFront said says
-      (reel_lines 1 (map answer_of turns ++ more))) want records now
+      × IsStopped g remaining (goes_back old.notes) now image fault new)
+      × TellsEnd (AppendsFront said says (reel_lines 1 (map answer_of turns))) want records now
       × ((written ≡ out) ⊎ ((now.place.position ≡ Finished)
       × AppendsFront (contents out) (contents written) (output_of form now.parts))))

@@ -1,5 +1,5 @@
 -- What `extract` leaves after several passes over the images.
-use Rattle.std.specs.Prelude.{◌≡◌, ◌≢◌, ◌⊎◌, ℕ, ◌+◌, ◌<◌, ◌≤◌, List, [], ◌++◌, length, map, Option}
+use Rattle.std.specs.Prelude.{◌≡◌, ◌≢◌, ◌⊎◌, ℕ, ◌+◌, ◌<◌, ◌≤◌, List, ◌++◌, length, map, Option}
 use Rattle.std.specs.Prelude.{None, true}
 use Rattle.std.specs.Io.KnownBytes.{Appends}
 use Rattle.tape_blocks.specs.declared.parts.Form.{Form}
@@ -11,7 +11,6 @@ use Rattle.tape_run.specs.Crash.{LeavesSaved}
 use Rattle.tape_run.specs.Stopping.{IsStopped}
 use Rattle.tape_run.specs.declared.fault.EngineFault.{EngineFault}
 use Rattle.tape_run.specs.declared.fault.EngineFault.TheVariants.{WriteFailed}
-use Rattle.tape_run.specs.declared.reel_reader.ReelAnswer.{ReelAnswer}
 use Rattle.tape_run.specs.Extracting.{Ends, TellsEnd}
 use Rattle.tape_image.specs.Written.{AppendsFront}
 use Rattle.tape_run.specs.RecordText.{output_of}
@@ -50,8 +49,8 @@ pub record ExtractsAgain {S L R : Type 0} (g : Ghosts S) (size : L → ℕ) (giv
 
 -- A fault ended the passes. The images that were read are those of passes that recovered something,
 -- and the first images of another pass. The report is a prefix of the report on these images, and
--- perhaps one more. The output was not touched; or the file is complete and a prefix of its records
--- was written.
+-- exactly their lines unless a write failed. The output was not touched; or the file is complete and
+-- a prefix of its records was written.
 pub record StopsAgain {S L R W : Type 0} (g : Ghosts S) (size : L → ℕ) (gives : Mounting L R)
     (remaining : R → Option (List ℕ)) (old new : SessionState S) (shelf left : L) (form : Form)
     (contents : W → Option (List ℕ)) (out written : W) (said says : Option (List ℕ))
@@ -63,19 +62,18 @@ pub record StopsAgain {S L R W : Type 0} (g : Ghosts S) (size : L → ℕ) (give
   pub turns : List Turn
   pub image : Option R
   pub are_turns : AreFirstTurns gives remaining between turns image left
-  pub more : List (Option ReelAnswer)
-  pub few : length more ≤ 1
-  pub silent : fault ≢ WriteFailed → more ≡ []
-  pub most : length turns + length more ≤ size shelf
+  pub most : length turns ≤ size shelf
   pub want : Option Want
   pub records : ℕ
   pub lines : AppendsFront said says
-      (reel_lines 1 (map answer_of (turns_of rounds ++ turns) ++ more) ++ last_line want records)
+      (reel_lines 1 (map answer_of (turns_of rounds ++ turns)) ++ last_line want records)
+  pub told : fault ≢ WriteFailed
+      → Appends said says (reel_lines 1 (map answer_of (turns_of rounds ++ turns)))
   pub follows : IfSeen g old (λ was. IsKeptFor (goes_back old.notes) was → (last : State)
       × (now : Seen) × GoesRound (goes_back old.notes) old.core was rounds turns last now
       × (LeavesSaved g old was.parts now new
-      × IsStopped g remaining (goes_back old.notes) true last now image fault new)
+      × IsStopped g remaining (goes_back old.notes) now image fault new)
       × TellsEnd (AppendsFront said says
-      (reel_lines 1 (map answer_of (turns_of rounds ++ turns) ++ more))) want records now
+      (reel_lines 1 (map answer_of (turns_of rounds ++ turns)))) want records now
       × ((written ≡ out) ⊎ ((now.place.position ≡ Finished)
       × AppendsFront (contents out) (contents written) (output_of form now.parts))))

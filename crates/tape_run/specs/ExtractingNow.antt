@@ -1,5 +1,5 @@
 -- What `extract` leaves if the records are written while the images are read.
-use Rattle.std.specs.Prelude.{◌≡◌, ◌≢◌, ◌⊎◌, ℕ, ◌+◌, ◌<◌, ◌≤◌, List, [], ◌++◌, length, map, Option}
+use Rattle.std.specs.Prelude.{◌≡◌, ◌≢◌, ◌⊎◌, ℕ, ◌+◌, ◌<◌, ◌≤◌, List, ◌++◌, length, map, Option}
 use Rattle.std.specs.Prelude.{Some, None, ⊤, false}
 use Rattle.std.specs.Io.KnownBytes.{Appends}
 use Rattle.tape_blocks.specs.Block.{Portion}
@@ -9,7 +9,6 @@ use Rattle.tape_set.specs.declared.position.Want.{Want}
 use Rattle.tape_set.specs.Position.{want_at}
 use Rattle.tape_core.specs.State.{State}
 use Rattle.tape_core.specs.declared.sink.PartSink.{Ghosts}
-use Rattle.tape_run.specs.declared.reel_reader.ReelAnswer.{ReelAnswer}
 use Rattle.tape_run.specs.Seen.{Seen, IfSeen, IsSeen}
 use Rattle.tape_run.specs.SessionState.{SessionState}
 use Rattle.tape_blocks.specs.declared.parts.Form.{Form}
@@ -66,9 +65,9 @@ LeavesName less want form tells stands out put now = ((put ≡ out) × (less ⊎
     ⊎ ((now.place.position ≡ Finished) × (((stands put ≡ stands out) × less)
     ⊎ (tells → stands put ≡ Some (output_of form now.parts))))
 
--- A fault ended the run: the report is a prefix of such a report, for the first of the images; and
--- the output's name was not touched, or the file is complete, and the file with the output's name
--- is unchanged or contains exactly the records.
+-- A fault ended the run: the report is a prefix of such a report, for the first of the images, and
+-- exactly their lines unless a write failed; and the output's name was not touched, or the file is
+-- complete, and the file with the output's name is unchanged or contains exactly the records.
 pub record StopsNow {S L R O : Type 0} (g : Ghosts S) (size : L → ℕ) (gives : Mounting L R)
     (remaining : R → Option (List ℕ)) (session new : SessionState S) (shelf left : L) (form : Form)
     (tells : Type 0) (stands : O → Option (List ℕ)) (out put : O) (said says : Option (List ℕ))
@@ -76,17 +75,15 @@ pub record StopsNow {S L R O : Type 0} (g : Ghosts S) (size : L → ℕ) (gives 
   pub turns : List Turn
   pub image : Option R
   pub are_turns : AreFirstTurns gives remaining shelf turns image left
-  pub more : List (Option ReelAnswer)
-  pub few : length more ≤ 1
-  pub silent : fault ≢ WriteFailed → more ≡ []
-  pub most : length turns + length more ≤ size shelf
+  pub most : length turns ≤ size shelf
   pub want : Option Want
   pub records : ℕ
   pub lines : AppendsFront said says
-      (reel_lines 1 (map answer_of turns ++ more) ++ last_line want records)
+      (reel_lines 1 (map answer_of turns) ++ last_line want records)
+  pub told : fault ≢ WriteFailed → Appends said says (reel_lines 1 (map answer_of turns))
   pub follows : IfSeen g session (λ was. (last : State) × (now : Seen)
       × Follows false false session.core was turns last now
-      × IsStopped g remaining false false last now image fault new × TellsEnd (AppendsFront said says
-      (reel_lines 1 (map answer_of turns ++ more))) want records now
-      × LeavesName (AppendsFront said says (reel_lines 1 (map answer_of turns ++ more))) want form
-      tells stands out put now)
+      × IsStopped g remaining false now image fault new
+      × TellsEnd (AppendsFront said says (reel_lines 1 (map answer_of turns))) want records now
+      × LeavesName (AppendsFront said says (reel_lines 1 (map answer_of turns))) want form tells
+      stands out put now)

@@ -1,6 +1,7 @@
 -- The work of `extract` on images, ended by a fault: what was reported, and where the session is.
-use Rattle.std.specs.Prelude.{◌≡◌, ◌≢◌, ◌⊎◌, ℕ, ◌+◌, ◌-◌, ◌<◌, ◌≤◌, List, [], ◌∷◌, ◌++◌, length}
-use Rattle.std.specs.Prelude.{map, Option, Some, None, IfSome, Bool, true, false}
+use Rattle.std.specs.Prelude.{◌≡◌, ◌≢◌, ◌⊎◌, ℕ, ◌+◌, ◌-◌, ◌<◌, ◌≤◌, List, length, map, Option}
+use Rattle.std.specs.Prelude.{Some, None, IfSome, Bool, true, false}
+use Rattle.std.specs.Io.KnownBytes.{Appends}
 use Rattle.tape_core.specs.State.{State}
 use Rattle.tape_core.specs.Weight.{IsFront}
 use Rattle.tape_core.specs.declared.sink.PartSink.{Ghosts}
@@ -9,7 +10,7 @@ use Rattle.tape_image.specs.Written.{AppendsFront}
 use Rattle.tape_run.specs.Crash.{LeavesSaved}
 use Rattle.tape_run.specs.Given.{is_device}
 use Rattle.tape_run.specs.ReelLine.{reel_lines}
-use Rattle.tape_run.specs.Reeling.{Turn, answer_of, IsTurn, Mounting, AreFirstTurns, Follows}
+use Rattle.tape_run.specs.Reeling.{Turn, answer_of, Mounting, AreFirstTurns, Follows}
 use Rattle.tape_run.specs.Reeling.{IsKeptFor, counts_differ}
 use Rattle.tape_run.specs.Seen.{Seen, IsKept, IfSeen, IsSeen, IsSeenUnless}
 use Rattle.tape_run.specs.SessionState.{SessionState}
@@ -35,23 +36,21 @@ StopsInReel back had fault old new = IfSome had (λ bytes. ReelFails bytes fault
     × Reeled bytes left (is_device answer.fault) old mid
     × NotNoted back (counts_differ answer.answer) fault mid new))
 
--- Where a session is after a fault. If no image was open it is unmoved. If only the line of the
--- open image was not reported, the session is where the turn of that image leads.
-abbrev pub StopsAt : {R : Type 0} → (R → Option (List ℕ)) → Bool → Bool → State → Seen → Option R
-    → EngineFault → State → Seen → Type 0
-StopsAt remaining back spares core old None fault next new = Unmoved old new
-StopsAt remaining back spares core old (Some image) (Run fault) next new =
+-- Where a session is after a fault. If no image was open, as after a failed write, it is unmoved.
+abbrev pub StopsAt : {R : Type 0} → (R → Option (List ℕ)) → Bool → Seen → Option R → EngineFault
+    → Seen → Type 0
+StopsAt remaining back old None fault new = Unmoved old new
+StopsAt remaining back old (Some image) (Run fault) new =
     StopsInReel back (remaining image) fault old new
-StopsAt remaining back spares core old (Some image) WriteFailed next new = (turn : Turn)
-    × IsTurn remaining (Some image) turn × Follows back spares core old (turn ∷ []) next new
+StopsAt remaining back old (Some image) WriteFailed new = ⊥
 
 -- The session is there, with exactly the parts of its sink. Only a rollback in which the sink's
 -- device failed may lose the sink's parts.
-abbrev pub IsStopped : {S R : Type 0} → Ghosts S → (R → Option (List ℕ)) → Bool → Bool → State
-    → Seen → Option R → EngineFault → SessionState S → Type 0
-IsStopped g remaining back spares core old image fault new =
+abbrev pub IsStopped : {S R : Type 0} → Ghosts S → (R → Option (List ℕ)) → Bool → Seen → Option R
+    → EngineFault → SessionState S → Type 0
+IsStopped g remaining back old image fault new =
     IsSeenUnless ((back ≡ true) × (fault ≡ Run (Sink Device))) g new
-    (StopsAt remaining back spares core old image fault new.core)
+    (StopsAt remaining back old image fault)
 
 -- The session read on: its sink contains the earlier parts and perhaps more, it has the same file
 -- and checkpoints, and the invariant of sessions is preserved.
@@ -66,21 +65,20 @@ pub record HasReadOn (old new : Seen) : Type 0 where
 abbrev pub ReadsOnly : {S : Type 0} → Ghosts S → SessionState S → SessionState S → Type 0
 ReadsOnly g old new = IfSeen g old (λ was. IsSeen g new (HasReadOn was))
 
--- Images were read in their order until a fault ended the run: a line was reported for each of
--- them, and a prefix of one for one more, unless that one could not be read or saved. The images
--- after that one were not opened.
+-- Images were read in their order until a fault ended the run. A line was reported for each of
+-- them, and nothing of one that could not be read or saved; if a write failed, a prefix of these
+-- lines was reported. The images after that one were not opened.
 pub record StopsReading {S L R : Type 0} (g : Ghosts S) (size before : ℕ) (gives : Mounting L R)
     (remaining : R → Option (List ℕ)) (back spares : Bool) (old new : SessionState S)
     (shelf left : L) (said says : Option (List ℕ)) (fault : EngineFault) : Type 0 where
   pub turns : List Turn
   pub image : Option R
   pub are_turns : AreFirstTurns gives remaining shelf turns image left
-  pub fewer : length turns < size
-  pub more : List (Option ReelAnswer)
-  pub few : length more ≤ 1
-  pub silent : fault ≢ WriteFailed → more ≡ []
-  pub lines : AppendsFront said says (reel_lines (before + 1) (map answer_of turns ++ more))
+  pub most : length turns ≤ size
+  pub fewer : fault ≢ WriteFailed → length turns < size
+  pub lines : AppendsFront said says (reel_lines (before + 1) (map answer_of turns))
+  pub told : fault ≢ WriteFailed → Appends said says (reel_lines (before + 1) (map answer_of turns))
   pub follows : IfSeen g old (λ was. IsKeptFor back was → (core : State) × (now : Seen)
       × Follows back spares old.core was turns core now
       × LeavesSaved g old was.parts now new
-      × IsStopped g remaining back spares core now image fault new)
+      × IsStopped g remaining back now image fault new)

@@ -100,7 +100,7 @@ fn end_file<S: PartWalk, W: Write, P: Write>(
     ensures ok { IfOk result (EndsFile S.PartSink session.old form (W.contents out.old)
         (W.contents out.new) (P.contents report.old) (P.contents report.new)) }
     ensures untouched { IfOk result (λ want. want ≢ None → out.new ≡ out.old) }
-    ensures err { OnErr result (StopsAtEnd S.PartSink session.old form W.contents out.old out.new
+    ensures err { IfErr result (StopsAtEnd S.PartSink session.old form W.contents out.old out.new
         (P.contents report.old) (P.contents report.new)) }
     ensures same { IsWalked S.PartSink session.old session.new }
     ensures cause { IfErr result

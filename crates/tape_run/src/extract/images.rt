@@ -131,8 +131,8 @@ fn read_image<S: PartSink, R: Read + Drop>(
     ensures left { IfSeen S.PartSink session.old (λ old. IsKeptFor back old
         → LeavesStep S.PartSink back session.old old.parts session.new) }
     ensures stops { IfErr result (λ fault. IfSeen S.PartSink session.old (λ old. IsKeptFor back old
-        → IsStopped S.PartSink R.remaining back spares session.old.core old image
-        (EngineFault.Run fault) session.new)) }
+        → IsStopped S.PartSink R.remaining back old image (EngineFault.Run fault)
+        session.new)) }
     ensures cause { IfErr result (λ fault.
         ReadingFails S.PartSink back (EngineFault.Run fault) session.old session.new) }
     ensures calm { OnOk result (IsCalm S.PartSink session.old session.new) }

@@ -1,13 +1,14 @@
 use Rattle.std.proofs.Common.{rules, ◌≡◌, [], Some, None, refl, sym, ◌∙◌, inl, inr}
 use Rattle.tape_set.specs.Position.{want_at}
-use Rattle.tape_image.proofs.Pieces.{on_err}
+use Rattle.tape_run.proofs.Ended.{told_err}
 use Rattle.tape_run.proofs.Extracted.{ends_in_part, nothing_more, all_of_it, none_finished}
 use Rattle.tape_run.proofs.extract.end_file.Goals as goal
 
 pub returns-in_err-end_report-clause-err : goal.returns-in_err-end_report-clause-err
 returns-in_err-end_report-clause-err g c =
-    on_err _ _ (ends_in_part g.S.PartSink c.args.session.now c.args.form g.W.Write.contents
-    c.args.out.now c.args.out.now _ _ (Some c.in-Some.want) 0 c.in_err-end_report.ensures.err
+    told_err _ _ _ c.from_residual.ensures.1 (ends_in_part g.S.PartSink c.args.session.now
+    c.args.form g.W.Write.contents c.args.out.now c.args.out.now _ _ (Some c.in-Some.want) 0 _
+    c.in_err-end_report.ensures.err (λ other. absurd (other c.in_err-end_report.ensures.fault))
     (λ held was. inr (sym c.in-Some.is ∙ c.want.ensures, λ none. absurd (cc none)))
     (λ held was. inl refl))
 
@@ -23,8 +24,9 @@ pub returns-in_err-records-clause-err : goal.returns-in_err-records-clause-err
 returns-in_err-records-clause-err g c =
     let none : None ≡ want_at c.args.session.now.core.file c.args.session.now.core.position =
     search rules in
-    on_err _ _ (ends_in_part g.S.PartSink c.args.session.now c.args.form g.W.Write.contents
-    c.args.out.now c.write_file.new.out _ _ None 0 (nothing_more _ _)
+    told_err _ _ _ c.from_residual-in_err-records.ensures.1 (ends_in_part g.S.PartSink
+    c.args.session.now c.args.form g.W.Write.contents c.args.out.now c.write_file.new.out _ _ None
+    0 _ (nothing_more _ _) (λ other. refl)
     (λ held was. inl (nothing_more _ []))
     (λ held was. inr (
       none_finished c.args.session.now.core.file c.args.session.now.core.position none,
@@ -35,9 +37,10 @@ pub returns-in_err-end_report-2-clause-err : goal.returns-in_err-end_report-2-cl
 returns-in_err-end_report-2-clause-err g c =
     let none : None ≡ want_at c.args.session.now.core.file c.args.session.now.core.position =
     search rules in
-    on_err _ _ (ends_in_part g.S.PartSink c.args.session.now c.args.form g.W.Write.contents
-    c.args.out.now c.write_file.new.out _ _ None c.in_ok-records.records
-    c.in_err-end_report-2.ensures.err
+    told_err _ _ _ c.from_residual-in_err-end_report-2.ensures.1 (ends_in_part g.S.PartSink
+    c.args.session.now c.args.form g.W.Write.contents c.args.out.now c.write_file.new.out _ _ None
+    c.in_ok-records.records _ c.in_err-end_report-2.ensures.err
+    (λ other. absurd (other c.in_err-end_report-2.ensures.fault))
     (λ held was. inr (none, λ same. (c.in_ok-records.ensures.ok held was).0))
     (λ held was. inr (
       none_finished c.args.session.now.core.file c.args.session.now.core.position none,

@@ -1,6 +1,6 @@
 use Rattle.std.proofs.Common.{◌≡◌}
 use Rattle.tape_run.specs.Extracting.{Extracts, Stops, EndsFile, StopsAtEnd}
-use Rattle.tape_run.proofs.StoppedThere.{with_fault}
+use Rattle.tape_run.proofs.StoppedThere.{fault_then}
 use Rattle.tape_run.specs.Reeling.{goes_back}
 use Rattle.tape_run.proofs.Causes.{calm_ended, file_fails, images_fail}
 use Rattle.tape_run.proofs.Ended.{told_err}
@@ -57,7 +57,7 @@ returns-clause-ok g c =
 
 pub returns-clause-err : goal.returns-clause-err
 returns-clause-err g c =
-    with_fault c.end_file.result (StopsAtEnd g.S.PartSink c.read_images.new.session
+    fault_then c.end_file.result (StopsAtEnd g.S.PartSink c.read_images.new.session
     c.args.form g.W.Write.contents c.args.out.now c.end_file.new.out
     (g.P.Write.contents c.read_images.new.report) (g.P.Write.contents c.end_file.new.report))
     (Stops g.S.PartSink

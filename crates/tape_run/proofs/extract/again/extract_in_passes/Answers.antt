@@ -2,7 +2,7 @@ use Rattle.std.proofs.Common.{◌≡◌}
 use Rattle.tape_run.specs.Extracting.{EndsFile, StopsAtEnd}
 use Rattle.tape_run.specs.ExtractingAgain.{ExtractsAgain, StopsAgain}
 use Rattle.tape_run.proofs.Again.{extracted_again, stops_in_round, stops_at_end_again}
-use Rattle.tape_run.proofs.StoppedThere.{with_fault}
+use Rattle.tape_run.proofs.StoppedThere.{fault_then}
 use Rattle.tape_run.specs.Reeling.{goes_back}
 use Rattle.tape_run.proofs.Causes.{calm_ended, file_fails, images_fail}
 use Rattle.tape_run.proofs.Ended.{told_err}
@@ -58,7 +58,7 @@ returns-clause-ok g c =
 
 pub returns-clause-err : goal.returns-clause-err
 returns-clause-err g c =
-    with_fault c.end_file.result (StopsAtEnd g.S.PartSink c.read_rounds.new.session
+    fault_then c.end_file.result (StopsAtEnd g.S.PartSink c.read_rounds.new.session
     c.args.form g.W.Write.contents c.args.out.now c.end_file.new.out
     (g.P.Write.contents c.read_rounds.new.report) (g.P.Write.contents c.end_file.new.report))
     (StopsAgain g.S.PartSink

@@ -145,8 +145,8 @@ returns-in_err-save-clause-stops g c =
     let mid = seen sink c.reel.new.self now in
     let new = seen sink c.save.new.self end in
     let fault = c.in_err-save.field-0.0 in
-    subst (λ image. IsStopped sink g.R.Read.remaining c.args.back c.args.spares
-    c.args.session.now.core old image (Run fault) c.save.new.self) (sym c.in-Some.is) (
+    subst (λ image. IsStopped sink g.R.Read.remaining c.args.back old image (Run fault)
+    c.save.new.self) (sym c.in-Some.is) (
       end,
       (λ live. has_end),
       step_stops c.args.back (g.R.Read.remaining c.in-Some.device)

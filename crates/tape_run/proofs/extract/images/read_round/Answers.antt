@@ -1,7 +1,8 @@
 use Rattle.std.proofs.Common.{◌≡◌, ◌+◌, [], ◌∷◌, ◌++◌, length, refl, sym, ap, subst, ◌∙◌}
-use Rattle.std.proofs.Common.{arith, rules, length-append, append-nil, map, inl, inr, None}
+use Rattle.std.proofs.Common.{arith, rules, length-append, map, inl, inr, None}
 use Rattle.std.proofs.KnownBytes.{Appends-nil}
 use Rattle.std.specs.Io.KnownBytes.{Appends}
+use Rattle.tape_image.specs.Written.{AppendsFront}
 use Rattle.tape_run.specs.ReelLine.{reel_line, reel_lines}
 use Rattle.tape_run.specs.Reeling.{answer_of, IsTurn}
 use Rattle.tape_run.specs.Seen.{seen}
@@ -12,7 +13,7 @@ use Rattle.tape_run.proofs.Causes.{calm_same, calm_then, then_fails}
 use Rattle.tape_run.proofs.Ended.{told_err}
 use Rattle.tape_run.proofs.Left.{left_saved, same_left}
 use Rattle.tape_run.specs.declared.fault.EngineFault.TheVariants.{Run}
-use Rattle.tape_run.proofs.StoppedThere.{line_stops, stopped_there}
+use Rattle.tape_run.proofs.StoppedThere.{stopped_there}
 use Rattle.tape_run.proofs.extract.images.read_round.Goals as goal
 
 pub returns-in_err-outcome-clause-err : goal.returns-in_err-outcome-clause-err
@@ -24,14 +25,10 @@ returns-in_err-outcome-clause-err g c =
       turns = turns;
       image = c.in-Ok.image;
       are_turns = (c.loop-number.images, are, inr mounted);
-      fewer = omega (arith, e, c.loop-number-test.true);
-      more = [];
-      few = omega arith;
-      silent = λ other. refl;
-      lines = all_of_it _ _ (reel_lines (c.args.lines + 1) (map answer_of turns ++ []))
-          (subst (λ l. Appends (g.P.Write.contents c.args.report.now)
-          (g.P.Write.contents c.loop-number.report) (reel_lines (c.args.lines + 1) l))
-          (sym (append-nil (map answer_of turns))) lines);
+      most = omega (arith, e, c.loop-number-test.true);
+      fewer = λ other. omega (arith, e, c.loop-number-test.true);
+      lines = all_of_it _ _ (reel_lines (c.args.lines + 1) (map answer_of turns)) lines;
+      told = λ other. lines;
       follows = λ held was kept.
           let (now, has, (still, follows, lasts)) = f held was kept in (
             c.loop-number.session.core,
@@ -48,36 +45,42 @@ returns-in_err-write_line-clause-err g c =
     let (turns, e, are, lines, none, f, calm) = c.loop-number.invariant in
     let taken = c.in_ok-outcome.ensures.ok in
     let n = c.args.lines + c.loop-number.number + 1 in
-    let (front, rest, wrote, all) = c.in_err-write_line.ensures.err in
     let number : n ≡ c.args.lines + 1 + length turns = omega (arith, e) in
-    let mounted = subst (λ n. g.L.ImageSource.gives c.loop-number.images n c.in-Ok.image
-    c.mount.new.self) (sym e) c.in-Ok.ensures.ok in
+    let at : c.loop-number.number ≡ 0 + length turns = omega (arith, e) in
+    let mounted = subst (λ m. g.L.ImageSource.gives c.loop-number.images m c.in-Ok.image
+    c.mount.new.self) at c.in-Ok.ensures.ok in
+    let all = turns ++ taken.turn ∷ [] in
+    let count : length all ≡ length turns + 1 = length-append turns (taken.turn ∷ []) in
     told_err _ _ _ c.from_residual-in_err-write_line.ensures.1 (record {
-      turns = turns;
-      image = c.in-Ok.image;
-      are_turns = (c.loop-number.images, are, inr mounted);
-      fewer = omega (arith, e, c.loop-number-test.true);
-      more = c.in_ok-outcome.outcome ∷ [];
-      few = omega arith;
-      silent = λ other. absurd (other refl);
-      lines = front_behind (c.args.lines + 1) _ _ _ turns (c.in_ok-outcome.outcome ∷ []) n number
-          lines (front, rest, wrote, append-nil (reel_line n c.in_ok-outcome.outcome) ∙ all);
+      turns = all;
+      image = None;
+      are_turns = (
+        c.mount.new.self,
+        one_mounted g.L.ImageSource.gives (IsTurn g.R.Read.remaining) c.args.images.now 0 turns
+            c.loop-number.images taken.turn c.in-Ok.image c.mount.new.self are mounted
+            taken.is_turn,
+        inl (refl, refl),
+      );
+      most = omega (arith, e, count, c.loop-number-test.true);
+      fewer = λ other. absurd (other refl);
+      lines = front_behind (c.args.lines + 1) _ _ _ turns taken.turn n number lines
+          (subst (λ o. AppendsFront (g.P.Write.contents c.loop-number.report)
+          (g.P.Write.contents c.write_line.new.writer) (reel_line n o)) (sym taken.answers)
+          c.in_err-write_line.ensures.err);
+      told = λ other. absurd (other refl);
       follows = λ held was kept.
           let (now, has, (still, follows, lasts)) = f held was kept in
-          let (end, has_end, (then, one, last)) = taken.follows now has still in (
-            c.loop-number.session.core,
-            seen g.S.PartSink c.loop-number.session now,
-            follows,
-            left_saved g.S.PartSink c.args.back c.args.session.now c.loop-number.session
-                c.read_image.new.session held now lasts (c.read_image.ensures.left now has still),
-            (
-              end,
-              (λ live. has_end),
-              line_stops g.R.Read.remaining c.args.back c.args.spares c.loop-number.session.core
-                  (seen g.S.PartSink c.loop-number.session now) c.in-Ok.image taken.turn
-                  c.read_image.new.session.core (seen g.S.PartSink c.read_image.new.session end)
-                  taken.is_turn one,
-            ),
+          let (next, has_next, (then, one, last)) = taken.follows now has still in (
+            c.read_image.new.session.core,
+            seen g.S.PartSink c.read_image.new.session next,
+            follows_then c.args.back c.args.spares _ _ turns _ _ (taken.turn ∷ []) _ _ follows one,
+            left_saved g.S.PartSink c.args.back c.args.session.now c.read_image.new.session
+                c.read_image.new.session held next
+                (last_then g.S.PartSink c.args.session.now c.loop-number.session
+                c.read_image.new.session held now next lasts last)
+                (same_left g.S.PartSink c.args.back c.read_image.new.session next),
+            stopped_there g.S.PartSink g.R.Read.remaining c.args.back c.read_image.new.session next
+                _ has_next,
           );
     })
 
@@ -89,14 +92,10 @@ returns-in_default-clause-err g c =
       turns = turns;
       image = None;
       are_turns = (c.loop-number.images, are, inl (refl, stays));
-      fewer = omega (arith, e, c.loop-number-test.true);
-      more = [];
-      few = omega arith;
-      silent = λ other. refl;
-      lines = all_of_it _ _ (reel_lines (c.args.lines + 1) (map answer_of turns ++ []))
-          (subst (λ l. Appends (g.P.Write.contents c.args.report.now)
-          (g.P.Write.contents c.loop-number.report) (reel_lines (c.args.lines + 1) l))
-          (sym (append-nil (map answer_of turns))) lines);
+      most = omega (arith, e, c.loop-number-test.true);
+      fewer = λ other. omega (arith, e, c.loop-number-test.true);
+      lines = all_of_it _ _ (reel_lines (c.args.lines + 1) (map answer_of turns)) lines;
+      told = λ other. lines;
       follows = λ held was kept.
           let (now, has, (still, follows, lasts)) = f held was kept in (
             c.loop-number.session.core,
@@ -107,8 +106,8 @@ returns-in_default-clause-err g c =
                 c.loop-number.session held now lasts
                 (same_left g.S.PartSink
                 c.args.back c.loop-number.session now),
-            stopped_there g.S.PartSink g.R.Read.remaining c.args.back c.args.spares
-                c.loop-number.session now _ has,
+            stopped_there g.S.PartSink g.R.Read.remaining c.args.back c.loop-number.session now _
+                has,
           );
     }
 

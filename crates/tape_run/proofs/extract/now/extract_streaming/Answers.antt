@@ -23,7 +23,8 @@ returns-in_err-end_report-clause-err g c =
     c.args.session.now c.read_images.new.session c.read_images.new.session _ _ c.args.form
     (TellsAlways g.W.Write.contents)
     g.O.Place.stands c.args.out.now c.args.out.now _ _ _ (Some c.in-Some.want) 0 _
-    (session_walked _ c.read_images.new.session) c.in_ok-read_images.ensures.ok c.in_err-end_report.ensures.err
+    (session_walked _ c.read_images.new.session) c.in_ok-read_images.ensures.ok
+    c.in_err-end_report.ensures.err (λ other. absurd (other c.in_err-end_report.ensures.fault))
     (λ held was. inr (sym c.in-Some.is ∙ c.want.ensures, λ none. absurd (cc none)))
     (λ held was. inl (refl, inr (λ none. absurd (cc none)))))
 
@@ -45,7 +46,8 @@ returns-in_err-records-clause-err g c =
     c.args.session.now mid c.place_output.new.self _ _ c.args.form
     (TellsAlways g.W.Write.contents)
     g.O.Place.stands c.args.out.now c.place_output.new.out _ _ _ None 0 _
-    c.place_output.ensures.same c.in_ok-read_images.ensures.ok (nothing_more _ _) (λ held was. inl (nothing_more _ []))
+    c.place_output.ensures.same c.in_ok-read_images.ensures.ok (nothing_more _ _) (λ other. refl)
+    (λ held was. inl (nothing_more _ []))
     (λ held was. inr (
       none_finished mid.core.file mid.core.position none,
       inl (c.in_err-records.ensures.err, nothing_more _ []),
@@ -61,6 +63,7 @@ returns-in_err-end_report-2-clause-err g c =
     (TellsAlways g.W.Write.contents)
     g.O.Place.stands c.args.out.now c.place_output.new.out _ _ _ None c.in_ok-records.records _
     c.place_output.ensures.same c.in_ok-read_images.ensures.ok c.in_err-end_report-2.ensures.err
+    (λ other. absurd (other c.in_err-end_report-2.ensures.fault))
     (λ held was. inr (
       none,
       λ same. (c.in_ok-records.ensures.ok held was).0,
