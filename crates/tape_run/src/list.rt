@@ -99,6 +99,8 @@ fn reserve(alloc: Global) -> Result<ImageBuffer, ImageFault>
 }
 
 /// Lists the items of an unread image, with `offsets` after their offsets and sizes.
+// Inlined, so that a listing without offsets costs no more instructions than a loop of its own.
+#[inline(always)]
 fn list_items<R: Read, W: Write>(
     image: &mut ImageReader<'_, R>,
     writer: &mut W,
