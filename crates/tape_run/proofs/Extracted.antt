@@ -178,7 +178,8 @@ pub ends_in_part : {S W : Type 0} (g : Ghosts S) (session : SessionState S)
     → IfSeen g session (λ is. (written ≡ out) ⊎ ((session.core.position ≡ Finished)
     × AppendsFront (contents out) (contents written) (output_of form is.parts)))
     → StopsAtEnd g session form contents out written said says fault
-ends_in_part g session form contents out written said says want records fault line told tells wrote =
+ends_in_part g session form contents out written said says want records fault line told tells
+    wrote =
     record {
       want = want;
       records = records;

@@ -1,6 +1,6 @@
 -- Wrong answers to a fault of a sink or a writer that the contracts exclude.
 use Rattle.std.proofs.Common.{◌≡◌, ◌<◌, ◌+◌, true, false, List, inl, inr, sym, ◌∙◌}
-use Rattle.std.specs.Prelude.{Err, None, is_some, map, ◌++◌}
+use Rattle.std.specs.Prelude.{Err, None, is_some, map}
 use Rattle.tape_blocks.specs.Block.{Portion}
 use Rattle.tape_core.specs.declared.sink.SinkFault.TheVariants as sink
 use Rattle.tape_run.specs.declared.fault.EngineFault.TheVariants.{Run, WriteFailed}
@@ -105,7 +105,7 @@ complete_reported_before_the_name : (W : _) (R : _) (L : _) (O : _) (P : _) (LW 
     → HasTaken w.contents a.0.now.sink.form a.0.now.sink.out a.0.now.sink.weight
     a.0.now.sink.records a.0.now.sink.begun held → TellsAlways w.contents
     → l.err.want ≡ None → (AppendsFront (p.contents a.1.1.1.1.0.now) (p.contents s.1.1.1.1.0.now)
-    (reel_lines 1 (map answer_of l.err.turns ++ l.err.more)) → ⊥)
+    (reel_lines 1 (map answer_of l.err.turns)) → ⊥)
     → o.stands s.1.1.1.0.now ≡ None → ⊥
 complete_reported_before_the_name W R L O P LW LR LL LO LP w f h e m n o k p q i j κs a fault s held
     l was tells none more unnamed =

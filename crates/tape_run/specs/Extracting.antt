@@ -89,9 +89,9 @@ pub record Extracts {S L R : Type 0} (g : Ghosts S) (size : L → ℕ) (gives : 
       → (e : Ends false old.core was turns want records form out written)
       × StoodSaved g old was.parts new e.now)
 
--- A fault ended the run: the report is a prefix of such a report on the images that were read, which
--- are the first of the images, and exactly their lines unless a write failed; and the output was not
--- touched, or the file is complete and a prefix of its records was written.
+-- A fault ended the run: the report is a prefix of such a report on the images that were processed,
+-- which are the first of the images, and exactly their lines unless a write failed; and the output
+-- was not touched, or the file is complete and a prefix of its records was written.
 pub record Stops {S L R W : Type 0} (g : Ghosts S) (size : L → ℕ) (gives : Mounting L R)
     (remaining : R → Option (List ℕ)) (old new : SessionState S) (shelf left : L) (form : Form)
     (contents : W → Option (List ℕ)) (out written : W) (said says : Option (List ℕ))

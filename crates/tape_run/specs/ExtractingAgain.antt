@@ -47,10 +47,10 @@ pub record ExtractsAgain {S L R : Type 0} (g : Ghosts S) (size : L → ℕ) (giv
       × GoesRound (goes_back old.notes) old.core was rounds turns e.last e.now
       × StoodSaved g old was.parts new e.now)
 
--- A fault ended the passes. The images that were read are those of passes that recovered something,
--- and the first images of another pass. The report is a prefix of the report on these images, and
--- exactly their lines unless a write failed. The output was not touched; or the file is complete and
--- a prefix of its records was written.
+-- A fault ended the passes. The images that were processed are those of passes that recovered
+-- something, and the first images of another pass. The report is a prefix of the report on these
+-- images, and exactly their lines unless a write failed. The output was not touched; or the file is
+-- complete and a prefix of its records was written.
 pub record StopsAgain {S L R W : Type 0} (g : Ghosts S) (size : L → ℕ) (gives : Mounting L R)
     (remaining : R → Option (List ℕ)) (old new : SessionState S) (shelf left : L) (form : Form)
     (contents : W → Option (List ℕ)) (out written : W) (said says : Option (List ℕ))

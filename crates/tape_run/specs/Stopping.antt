@@ -65,7 +65,7 @@ pub record HasReadOn (old new : Seen) : Type 0 where
 abbrev pub ReadsOnly : {S : Type 0} → Ghosts S → SessionState S → SessionState S → Type 0
 ReadsOnly g old new = IfSeen g old (λ was. IsSeen g new (HasReadOn was))
 
--- Images were read in their order until a fault ended the run. A line was reported for each of
+-- Images were processed in their order until a fault ended the run. A line was reported for each of
 -- them, and nothing of one that could not be read or saved; if a write failed, a prefix of these
 -- lines was reported. The images after that one were not opened.
 pub record StopsReading {S L R : Type 0} (g : Ghosts S) (size before : ℕ) (gives : Mounting L R)

@@ -44,8 +44,8 @@ pub trait Place<W: Write> {
 /// Returns `Run` with the fault of a reel or of a save, with `OutOfMemory` if there was no memory
 /// to open an image, or with `Sink(Failed)` if a record is unfinished after the last part;
 /// `WriteFailed` if the output or the report failed. The lines reported so far are a prefix of such
-/// a report. A file that has the output's name is unchanged, or the file is complete, and its
-/// records have the name.
+/// a report; an image that could not be read or saved is not reported. A file that has the output's
+/// name is unchanged, or the file is complete, and its records have the name.
 pub fn extract_streaming<W: Write + Drop, R: Read + Drop, L: ImageSource<R>, O: Place<W>, P: Write>(
     session: &mut Session<OutSink<W>>,
     images: &mut L,
