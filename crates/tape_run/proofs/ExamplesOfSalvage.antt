@@ -2,7 +2,7 @@
 use Rattle.std.proofs.Common.{◌≡◌, ◌<◌, ℕ, suc, zero, ◌+◌, Bool, true, false, List, [], ◌∷◌, ◌++◌}
 use Rattle.std.proofs.Common.{length, Option, Some, None, refl, sym, ap, subst, ◌∙◌, arith, inl, inr}
 use Rattle.std.proofs.Common.{length-append}
-use Rattle.std.specs.Prelude.{◌==◌, ◌&&◌, ◌||◌, slice_get}
+use Rattle.std.specs.Prelude.{◌==◌, ◌&&◌, ◌||◌, slice_get, get_or}
 use Rattle.std.proofs.lemmas.Bool.Decides.{nat_tests}
 use Rattle.std.specs.Fmt.{digits}
 use Rattle.tape_image.specs.Tape.{TapeItem, block, bad, mark}
@@ -16,9 +16,11 @@ use Rattle.tape_run.specs.SalvageConflicts.{conflict_text, has_conflict}
 use Rattle.tape_run.specs.SalvageCopies.{rank}
 use Rattle.tape_run.specs.SalvageBlocks.{Salvaged, none_salvaged}
 use Rattle.tape_run.specs.SalvageGaps.{Gap, AreGaps, IsReadable, StartsReadable, salvaged_data}
-use Rattle.tape_run.specs.SalvageSets.{HasBlocks}
+use Rattle.tape_run.specs.SalvageSets.{HasBlocks, items_read}
+use Rattle.tape_run.specs.SalvagedSets.{IsImage, HasOpened}
 use Rattle.tape_run.specs.CasesOfSalvage.{copy_on, CasesOfConflicts, CasesOfGaps, CasesOfClosed}
 use Rattle.tape_run.specs.CasesOfSalvage.{CasesOfDamaged, CasesOfSalvagedSets, CasesOfSalvage}
+use Rattle.tape_run.specs.CasesOfSalvage.{gives_again}
 
 -- the first of two equally good copies is the best
 first_is_best : (a b : SectionCopy) (o : Option SectionCopy) → rank a ≡ rank b
@@ -175,6 +177,13 @@ cases_of_damaged = record {
       (sym (ap (all_numbered 1) e) ∙ h.among.2);
 }
 
+-- opening images that can be opened again leaves the source unchanged
+same_source : {R : Type 0} (count : ℕ) (images now : List (Option R)) (ns : List ℕ)
+    → HasOpened gives_again count images ns now → now ≡ images
+same_source count images now [] h = h
+same_source count images now (n ∷ ns) (within, before, image, opened, (is, same)) =
+    same ∙ same_source count images before ns opened
+
 cases_of_sets : CasesOfSalvagedSets
 cases_of_sets = record {
   no_volume = λ set k xs e v. absurd (cc (sym e ∙ v.there));
@@ -202,6 +211,14 @@ cases_of_sets = record {
       ∙ ap (λ (b : Bool). (false || b) && passes [] es) off));
   nothing_found = λ set n. refl;
   must_open = λ set r h. h;
+  read_image = λ set r bytes end stop begins.
+      (bytes, items_read set r, end, stop, refl, begins, refl);
+  opened_again = λ set file rs images are ns now left n image r opened at (is, same).
+      subst (λ (i : Option (Option (List ℕ))). IsImage set file (λ d. d) r i)
+      (sym (is ∙ ap (λ (l : List (Option (Option (List ℕ)))). get_or l n None)
+      (same_source (length rs) images now ns opened))) (are n r at);
+  opened_once = λ set r image images. images (0 ∷ []) (None ∷ []) (None ∷ []) 0 None (Some r)
+      (omega arith, image ∷ [], image, refl, (refl, refl)) refl (refl, refl);
 }
 
 pub cases_of_salvage : CasesOfSalvage

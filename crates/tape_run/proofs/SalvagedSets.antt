@@ -6,6 +6,7 @@ use Rattle.std.specs.Prelude.{slice_get, IfSome}
 use Rattle.std.specs.List.{AllByRecursion}
 use Rattle.std.specs.Io.KnownBytes.{Appends}
 use Rattle.std.proofs.lemmas.Bool.{and_parts}
+use Rattle.std.proofs.lemmas.Option.{slice_get_within}
 use Rattle.tape_image.specs.Tape.{TapeItem}
 use Rattle.tape_image.specs.Begins.{Stop, Begins, Walks, image_limit}
 use Rattle.tape_image.specs.Reader.{IfKnown}
@@ -35,7 +36,8 @@ use Rattle.tape_run.specs.SalvageChoice.{form_of_file, firsts, IsBest}
 use Rattle.tape_run.specs.SalvageTaking.{Taken, AreTaken, AreAllSections, MountsTaken, MountsIf}
 use Rattle.tape_run.specs.SalvageTaking.{has_form, form_for, after_file, IsReadOf}
 use Rattle.tape_run.specs.SalvageSets.{items_read, copies_on, IsReadAgainIf, AreReadAgain}
-use Rattle.tape_run.specs.SalvagedSets.{IsImage, AreImages, NoneFailed, IsReadToEnd, RecoversSets}
+use Rattle.tape_run.specs.SalvagedSets.{IsImage, HasOpened, AreImages, NoneFailed, IsReadToEnd}
+use Rattle.tape_run.specs.SalvagedSets.{RecoversSets}
 use Rattle.tape_run.specs.Salvaging.{FindsOnAll}
 use Rattle.tape_run.proofs.SalvageChoice.{all_map}
 use Rattle.tape_run.proofs.SalvageGood.{IsGood, copies_good}
@@ -56,7 +58,19 @@ all_items its xs (Fault fault) bytes ys end why calm t b =
 
 module _ {L R : Type 0} (set : FileSet) (file : ℕ) (set_id : List ℕ) (same : set_id ≡ set.set_id)
     (gives : Mounting L R) (remaining : R → Option (List ℕ)) (all : List (Option Reading))
-    (images : AreImages set file gives remaining all) where
+    (first : L) (images : AreImages set file gives remaining all first) where
+  -- images were opened, and the source is now this
+  abbrev IsAt : L → Type 0
+  IsAt now = (ns : List ℕ) × HasOpened gives (length all) first ns now
+
+  opens : (n : ℕ) (r : Option Reading) (image : Option R) (now left : L) → IsAt now
+      → slice_get all n ≡ Some r → gives now n image left
+      → IsImage set file remaining r image × IsAt left
+  opens n r image now left (ns, opened) at gave = (
+    images ns now left n image r opened at gave,
+    (n ∷ ns, (slice_get_within all n r at, now, image, opened, gave)),
+  )
+
   -- ---- the copies that were found
 
   -- the copies that an image adds
@@ -104,50 +118,53 @@ module _ {L R : Type 0} (set : FileSet) (file : ℕ) (set_id : List ℕ) (same :
   opened n r (Some device) before after its stop is e read calm =
       one_image n r device before after its stop is (cc e) read calm
 
+  here_is : (n : ℕ) (r : Option Reading) (rs : List (Option Reading))
+      → ((i : ℕ) → slice_get (r ∷ rs) i ≡ slice_get all (n + i)) → slice_get all n ≡ Some r
+  here_is n r rs there = let z : n + 0 ≡ n = omega arith in
+      ap (λ v. slice_get all v) (sym z) ∙ sym (there 0)
+
+  later_are : (n : ℕ) (r : Option Reading) (rs : List (Option Reading))
+      → ((i : ℕ) → slice_get (r ∷ rs) i ≡ slice_get all (n + i))
+      → (i : ℕ) → slice_get rs i ≡ slice_get all ((n + 1) + i)
+  later_are n r rs there i = let w : n + suc i ≡ (n + 1) + i = omega arith in
+      there (suc i) ∙ ap (λ v. slice_get all v) w
+
   copies_are : (n : ℕ) (rs : List (Option Reading)) (reels : List Reel) (shelf left : L)
       (old new : List SectionCopy) (text : List ℕ)
-      → ((i : ℕ) → slice_get rs i ≡ slice_get all (n + i)) → length reels ≡ length rs
+      → ((i : ℕ) → slice_get rs i ≡ slice_get all (n + i)) → length reels ≡ length rs → IsAt shelf
       → AreMounted gives (IsReel remaining) shelf n reels left
       → (f : FindsOnAll set_id file n reels old new text)
-      → NoneFailed set_id file n reels old new text f → new ≡ old ++ copies_on set file n rs
-  copies_are n [] [] shelf left old new text there count mounted (is, said) calm =
-      is ∙ sym (append-nil old)
-  copies_are n (r ∷ rs) [] shelf left old new text there count mounted f calm =
+      → NoneFailed set_id file n reels old new text f
+      → (new ≡ old ++ copies_on set file n rs) × IsAt left
+  copies_are n [] [] shelf left old new text there count at mounted (is, said) calm =
+      (is ∙ sym (append-nil old), subst IsAt (sym mounted) at)
+  copies_are n (r ∷ rs) [] shelf left old new text there count at mounted f calm =
       absurd (omega (arith, count))
-  copies_are n [] (reel ∷ reels) shelf left old new text there count mounted f calm =
+  copies_are n [] (reel ∷ reels) shelf left old new text there count at mounted f calm =
       absurd (omega (arith, count))
-  copies_are n (r ∷ rs) (None ∷ reels) shelf left old new text there count
+  copies_are n (r ∷ rs) (None ∷ reels) shelf left old new text there count at
       (image, next, gave, is, mounted) (mid, one, rest, (kept, said), f, e) calm =
-      let (q, at, img) = images shelf next n image gave in
-      let z : n + 0 ≡ n = omega arith in
-      let here : slice_get all n ≡ Some r =
-      ap (λ v. slice_get all v) (sym z) ∙ sym (there 0) in
-      let own : q ≡ r = cc (sym at ∙ here) in
-      let none = not_opened n q image img is in
-      let later = copies_are (n + 1) rs reels next left mid new rest
-      (λ i. let w : n + suc i ≡ (n + 1) + i = omega arith in
-      there (suc i) ∙ ap (λ v. slice_get all v) w)
-      (omega (arith, count)) mounted f calm in
-      later ∙ ap (λ (l : List SectionCopy). l ++ copies_on set file (n + 1) rs) kept
-      ∙ ap (λ (l : List SectionCopy). old ++ (l ++ copies_on set file (n + 1) rs))
-      (none ∙ ap (adds n) own) ∙ ap (λ (l : List SectionCopy). old ++ l) (sym (adds_more n r rs))
-  copies_are n (r ∷ rs) (Some before ∷ reels) shelf left old new text there count
+      let (img, now_at) = opens n r image shelf next at (here_is n r rs there) gave in
+      let later = copies_are (n + 1) rs reels next left mid new rest (later_are n r rs there)
+      (omega (arith, count)) now_at mounted f calm in (
+        later.0 ∙ ap (λ (l : List SectionCopy). l ++ copies_on set file (n + 1) rs) kept
+            ∙ ap (λ (l : List SectionCopy). old ++ (l ++ copies_on set file (n + 1) rs))
+            (not_opened n r image img is)
+            ∙ ap (λ (l : List SectionCopy). old ++ l) (sym (adds_more n r rs)),
+        later.1,
+      )
+  copies_are n (r ∷ rs) (Some before ∷ reels) shelf left old new text there count at
       (image, next, gave, is, mounted) (mid, one, rest, (after, found, said), f, e) (calm, calms) =
-      let (q, at, img) = images shelf next n image gave in
-      let z : n + 0 ≡ n = omega arith in
-      let here : slice_get all n ≡ Some r =
-      ap (λ v. slice_get all v) (sym z) ∙ sym (there 0) in
-      let own : q ≡ r = cc (sym at ∙ here) in
-      let one = opened n q image before after found.items found.stop img is found.read calm
-      ∙ ap (adds n) own in
-      let later = copies_are (n + 1) rs reels next left mid new rest
-      (λ i. let w : n + suc i ≡ (n + 1) + i = omega arith in
-      there (suc i) ∙ ap (λ v. slice_get all v) w)
-      (omega (arith, count)) mounted f calms in
-      later ∙ ap (λ (l : List SectionCopy). l ++ copies_on set file (n + 1) rs)
-      (found.seen ∙ ap (λ (l : List SectionCopy). old ++ l) one)
-      ∙ append_assoc old (adds n r) (copies_on set file (n + 1) rs)
-      ∙ ap (λ (l : List SectionCopy). old ++ l) (sym (adds_more n r rs))
+      let (img, now_at) = opens n r image shelf next at (here_is n r rs there) gave in
+      let one = opened n r image before after found.items found.stop img is found.read calm in
+      let later = copies_are (n + 1) rs reels next left mid new rest (later_are n r rs there)
+      (omega (arith, count)) now_at mounted f calms in (
+        later.0 ∙ ap (λ (l : List SectionCopy). l ++ copies_on set file (n + 1) rs)
+            (found.seen ∙ ap (λ (l : List SectionCopy). old ++ l) one)
+            ∙ append_assoc old (adds n r) (copies_on set file (n + 1) rs)
+            ∙ ap (λ (l : List SectionCopy). old ++ l) (sym (adds_more n r rs)),
+        later.1,
+      )
 
   -- ---- the second reading
 
@@ -155,16 +172,12 @@ module _ {L R : Type 0} (set : FileSet) (file : ℕ) (set_id : List ℕ) (same :
   abbrev HasReading : SectionCopy → Type 0
   HasReading c = (r : Reading) × (slice_get all c.image ≡ Some (Some r))
 
-  by_items : (c : SectionCopy) (reading : Reading) (shelf left : L) (image : Option R)
-      (xs : List TapeItem) → slice_get all c.image ≡ Some (Some reading)
-      → gives shelf c.image image left → IsReadOf remaining c image (Some xs)
+  by_items : (c : SectionCopy) (reading : Reading) (image : Option R) (xs : List TapeItem)
+      → IsImage set file remaining (Some reading) image → IsReadOf remaining c image (Some xs)
       → (unread : List TapeItem) × (items_read set reading ≡ xs ++ unread)
-  by_items c reading shelf left None xs at gave read = absurd (cc read)
-  by_items c reading shelf left (Some device) xs at gave (after, is_ended, reads) =
-      let (q, here, img) = images shelf left c.image (Some device) gave in
-      let own : q ≡ Some reading = cc (sym here ∙ at) in
-      let (bytes, its, end, why, known, begins, is) =
-      subst (λ (z : Option Reading). IsImage set file remaining z (Some device)) own img in
+  by_items c reading None xs img read = absurd img
+  by_items c reading (Some device) xs (bytes, its, end, why, known, begins, is)
+      (after, is_ended, reads) =
       let (place, ys, near, walks) = subst (λ (b : Option (List ℕ)). IfSome b (λ zs.
       (place : ℕ) × (ys : List ℕ) × (place ≤ image_limit) × Walks 0 zs xs place ys)) known
       reads.walked in
@@ -174,44 +187,48 @@ module _ {L R : Type 0} (set : FileSet) (file : ℕ) (set_id : List ℕ) (same :
   module _ (content : Content) (known : Option FileForm) (copies : List SectionCopy)
       (are : AllByRecursion HasReading copies) where
     by_form : (t : Taken) (c : SectionCopy) (reading : Reading) (shelf left : L)
-        (xs : List TapeItem) (b : Bool) → slice_get all c.image ≡ Some (Some reading)
+        (xs : List TapeItem) (b : Bool) → slice_get all c.image ≡ Some (Some reading) → IsAt shelf
         → MountsIf b gives remaining c shelf left t.items → t.items ≡ Some xs
-        → (unread : List TapeItem) × (items_read set reading ≡ xs ++ unread)
-    by_form t c reading shelf left xs false at (same_shelf, none) is = absurd (cc (sym is ∙ none))
-    by_form t c reading shelf left xs true at (image, gave, read) is =
-        by_items c reading shelf left image xs at gave
-        (subst (λ (z : Option (List TapeItem)). IsReadOf remaining c image z) is read)
+        → ((unread : List TapeItem) × (items_read set reading ≡ xs ++ unread)) × IsAt left
+    by_form t c reading shelf left xs false here at (same_shelf, none) is =
+        absurd (cc (sym is ∙ none))
+    by_form t c reading shelf left xs true here at (image, gave, read) is =
+        let (img, now_at) = opens c.image (Some reading) image shelf left at here gave in (
+          by_items c reading image xs img
+              (subst (λ (z : Option (List TapeItem)). IsReadOf remaining c image z) is read),
+          now_at,
+        )
 
     one_again : (t : Taken) (i : ℕ) (shelf left : L) (o : Option SectionCopy) → t.copy ≡ o
-        → IsBest (firsts i None copies) o
+        → IsBest (firsts i None copies) o → IsAt shelf
         → MountsTaken gives remaining content known o shelf left t.items → IsReadToEnd t
-        → IsReadAgainIf set all o t.items
-    one_again t i shelf left None e best mounts end = tt
-    one_again t i shelf left (Some c) e (front, rest, among, less, most) mounts end =
+        → IsReadAgainIf set all o t.items × IsAt left
+    one_again t i shelf left None e best at mounts end = (tt, subst IsAt (sym mounts.0) at)
+    one_again t i shelf left (Some c) e (front, rest, among, less, most) at mounts end =
         let (xs, is, ends) = end c e in
-        let (reading, at) = (every_stands (IsOne HasReading i) (firsts i None copies) c
+        let (reading, here) = (every_stands (IsOne HasReading i) (firsts i None copies) c
         (firsts_all HasReading i None copies are) (front, rest, among)).0 in
-        let (unread, splits) = by_form t c reading shelf left xs
-        (has_form content (form_for content c.section.form known)) at mounts is in
-        record {
-          read = xs;
-          is = is;
-          ends = ends;
-          reading = reading;
-          image = at;
-          unread = unread;
-          splits = splits;
-        }
+        let ((unread, splits), now_at) = by_form t c reading shelf left xs
+        (has_form content (form_for content c.section.form known)) here at mounts is in (
+          record {
+            read = xs;
+            is = is;
+            ends = ends;
+            reading = reading;
+            image = here;
+            unread = unread;
+            splits = splits;
+          },
+          now_at,
+        )
 
-    again : (ts : List Taken) (i : ℕ) (shelf left : L)
+    again : (ts : List Taken) (i : ℕ) (shelf left : L) → IsAt shelf
         → AreTaken gives remaining copies content known i shelf ts left
         → AllByRecursion IsReadToEnd ts → AreReadAgain set all copies i ts
-    again [] i shelf left taken ends = tt
-    again (t ∷ ts) i shelf left (mid, best, mounts, rest) (end, ends) = (
-      best,
-      one_again t i shelf mid t.copy refl best mounts end,
-      again ts (i + 1) mid left rest ends,
-    )
+    again [] i shelf left at taken ends = tt
+    again (t ∷ ts) i shelf left at (mid, best, mounts, rest) (end, ends) =
+        let (one, now_at) = one_again t i shelf mid t.copy refl best at mounts end in
+        (best, one, again ts (i + 1) mid left now_at rest ends)
 
 -- ---- the call
 
@@ -227,18 +244,19 @@ recovers_sets contents size gives remaining task out shelf left stands said says
     let file = task.file in
     let copies = s.copies in
     let x = s.finds in
-    let is : copies ≡ copies_on set file 0 rs =
-    copies_are set file task.set_id same gives remaining rs images 0 rs x.reels shelf s.middle []
-    copies x.text (λ i. let e : i ≡ 0 + i = omega arith in ap (λ v. slice_get rs v) e)
-    (x.all ∙ count) x.mounted x.finds calm in
+    let (is, at) =
+    copies_are set file task.set_id same gives remaining rs shelf images 0 rs x.reels shelf
+    s.middle [] copies x.text
+    (λ i. let e : i ≡ 0 + i = omega arith in ap (λ v. slice_get rs v) e)
+    (x.all ∙ count) ([], refl) x.mounted x.finds calm in
     let good = subst (AllByRecursion (IsGood set file rs)) (sym is)
     (copies_good set file rs l cs) in
     let have = all_map (IsGood set file rs)
-    (HasReading set file task.set_id same gives remaining rs images)
+    (HasReading set file task.set_id same gives remaining rs shelf images)
     (λ c g. have_reading c g) copies good in
     let known = form_of_file copies in
-    let read = again set file task.set_id same gives remaining rs images task.content known copies
-    have s.taken 1 s.middle left s.took ends in
+    let read = again set file task.set_id same gives remaining rs shelf images task.content known
+    copies have s.taken 1 s.middle left at s.took ends in
     let sections = subst (λ (z : Content). AreAllSections z known copies s.taken) records s.all in
     let r = recovers_set set file f rs copies s.taken l there cs fits is read sections in
     let g = after_file Records copies s.taken none_salvaged in
@@ -260,5 +278,5 @@ recovers_sets contents size gives remaining task out shelf left stands said says
     )
   where
     have_reading : (c : SectionCopy) → IsGood set task.file rs c
-        → HasReading set task.file task.set_id same gives remaining rs images c
+        → HasReading set task.file task.set_id same gives remaining rs shelf images c
     have_reading c g = (g.reading, g.image)

@@ -1,7 +1,8 @@
 -- Examples for the definitions of `salvage`. They are the contract of the call `laws::cases`.
 use Rattle.std.specs.Prelude.{◌≡◌, ℕ, ◌%◌, Bool, true, false, List, [], ◌∷◌, codes, Option, Some}
-use Rattle.std.specs.Prelude.{None}
+use Rattle.std.specs.Prelude.{None, get_or, slice_get}
 use Rattle.tape_image.specs.Tape.{TapeItem, block, bad, mark}
+use Rattle.tape_image.specs.Begins.{Stop, Begins}
 use Rattle.tape_blocks.specs.Tight.{Filled}
 use Rattle.tape_set.specs.Layout.{FileSet, Placed, Entry, nth, entries, is_data}
 use Rattle.tape_set.specs.Reading.{Reading}
@@ -19,11 +20,12 @@ use Rattle.tape_run.specs.SalvageDamagedSets.{IsAnyImage, IsExactCopy}
 use Rattle.tape_run.specs.SalvageGaps.{Gap, AreGaps, data_in, StartsReadable}
 use Rattle.tape_run.specs.SalvageReadings.{IsReadVolume}
 use Rattle.tape_run.specs.SalvageSets.{copies_on, HasVolume, IsReadAgain, HasBlocks, IsOnNone}
-use Rattle.tape_run.specs.SalvageSets.{AreHad, joined, IsComplete, rank_of}
+use Rattle.tape_run.specs.SalvageSets.{AreHad, joined, IsComplete, rank_of, items_read}
 use Rattle.tape_run.specs.SalvageUnnamed.{IsNoFirst, IsUnnamedIn}
 use Rattle.tape_run.specs.SalvageSections.{filled_of}
 use Rattle.tape_run.specs.SalvageWhole.{Blocks}
-use Rattle.tape_run.specs.SalvagedSets.{AreItemsOf, IsImage, IsReadToEnd}
+use Rattle.tape_run.specs.Reeling.{Mounting, Took}
+use Rattle.tape_run.specs.SalvagedSets.{AreItemsOf, IsImage, AreImages, IsReadToEnd}
 
 -- ---- copies
 
@@ -148,6 +150,10 @@ pub record CasesOfDamaged : Type 0 where
 
 -- ---- files of a valid set
 
+-- opening an image yields the same reader each time
+abbrev pub gives_again : {R : Type 0} → Mounting (List (Option R)) R
+gives_again images n image left = (image ≡ get_or images n None) × (left ≡ images)
+
 pub record CasesOfSalvagedSets : Type 0 where
   pub no_volume : (set : FileSet) (k : ℕ) (xs : List TapeItem) → nth set.volumes k ≡ None
       → IsReadVolume set k xs → ⊥
@@ -181,6 +187,18 @@ pub record CasesOfSalvagedSets : Type 0 where
   pub nothing_found : (set : FileSet) → AreItemsOf set 1 None []
   pub must_open : (set : FileSet) (r : Reading)
       → IsImage {R = Option (List ℕ)} set 1 (λ d. d) (Some r) None → ⊥
+  pub read_image : (set : FileSet) (r : Reading) (bytes : List ℕ) (end : ℕ) (stop : Stop)
+      → Begins 0 bytes (items_read set r) end stop
+      → IsImage {R = Option (List ℕ)} set 1 (λ d. d) (Some r) (Some (Some bytes))
+  -- images that can be opened again meet the condition on a source; one that is opened only once
+  -- does not
+  pub opened_again : (set : FileSet) (file : ℕ) (rs : List (Option Reading))
+      (images : List (Option (Option (List ℕ))))
+      → ((n : ℕ) (r : Option Reading) → slice_get rs n ≡ Some r
+      → IsImage {R = Option (List ℕ)} set file (λ d. d) r (get_or images n None))
+      → AreImages {R = Option (List ℕ)} set file gives_again (λ d. d) rs images
+  pub opened_once : (set : FileSet) (r : Reading) (image : Option (Option (List ℕ)))
+      → AreImages {R = Option (List ℕ)} set 1 Took (λ d. d) (Some r ∷ []) (image ∷ []) → ⊥
 
 pub record CasesOfSalvage : Type 0 where
   pub conflicts : CasesOfConflicts

@@ -1,6 +1,6 @@
 -- A file of a valid set as a call of `salvage_to` recovers it from images of the set's volumes.
-use Rattle.std.specs.Prelude.{◌≡◌, ℕ, ◌+◌, Bool, true, List, [], ◌∷◌, length, Option, Some, None}
-use Rattle.std.specs.Prelude.{slice_get}
+use Rattle.std.specs.Prelude.{◌≡◌, ◌<◌, ℕ, ◌+◌, Bool, true, List, [], ◌∷◌, length, Option, Some}
+use Rattle.std.specs.Prelude.{None, slice_get}
 use Rattle.std.specs.List.{AllByRecursion}
 use Rattle.std.specs.Io.KnownBytes.{Appends}
 use Rattle.tape_image.specs.Tape.{TapeItem}
@@ -42,12 +42,20 @@ IsImage set file remaining r (Some device) = (bytes : List ℕ) × (xs : List Ta
     × (stop : Stop) × (remaining device ≡ Some bytes) × Begins 0 bytes xs end stop
     × AreItemsOf set file r xs
 
--- each time an image is opened, it is the one with its number
+-- Images with numbers below this one were opened: the source was `shelf` before, and is `now`. The
+-- image that was opened last comes first.
+abbrev pub HasOpened : {L R : Type 0} → Mounting L R → ℕ → L → List ℕ → L → Type 0
+HasOpened gives count shelf [] now = now ≡ shelf
+HasOpened gives count shelf (n ∷ ns) now = (n < count) × (before : _) × (image : Option _)
+    × HasOpened gives count shelf ns before × gives before n image now
+
+-- An image that is opened is the one with its number, whichever images were opened before it, and
+-- however often.
 abbrev pub AreImages : {L R : Type 0} → FileSet → ℕ → Mounting L R → (R → Option (List ℕ))
-    → List (Option Reading) → Type 0
-AreImages {L} {R} set file gives remaining rs = (shelf left : L) (n : ℕ) (image : Option R)
-    → gives shelf n image left
-    → (r : Option Reading) × (slice_get rs n ≡ Some r) × IsImage set file remaining r image
+    → List (Option Reading) → L → Type 0
+AreImages {L} {R} set file gives remaining rs shelf = (ns : List ℕ) (now left : L) (n : ℕ)
+    (image : Option R) (r : Option Reading) → HasOpened gives (length rs) shelf ns now
+    → slice_get rs n ≡ Some r → gives now n image left → IsImage set file remaining r image
 
 -- ---- no reader failed
 
@@ -79,7 +87,7 @@ RecoversSets {W} {L} {R} contents size gives remaining = (task : SalvageTask) (o
     (set : FileSet) (f : List Section) (rs : List (Option Reading))
     → IsLawful set → task.set_id ≡ set.set_id → task.content ≡ Records
     → file_of set task.file ≡ Some f → size shelf ≡ length rs
-    → AllByRecursion (IsCompleteOr set) rs → AreImages set task.file gives remaining rs
+    → AllByRecursion (IsCompleteOr set) rs → AreImages set task.file gives remaining rs shelf
     → AllByRecursion (λ p. p.section.blocks ≡ [] → HasVolume rs p.section.volume)
     (numbered task.file 1 f)
     → NoneFailed task.set_id task.file 0 s.finds.reels [] s.copies s.finds.text s.finds.finds

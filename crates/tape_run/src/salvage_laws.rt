@@ -138,8 +138,10 @@ pub fn sections_without_hdr1_are_there()
 
 /// From complete readings of volumes of a valid set, in which only data blocks were unreadable, in
 /// any order and with repeats, of each section of a file exactly the blocks that its best image has
-/// are recovered, or none if no image has it, and of these blocks exactly the complete records. Up
-/// to the first missing block no record is left out. If nothing is missing, it is the file.
+/// are recovered, or none if no image has it, and of these blocks exactly the complete records, if
+/// each missing block contains part of a record. A section without blocks has to be on one of the
+/// images. Up to the first missing block no record is left out. If nothing is missing, it is the
+/// file.
 pub fn files_of_sets_are_recovered()
     ensures recovers { RecoversSet }
     ensures most { NoneHasMore }
@@ -154,9 +156,9 @@ pub fn closed_sections_of_sets_are_exact()
     ensures found { FoundAreExact }
 {}
 
-/// So `salvage_to` recovers a file of a valid set from such images, if no reader failed: what it
-/// writes is what `files_of_sets_are_recovered` says. If it returns that nothing is missing, this
-/// is what `extract` writes of the complete file.
+/// So `salvage_to` recovers a file of a valid set from such images, if each is the same whenever it
+/// is opened, and no reader failed: what it writes is what `files_of_sets_are_recovered` says. If
+/// it returns that nothing is missing, this is what `extract` writes of the complete file.
 pub fn salvaged_sets_are_recovered<W: Write + Drop, R: Read + Drop, L: ImageSource<R>>()
     ensures { RecoversSets W.contents L.size L.gives R.remaining }
 {}
