@@ -167,6 +167,7 @@ mod MergeReadings
 mod MergePlaces
 mod MergeTaken
 mod MergeVerdicts
+mod MergeFirsts
 mod MergeAsking
 mod MergeNext
 mod MergeRounds

@@ -18,6 +18,7 @@ use Rattle.tape_run.proofs.MergeTaken.{take_past, take_last}
 use Rattle.tape_run.proofs.MergeVerdicts.{IsOther, none_yet, Keeps, judges, judges_stop}
 use Rattle.tape_run.proofs.MergeVerdicts.{agreed_alone, second_alone, all_keep, later_other, SeenAs}
 use Rattle.tape_run.proofs.MergeVerdicts.{seen_item, seen_none, next_other}
+use Rattle.tape_run.proofs.MergeFirsts.{ComparesIf, AreCompared}
 use Rattle.tape_run.proofs.MergeRows.{AreSeenAs}
 
 -- ---- readings at a place of a tape
@@ -56,6 +57,7 @@ record HasCandidate {R : Type 0} (f n : Reading R) (r m : List TapeItem)
   pub before : (j : ℕ) → j < length m → slice_get reading j ≡ slice_get r j
   pub here : SeenAs n.verdict (slice_get reading (length m))
   pub front : take (length m) reading ≡ r
+  pub item : ComparesIf n.verdict (slice_get reading (length m)) best now None None
   pub judged : (end beside : Option TapeItem) → Keeps now end None beside
       → Judges n.verdict n.image.status reading end beside
 
@@ -90,6 +92,8 @@ one_best f o n r m best now others h at within reads least (gives x on given com
       here = subst (λ t. SeenAs n.verdict t) (sym (get_last r x (length m) e))
           (seen_item n.verdict x best now compares);
       front = take_last r x (length m) e;
+      item = subst (λ t. ComparesIf n.verdict t best now None None)
+          (sym (get_last r x (length m) e)) compares;
       judged = λ end beside keeps. judges n.verdict n.image.status r x best now None None end
           beside given.goes_on compares none_yet keeps;
     }
@@ -111,6 +115,8 @@ one_best f o n r m best now others h at within reads least (stops off how counts
       here = subst (λ t. SeenAs n.verdict t) (sym (slice_get_past r (length m) within))
           (seen_none n.verdict n.image.status how);
       front = take_past r (length m) within;
+      item = subst (λ t. ComparesIf n.verdict t best now None None)
+          (sym (slice_get_past r (length m) within)) (same, left);
       judged = λ end beside keeps. judges_stop n.verdict n.image.status r end beside how;
     }
 
@@ -180,20 +186,21 @@ all_best _ _ _ _ m best now beside others h at reads least asked so = absurd h
 
 -- a reading that was asked consists of the same items, or of one more
 record HasMore {R : Type 0} (f n : Reading R) (r : List TapeItem) (k : ℕ)
-    (now other : Option TapeItem) : Type 0 where
+    (best now other beside : Option TapeItem) : Type 0 where
   pub reading : List TapeItem
   pub has : HasTaken f n reading
   pub at : n.image.status ≡ going → length reading ≡ k + 1
   pub within : length reading ≤ k + 1
   pub of_all : (t : List TapeItem) → IsReadFrom reading t → IsReadFrom r t
   pub front : take k reading ≡ r
-  pub judged : (end beside : Option TapeItem) → Keeps now end other beside
-      → Judges n.verdict n.image.status reading end beside
+  pub item : ComparesIf n.verdict (slice_get reading k) best now other beside
+  pub judged : (end last : Option TapeItem) → Keeps now end beside last
+      → Judges n.verdict n.image.status reading end last
 
 has_more : {R : Type 0} (f o n : Reading R) (r : List TapeItem) (k : ℕ)
     (best now other beside : Option TapeItem) → HasTaken f o r
     → (o.image.status ≡ going → length r ≡ k) → length r ≤ k → IsOther other
-    → Asked o n best now other beside → HasMore f n r k now beside
+    → Asked o n best now other beside → HasMore f n r k best now other beside
 has_more f o n r k best now other beside h at within is_other
     (gives x on given compares counts) =
     let e : length r ≡ k = at on in
@@ -205,6 +212,8 @@ has_more f o n r k best now other beside h at within is_other
       within = omega (arith, long);
       of_all = λ t reads. reads_front r (x ∷ []) t reads;
       front = take_last r x k e;
+      item = subst (λ t. ComparesIf n.verdict t best now other beside) (sym (get_last r x k e))
+          compares;
       judged = λ end last keeps. judges n.verdict n.image.status r x best now other beside end
           last given.goes_on compares is_other keeps;
     }
@@ -216,29 +225,33 @@ has_more f o n r k best now other beside h at within is_other (stops off how cou
       within = omega (arith, within);
       of_all = λ t reads. reads;
       front = take_past r k within;
+      item = subst (λ t. ComparesIf n.verdict t best now other beside)
+          (sym (slice_get_past r k within)) (same, left);
       judged = λ end last keeps. judges_stop n.verdict n.image.status r end last how;
     }
 
 -- so have readings
 record HaveMore {R : Type 0} (firsts nows : List (Reading R)) (rs : List (List TapeItem)) (k : ℕ)
-    (end last : Option TapeItem) : Type 0 where
+    (best end other last : Option TapeItem) : Type 0 where
   pub readings : List (List TapeItem)
   pub have : HaveTaken firsts nows readings
   pub at : AreUpTo (k + 1) nows readings
   pub of_all : (tape : List TapeItem) → AreReadFrom readings tape → AreReadFrom rs tape
   pub front : map (take k) readings ≡ rs
+  pub compared : AreCompared nows (column k readings) best end other last
   pub judged : AreJudged nows readings end last
 
 have_more : {R : Type 0} (firsts olds nows : List (Reading R)) (rs : List (List TapeItem)) (k : ℕ)
     (best now other beside : Option TapeItem) → HaveTaken firsts olds rs → AreUpTo k olds rs
     → IsOther other → AskedAll olds nows best now other beside
-    → HaveMore firsts nows rs k now beside
+    → HaveMore firsts nows rs k best now other beside
 have_more [] [] [] [] k best now other beside h at is_other asked = record {
   readings = [];
   have = tt;
   at = tt;
   of_all = λ tape k. tt;
   front = refl;
+  compared = asked;
   judged = tt;
 }
 have_more [] [] (n ∷ nows) [] k best now other beside h at is_other asked = absurd asked
@@ -255,6 +268,7 @@ have_more (f ∷ firsts) (o ∷ olds) (n ∷ nows) (r ∷ rs) k best now other b
       at = (first.at, first.within, more.at);
       of_all = λ tape k. (first.of_all tape k.0, more.of_all tape k.1);
       front = cc (first.front, more.front);
+      compared = (mid, between, first.item, more.compared);
       judged = (
         first.judged now beside (all_keep olds nows mid now between beside rest),
         more.judged,
@@ -264,11 +278,12 @@ have_more _ _ _ _ k best now other beside h at is_other asked = absurd h
 
 -- the facts known if one reading did not agree
 pub record HaveDiffered {R : Type 0} (firsts nows : List (Reading R)) (rs : List (List TapeItem))
-    (k : ℕ) (end last : Option TapeItem) (others : List TapeItem → Type 0) : Type 0 where
+    (k : ℕ) (best end last : Option TapeItem) (others : List TapeItem → Type 0) : Type 0 where
   pub readings : List (List TapeItem)
   pub have : HaveTaken firsts nows readings
   pub at : AreUpTo (k + 1) nows readings
   pub front : map (take k) readings ≡ rs
+  pub compared : AreCompared nows (column k readings) best end None last
   pub judged : AreJudged nows readings end last
   pub differ : (tape : List TapeItem) → others tape → AreReadFrom readings tape → ⊥
 
@@ -281,7 +296,7 @@ one_differs : {R : Type 0} (f o n : Reading R) (firsts olds nows : List (Reading
     → ((tape : List TapeItem) → others tape → AreReadFrom (r ∷ rs) tape
     → IsReadFrom (m ++ best_items best) tape)
     → Asked o n best mid None (Some y) → AskedAll olds nows mid now (Some y) beside
-    → HaveDiffered (f ∷ firsts) (n ∷ nows) (r ∷ rs) (length m) now beside others
+    → HaveDiffered (f ∷ firsts) (n ∷ nows) (r ∷ rs) (length m) best now beside others
 one_differs f o n firsts olds nows r rs m best mid now y beside others h hs at within up least
     (gives x on given compares counts) rest =
     let more = have_more firsts olds nows rs (length m) mid now (Some y) beside hs up
@@ -294,6 +309,13 @@ one_differs f o n firsts olds nows r rs m best mid now y beside others h hs at w
       have = (has_given f o n r x h on given counts, more.have);
       at = (λ _. long, omega (arith, long), more.at);
       front = cc (take_last r x (length m) e, more.front);
+      compared = (
+        mid,
+        Some y,
+        subst (λ t. ComparesIf n.verdict t best mid None (Some y))
+            (sym (get_last r x (length m) e)) compares,
+        more.compared,
+      );
       judged = (
         judges n.verdict n.image.status r x best mid None (Some y) now beside given.goes_on
             compares none_yet (all_keep olds nows mid now (Some y) beside rest),
@@ -314,7 +336,7 @@ pub all_differ : {R : Type 0} (firsts olds nows : List (Reading R)) (rs : List (
     → ((tape : List TapeItem) → others tape → AreReadFrom rs tape
     → IsReadFrom (m ++ best_items best) tape)
     → AskedAll olds nows best now None beside → beside ≢ None
-    → HaveDiffered firsts nows rs (length m) now beside others
+    → HaveDiffered firsts nows rs (length m) best now beside others
 all_differ [] [] [] [] m best now beside others h at reads least (same, is) not_so =
     absurd (not_so is)
 all_differ [] [] (n ∷ nows) [] m best now beside others h at reads least asked not_so =
@@ -337,6 +359,7 @@ all_differ (f ∷ firsts) (o ∷ olds) (n ∷ nows) (r ∷ rs) m best now beside
       have = (first.has, more.have);
       at = (first.at, first.within, more.at);
       front = cc (first.front, more.front);
+      compared = (mid, None, first.item, more.compared);
       judged = (
         first.judged now beside (all_keep olds nows mid now None beside rest),
         more.judged,

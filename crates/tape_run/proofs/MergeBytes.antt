@@ -146,8 +146,6 @@ faults_images images firsts nows old new (faults.Differ n) front d = record {
   differ = d.differ;
   for_good = λ all begins. differ_for_good d.readings all
       (are_begun images firsts nows d.readings all front d.have begins) d.differ;
-  best = d.best;
-  other = d.other;
   judged = d.judged;
   merged = d.merged;
   is = d.is;

@@ -25,6 +25,7 @@ use Rattle.tape_run.specs.MergeCalls.{Merges, DiffersAt, FitsFault, RefusesCandi
 use Rattle.tape_run.proofs.NotedSoFar.{one_block}
 use Rattle.tape_run.proofs.MergeRefusals.{best_fits, refuses_puts}
 use Rattle.tape_run.proofs.MergeAsking.{HaveCandidate, all_best, all_differ}
+use Rattle.tape_run.proofs.MergeFirsts.{first_is, second_is}
 use Rattle.tape_run.proofs.MergeCounts.{put_one_more, put_moves, was_put, was_none, CountsOne}
 use Rattle.tape_run.proofs.MergeCounts.{counts_more, phase_more, alone_kept}
 use Rattle.tape_run.proofs.MergeRows.{goods_seen, rows_kept, rows_more, due_seen}
@@ -188,15 +189,20 @@ differs firsts olds nows a p old new log row now beside s asked some =
     (λ tape k reads. subst (λ (l : List TapeItem). IsReadFrom l tape) empty
     (s.is.least tape reads)) asked some in
     let number : length s.merged + 1 ≡ a.items + 1 = ap (λ k. k + 1) s.count.items in
+    let (second, more) = second_is nows _ None now beside h.compared in
     record {
       readings = h.readings;
       have = h.have;
       up_to = subst (λ (k : ℕ). AreUpTo k nows h.readings) number h.at;
       differ = λ tape reads. h.differ tape tt reads;
-      best = now;
-      other = beside;
-      judged = h.judged;
       merged = s.merged;
+      judged = record {
+        best = now;
+        other = beside;
+        first = first_is nows _ None now None beside h.compared refl (more some);
+        second = second;
+        judged = h.judged;
+      };
       is = subst (λ (l : List (List TapeItem)). IsMerged l s.merged) (sym h.front) s.is;
       count = number;
       wrote = s.wrote;

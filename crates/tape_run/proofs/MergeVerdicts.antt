@@ -20,23 +20,23 @@ agrees_self (block b) = refl
 agrees_self bad = tt
 agrees_self mark = tt
 
-disagrees_more : (best : Option TapeItem) (x : TapeItem) → (agrees best x → ⊥)
+pub disagrees_more : (best : Option TapeItem) (x : TapeItem) → (agrees best x → ⊥)
     → is_less best ≡ false
 disagrees_more None x never = absurd (never tt)
 disagrees_more (Some bad) x never = absurd (never tt)
 disagrees_more (Some (block b)) x never = refl
 disagrees_more (Some mark) x never = refl
 
-disagrees_other : (best : Option TapeItem) (x : TapeItem) → (agrees best x → ⊥) → best ≢ Some x
+pub disagrees_other : (best : Option TapeItem) (x : TapeItem) → (agrees best x → ⊥) → best ≢ Some x
 disagrees_other best x never is =
     never (subst (λ (t : Option TapeItem). agrees t x) (sym is) (agrees_self x))
 
-good_more : (x : TapeItem) → x ≢ bad → is_less (Some x) ≡ false
+pub good_more : (x : TapeItem) → x ≢ bad → is_less (Some x) ≡ false
 good_more (block b) nb = refl
 good_more bad nb = absurd (nb refl)
 good_more mark nb = refl
 
-joined_good : (best : Option TapeItem) (x : TapeItem) → agrees best x → x ≢ bad
+pub joined_good : (best : Option TapeItem) (x : TapeItem) → agrees best x → x ≢ bad
     → joined best x ≡ x
 joined_good None x a nb = refl
 joined_good (Some bad) x a nb = refl
@@ -71,7 +71,7 @@ abbrev pub Keeps : Option TapeItem → Option TapeItem → Option TapeItem → O
 Keeps best now other beside =
     (is_less best ≡ false → now ≡ best) × (is_less other ≡ false → beside ≡ other)
 
-compares_keeps : (v : Verdict) (x : TapeItem) (best now other beside : Option TapeItem)
+pub compares_keeps : (v : Verdict) (x : TapeItem) (best now other beside : Option TapeItem)
     → Compares v x best now other beside → Keeps best now other beside
 compares_keeps verdicts.First x best now other beside h =
     (takes_keeps best x true now h.1, λ _. h.2)
@@ -90,7 +90,7 @@ asked_keeps o n best now other beside (gives x on given compares counts) =
     compares_keeps n.verdict x best now other beside compares
 asked_keeps o n best now other beside (stops off how counts same left) = (λ _. same, λ _. left)
 
-less_of : (a b : Option TapeItem) → a ≡ b → is_less b ≡ false → is_less a ≡ false
+pub less_of : (a b : Option TapeItem) → a ≡ b → is_less b ≡ false → is_less a ≡ false
 less_of a b is more = ap is_less is ∙ more
 
 pub all_keep : {R : Type 0} (olds nows : List (Reading R)) (best now other beside : Option TapeItem)

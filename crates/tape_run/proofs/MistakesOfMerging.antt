@@ -1,11 +1,11 @@
 -- Wrong answers that the contracts of merging exclude.
 use Rattle.std.proofs.Common.{◌≡◌, ◌≢◌, ◌⊎◌, inl, inr, ℕ, suc, ◌+◌, ◌<◌, List, [], ◌∷◌, ◌++◌}
-use Rattle.std.proofs.Common.{length, Option, Some, None}
+use Rattle.std.proofs.Common.{length, Some, None}
 use Rattle.std.specs.Prelude.{codes}
 use Rattle.std.specs.List.{flat_map}
 use Rattle.tape_image.proofs.WrittenItems.{known_after}
 use Rattle.tape_image.proofs.Pieces.{front_more}
-use Rattle.std.proofs.Common.{refl, sym, ap, ◌∙◌, get_or, arith, false}
+use Rattle.std.proofs.Common.{refl, sym, ap, subst, ◌∙◌, get_or, arith, false}
 use Rattle.tape_image.specs.Tape.{TapeItem, block, bad, mark}
 use Rattle.tape_image.specs.Begins.{image_limit}
 use Rattle.tape_image.specs.Written.{written, AppendsFront}
@@ -14,7 +14,8 @@ use Rattle.tape_run.specs.declared.merge.line.MergedEnd.TheVariants.{Marked}
 use Rattle.tape_run.specs.declared.merge.now.MergeEnd.TheVariants.{Whole}
 use Rattle.tape_run.specs.declared.merge.reading.Reading.{Reading}
 use Rattle.tape_run.specs.Merging.{IsReadAs, IsReadFrom, IsMerged, Differ}
-use Rattle.tape_run.specs.MergeSteps.{AllStopped}
+use Rattle.tape_run.specs.declared.merge.reading.Verdict.TheVariants.{Third}
+use Rattle.tape_run.specs.MergeSteps.{AllStopped, IsFirst, Judges, AreJudgedAt}
 use Rattle.tape_run.specs.MergedImages.{TakeImages, DifferImages}
 use Rattle.tape_run.specs.MergeCalls.{alone_in}
 use Rattle.tape_run.specs.MergeNow.{FitsEnd, EndsAs, end_bytes, IsTooLong, ReportsNoImage}
@@ -126,6 +127,35 @@ merge_reported_without_a_file R images names rest (nows, said) = either said
         (lines_from (reading_line names) 0 nows)
         (differ_line 0 ++ lines_from (has_line names) 0 nows) part)
     either (inr (n, differ, part)) = says n part
+
+-- merge_third_letter_for_the_second: the first item that differs from the best one is called a
+-- third one
+merge_third_letter_for_the_second : {R : Type 0} (a b : Reading R) (content : List ℕ)
+    → b.verdict ≡ Third
+    → AreJudgedAt 0 (a ∷ b ∷ []) ((mark ∷ []) ∷ (block content ∷ []) ∷ []) → ⊥
+merge_third_letter_for_the_second {R} a b content third h = by_best h.first
+  where
+    ends : (before : List TapeItem) (x : TapeItem) → block content ∷ [] ≡ before ++ x ∷ []
+        → block content ≡ x
+    ends [] x is = cc is
+    ends (y ∷ []) x is = absurd (cc is)
+    ends (y ∷ z ∷ before) x is = absurd (cc is)
+
+    by_other : h.best ≡ Some mark
+        → IsFirst (λ x. (x ≢ bad) × (h.best ≢ Some x)) (Some mark ∷ Some (block content) ∷ [])
+        h.other → h.other ≡ Some (block content)
+    by_other best (inl ((nb, off), is)) = absurd (off best)
+    by_other best (inr (off, inl (good, is))) = is
+    by_other best (inr (off, inr (not, is))) =
+        absurd (not (λ e. cc e, λ e. cc (sym best ∙ e)))
+
+    by_best : IsFirst (λ x. x ≢ bad) (Some mark ∷ Some (block content) ∷ []) h.best → ⊥
+    by_best (inl (nb, best)) =
+        let (on, x, (before, is), good, off, other) =
+        subst (λ v. Judges v b.image.status (block content ∷ []) h.best h.other) third
+        h.judged.1.0 in
+        other (by_other best h.second ∙ ap Some (ends before x is))
+    by_best (inr (off, rest)) = off (λ e. cc e)
 
 -- merge_two_witnesses_counted_as_one: both readings have a mark, but it is counted as that of one
 merge_two_witnesses_counted_as_one : alone_in 1 ((mark ∷ []) ∷ (mark ∷ []) ∷ []) ≡ 1 → ⊥

@@ -22,7 +22,7 @@ use Rattle.tape_run.specs.declared.passing.Phase.TheVariants.{Volume}
 use Rattle.tape_run.specs.Passing.{Told, told_from}
 use Rattle.tape_run.specs.Merging.{IsMerged, Differ}
 use Rattle.tape_run.specs.MergeSteps.{bads, one_if, column, goods_in, HaveTaken, AllStopped}
-use Rattle.tape_run.specs.MergeSteps.{AreUpTo, AreJudged}
+use Rattle.tape_run.specs.MergeSteps.{AreUpTo, AreJudgedAt}
 use Rattle.tape_run.specs.MergeLog.{is_logged, log_rows}
 
 -- the item of this kind and content
@@ -121,10 +121,8 @@ pub record DiffersAt {R : Type 0} (firsts nows : List (Reading R)) (n : ℕ) (ol
   pub have : HaveTaken firsts nows readings
   pub up_to : AreUpTo n nows readings
   pub differ : Differ readings
-  pub best : Option TapeItem
-  pub other : Option TapeItem
-  pub judged : AreJudged nows readings best other
   pub merged : List TapeItem
+  pub judged : AreJudgedAt (length merged) nows readings
   pub is : IsMerged (map (take (length merged)) readings) merged
   pub count : length merged + 1 ≡ n
   pub wrote : PutItems merged old new

@@ -256,3 +256,20 @@ AreJudged [] [] best other = ⊤
 AreJudged (n ∷ nows) (r ∷ readings) best other =
     Judges n.verdict n.image.status r best other × AreJudged nows readings best other
 AreJudged _ _ best other = ⊥
+
+-- the first of these items that meets a condition, if there is one
+abbrev pub IsFirst : (TapeItem → Type 0) → List (Option TapeItem) → Option TapeItem → Type 0
+IsFirst holds [] first = first ≡ None
+IsFirst holds (None ∷ xs) first = IsFirst holds xs first
+IsFirst holds (Some x ∷ xs) first =
+    (holds x × (first ≡ Some x)) ⊎ ((holds x → ⊥) × IsFirst holds xs first)
+
+-- The verdicts compare the items after a number of items: the best one is the first that could be
+-- read, and the other one is the first readable item that differs from it.
+pub record AreJudgedAt {R : Type 0} (k : ℕ) (nows : List (Reading R))
+    (readings : List (List TapeItem)) : Type 0 where
+  pub best : Option TapeItem
+  pub other : Option TapeItem
+  pub first : IsFirst (λ x. x ≢ bad) (column k readings) best
+  pub second : IsFirst (λ x. (x ≢ bad) × (best ≢ Some x)) (column k readings) other
+  pub judged : AreJudged nows readings best other

@@ -10,7 +10,7 @@ use Rattle.tape_run.specs.declared.merge.MergeFault.{MergeFault}
 use Rattle.tape_run.specs.declared.merge.MergeFault.TheVariants as faults
 use Rattle.tape_run.specs.declared.merge.reading.Reading.{Reading}
 use Rattle.tape_run.specs.Merging.{IsMerged, Differ}
-use Rattle.tape_run.specs.MergeSteps.{bads, block_length, AllStopped, AreUpTo, AreJudged}
+use Rattle.tape_run.specs.MergeSteps.{bads, block_length, AllStopped, AreUpTo, AreJudgedAt}
 use Rattle.tape_run.specs.MergeLaws.{TakesAs}
 use Rattle.tape_run.specs.MergeLog.{log_rows}
 use Rattle.tape_run.specs.MergeCalls.{Counts, RefusesLast, StopsLogging}
@@ -73,10 +73,8 @@ pub record DifferImages {R : Type 0} (images : List (List ℕ)) (nows : List (Re
   pub up_to : AreUpTo n nows readings
   pub differ : Differ readings
   pub for_good : (all : List (List TapeItem)) → AllBegin images all → Differ all
-  pub best : Option TapeItem
-  pub other : Option TapeItem
-  pub judged : AreJudged nows readings best other
   pub merged : List TapeItem
+  pub judged : AreJudgedAt (length merged) nows readings
   pub is : IsMerged (map (take (length merged)) readings) merged
   pub count : length merged + 1 ≡ n
 
