@@ -7,11 +7,12 @@ use crate::explain::FaultSite;
 use crate::fault::{FileFault, OUT_OF_MEMORY};
 use crate::help;
 use crate::host::{Host, Progress};
+use crate::read_ahead::ReadAhead;
 use crate::refusal::{Refusal, refused};
 use crate::shown::Shown;
 use std::alloc::{AllocError, Global};
 use std::fs::File;
-use std::io::{BufReader, ErrorKind, Read};
+use std::io::{ErrorKind, Read};
 use std::rt::Runtime;
 use std::{fmt, io};
 use tape_label::Field;
@@ -200,9 +201,6 @@ pub fn names_from<'n>(
     Ok(order)
 }
 
-/// The size in bytes of the read buffer of an image.
-const READ_AHEAD: usize = 32_768;
-
 /// The bytes of an image: those of a file, or standard input.
 #[derive(Drop)]
 pub enum ImageBytes<R: Host> {
@@ -246,7 +244,7 @@ impl<R: Progress, I: Read> Read for Watched<R, I> {
 }
 
 /// An open image, with a read buffer.
-pub type Image<R> = BufReader<Watched<R, ImageBytes<R>>>;
+pub type Image<R> = ReadAhead<Watched<R, ImageBytes<R>>>;
 
 /// Returns image `number`, counted from 0, of `count` images, with a read buffer.
 ///
@@ -266,10 +264,7 @@ pub fn image_of<R: Progress>(
         bytes: 0,
         inner: bytes,
     };
-    match BufReader::with_capacity(rt.alloc(), READ_AHEAD, watched) {
-        Ok(image) => Ok(image),
-        Err(_) => Err(AllocError),
-    }
+    ReadAhead::new(rt.alloc(), watched)
 }
 
 /// The images of a run, by their names, of which one may be standard input. Each is opened when it

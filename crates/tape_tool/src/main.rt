@@ -33,6 +33,7 @@ mod images;
 mod laws;
 mod left;
 mod odd_word;
+mod read_ahead;
 mod refusal;
 mod screen;
 mod shown;
